@@ -1,6 +1,6 @@
 -- The texts of the first items: one more at the end, the whole output at an end.
-use Rattle.std.proofs.Common.{◌≡◌, refl, sym, subst, ℕ, List, [], ◌∷◌, ◌++◌, Option, Some, None}
-use Rattle.std.specs.Prelude.{Result, Ok, Err}
+use Rattle.std.proofs.Common.{◌≡◌, refl, sym, subst, ℕ, List, [], ◌∷◌, ◌++◌, Some, None}
+use Rattle.std.specs.Prelude.{Ok, Err}
 use Rattle.pip_model.specs.Program.{Ending, ItemAt, Gives, FirstItems, FirstItemsTo, Ends, Items}
 
 module _ {A : Type 0} (read : ℕ → ItemAt A) (IsText : A → List ℕ → Type 0) where

@@ -1,12 +1,11 @@
 -- An input has one output, and what is written first is its front.
-use Rattle.std.proofs.Common.{◌≡◌, refl, ℕ, List, [], ◌∷◌, ◌++◌, Option, Some, None, Bool, true, false, length}
+use Rattle.std.proofs.Common.{◌≡◌, refl, ℕ, List, [], ◌∷◌, ◌++◌, Some, None, Bool, true, false, length}
 use Rattle.std.specs.Prelude.{Result, Ok, Err}
 use Rattle.std.specs.Bool.{MatchBool}
 use Rattle.pip_model.specs.Problem.{Problem}
 use Rattle.pip_model.specs.NativeText.{read_native}
 use Rattle.pip_model.specs.MatrixText.{read_matrices}
-use Rattle.pip_model.specs.Trial.{trial_text}
-use Rattle.pip_model.specs.Program.{Ending, finished, ItemAt, or_ending, Gives, FirstItems, Ends, Items, OneItem, FirstOne, IsTextOf, IsEndOf, SolveOptions, Command, Solve, Eval, Simplify, CheckAll, Trial, solved_text, value_text, simplified_text, checked_text, triple, answer_item, IsSolveOutput, IsFirstSolveOutput, IsOutput, IsFirstOutput}
+use Rattle.pip_model.specs.Program.{Ending, ItemAt, or_ending, Gives, FirstItems, Ends, Items, OneItem, FirstOne, IsTextOf, IsEndOf, SolveOptions, Command, Solve, Eval, Simplify, CheckAll, Trial, solved_text, value_text, simplified_text, checked_text, triple, answer_item, IsSolveOutput, IsFirstSolveOutput, IsOutput, IsFirstOutput}
 use Rattle.headline.proofs.FirstItems.{items-first}
 
 abbrev pub SameOutput : List (List ℕ) → List (List ℕ) → Ending → Ending → Type 0

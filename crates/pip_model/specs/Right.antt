@@ -2,7 +2,7 @@
 use Rattle.std.specs.Prelude.{◌≡◌, ℕ, ◌-◌, ℤ, pos, ◌*ℤ◌, int_le, IsTrue, List, [], ◌∷◌, length, Option, Some, None, Ok, ⊤, MatchBool}
 use Rattle.pip_model.specs.Problem.{Problem, InContext, Feasible, FeasibleAt, IsLeast, IsLeastAt}
 use Rattle.pip_model.specs.Tree.{Ratio, Answer, Void, Solved, tree_value}
-use Rattle.pip_model.specs.TreeText.{Spoken, spell, read_answer}
+use Rattle.pip_model.specs.TreeText.{spell, read_answer}
 
 -- the ratio is x/z, and its denominator is at least 1
 pub record IsRatio (f : Ratio) (x z : ℤ) : Type 0 where
