@@ -1,0 +1,10 @@
+pub mod Closing
+pub mod Combined
+pub mod Divisors
+pub mod Mapped
+pub mod Opposites
+pub mod Places
+pub mod Raising
+pub mod Tightening
+pub mod Units
+pub mod Values

@@ -1,0 +1,30 @@
+-- A list whose first elements were mapped in place.
+use Rattle.std.proofs.Common.{◌≡◌, ℕ, ◌+◌, ◌<◌, List, [], ◌∷◌, ◌++◌, map, length, get_or, set, take, drop, sym, ap, ◌∙◌, arith, append_assoc}
+use Rattle.std.proofs.lemmas.List.{drop_more, map_more, set_at, get_or_at, length-map, length-take}
+
+abbrev pub mapped : {X : Type 0} → (X → X) → ℕ → List X → List X
+mapped f i old = map f (take i old) ++ drop i old
+
+module _ {X : Type 0} (f : X → X) (old : List X) where
+  length_front : (i : ℕ) → i < length old → length (map f (take i old)) ≡ i
+  length_front i h = simp (length-map, length-take) (omega arith)
+
+  mapped_read : (i : ℕ) (d : X) → i < length old → get_or (mapped f i old) i d ≡ get_or old i d
+  mapped_read i d h = rw (drop_more old i d h) (get_or_at (map f (take i old)) (get_or old i d) (drop (i + 1) old) d i (length_front i h))
+
+  mapped_more : (i : ℕ) (d : X) → i < length old → set (mapped f i old) i (f (get_or old i d)) ≡ mapped f (i + 1) old
+  mapped_more i d h =
+      rw (drop_more old i d h)
+      (set_at (map f (take i old)) (get_or old i d) (drop (i + 1) old) (f (get_or old i d)) i (length_front i h)
+      ∙ sym (append_assoc (map f (take i old)) (f (get_or old i d) ∷ []) (drop (i + 1) old))
+      ∙ ap (λ (front : List X). front ++ drop (i + 1) old) (sym (map_more f old i d h)))
+
+-- one more element is mapped
+pub mapped_step : {X : Type 0} (f : X → X) (old now : List X) (i : ℕ) (y d : X) → i < length old → now ≡ mapped f i old → y ≡ f (get_or now i d) → set now i y ≡ mapped f (i + 1) old
+mapped_step f old now i y d h e g =
+    let read : get_or now i d ≡ get_or old i d = rw e (mapped_read f old i d h) in
+    rw (g, read, e) (mapped_more f old i d h)
+
+-- one more image is pushed
+pub pushed_step : {X Y : Type 0} (f : X → Y) (xs : List X) (found : List Y) (i : ℕ) (y : Y) (d : X) → i < length xs → found ≡ map f (take i xs) → y ≡ f (get_or xs i d) → found ++ y ∷ [] ≡ map f (take (i + 1) xs)
+pushed_step f xs found i y d h e g = rw (e, g) (sym (map_more f xs i d h))

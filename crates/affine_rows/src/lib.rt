@@ -1,0 +1,30 @@
+//! Affine forms over whole numbers of 128 bits, the checked arithmetic under them, and the tokens of texts.
+#![tactic(auto)]
+
+mod bytes;
+mod combination;
+mod division;
+mod entries;
+mod evaluation;
+mod form;
+mod groups;
+mod memory;
+mod numbers;
+mod rounding;
+mod tokens;
+
+pub use bytes::Bytes;
+pub use combination::{add_combined, difference};
+pub use division::{divide_all, divided, gcd_with, is_whole, remainders, residues};
+pub use entries::negate_all;
+pub use form::Form;
+pub use groups::{group_end, next_open};
+pub use memory::{FormRefusal, WantOfMemory};
+pub use numbers::{
+    Overflow, divides, floor_div, floor_mod, gcd, minus, nonnegative, plus, positive, times,
+};
+pub use rounding::round_form;
+pub use tokens::{Kind, Lexeme, blank, digits, integer, token, unsigned_part};
+
+#[cfg(test)]
+mod tests;

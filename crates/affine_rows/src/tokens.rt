@@ -1,0 +1,205 @@
+ghost use Rattle.std.specs.Prelude.{◌≡◌, ◌+◌, ◌<◌, ◌≤◌, ◌^◌, ◌-◌, pos, min, length, take, drop, slice_index, IfSome};
+ghost use Rattle.std.specs.List.{prefix_len, take_while};
+ghost use Rattle.pip_model.specs.Numbers.{fits};
+ghost use Rattle.pip_model.specs.Tokens.{is_blank, is_digit, is_letter, is_sign, natural_of, unsigned_part as unsigned_part_of, digits_at, integer_of, number_kind as number_kind_of, fraction_kind as fraction_kind_of, lexeme as lexeme_of, behind_stroke as behind_stroke_of, numeral_at, token_here as token_here_of, token as token_of};
+ghost use Rattle.affine_rows.specs.Checks.{Fits};
+ghost use Rattle.affine_rows.specs.Tokens.{fitting, IsFittingKind, TakesBytes};
+
+pub use pip_model::{Kind, Lexeme};
+
+/// Whether the byte is a tab, newline, form feed, carriage return or space.
+pub fn blank(byte: u8) -> bool
+    ensures { result ≡ is_blank byte }
+{
+    matches!(byte, b'\t' | b'\n' | 12 | b'\r' | b' ')
+}
+
+fn digit(byte: u8) -> bool
+    ensures { result ≡ is_digit byte }
+{
+    byte.is_ascii_digit()
+}
+
+fn letter(byte: u8) -> bool
+    ensures { result ≡ is_letter byte }
+{
+    byte.is_ascii_alphabetic()
+}
+
+// How many of the bytes from the front on are blanks.
+fn blanks(bytes: &[u8]) -> usize
+    ensures value { result ≡ length (take_while is_blank bytes.now) }
+    ensures bound { result ≤ length bytes.now }
+{
+    bytes.iter().take_while(|byte| blank(**byte)).count()
+}
+
+// How many of the bytes from the front on are letters.
+fn letters(bytes: &[u8]) -> usize
+    ensures value { result ≡ length (take_while is_letter bytes.now) }
+    ensures bound { result ≤ length bytes.now }
+{
+    bytes.iter().take_while(|byte| letter(**byte)).count()
+}
+
+// How many of the bytes from the front on are digits.
+fn digit_count(bytes: &[u8]) -> usize
+    ensures value { result ≡ prefix_len is_digit bytes.now }
+    ensures bound { result ≤ length bytes.now }
+{
+    bytes.iter().take_while(|byte| digit(**byte)).count()
+}
+
+/// The digits at the front.
+pub fn digits(bytes: &[u8]) -> &[u8]
+    ensures value { result.now ≡ digits_at bytes.now }
+    ensures bound { length result.now ≤ length bytes.now }
+{
+    let (front, _) = bytes.split_at(digit_count(bytes));
+    front
+}
+
+// The number that digits spell, or the greatest `u128` where it is greater.
+fn natural(digits: &[u8]) -> u128
+    ensures { result ≡ min (natural_of digits.now) (2 ^ 128 - 1) }
+{
+    let mut value: u128 = 0;
+    for byte in digits {
+        value = value
+            .saturating_mul(10)
+            .saturating_add(u128::from(byte.saturating_sub(b'0')));
+    }
+    value
+}
+
+const TOO_WIDE: u128 = 1 << 127;
+
+// The number that digits spell, where it fits.
+fn magnitude(digits: &[u8]) -> Option<i128>
+    ensures value { result ≡ fitting (pos (natural_of digits.now)) }
+{
+    let n = natural(digits);
+    if n < TOO_WIDE { Some(n as i128) } else { None }
+}
+
+/// The bytes after a sign, if there is one.
+pub fn unsigned_part(bytes: &[u8]) -> &[u8]
+    ensures value { result.now ≡ unsigned_part_of bytes.now }
+    ensures bound { length result.now ≤ length bytes.now }
+{
+    match bytes {
+        [b'+' | b'-', rest @ ..] => rest,
+        _ => bytes,
+    }
+}
+
+/// The number that an optional sign and digits spell, where it fits.
+pub fn integer(bytes: &[u8]) -> Option<i128>
+    ensures value { result ≡ fitting (integer_of bytes.now) }
+    ensures fits { IfSome result Fits }
+{
+    let magnitude = magnitude(digits(unsigned_part(bytes)));
+    match bytes {
+        [b'-', ..] => magnitude.map(|n| -n),
+        _ => magnitude,
+    }
+}
+
+// What stands behind a `/`.
+fn behind_stroke(bytes: &[u8]) -> &[u8]
+    ensures value { result.now ≡ behind_stroke_of bytes.now }
+    ensures bound { length result.now ≤ length bytes.now - 1 }
+{
+    match bytes {
+        [b'/', rest @ ..] => rest,
+        _ => &[],
+    }
+}
+
+// The token of a kind and a length at a place.
+fn lexeme(place: usize, kind: Kind, len: usize) -> Lexeme
+    requires { place + len < 2 ^ 64 }
+    ensures { result ≡ lexeme_of place kind len }
+{
+    Lexeme {
+        kind,
+        start: place,
+        after: place + len,
+    }
+}
+
+fn number_kind(bytes: &[u8]) -> Kind
+    ensures value { result ≡ number_kind_of (integer_of bytes.now) }
+    ensures fits { IsFittingKind result }
+{
+    match integer(bytes) {
+        Some(number) => Kind::Number(number),
+        None => Kind::WideNumber,
+    }
+}
+
+fn fraction_kind(above: &[u8], below: &[u8]) -> Kind
+    ensures value { result ≡ fraction_kind_of (integer_of above.now) (pos (natural_of below.now)) }
+    ensures fits { IsFittingKind result }
+{
+    match (integer(above), magnitude(below)) {
+        (Some(numerator), Some(denominator)) => Kind::Fraction(numerator, denominator),
+        _ => Kind::WideFraction,
+    }
+}
+
+// The number or fraction at the front; a sign or another byte alone is bad.
+fn numeral(place: usize, bytes: &[u8]) -> Lexeme
+    requires some { 0 < length bytes.now }
+    requires room { place + length bytes.now < 2 ^ 64 }
+    ensures value { result ≡ numeral_at place bytes.now }
+    ensures fits { IsFittingKind result.kind }
+    ensures order { (result.start ≡ place) × (place < result.after) × (result.after ≤ place + length bytes.now) }
+{
+    let rest = unsigned_part(bytes);
+    let digit_len = digits(rest).len();
+    let len = bytes.len() - rest.len() + digit_len;
+    let (_, behind) = bytes.split_at(len);
+    let over = digits(behind_stroke(behind));
+    if digit_len == 0 {
+        lexeme(place, Kind::Bad, 1)
+    } else if over.len() == 0 {
+        lexeme(place, number_kind(bytes), len)
+    } else {
+        lexeme(place, fraction_kind(bytes, over), len + 1 + over.len())
+    }
+}
+
+// The token whose first byte is the first of these.
+fn token_here(place: usize, bytes: &[u8]) -> Lexeme
+    requires { place + length bytes.now < 2 ^ 64 }
+    ensures value { result ≡ token_here_of place bytes.now }
+    ensures fits { IsFittingKind result.kind }
+    ensures takes { TakesBytes result.kind result.start result.after }
+    ensures order { (result.start ≡ place) × (place ≤ result.after) × (result.after ≤ place + length bytes.now) }
+{
+    match bytes {
+        [] => lexeme(place, Kind::Finish, 0),
+        [b'(', ..] => lexeme(place, Kind::LeftParen, 1),
+        [b')', ..] => lexeme(place, Kind::RightParen, 1),
+        [b']', ..] => lexeme(place, Kind::RightRow, 1),
+        [b'#', b'[', ..] => lexeme(place, Kind::LeftRow, 2),
+        [first, ..] if letter(*first) => lexeme(place, Kind::Word, letters(bytes)),
+        _ => numeral(place, bytes),
+    }
+}
+
+/// The next token at or behind `start`, which is at most the number of bytes: blanks are skipped, and the token is the
+/// longest that begins there. Behind the last one comes `Finish`.
+pub fn token(bytes: &[u8], start: usize) -> Lexeme
+    requires { start ≤ length bytes.now }
+    ensures value { result ≡ token_of bytes.now start }
+    ensures fits { IsFittingKind result.kind }
+    ensures takes { TakesBytes result.kind result.start result.after }
+    ensures order { (start ≤ result.start) × (result.start ≤ result.after) × (result.after ≤ length bytes.now) }
+{
+    let (_, rest) = bytes.split_at(start);
+    let blank_len = blanks(rest);
+    let (_, rest) = rest.split_at(blank_len);
+    token_here(start + blank_len, rest)
+}

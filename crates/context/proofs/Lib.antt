@@ -1,0 +1,4 @@
+pub mod Turning
+pub mod Pointing
+pub mod WidenedRows
+pub mod PointMeaning

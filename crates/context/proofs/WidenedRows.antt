@@ -1,0 +1,42 @@
+-- The row of a form that is read over all columns.
+use Rattle.std.proofs.Common.{◌≡◌, refl, ap, sym, ◌∙◌, ℕ, ◌+◌, ◌-◌, ◌≤◌, ℤ, pos, arith, List, [], ◌∷◌, ◌++◌, length, take, drop, replicate, length-append}
+use Rattle.std.proofs.lemmas.List.{drop_more, drop_all, take_all, take-append-le, drop-append-le, length-take-le, length-replicate}
+use Rattle.pip_model.specs.Numbers.{gcd, gcd_of, floor_div}
+use Rattle.pip_model.specs.Forms.{floor_divided, width, coefficients, constant, widen_to}
+use Rattle.pip_model.specs.Rows.{Row, divided, form_row}
+use Rattle.affine_rows.proofs.Divisors.{gcd_one, floor_divided_one}
+
+abbrev whole_row : List ℤ → List ℤ → Row
+whole_row coefs constant = record { den = pos 1; coefs = coefs; constant = constant }
+
+-- a row of denominator 1 is divided already
+divided_by : (coefs constant : List ℤ) (g : ℤ) → g ≡ pos 1 → record { den = floor_div (pos 1) g; coefs = floor_divided g coefs; constant = floor_divided g constant } ≡ whole_row coefs constant
+divided_by coefs constant g e = rw (e, floor_divided_one coefs, floor_divided_one constant) refl
+
+divided_whole : (coefs constant : List ℤ) → divided (whole_row coefs constant) ≡ whole_row coefs constant
+divided_whole coefs constant = divided_by coefs constant (gcd (pos 1) (gcd (gcd_of coefs) (gcd_of constant))) (gcd_one (gcd (gcd_of coefs) (gcd_of constant)))
+
+last_part : (c : List ℤ) → 1 ≤ length c → drop (width c) c ≡ constant c ∷ []
+last_part c h = drop_more c (width c) (pos 0) (omega arith) ∙ ap (λ (rest : List ℤ). constant c ∷ rest) (drop_all (width c + 1) c (omega arith))
+
+parted : (n : ℕ) (front : List ℤ) (z : ℤ) → length front ≡ n → form_row n (front ++ z ∷ []) ≡ whole_row front (z ∷ [])
+parted n front z e =
+    let t : take n (front ++ z ∷ []) ≡ front = take-append-le n front (z ∷ []) (omega (arith, e)) ∙ take_all n front (omega (arith, e)) in
+    let d : drop n (front ++ z ∷ []) ≡ z ∷ [] = drop-append-le n front (z ∷ []) (omega (arith, e)) ∙ ap (λ (rest : List ℤ). rest ++ z ∷ []) (drop_all n front (omega (arith, e))) in
+    rw (t, d) refl
+
+module _ (n : ℕ) (c : List ℤ) (some : 1 ≤ length c) (narrow : length c ≤ n + 1) where
+  full : length (coefficients c ++ replicate (n - width c) (pos 0)) ≡ n
+  full = simp (length-append, length-replicate, length-take-le) (omega (arith, some, narrow, length-take-le (width c) c (omega arith)))
+
+  pub widened_row : (coefs last : List ℤ) → coefs ≡ coefficients c ++ replicate (n - width c) (pos 0) → last ≡ drop (width c) c
+      → divided (record { den = pos 1; coefs = coefs; constant = last }) ≡ form_row n (widen_to n c)
+  widened_row coefs last e f =
+      rw (e, f, last_part c some)
+      (divided_whole (coefficients c ++ replicate (n - width c) (pos 0)) (constant c ∷ [])
+      ∙ sym (parted n (coefficients c ++ replicate (n - width c) (pos 0)) (constant c) full))
+
+  -- the coefficients as they are made: cut to the columns, and filled up with zeros
+  pub filled : (coefs front : List ℤ) (filled_from : ℕ) → front ≡ coefficients c → filled_from ≡ width c → coefs ≡ take n front ++ replicate (n - filled_from) (pos 0)
+      → coefs ≡ coefficients c ++ replicate (n - width c) (pos 0)
+  filled coefs front m e f g = rw (g, f, e, take_all n (coefficients c) (omega (arith, some, narrow, length-take-le (width c) c (omega arith)))) refl

@@ -1,0 +1,126 @@
+ghost use Rattle.std.specs.Prelude.{◌≡◌, ◌+◌, ◌-◌, ◌^◌, ◌<◌, ◌≤◌, [], ◌∷◌, ◌++◌, length, take, IfOk, OnOk, IfErr, IfSome};
+ghost use Rattle.pip_model.specs.Contexts.{IsContext, PointTells, IsPointRefusal};
+ghost use Rattle.pip_model.specs.Run.{point as point_of};
+ghost use Rattle.pip_model.specs.Agreement.{AgreesCounted};
+ghost use Rattle.pip_problem.specs.Faults.{run_fault};
+ghost use Rattle.context.specs.Scoped.{SameContext};
+
+use crate::points::Point;
+use crate::search::find_point;
+use crate::work::Work;
+use affine_rows::{Form, WantOfMemory};
+use pip_problem::Refusal;
+use std::alloc::Global;
+use std::marker::Model;
+
+/// A context: forms over the parameters and quotients in scope, which it takes to be at least 0. Its width is their
+/// number; a form that is narrower reads 0 at the missing places. It stands for the whole vectors of numbers from 0 on
+/// at which no form is below 0. Contracts see the width, the forms in order, and the room that is left for more.
+#[derive(Drop)]
+pub struct Context {
+    width: usize,
+    forms: Vec<Form>,
+}
+
+/// How many forms a context had, and its width: where it can go back to.
+#[derive(Clone, Copy, Debug, PartialEq, Eq)]
+pub struct ContextMark {
+    pub forms: usize,
+    pub width: usize,
+}
+
+impl Model for Context {
+    ghost use Rattle.std.specs.Prelude.{◌-◌};
+    ghost use Rattle.std.specs.Vec.{vec_len, vec_capacity};
+    ghost use Rattle.pip_model.specs.Contexts.{IsContext};
+    ghost use Rattle.context.specs.Scoped.{ScopedForms};
+
+    ghost Value = { ScopedForms };
+
+    ghost view = { λ k. record { width = k.width; forms = k.forms.items; spare = vec_capacity k.forms - vec_len k.forms } };
+
+    ghost invariant = { λ k. IsContext k.width k.forms.items };
+}
+
+impl Context {
+    /// The context of no forms over so many places.
+    pub fn try_new(alloc: Global, width: usize) -> Result<Context, WantOfMemory>
+        ensures width { IfOk result (λ k. k.width ≡ width) }
+        ensures forms { IfOk result (λ k. k.forms ≡ []) }
+    {
+        Ok(Context {
+            width,
+            forms: Vec::new(alloc),
+        })
+    }
+
+    /// Makes room for at least n more forms. The context stays as it was, and so does the room after a refusal.
+    pub fn reserve(&mut self, n: usize) -> Result<(), WantOfMemory>
+        ensures same { SameContext self.old self.new }
+        ensures room { OnOk result (n ≤ self.new.spare) }
+        ensures spare { self.old.spare ≤ self.new.spare }
+    {
+        self.forms.reserve(n)?;
+        Ok(())
+    }
+
+    /// Adds a form that is no wider than the context, where there is room for it. Takes no memory, and at most one
+    /// form's room.
+    pub fn add(&mut self, f: Form)
+        requires room { 1 ≤ self.old.spare }
+        requires narrow { length f ≤ self.old.width + 1 }
+        ensures width { self.new.width ≡ self.old.width }
+        ensures forms { self.new.forms ≡ self.old.forms ++ f ∷ [] }
+        ensures spare { self.old.spare ≤ self.new.spare + 1 }
+    {
+        let _ = f.width();
+        self.forms.push(f).unwrap();
+    }
+
+    /// Adds a place, at which all forms read 0. Takes no memory.
+    pub fn widen(&mut self)
+        requires { self.old.width < 2 ^ 64 - 1 }
+        ensures width { self.new.width ≡ self.old.width + 1 }
+        ensures forms { self.new.forms ≡ self.old.forms }
+        ensures spare { self.old.spare ≤ self.new.spare }
+    {
+        self.width += 1;
+    }
+
+    /// The number of forms and the width. Each form is no wider.
+    pub fn mark(&self) -> ContextMark
+        ensures forms { result.forms ≡ length self.now.forms }
+        ensures width { result.width ≡ self.now.width }
+        ensures narrow { IsContext self.now.width self.now.forms }
+    {
+        ContextMark {
+            forms: self.forms.len(),
+            width: self.width,
+        }
+    }
+
+    /// Goes back to a mark: keeps as many of the first forms as it says, none of them wider than its width, which becomes
+    /// the context's. The room of the others is free again. Takes no memory.
+    pub fn back_to(&mut self, mark: ContextMark)
+        requires forms { mark.forms ≤ length self.old.forms }
+        requires narrow { IsContext mark.width (take mark.forms self.old.forms) }
+        ensures width { self.new.width ≡ mark.width }
+        ensures forms { self.new.forms ≡ take mark.forms self.old.forms }
+        ensures spare { self.old.spare + (length self.old.forms - mark.forms) ≤ self.new.spare }
+    {
+        self.forms.truncate(mark.forms);
+        self.width = mark.width;
+    }
+
+    /// A whole vector of numbers from 0 on at which no form is below 0; None exactly where there is none. It is found
+    /// by the run of the dual simplex with Gomory cuts over the forms as rows, whose pivots and cuts are counted. The
+    /// refusals are those of that run: an overflow or a budget of pivots or cuts. The counts stay at what was counted.
+    pub fn point(&self, alloc: Global, w: &mut Work) -> Result<Option<Point>, Refusal>
+        ensures gives { AgreesCounted (λ o. o) run_fault result w.new (point_of self.now.width self.now.forms w.old) }
+        ensures budget { w.new.budget ≡ w.old.budget }
+        ensures tells { IfOk result (PointTells self.now.width self.now.forms) }
+        ensures refusal { IfErr result (λ e. IfSome (run_fault e) IsPointRefusal) }
+    {
+        find_point(alloc, self.width, &self.forms, w)
+    }
+}

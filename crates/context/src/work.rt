@@ -1,0 +1,124 @@
+ghost use Rattle.std.specs.Prelude.{◌≡◌, ◌≤◌, OnOk};
+ghost use Rattle.pip_model.specs.Run.{IsBudget, start_work, count_pivot as count_pivot_of, count_cut as count_cut_of, count_split as count_split_of, check_nesting as check_nesting_of};
+ghost use Rattle.pip_model.specs.Agreement.{AgreesCounted};
+ghost use Rattle.pip_problem.specs.Faults.{run_fault};
+
+use pip_problem::{Limits, Refusal};
+use std::marker::Model;
+
+/// What a run has counted so far of pivots, cuts and splits, and its budget. No count is above its limit.
+#[derive(Drop)]
+pub struct Work {
+    most_pivots: u64,
+    most_cuts: u64,
+    most_splits: u64,
+    most_nesting: u64,
+    pivots: u64,
+    cuts: u64,
+    splits: u64,
+}
+
+impl Model for Work {
+    ghost use Rattle.std.specs.Prelude.{◌≤◌};
+    ghost use Rattle.pip_model.specs.Run as run;
+
+    ghost Value = { run.Work };
+
+    ghost view = { λ w. record {
+      budget = record { pivots = w.most_pivots; cuts = w.most_cuts; splits = w.most_splits; nesting = w.most_nesting };
+      pivots = w.pivots;
+      cuts = w.cuts;
+      splits = w.splits;
+    } };
+
+    ghost invariant = { λ w. (w.pivots ≤ w.most_pivots) × (w.cuts ≤ w.most_cuts) × (w.splits ≤ w.most_splits) };
+}
+
+impl Work {
+    /// Nothing is counted yet.
+    pub fn start(limits: &Limits) -> Work
+        ensures value { result ≡ start_work limits.now }
+        ensures budget { IsBudget result.budget }
+    {
+        Work {
+            most_pivots: limits.pivots(),
+            most_cuts: limits.cuts(),
+            most_splits: limits.splits(),
+            most_nesting: limits.nesting(),
+            pivots: 0,
+            cuts: 0,
+            splits: 0,
+        }
+    }
+
+    /// The number of pivots so far.
+    pub fn pivots(&self) -> u64
+        ensures { result ≡ self.now.pivots }
+    {
+        self.pivots
+    }
+
+    /// The number of cuts so far.
+    pub fn cuts(&self) -> u64
+        ensures { result ≡ self.now.cuts }
+    {
+        self.cuts
+    }
+
+    /// The number of splits so far.
+    pub fn splits(&self) -> u64
+        ensures { result ≡ self.now.splits }
+    {
+        self.splits
+    }
+
+    /// Counts a pivot, before it is made. It is refused exactly where the count stands at its limit, which it does then
+    /// as before.
+    pub fn count_pivot(&mut self) -> Result<(), Refusal>
+        ensures gives { AgreesCounted (λ x. tt) run_fault result self.new (count_pivot_of self.old) }
+        ensures budget { self.new.budget ≡ self.old.budget }
+    {
+        if self.pivots >= self.most_pivots {
+            return Err(Refusal::Pivots(self.most_pivots));
+        }
+        self.pivots += 1;
+        Ok(())
+    }
+
+    /// Counts a cut, before it is made. It is refused exactly where the count stands at its limit, which it does then
+    /// as before.
+    pub fn count_cut(&mut self) -> Result<(), Refusal>
+        ensures gives { AgreesCounted (λ x. tt) run_fault result self.new (count_cut_of self.old) }
+        ensures budget { self.new.budget ≡ self.old.budget }
+    {
+        if self.cuts >= self.most_cuts {
+            return Err(Refusal::Cuts(self.most_cuts));
+        }
+        self.cuts += 1;
+        Ok(())
+    }
+
+    /// Counts a split, before it is made. It is refused exactly where the count stands at its limit, which it does then
+    /// as before.
+    pub fn count_split(&mut self) -> Result<(), Refusal>
+        ensures gives { AgreesCounted (λ x. tt) run_fault result self.new (count_split_of self.old) }
+        ensures budget { self.new.budget ≡ self.old.budget }
+    {
+        if self.splits >= self.most_splits {
+            return Err(Refusal::Splits(self.most_splits));
+        }
+        self.splits += 1;
+        Ok(())
+    }
+
+    /// Refuses n nested nodes exactly where n is above the limit. Nothing is counted.
+    pub fn check_nesting(&self, n: u64) -> Result<(), Refusal>
+        ensures gives { AgreesCounted (λ x. tt) run_fault result self.now (check_nesting_of n self.now) }
+        ensures within { OnOk result (n ≤ self.now.budget.nesting) }
+    {
+        if n > self.most_nesting {
+            return Err(Refusal::Nesting(self.most_nesting));
+        }
+        Ok(())
+    }
+}

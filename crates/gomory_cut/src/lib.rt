@@ -1,0 +1,13 @@
+//! Gomory cuts of a tableau whose constant forms are not whole, by constants and by quotients, the new parameters
+//! (P. Feautrier, "Parametric integer programming", RAIRO 1988).
+#![tactic(auto)]
+
+mod cuts;
+mod fractions;
+
+pub use cuts::{constant_cut, parametric_cut, rewrite};
+pub use fractions::{first_fraction, residue_of};
+pub use tableau::StepRefusal;
+
+#[cfg(test)]
+mod tests;

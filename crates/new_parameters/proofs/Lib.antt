@@ -1,0 +1,4 @@
+pub mod Trimming
+pub mod SameKeys
+pub mod Finding
+pub mod RoundingLaws

@@ -1,0 +1,65 @@
+-- A command that the words give has a budget of nesting that the reader of answers allows.
+use Rattle.std.proofs.Common.{◌≡◌, refl, arith, ℕ, ℤ, ◌≤◌, List, Option, Some, None, Bool, true, false, ◌&&◌, ◌==◌, not, nat_le, length}
+use Rattle.std.proofs.lemmas.Bool.{leb-true}
+use Rattle.std.specs.Prelude.{IfSome, if◌then◌else◌, codes}
+use Rattle.std.specs.List.{list_all}
+use Rattle.std.specs.Str.{bytes_eq}
+use Rattle.std.specs.Option.{option_map}
+use Rattle.clap.specs.Words.{Row, Text, fault_of, subcommand_of, first_of, all_of}
+use Rattle.pip_model.specs.Tokens.{is_digit, natural_of}
+use Rattle.pip_model.specs.Limits.{most_nesting}
+use Rattle.pip_model.specs.Program.{Command, Solve, Eval}
+use Rattle.pip_words.specs.Arguments.{pip_app}
+use Rattle.pip_words.specs.Numbers.{number_of}
+use Rattle.pip_words.specs.Words.{command_of, command_in, solve_of, limit_of, number_or, is_accepted, parameters_of, texts_of, ◌>>=◌}
+
+-- the budget of nesting is one that the reader of answers allows
+abbrev pub IsAsked : Command → Type 0
+IsAsked (Solve o) = o.budget.nesting ≤ most_nesting
+IsAsked c = Unit {0}
+
+chosen : (b : Bool) (x y : Option Command) → IfSome x IsAsked → IfSome y IsAsked → IfSome (if b then x else y) IsAsked
+chosen true x y h k = h
+chosen false x y h k = k
+
+-- a step whose rest is asked for whatever it gives
+then_asked : {A : Type 0} (P : A → Type 0) (a : Option A) (f : A → Option Command) → IfSome a P → ((x : A) → P x → IfSome (f x) IsAsked) → IfSome (a >>= f) IsAsked
+then_asked P None f h k = tt
+then_asked P (Some x) f h k = k x h
+
+any : {A : Type 0} (a : Option A) → IfSome a (λ x. Unit {0})
+any None = tt
+any (Some x) = tt
+
+number_within : (most : ℕ) (text : List ℕ) → IfSome (number_of most text) (λ n. n ≤ most)
+number_within most text = go (not (length text == 0)) (list_all is_digit text) (nat_le (natural_of text) most) (leb-true (natural_of text) most)
+  where
+    go : (a b t : Bool) → (t ≡ true → natural_of text ≤ most) → IfSome (if a && (b && t) then Some (natural_of text) else None) (λ n. n ≤ most)
+    go true true true h = h refl
+    go true true false h = tt
+    go true false t h = tt
+    go false b t h = tt
+
+limit_within : (most default : ℕ) (text : Option Text) → default ≤ most → IfSome (number_or most default text) (λ n. n ≤ most)
+limit_within most default None h = h
+limit_within most default (Some text) h = number_within most text
+
+solve_asked : (rows : List Row) → IfSome (solve_of rows) IsAsked
+solve_asked rows =
+    then_asked (λ x. Unit {0}) (limit_of (codes "pivots") 1000000000 1000000 rows) _ (any _) (λ pivots u.
+    then_asked (λ x. Unit {0}) (limit_of (codes "cuts") 1000000 100000 rows) _ (any _) (λ cuts u.
+    then_asked (λ x. Unit {0}) (limit_of (codes "splits") 1000000 10000 rows) _ (any _) (λ splits u.
+    then_asked (λ n. n ≤ 200) (limit_of (codes "nesting") 200 200 rows) _ (limit_within 200 200 (first_of (codes "nesting") rows) (omega arith)) (λ nesting h. h))))
+
+eval_asked : (u : Option (List ℤ)) → IfSome (option_map Eval u) IsAsked
+eval_asked None = tt
+eval_asked (Some u) = tt
+
+in_asked : (found : Option (Text × List Row)) → IfSome (command_in found) IsAsked
+in_asked None = tt
+in_asked (Some found) =
+    chosen (bytes_eq found.0 (codes "solve")) _ _ (solve_asked found.1)
+    (chosen (bytes_eq found.0 (codes "eval")) _ _ (eval_asked (parameters_of (texts_of (all_of (codes "parameter") found.1)))) tt)
+
+pub command-asked : (words : List Text) → IfSome (command_of words) IsAsked
+command-asked words = chosen (is_accepted (fault_of pip_app words)) _ _ (in_asked (subcommand_of pip_app words)) tt

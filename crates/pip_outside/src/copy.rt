@@ -1,0 +1,14 @@
+ghost use Rattle.std.specs.Prelude.{◌≡◌, ◌<◌, ◌≤◌, [], take, length};
+
+/// Copies a front of the bytes into the front of `buf`, at most `most` of them, and answers how many.
+pub fn copy_front(bytes: &[u8], most: usize, buf: &mut [u8]) -> usize
+    requires { 0 < most }
+    ensures bound { result ≤ length buf.new }
+    ensures within { result ≤ length bytes.now }
+    ensures front { take result buf.new ≡ take result bytes.now }
+    ensures end { result ≡ 0 → 0 < length buf.new → bytes.now ≡ [] }
+{
+    let count = most.min(buf.len()).min(bytes.len());
+    buf[..count].copy_from_slice(&bytes[..count]);
+    count
+}

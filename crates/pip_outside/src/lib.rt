@@ -1,0 +1,30 @@
+//! Where the program's bytes come from and where they go: sources and sinks that count their faults.
+//!
+//! The program is written over [`Source`] and [`Sink`], so its contracts can name the bytes that were read and
+//! written. [`StdSource`] and [`StdSink`] stand over std's readers and writers and tell no content; the other four
+//! stand over memory.
+#![tactic(auto)]
+
+mod copy;
+mod failed;
+mod memory_sink;
+mod memory_source;
+mod sink;
+mod source;
+mod std_sink;
+mod std_source;
+mod steady_sink;
+mod steady_source;
+
+pub use failed::Failed;
+pub use memory_sink::MemorySink;
+pub use memory_source::MemorySource;
+pub use sink::{Sink, write_all};
+pub use source::Source;
+pub use std_sink::StdSink;
+pub use std_source::StdSource;
+pub use steady_sink::SteadySink;
+pub use steady_source::SteadySource;
+
+#[cfg(test)]
+mod tests;

@@ -1,0 +1,37 @@
+ghost use Rattle.std.specs.Prelude.{◌≡◌, ◌+◌, ℕ, List, Option, IfSome};
+ghost use Rattle.std.specs.Io.{WritesAtMost};
+ghost use Rattle.std.specs.Io.KnownBytes.{WriteAppends};
+ghost use Rattle.pip_outside.specs.Faults.{CountsFaults};
+ghost use Rattle.pip_outside.specs.Bytes.{WritesAll, TakesSome};
+
+use crate::failed::Failed;
+
+/// Where bytes are written.
+pub trait Sink {
+    /// The bytes written, where the sink tells them.
+    ghost written: { Self → Option (List ℕ) };
+
+    /// How often a write has failed, up to `2^64 - 1`.
+    ghost faults: { Self → ℕ };
+
+    /// Appends the front of a piece, at least a byte of one that is not empty, and answers how many bytes it took.
+    ///
+    /// A failed write appends nothing, and is counted.
+    fn write(&mut self, piece: &[u8]) -> Result<usize, Failed>
+        ensures bound { WritesAtMost result piece.now }
+        ensures some { TakesSome result piece.now }
+        ensures bytes { WriteAppends (written self.old) (written self.new) result piece.now }
+        ensures cause { CountsFaults (faults self.old) (faults self.new) result };
+}
+
+/// Appends all bytes, or a front of them where a write fails. It takes no memory.
+pub fn write_all<K: Sink>(sink: &mut K, bytes: &[u8]) -> Result<(), Failed>
+    ensures bytes { WritesAll (K.written sink.old) (K.written sink.new) result bytes.now }
+    ensures cause { CountsFaults (K.faults sink.old) (K.faults sink.new) result }
+{
+    let mut at = 0;
+    while at < bytes.len() {
+        at += sink.write(&bytes[at..])?;
+    }
+    Ok(())
+}

@@ -1,0 +1,19 @@
+//! A problem within the limits, the budgets of a run, and the refusals of reading and of solving.
+#![tactic(auto)]
+
+mod feasible;
+mod forms;
+mod limits;
+mod problem;
+mod reading;
+mod refusal;
+#[cfg(test)]
+mod tests;
+
+pub use affine_rows::Bytes;
+pub use feasible::is_feasible;
+pub use limits::Limits;
+pub use pip_model::{LimitKind, Option_};
+pub use problem::Problem;
+pub use reading::{no_big_parameter, within};
+pub use refusal::{ReadRefusal, Refusal};

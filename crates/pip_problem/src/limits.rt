@@ -1,0 +1,73 @@
+ghost use Rattle.std.specs.Prelude.{◌≡◌};
+ghost use Rattle.pip_model.specs.Run.{IsBudget, standard_budget};
+
+use std::marker::Model;
+
+/// The budgets of a run: how many pivots, cuts and splits a problem may take, and how deep its tree may be nested.
+#[derive(Drop)]
+pub struct Limits {
+    pivots: u64,
+    cuts: u64,
+    splits: u64,
+    nesting: u64,
+}
+
+impl Model for Limits {
+    ghost use Rattle.pip_model.specs.Run.{Budget, IsBudget};
+
+    ghost Value = { Budget };
+
+    ghost view = { λ l. record { pivots = l.pivots; cuts = l.cuts; splits = l.splits; nesting = l.nesting } };
+
+    ghost invariant = { λ l. IsBudget (record { pivots = l.pivots; cuts = l.cuts; splits = l.splits; nesting = l.nesting }) };
+}
+
+impl Limits {
+    /// At most 1,000,000,000 pivots, 1,000,000 cuts, 1,000,000 splits and a nesting of 200.
+    pub fn new(pivots: u64, cuts: u64, splits: u64, nesting: u64) -> Limits
+        requires { IsBudget (record { pivots = pivots; cuts = cuts; splits = splits; nesting = nesting }) }
+        ensures { result ≡ record { pivots = pivots; cuts = cuts; splits = splits; nesting = nesting } }
+    {
+        Limits {
+            pivots,
+            cuts,
+            splits,
+            nesting,
+        }
+    }
+
+    /// 1,000,000 pivots, 100,000 cuts, 10,000 splits and a nesting of 200.
+    pub fn standard() -> Limits
+        ensures { result ≡ standard_budget }
+    {
+        Limits::new(1_000_000, 100_000, 10_000, 200)
+    }
+
+    pub fn pivots(&self) -> u64
+        ensures value { result ≡ self.now.pivots }
+        ensures budget { IsBudget self.now }
+    {
+        self.pivots
+    }
+
+    pub fn cuts(&self) -> u64
+        ensures value { result ≡ self.now.cuts }
+        ensures budget { IsBudget self.now }
+    {
+        self.cuts
+    }
+
+    pub fn splits(&self) -> u64
+        ensures value { result ≡ self.now.splits }
+        ensures budget { IsBudget self.now }
+    {
+        self.splits
+    }
+
+    pub fn nesting(&self) -> u64
+        ensures value { result ≡ self.now.nesting }
+        ensures budget { IsBudget self.now }
+    {
+        self.nesting
+    }
+}

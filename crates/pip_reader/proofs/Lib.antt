@@ -1,0 +1,4 @@
+pub mod Fronts
+pub mod Constants
+pub mod Stepwise
+pub mod NoOptions

@@ -1,0 +1,10 @@
+use Rattle.std.proofs.Common.{◌≡◌, ◌-◌, ◌≤◌, length}
+use Rattle.pip_reader.specs.Rows.{form_rows}
+use Rattle.pip_reader.proofs.Fronts.{with_front}
+use Rattle.pip_reader.proofs.block.form_rows.Given as goal
+
+abbrev pub invariant-loop : goal.invariant-loop
+invariant-loop l =
+    (with_front l.forms.items (form_rows l.bytes (l.count - l.counter) l.width l.coefficients l.at) ≡ form_rows l.bytes l.count l.width l.coefficients l.place)
+    × (l.place ≤ l.at)
+    × (l.at ≤ length l.bytes)

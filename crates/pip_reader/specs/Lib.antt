@@ -1,0 +1,5 @@
+pub mod Steps
+pub mod Rows
+pub mod Header
+pub mod Problems
+pub mod Refusals

@@ -1,0 +1,108 @@
+ghost use Rattle.std.specs.Prelude.{◌≡◌, ◌≤◌, ◌<◌, ◌↔◌, length, drop, IsTrue, None, IfOk, IfErr, IfSome};
+ghost use Rattle.std.specs.List.{list_all};
+ghost use Rattle.pip_model.specs.Moved.{is_closed};
+ghost use Rattle.pip_model.specs.NativeText.{problem_at as problem_at_of, read_native};
+ghost use Rattle.pip_model.specs.Printed.{IsGroup};
+ghost use Rattle.pip_model.specs.Agreement.{Agrees};
+ghost use Rattle.pip_problem.specs.Faults.{read_fault};
+ghost use Rattle.pip_reader.specs.Problems.{problem_of, problem_by_steps};
+ghost use Rattle.pip_reader.specs.Refusals.{IsNoOption};
+
+use crate::block::{context_block, form_block};
+use crate::group::group;
+use crate::header::{Sizes, read_mode, read_sizes};
+use crate::steps::expect;
+use affine_rows::{Form, Kind, next_open};
+use pip_problem::{Bytes, Problem, ReadRefusal};
+use std::alloc::Global;
+
+/// What a problem is made of.
+#[derive(Drop)]
+struct Parts {
+    sizes: Sizes,
+    rows: Vec<Form>,
+    context: Vec<Form>,
+    integer: bool,
+    comment: Bytes,
+}
+
+/// The parts of a problem, and the place behind its last `)`.
+fn parts_at(alloc: Global, bytes: &[u8], place: usize) -> Result<(Parts, usize), ReadRefusal>
+    requires { place ≤ length bytes.now }
+    ensures agrees { Agrees (λ x. (problem_of x.0, x.1)) read_fault result (problem_by_steps bytes.now place) }
+    ensures order { IfOk result (λ x. (place < x.1) × (x.1 ≤ length bytes.now)) }
+{
+    let first = expect(bytes, Kind::LeftParen, place)?;
+    let (comment, at) = group(alloc, bytes, first)?;
+    let (sizes, at) = read_sizes(bytes, at)?;
+    let (integer, at) = read_mode(bytes, at)?;
+    let width = sizes.unknowns + 1 + sizes.params;
+    let (rows, at) = form_block(alloc, bytes, sizes.rows, width, sizes.unknowns, at)?;
+    let (context, at) = context_block(alloc, bytes, sizes.context_rows, sizes.params, at)?;
+    let after = expect(bytes, Kind::RightParen, at)?;
+    let parts = Parts {
+        sizes,
+        rows,
+        context,
+        integer,
+        comment,
+    };
+    Ok((parts, after))
+}
+
+/// The problem that begins at a place, and the place behind its last `)`.
+#[tactic(auto, using(crate::proofs::Stepwise::problem_is_by_steps))]
+fn problem_at(alloc: Global, bytes: &[u8], place: usize) -> Result<(Problem, usize), ReadRefusal>
+    requires { place ≤ length bytes.now }
+    ensures agrees { Agrees (λ x. x) read_fault result (problem_at_of bytes.now place) }
+    ensures order { IfOk result (λ x. (place < x.1) × (x.1 ≤ length bytes.now)) }
+    ensures group { IfOk result (λ x. IsGroup x.0.comment) }
+{
+    let (parts, after) = parts_at(alloc, bytes, place)?;
+    let problem = Problem::from_parts(
+        parts.sizes.unknowns,
+        parts.sizes.params,
+        parts.rows,
+        parts.context,
+        parts.integer,
+        parts.comment,
+    );
+    Ok((problem, after))
+}
+
+/// The problem that begins with the first `(` at or behind `start`, and the place behind its last `)`.
+fn first_problem(
+    alloc: Global,
+    bytes: &[u8],
+    start: usize,
+) -> Result<Option<(Problem, usize)>, ReadRefusal>
+    requires { start ≤ length bytes.now }
+    ensures agrees { Agrees (λ x. x) read_fault result (read_native bytes.now start) }
+    ensures place { IfOk result (λ o. IfSome o (λ x. (start < x.1) × (x.1 ≤ length bytes.now))) }
+    ensures group { IfOk result (λ o. IfSome o (λ x. IsGroup x.0.comment)) }
+{
+    match next_open(bytes, start) {
+        None => Ok(None),
+        Some(place) => Ok(Some(problem_at(alloc, bytes, place)?)),
+    }
+}
+
+/// The problem that begins with the first `(` at or behind `start`, and the place behind its last `)`; none exactly where there is no `(`.
+///
+/// The first token that differs from the format decides the refusal, which keeps the place of that token's first byte (the number of bytes at their
+/// end), the count that is out of its range, or the big parameter's column. A number of more than 127 bits where one is expected is `Wide`. It never
+/// answers `OptionWord`. `start` is at most the number of bytes.
+pub fn read_problem(
+    alloc: Global,
+    bytes: &[u8],
+    start: usize,
+) -> Result<Option<(Problem, usize)>, ReadRefusal>
+    requires { start ≤ length bytes.now }
+    ensures agrees { Agrees (λ x. x) read_fault result (read_native bytes.now start) }
+    ensures none { IfOk result (λ o. (o ≡ None) ↔ IsTrue (list_all is_closed (drop start bytes.now))) }
+    ensures place { IfOk result (λ o. IfSome o (λ x. (start < x.1) × (x.1 ≤ length bytes.now))) }
+    ensures group { IfOk result (λ o. IfSome o (λ x. IsGroup x.0.comment)) }
+    ensures no_option { IfErr result IsNoOption }
+{
+    first_problem(alloc, bytes, start)
+}

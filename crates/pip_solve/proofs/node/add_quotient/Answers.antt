@@ -1,0 +1,39 @@
+use Rattle.std.proofs.Common.{rules, arith, ◌≡◌, ◌∙◌, ◌+◌, ◌++◌, ◌∷◌, []}
+use Rattle.pip_model.specs.Cuts as cuts
+use Rattle.new_parameters.specs.Scopes.{size, quotient_at}
+use Rattle.run_laws.proofs.Scopes.{length-bounds}
+use Rattle.pip_solve.proofs.Paths.{quotient_at-added, two_more}
+use Rattle.pip_solve.proofs.node.add_quotient.Goals as goal
+
+pub add-requires-2-clause-narrow : goal.add-requires-2-clause-narrow
+add-requires-2-clause-narrow c =
+    let told : c.in_ok-lower.lower ≡ cuts.lower_bound (c.in_ok-place.place + 1) c.in_ok-place.place (quotient_at c.add.new.self c.in_ok-place.place) = search rules in
+    let place : c.in_ok-place.place ≡ size c.args.q.now = search rules in
+    let now : c.add.new.self ≡ record c.args.q.now { quotients = c.args.q.now.quotients ++ c.args.key ∷ [] } = search rules in
+    let last = quotient_at-added c.args.q.now c.args.key in
+    let lower : c.in_ok-lower.lower ≡ cuts.lower_bound (size c.args.q.now + 1) (size c.args.q.now) c.args.key = cc in
+    let long = length-bounds (size c.args.q.now + 1) (size c.args.q.now) c.args.key (omega (arith, c.requires.wide)) (omega (arith, c.requires.wide)) (omega arith) in
+    let width = c.widen.ensures.width in
+    rw lower (omega (arith, long.0, c.requires.scope, c.widen.ensures.width, c.reserve.ensures))
+
+pub add-requires-3-clause-narrow : goal.add-requires-3-clause-narrow
+add-requires-3-clause-narrow c =
+    let told : c.in_ok-lower.upper ≡ cuts.upper_bound (c.in_ok-place.place + 1) c.in_ok-place.place (quotient_at c.add.new.self c.in_ok-place.place) = search rules in
+    let place : c.in_ok-place.place ≡ size c.args.q.now = search rules in
+    let now : c.add.new.self ≡ record c.args.q.now { quotients = c.args.q.now.quotients ++ c.args.key ∷ [] } = search rules in
+    let last = quotient_at-added c.args.q.now c.args.key in
+    let upper : c.in_ok-lower.upper ≡ cuts.upper_bound (size c.args.q.now + 1) (size c.args.q.now) c.args.key = cc in
+    let long = length-bounds (size c.args.q.now + 1) (size c.args.q.now) c.args.key (omega (arith, c.requires.wide)) (omega (arith, c.requires.wide)) (omega arith) in
+    rw upper (omega (arith, long.1, c.requires.scope, c.widen.ensures.width, c.reserve.ensures, c.add-2.ensures.width))
+
+pub returns-clause-forms : goal.returns-clause-forms
+returns-clause-forms c =
+    let told : c.in_ok-lower.lower ≡ cuts.lower_bound (c.in_ok-place.place + 1) c.in_ok-place.place (quotient_at c.add.new.self c.in_ok-place.place) = search rules in
+    let tells : c.in_ok-lower.upper ≡ cuts.upper_bound (c.in_ok-place.place + 1) c.in_ok-place.place (quotient_at c.add.new.self c.in_ok-place.place) = search rules in
+    let place : c.in_ok-place.place ≡ size c.args.q.now = search rules in
+    let now : c.add.new.self ≡ record c.args.q.now { quotients = c.args.q.now.quotients ++ c.args.key ∷ [] } = search rules in
+    let last = quotient_at-added c.args.q.now c.args.key in
+    let lower : c.in_ok-lower.lower ≡ cuts.lower_bound (size c.args.q.now + 1) (size c.args.q.now) c.args.key = cc in
+    let upper : c.in_ok-lower.upper ≡ cuts.upper_bound (size c.args.q.now + 1) (size c.args.q.now) c.args.key = cc in
+    let both : c.add-3.new.self.forms ≡ c.args.k.now.forms ++ c.in_ok-lower.lower ∷ [] ++ c.in_ok-lower.upper ∷ [] = search rules in
+    both ∙ two_more c.args.k.now.forms c.in_ok-lower.lower c.in_ok-lower.upper ∙ cc

@@ -1,0 +1,33 @@
+use Rattle.std.proofs.Common.{rules, arith, ◌≡◌, ◌∙◌, sym}
+use Rattle.std.specs.Prelude.{IfSome}
+use Rattle.std.proofs.lemmas.Grind.{common_steps}
+use Rattle.pip_model.specs.Rows.{row_at}
+use Rattle.pip_model.specs.Run.{Minus, Done, Refused, class}
+use Rattle.pip_problem.specs.Faults.{run_fault}
+use Rattle.sign_split.specs.Classes.{class_of}
+use Rattle.pip_solve.specs.Signs.{kept_signs}
+use Rattle.pip_solve.proofs.Scanning.{scanned_on, scanned_minus, refused_from, not_minus}
+use Rattle.pip_solve.proofs.scan.scan.Goals as goal
+
+pub returns-in_err-class-clause-gives : goal.returns-in_err-class-clause-gives
+returns-in_err-class-clause-gives c =
+    let given : IfSome (run_fault c.in_err-class.field-0.0) (λ f. class c.args.k.now.forms c.args.k.now.width (row_at c.args.t.now.rows c.loop-i.i).constant c.loop-i.w ≡ Refused f c.class_of_row.new.w) = rw (← c.loop-i.invariant.1, ← c.loop-i.invariant.0) c.in_err-class.ensures.gives in
+    let fault = refused_from c.args.k.now.forms c.args.k.now.width c.loop-i.i (kept_signs c.loop-i.kept) c.args.t.now.rows c.loop-i.w c.class_of_row.new.w (search rules) (run_fault c.in_err-class.field-0.0) given _ c.loop-i.invariant.4 in
+    grind (arith, common_steps, fault)
+
+pub returns-in-Minus-clause-gives : goal.returns-in-Minus-clause-gives
+returns-in-Minus-clause-gives c =
+    let given : class c.args.k.now.forms c.args.k.now.width (row_at c.args.t.now.rows c.loop-i.i).constant c.loop-i.w ≡ Done Minus c.class_of_row.new.w = search rules in
+    sym c.loop-i.invariant.4 ∙ scanned_minus c.args.k.now.forms c.args.k.now.width c.loop-i.i (kept_signs c.loop-i.kept) c.args.t.now.rows c.loop-i.w c.class_of_row.new.w (search rules) given
+
+pub loop-i-preserved : goal.loop-i-preserved
+loop-i-preserved c =
+    let given : class c.args.k.now.forms c.args.k.now.width (row_at c.args.t.now.rows c.loop-i.i).constant c.loop-i.w ≡ Done (class_of c.in_ok-class.class) c.class_of_row.new.w = search rules in
+    let step = scanned_on c.args.k.now.forms c.args.k.now.width c.loop-i.i (kept_signs c.loop-i.kept) c.args.t.now.rows c.loop-i.w c.class_of_row.new.w (search rules) (class_of c.in_ok-class.class) (not_minus c.in_ok-class.class c.in_default.not-Minus) given in (
+      search rules,
+      search rules,
+      search rules,
+      search rules,
+      rw c.with_class-kept.ensures.kept (sym step ∙ c.loop-i.invariant.4),
+      c.with_class-kept.ensures.condition c.args.t.now.width c.loop-i.invariant.5 (search rules),
+    )

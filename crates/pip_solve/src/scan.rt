@@ -1,0 +1,78 @@
+ghost use Rattle.std.specs.Prelude.{◌≡◌, ℕ, ◌<◌, ◌≤◌, IfOk, IfSome, length};
+ghost use Rattle.pip_model.specs.Agreement.{AgreesCounted};
+ghost use Rattle.pip_model.specs.Rows.{row_at};
+ghost use Rattle.pip_model.specs.Run.{AllPlus, class as class_by};
+ghost use Rattle.pip_problem.specs.Faults.{run_fault};
+ghost use Rattle.context.specs.Scoped.{SameContext};
+ghost use Rattle.sign_split.specs.Classes.{class_of};
+ghost use Rattle.pip_solve.specs.Signs.{signs_of, kept_signs, keep_class, scanned, IsCondition, ClassIs, SignsAre};
+
+use affine_rows::Form;
+use context::{Context, Work};
+use pip_problem::Refusal;
+use sign_split::{Class, class_of_entries};
+use std::alloc::Global;
+use tableau::Tableau;
+
+/// The signs of a node's rows: no row is below 0 or of both signs, or the first row below 0, or else the condition of the first row of both signs.
+#[derive(Drop)]
+pub enum Signs {
+    AllPlus,
+    MinusAt(usize),
+    UnknownBy(Form),
+}
+
+// The class of the constant form of row i.
+fn class_of_row(
+    alloc: Global,
+    t: &Tableau,
+    i: usize,
+    k: &mut Context,
+    w: &mut Work,
+) -> Result<Class, Refusal>
+    requires row { i < length t.now.rows }
+    requires scope { k.old.width ≡ t.now.width }
+    requires room { 1 ≤ k.old.spare }
+    ensures gives { AgreesCounted class_of run_fault result w.new (class_by k.old.forms k.old.width (row_at t.now.rows i).constant w.old) }
+    ensures class { IfOk result (ClassIs t.now.width) }
+    ensures budget { w.new.budget ≡ w.old.budget }
+    ensures same { SameContext k.old k.new }
+    ensures spare { k.old.spare ≤ k.new.spare }
+{
+    let row = t.row(i);
+    class_of_entries(alloc, k, row.constant, w)
+}
+
+// The condition kept, which is the first of an unknown sign.
+fn with_class(kept: Option<Form>, class: Class) -> Option<Form>
+    ensures kept { kept_signs result ≡ keep_class (kept_signs kept) (class_of class) }
+    ensures condition { (n : ℕ) → IfSome kept (IsCondition n) → ClassIs n class → IfSome result (IsCondition n) }
+{
+    match (kept, class) {
+        (None, Class::Unknown(condition)) => Some(condition),
+        (kept, _) => kept,
+    }
+}
+
+/// The rows are classed in order. The scan ends at the first row below 0, and the condition of the first of both signs is kept.
+pub fn scan(alloc: Global, t: &Tableau, k: &mut Context, w: &mut Work) -> Result<Signs, Refusal>
+    requires scope { k.old.width ≡ t.now.width }
+    requires room { 1 ≤ k.old.spare }
+    ensures gives { AgreesCounted signs_of run_fault result w.new (scanned k.old.forms k.old.width 0 AllPlus t.now.rows w.old) }
+    ensures signs { IfOk result (SignsAre (length t.now.rows) t.now.width) }
+    ensures budget { w.new.budget ≡ w.old.budget }
+    ensures same { SameContext k.old k.new }
+    ensures spare { k.old.spare ≤ k.new.spare }
+{
+    let mut kept = None;
+    for i in 0..t.rows() {
+        match class_of_row(alloc, t, i, k, w)? {
+            Class::Minus => return Ok(Signs::MinusAt(i)),
+            class => kept = with_class(kept, class),
+        }
+    }
+    match kept {
+        None => Ok(Signs::AllPlus),
+        Some(condition) => Ok(Signs::UnknownBy(condition)),
+    }
+}

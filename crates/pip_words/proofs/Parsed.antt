@@ -1,0 +1,41 @@
+-- From clap's clauses to the command that the words give.
+use Rattle.std.proofs.Common.{◌≡◌, ◌∙◌, refl, sym, subst, ap, ap₂, true, cond, List, [], ◌∷◌, Option, None, inl, inr}
+use Rattle.clap.specs.Words.{App, HasKind, HasMatchesOf, IsAmong, Kinds, Text, fault_of, is_simple, is_simple_and_free, kind_of, subcommand_of, subcommand_rows_of}
+use Rattle.clap.specs.declared.ArgMatches.{ArgMatches}
+use Rattle.clap.specs.declared.Error.{Error}
+use Rattle.clap.specs.declared.error.ErrorKind.{ErrorKind}
+use Rattle.clap.specs.declared.error.ErrorKind.TheVariants as kind
+use Rattle.pip_model.specs.Program.{Command}
+use Rattle.pip_words.specs.Arguments.{pip_app}
+use Rattle.pip_words.specs.Words.{command_of, command_in, is_accepted}
+
+is_free : is_simple_and_free pip_app ≡ true
+is_free = refl
+
+simple : is_simple pip_app ≡ true
+simple = refl
+
+no_fault : (ks : Kinds) (o : Option Command) → ks ≡ [] → cond (is_accepted ks) o None ≡ o
+no_fault [] o e = refl
+no_fault (k ∷ ks) o e = cc
+
+fault : (ks : Kinds) (o : Option Command) (k : ErrorKind) → IsAmong k ks → cond (is_accepted ks) o None ≡ None
+fault [] o k h = absurd h
+fault (x ∷ ks) o k h = refl
+
+pub accepted : (a : App) (ws vs : List Text) (m : ArgMatches) → a ≡ pip_app → vs ≡ ws
+    → (is_simple_and_free a ≡ true → fault_of a vs ≡ []) → HasMatchesOf a vs m
+    → command_of ws ≡ command_in (subcommand_rows_of m)
+accepted a ws vs m app words fails has =
+    no_fault (fault_of pip_app ws) (command_in (subcommand_of pip_app ws))
+    (ap₂ fault_of (sym app) (sym words) ∙ fails (ap is_simple_and_free app ∙ is_free))
+    ∙ ap command_in (ap₂ subcommand_of (sym app) (sym words) ∙ sym ((has (ap is_simple app ∙ simple)).1))
+
+pub refused : (a : App) (ws vs : List Text) (e : Error) → a ≡ pip_app → vs ≡ ws
+    → (is_simple_and_free a ≡ true → HasKind (fault_of a vs) e) → (kind_of e ≡ kind.OutOfMemory → ⊥)
+    → command_of ws ≡ None
+refused a ws vs e app words fails other = elim (fails (ap is_simple_and_free app ∙ is_free)) [
+  | inl h ↦ absurd (other h)
+  | inr h ↦ fault (fault_of pip_app ws) (command_in (subcommand_of pip_app ws)) (kind_of e)
+      (subst (IsAmong (kind_of e)) (ap₂ fault_of app words) h)
+]

@@ -1,0 +1,88 @@
+-- The command that the words of the command line give, over clap's definition of a simple command.
+use Rattle.std.specs.Prelude.{ℕ, ℤ, Bool, true, false, List, [], ◌∷◌, Option, Some, None, codes, if◌then◌else◌, nat_le, length, option_map}
+use Rattle.std.specs.Option.{option_map_or}
+use Rattle.std.specs.Str.{bytes_eq}
+use Rattle.clap.specs.Words.{Row, Text, Kinds, fault_of, subcommand_of, first_of, all_of}
+use Rattle.pip_model.specs.Limits.{most_params, most_pivots, most_cuts, most_splits, most_nesting}
+use Rattle.pip_model.specs.Run.{standard_budget}
+use Rattle.pip_model.specs.Program.{Command, Solve, Eval}
+use Rattle.pip_words.specs.Arguments.{pip_app}
+use Rattle.pip_words.specs.Numbers.{number_of, parameter_of}
+use Rattle.pip_words.specs.declared.command.Command.{Command as Given}
+use Rattle.pip_words.specs.declared.command.Command.TheVariants as given
+
+-- what the code's command is in the model
+abbrev pub meaning_of : Given → Command
+meaning_of (given.Solve o) = Solve (record { polylib = o.polylib; simplify = false; budget = o.limits })
+meaning_of (given.Eval u) = Eval u
+
+infixl 10 ◌>>=◌
+abbrev pub ◌>>=◌ : {A B : Type 0} → Option A → (A → Option B) → Option B
+None >>= f = None
+(Some x) >>= f = f x
+
+-- the flag is given
+abbrev pub flag_of : Text → List Row → Bool
+flag_of name rows = option_map_or (λ text. bytes_eq text (codes "true")) (first_of name rows) false
+
+-- the number of an option's text, or the default where it is not given
+abbrev pub number_or : ℕ → ℕ → Option Text → Option ℕ
+number_or most default None = Some default
+number_or most default (Some text) = number_of most text
+
+-- the number of an option, of at most `most`
+abbrev pub limit_of : Text → ℕ → ℕ → List Row → Option ℕ
+limit_of name most default rows = number_or most default (first_of name rows)
+
+-- solve [--polylib] [--pivots N] [--cuts N] [--splits N] [--nesting N]
+abbrev pub solve_of : List Row → Option Command
+solve_of rows = do
+  pivots ← limit_of (codes "pivots") most_pivots standard_budget.pivots rows
+  cuts ← limit_of (codes "cuts") most_cuts standard_budget.cuts rows
+  splits ← limit_of (codes "splits") most_splits standard_budget.splits rows
+  nesting ← limit_of (codes "nesting") most_nesting standard_budget.nesting rows
+  Some (Solve (record {
+    polylib = flag_of (codes "polylib") rows;
+    simplify = false;
+    budget = record { pivots = pivots; cuts = cuts; splits = splits; nesting = nesting };
+  }))
+
+abbrev pub all_parameters : List Text → Option (List ℤ)
+all_parameters [] = Some []
+all_parameters (text ∷ texts) = do
+  z ← parameter_of text
+  zs ← all_parameters texts
+  Some (z ∷ zs)
+
+-- at most as many numbers as there may be parameters
+abbrev pub parameters_of : List Text → Option (List ℤ)
+parameters_of texts = if nat_le (length texts) most_params then all_parameters texts else None
+
+-- the texts of a positional argument
+abbrev pub texts_of : Option (List Text) → List Text
+texts_of None = []
+texts_of (Some texts) = texts
+
+-- eval P1 .. Pm
+abbrev pub eval_of : List Row → Option Command
+eval_of rows = option_map Eval (parameters_of (texts_of (all_of (codes "parameter") rows)))
+
+-- the command of this name
+abbrev pub command_named : Text → List Row → Option Command
+command_named name rows =
+    if bytes_eq name (codes "solve") then solve_of rows
+    else (if bytes_eq name (codes "eval") then eval_of rows
+    else None)
+
+abbrev pub command_in : Option (Text × List Row) → Option Command
+command_in None = None
+command_in (Some found) = command_named found.0 found.1
+
+-- there is no fault
+abbrev pub is_accepted : Kinds → Bool
+is_accepted [] = true
+is_accepted (kind ∷ kinds) = false
+
+-- the command that the words give, if any; the first word is the program's name
+abbrev pub command_of : List Text → Option Command
+command_of words = if is_accepted (fault_of pip_app words) then command_in (subcommand_of pip_app words) else None

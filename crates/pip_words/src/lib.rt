@@ -1,0 +1,16 @@
+//! The words of the command line.
+#![tactic(auto)]
+
+mod arguments;
+mod command;
+mod number;
+mod parameter_vector;
+mod reading;
+mod refusal;
+#[cfg(test)]
+mod tests;
+
+pub use command::{Command, SolveOptions};
+pub use parameter_vector::ParameterVector;
+pub use reading::read_words;
+pub use refusal::WordsRefusal;

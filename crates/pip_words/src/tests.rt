@@ -1,0 +1,92 @@
+use crate::{Command, WordsRefusal, read_words};
+use std::alloc::Global;
+use std::test::Fail;
+
+/// The command that a line's words give, in words of the test.
+fn read(alloc: Global, line: &str) -> Result<String, Fail> {
+    let mut words: Vec<String> = Vec::new(alloc);
+    for word in line.split(' ') {
+        words.push(String::from_str(alloc, word)?)?;
+    }
+    let text = match read_words(alloc, &words) {
+        Ok(Command::Solve(options)) => {
+            let limits = &options.limits;
+            format!(in alloc;
+                "solve {} {} {} {} {}",
+                options.polylib,
+                limits.pivots(),
+                limits.cuts(),
+                limits.splits(),
+                limits.nesting()
+            )?
+        }
+        Ok(Command::Eval(vector)) => format!(in alloc; "eval {:?}", vector.as_slice())?,
+        Err(WordsRefusal::Usage) => format!(in alloc; "usage")?,
+        Err(WordsRefusal::WantOfMemory) => format!(in alloc; "want of memory")?,
+    };
+    Ok(text)
+}
+
+#[test]
+fn words_of_lines(rt: HostRuntime) -> Result<(), Fail> {
+    let alloc = rt.alloc();
+    let rows = [
+        ("pip", "usage"),
+        ("pip solve", "solve false 1000000 100000 10000 200"),
+        (
+            "pip solve --polylib --cuts 0",
+            "solve true 1000000 0 10000 200",
+        ),
+        (
+            "pip solve --pivots=1000000000 --cuts 1000000 --splits 1000000 --nesting 0",
+            "solve false 1000000000 1000000 1000000 0",
+        ),
+        (
+            "pip solve --pivots 0005 --",
+            "solve false 5 100000 10000 200",
+        ),
+        ("pip solve --pivots 1000000001", "usage"),
+        ("pip solve --cuts 1000001", "usage"),
+        ("pip solve --splits 1000001", "usage"),
+        ("pip solve --nesting 201", "usage"),
+        ("pip solve --pivots x", "usage"),
+        ("pip solve --pivots +5", "usage"),
+        ("pip solve --pivots=", "usage"),
+        ("pip solve --pivots", "usage"),
+        ("pip solve --pivot 5", "usage"),
+        ("pip solve --polylib --polylib", "usage"),
+        ("pip solve --simplify", "usage"),
+        ("pip solve extra", "usage"),
+        ("pip SOLVE", "usage"),
+        ("pip --help", "usage"),
+        ("pip help", "usage"),
+        ("pip solve -h", "usage"),
+        ("pip --version", "usage"),
+        ("pip eval", "eval []"),
+        ("pip eval 1 02 -- 3", "eval [1, 2, 3]"),
+        (
+            "pip eval 170141183460469231731687303715884105727",
+            "eval [170141183460469231731687303715884105727]",
+        ),
+        ("pip eval 170141183460469231731687303715884105728", "usage"),
+        ("pip eval -1", "usage"),
+        ("pip eval -- -1", "usage"),
+        ("pip eval x", "usage"),
+        (
+            "pip eval 1 1 1 1 1 1 1 1 1 1 1 1 1 1 1 1 1 1 1 1 1 1 1 1 1 1 1 1 1 1 1 1",
+            "eval [1, 1, 1, 1, 1, 1, 1, 1, 1, 1, 1, 1, 1, 1, 1, 1, 1, 1, 1, 1, 1, 1, 1, 1, 1, 1, 1, 1, 1, 1, 1, 1]",
+        ),
+        (
+            "pip eval 1 1 1 1 1 1 1 1 1 1 1 1 1 1 1 1 1 1 1 1 1 1 1 1 1 1 1 1 1 1 1 1 1",
+            "usage",
+        ),
+        ("pip simplify 1", "usage"),
+        ("pip check", "usage"),
+        ("pip trial 7 0", "usage"),
+    ];
+    for (line, wanted) in rows {
+        let text = read(alloc, line)?;
+        assert_eq!(rt; text.as_str(), wanted, "at {line}");
+    }
+    Ok(())
+}

@@ -1,0 +1,5 @@
+pub mod Chains
+pub mod Fronts
+pub mod Options
+pub mod Problems
+pub mod Spelling

@@ -1,0 +1,15 @@
+use Rattle.std.proofs.Common.{◌≡◌, ◌-◌, ◌≤◌, length}
+use Rattle.std.specs.Prelude.{All}
+use Rattle.affine_rows.specs.Checks.{Fits}
+use Rattle.pip_model.specs.MatrixText.{matrix_numbers}
+use Rattle.polylib_reader.proofs.Fronts.{with_front}
+use Rattle.polylib_reader.proofs.number.numbers.Given as goal
+
+abbrev pub invariant-loop : goal.invariant-loop
+invariant-loop l = record {
+  so_far : with_front l.read.items (matrix_numbers l.bytes (l.count - l.counter) l.at) ≡ matrix_numbers l.bytes l.count l.place;
+  count : length l.read.items ≡ l.counter;
+  fits : All Fits l.read.items;
+  behind : l.place ≤ l.at;
+  within : l.at ≤ length l.bytes;
+}

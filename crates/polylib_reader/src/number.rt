@@ -1,0 +1,77 @@
+ghost use Rattle.std.specs.Prelude.{◌≡◌, ◌≤◌, length, All, IfOk};
+ghost use Rattle.pip_model.specs.MatrixText.{number_word as number_word_of, matrix_number, matrix_numbers};
+ghost use Rattle.pip_model.specs.Agreement.{Agrees};
+ghost use Rattle.affine_rows.specs.Checks.{Fits};
+ghost use Rattle.pip_problem.specs.Faults.{read_fault};
+ghost use Rattle.polylib_reader.specs.Words.{word_of};
+ghost use Rattle.polylib_reader.specs.Matrices.{limited as limited_of};
+
+use crate::word::{Word, next_word};
+use affine_rows::{digits, integer, unsigned_part};
+use pip_problem::{LimitKind, ReadRefusal, within};
+use std::alloc::Global;
+
+/// The number that a word spells, and the place behind it.
+pub fn number_word(word: &Word<'_>) -> Result<(i128, usize), ReadRefusal>
+    ensures agrees { Agrees (λ x. x) read_fault result (number_word_of (word_of word.now)) }
+    ensures fits { IfOk result (λ x. Fits x.0) }
+    ensures place { IfOk result (λ x. x.1 ≡ word.now.after) }
+{
+    let unsigned = unsigned_part(word.text);
+    if unsigned.is_empty() || digits(unsigned).len() != unsigned.len() {
+        return Err(ReadRefusal::Syntax(word.start));
+    }
+    match integer(word.text) {
+        Some(number) => Ok((number, word.after)),
+        None => Err(ReadRefusal::Wide(word.start)),
+    }
+}
+
+/// The number that is the next word, and the place behind it.
+pub fn number(bytes: &[u8], place: usize) -> Result<(i128, usize), ReadRefusal>
+    requires { place ≤ length bytes.now }
+    ensures agrees { Agrees (λ x. x) read_fault result (matrix_number bytes.now place) }
+    ensures fits { IfOk result (λ x. Fits x.0) }
+    ensures order { IfOk result (λ x. (place ≤ x.1) × (x.1 ≤ length bytes.now)) }
+{
+    number_word(&next_word(bytes, place))
+}
+
+/// So many numbers, and the place behind them.
+pub fn numbers(
+    alloc: Global,
+    bytes: &[u8],
+    count: usize,
+    place: usize,
+) -> Result<(Vec<i128>, usize), ReadRefusal>
+    requires { place ≤ length bytes.now }
+    ensures agrees { Agrees (λ x. (x.0.items, x.1)) read_fault result (matrix_numbers bytes.now count place) }
+    ensures count { IfOk result (λ x. length x.0.items ≡ count) }
+    ensures fits { IfOk result (λ x. All Fits x.0.items) }
+    ensures order { IfOk result (λ x. (place ≤ x.1) × (x.1 ≤ length bytes.now)) }
+{
+    let mut read = Vec::with_capacity(alloc, count)?;
+    let mut at = place;
+    for _ in 0..count {
+        let (entry, after) = number(bytes, at)?;
+        read.push(entry)?;
+        at = after;
+    }
+    Ok((read, at))
+}
+
+/// The number that is the next word, from `low` to `high`, and the place behind it.
+pub fn limited(
+    bytes: &[u8],
+    kind: LimitKind,
+    low: usize,
+    high: usize,
+    place: usize,
+) -> Result<(usize, usize), ReadRefusal>
+    requires { place ≤ length bytes.now }
+    ensures agrees { Agrees (λ x. x) read_fault result (limited_of bytes.now kind low high place) }
+    ensures range { IfOk result (λ x. (low ≤ x.0) × (x.0 ≤ high)) }
+    ensures order { IfOk result (λ x. (place ≤ x.1) × (x.1 ≤ length bytes.now)) }
+{
+    within(kind, low, high, number(bytes, place)?)
+}

@@ -1,0 +1,32 @@
+-- Tests that are true, and what they tell.
+use Rattle.std.proofs.Common.{◌≡◌, ◌≤◌, ◌+◌, ℕ, ℤ, pos, negsuc, ◌≤ℤ◌, refl, sym, arith, Bool, true, false, ◌&&◌, ◌==◌, IsTrue, List, [], ◌∷◌, length, eqb-true}
+use Rattle.std.proofs.lemmas.Int.{ints}
+use Rattle.std.proofs.lemmas.Bool.{and_from}
+use Rattle.std.proofs.lemmas.Bool.Decides.{nat_tests}
+use Rattle.std.proofs.lemmas.List.Elements.{All-cons, All-head, All-tail, All-nil}
+use Rattle.std.specs.Prelude.{All, nat_le, int_le}
+use Rattle.std.specs.List.{list_all}
+use Rattle.pip_model.specs.Numbers.{fits}
+use Rattle.pip_model.specs.Listed.{all_fit}
+use Rattle.pip_model.specs.Tree.{is_form}
+use Rattle.affine_rows.specs.Checks.{Fits}
+
+pub is_form_from : (w : ℕ) (v : List ℤ) → length v ≡ w + 1 → IsTrue (is_form w v)
+is_form_from w v e = grind (arith, nat_tests)
+
+pub form_length : (w : ℕ) (v : List ℤ) → IsTrue (is_form w v) → length v ≡ w + 1
+form_length w v h = eqb-true (length v) (w + 1) h
+
+pub nat_le_from : (a b : ℕ) → a ≤ b → IsTrue (nat_le a b)
+nat_le_from a b h = grind (arith, nat_tests)
+
+pub one_le_from : (d : ℤ) → pos 1 ≤ℤ d → IsTrue (int_le (pos 1) d)
+one_le_from d h = let e : true ≡ int_le (pos 1) d = omega (arith, ints) in sym e
+
+-- all of a list pass a test
+pub list_all_from : {X : Type 0} (P : X → Type 0) (test : X → Bool) (xs : List X) → ((x : X) → P x → IsTrue (test x)) → All P xs → IsTrue (list_all test xs)
+list_all_from P test [] f h = refl
+list_all_from P test (x ∷ xs) f h = and_from (test x) (list_all test xs) (f x (All-head P x xs h)) (list_all_from P test xs f (All-tail P x xs h))
+
+pub all_fit_from : (v : List ℤ) → All Fits v → IsTrue (all_fit v)
+all_fit_from v h = list_all_from Fits fits v (λ x p. p) h

@@ -1,0 +1,6 @@
+pub mod Conditions
+pub mod Scopes
+pub mod Lists
+pub mod Lowest
+pub mod Numerators
+pub mod Paths

@@ -1,0 +1,8 @@
+use Rattle.std.proofs.Common.{arith}
+use Rattle.std.proofs.lemmas.List.Edits.{map_over_more}
+use Rattle.pip_model.specs.Simplified.{component_without}
+use Rattle.quast.proofs.component.Components.remove.Goals as goal
+
+pub loop-c-preserved : goal.loop-c-preserved
+loop-c-preserved c =
+    rw (c.remove.ensures, ← c.c-item.is) (map_over_more (component_without c.args.i) c.deref_mut-c-items.result.now c.loop-c.c-items c.loop-c.c-index c.c-item.result (omega arith) c.loop-c.invariant c.c-item.is)

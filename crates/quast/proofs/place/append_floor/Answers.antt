@@ -1,0 +1,10 @@
+use Rattle.std.proofs.Common.{◌≡◌, ◌++◌, ◌∷◌, [], rules}
+use Rattle.std.proofs.lemmas.List.Elements.{All-push}
+use Rattle.pip_model.specs.Numbers.{floor_div}
+use Rattle.affine_rows.specs.Checks.{Fits}
+use Rattle.quast.proofs.place.append_floor.Goals as goal
+
+pub returns-clause-fits : goal.returns-clause-fits
+returns-clause-fits c =
+    let items : c.push.new.self.items ≡ c.args.vector.now.items ++ c.floor_div.result ∷ [] = search rules in
+    rw items (All-push Fits _ _ c.requires.fits (search rules))

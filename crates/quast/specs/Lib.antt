@@ -1,0 +1,4 @@
+pub mod Components
+pub mod Trees
+pub mod Answers
+pub mod Places

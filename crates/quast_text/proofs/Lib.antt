@@ -1,0 +1,8 @@
+pub mod Spellings
+pub mod Fronts
+pub mod Words
+pub mod Lowest
+pub mod Denominators
+pub mod TreeSteps
+pub mod ListSteps
+pub mod Found

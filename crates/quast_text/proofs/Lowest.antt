@@ -1,0 +1,61 @@
+-- Lowest terms: their divisor, and components that are in them.
+use Rattle.std.proofs.Common.{◌≡◌, ◌∙◌, refl, ap, sym, length, ℕ, zero, suc, ◌<◌, ◌≤◌, ℤ, pos, negsuc, ◌≤ℤ◌, ◌*ℤ◌, unsigned_abs, Bool, true, false, arith, List}
+use Rattle.std.proofs.lemmas.Int.{ints}
+use Rattle.std.proofs.Math.Nat.{le_of_dvd}
+use Rattle.pip_model.specs.Numbers.{floor_div, gcd, gcd_of, is_zero, lcm}
+use Rattle.pip_model.proofs.Order.{mul_pp}
+use Rattle.affine_rows.proofs.Divisors.{quotient_positive}
+use Rattle.quast_text.proofs.Spellings.{gcd_positive}
+use Rattle.std.specs.Prelude.{Ok, int_le, ◌&&◌}
+use Rattle.pip_model.specs.Forms.{floor_divided}
+use Rattle.pip_model.specs.Numbers.{same_number}
+use Rattle.pip_model.specs.Tree.{Component, reduced, is_form}
+use Rattle.pip_model.specs.TreeText.{component}
+use Rattle.pip_model.proofs.Tests.{three, same_number_is}
+use Rattle.affine_rows.proofs.Divisors.{floor_divided_one}
+use Rattle.text_laws.proofs.Gcd.{common-IsGcd}
+use Rattle.text_laws.proofs.ReadPlaces.{Read, ok_value}
+use Rattle.text_laws.proofs.ReadComponents.{IsRead, component-reads}
+
+pub gcd_below : (c d : ℤ) → pos 1 ≤ℤ d → gcd c d ≤ℤ d
+gcd_below c (negsuc n) h = absurd (omega (arith, ints))
+gcd_below c (pos n) h =
+    let some : 0 < n = omega (arith, ints) in
+    let p = le_of_dvd some (common-IsGcd (unsigned_abs c) n).1 in
+    omega (arith, ints)
+
+pub zero_yes : (x : ℤ) → x ≡ pos 0 → is_zero x ≡ true
+zero_yes x e = rw e refl
+
+pub zero_no : (x : ℤ) → ¬ (x ≡ pos 0) → is_zero x ≡ false
+zero_no (pos zero) h = absurd (h refl)
+zero_no (pos (suc n)) h = refl
+zero_no (negsuc n) h = refl
+
+pub from_one : (x : ℤ) → pos 0 ≤ℤ x → ¬ (x ≡ pos 0) → pos 1 ≤ℤ x
+from_one (pos zero) h k = absurd (k refl)
+from_one (pos (suc n)) h k = omega (arith, ints)
+from_one (negsuc n) h k = absurd (omega (arith, ints))
+
+product_positive : (x y : ℤ) → pos 1 ≤ℤ x → pos 1 ≤ℤ y → pos 1 ≤ℤ (x *ℤ y)
+product_positive x y h k = let p = mul_pp x y (omega (arith, ints)) (omega (arith, ints)) in omega (arith, ints)
+
+pub lcm_positive : (a b : ℤ) → pos 1 ≤ℤ a → pos 1 ≤ℤ b → pos 1 ≤ℤ lcm a b
+lcm_positive a b h k = product_positive a (floor_div b (gcd a b)) h (quotient_positive b (gcd a b) (gcd_positive a b k) (gcd_below a b k))
+
+-- ---- a component that is read is in lowest terms already
+
+div_one : (x : ℤ) → floor_div x (pos 1) ≡ x
+div_one (pos n) = omega (arith, ints)
+div_one (negsuc n) = omega (arith, ints)
+
+same_reduced : (c : Component) (g : ℤ) → gcd c.den (gcd_of c.form) ≡ g → g ≡ pos 1 → reduced c.den c.form ≡ c
+same_reduced c g is one =
+    let e : gcd c.den (gcd_of c.form) ≡ pos 1 = is ∙ one in
+    rw (e, div_one c.den, floor_divided_one c.form) refl
+
+pub read_reduced : (bytes : List ℕ) (w place : ℕ) (c : Component) (after : ℕ) → place ≤ length bytes → component bytes w place ≡ Ok (c, after) → component bytes w place ≡ Ok (reduced c.den c.form, after)
+read_reduced bytes w place c after h e =
+    let is = (ok_value (component bytes w place) (Read bytes place (IsRead w)) (c, after) e (component-reads bytes w place h)).value in
+    let parts = three (int_le (pos 1) c.den) (is_form w c.form) (same_number (gcd c.den (gcd_of c.form)) (pos 1)) is.0 in
+    e ∙ ap (λ (d : Component). Ok (d, after)) (sym (same_reduced c _ refl (same_number_is (gcd c.den (gcd_of c.form)) (pos 1) parts.2)))

@@ -1,0 +1,78 @@
+-- Texts of lists, and numbers over a denominator.
+use Rattle.std.proofs.Common.{◌≡◌, ◌∙◌, ◌≤◌, refl, ap, sym, length, take, append_assoc, codes, if◌then◌else◌, ℕ, ℤ, pos, negsuc, ◌≤ℤ◌, ◌<◌, unsigned_abs, Bool, true, false, arith, List, [], ◌∷◌, ◌++◌, flat_map}
+use Rattle.std.proofs.lemmas.Int.{ints}
+use Rattle.std.proofs.lemmas.Bool.Decides.{nat_tests}
+use Rattle.std.proofs.lemmas.List.{append-nil, take_all}
+use Rattle.std.specs.Fmt.{signed_decimal}
+use Rattle.std.proofs.Math.Nat.{pos_of_dvd_of_pos}
+use Rattle.std.specs.Prelude.{Result, Ok, Err, OnOk, is_err}
+use Rattle.pip_model.specs.Numbers.{floor_div, gcd, same_number}
+use Rattle.pip_model.specs.Tree.{Component}
+use Rattle.pip_model.specs.TreeText.{spell_numbers, spell_fraction, spell_fractions, spell_components}
+use Rattle.text_laws.proofs.Gcd.{common-IsGcd}
+use Rattle.quast_text.specs.Printing.{Begins, spell_entry, spell_denominator, spell_term, spell_component}
+
+pub numbers_flat : (cs : List ℤ) → flat_map spell_entry cs ≡ spell_numbers cs
+numbers_flat [] = refl
+numbers_flat (c ∷ cs) = ap (λ t. spell_entry c ++ t) (numbers_flat cs)
+
+pub fractions_flat : (d : ℤ) (cs : List ℤ) → flat_map (spell_term d) cs ≡ spell_fractions d cs
+fractions_flat d [] = refl
+fractions_flat d (c ∷ cs) = ap (λ t. spell_term d c ++ t) (fractions_flat d cs)
+
+pub components_flat : (cs : List Component) → flat_map spell_component cs ≡ spell_components cs
+components_flat [] = refl
+components_flat (c ∷ cs) = ap (λ t. spell_component c ++ t) (components_flat cs)
+
+-- the text of all elements once they are gone through
+pub written : {X : Type 0} (f : X → List ℕ) (xs : List X) (i : ℕ) (text : List ℕ) → length xs ≤ i → flat_map f xs ≡ text → flat_map f (take i xs) ≡ text
+written f xs i text h e = rw (take_all i xs h) e
+
+-- ---- lowest terms
+
+either : (b : Bool) (text over : List ℕ) → (if b then text else text ++ over) ≡ text ++ (if b then [] else over)
+either true text over = sym (append-nil text)
+either false text over = refl
+
+-- the text of a fraction is its numerator, and what stands behind that
+pub fraction_parts : (c d : ℤ) → spell_fraction c d ≡ signed_decimal (floor_div c (gcd c d)) ++ spell_denominator d (gcd c d)
+fraction_parts c d =
+    ap (λ t. if same_number (gcd c d) d then signed_decimal (floor_div c (gcd c d)) else t) (append_assoc (signed_decimal (floor_div c (gcd c d))) (codes "/") (signed_decimal (floor_div d (gcd c d))))
+    ∙ either (same_number (gcd c d) d) (signed_decimal (floor_div c (gcd c d))) (codes "/" ++ signed_decimal (floor_div d (gcd c d)))
+
+pub gcd_positive : (c d : ℤ) → pos 1 ≤ℤ d → pos 1 ≤ℤ gcd c d
+gcd_positive c (negsuc n) h = absurd (omega (arith, ints))
+gcd_positive c (pos n) h =
+    let some : 0 < n = omega (arith, ints) in
+    let p = pos_of_dvd_of_pos (common-IsGcd (unsigned_abs c) n).1 some in
+    omega (arith, ints)
+
+pub same_yes : (x y : ℤ) → x ≡ y → same_number x y ≡ true
+same_yes (pos a) (pos b) e = let h : a ≡ b = ap unsigned_abs e in grind (arith, nat_tests)
+same_yes (negsuc a) (negsuc b) e = let h : a ≡ b = omega (arith, ap unsigned_abs e) in grind (arith, nat_tests)
+same_yes (pos a) (negsuc b) e = cc
+same_yes (negsuc a) (pos b) e = cc
+
+pub same_no : (x y : ℤ) → ¬ (x ≡ y) → same_number x y ≡ false
+same_no (pos a) (pos b) h = let k : ¬ (a ≡ b) = λ e. h (ap pos e) in grind (arith, nat_tests)
+same_no (negsuc a) (negsuc b) h = let k : ¬ (a ≡ b) = λ e. h (ap negsuc e) in grind (arith, nat_tests)
+same_no (pos a) (negsuc b) h = refl
+same_no (negsuc a) (pos b) h = refl
+
+-- ---- what is written goes on from what was
+
+pub begins_through : (a b c : List ℕ) → Begins a b → Begins b c → Begins a c
+begins_through a b c p q = record { rest = p.rest ++ q.rest; is = q.is ∙ ap (λ t. t ++ q.rest) p.is ∙ append_assoc a p.rest q.rest }
+
+pub on_ok : {X E : Type 0} (r : Result X E) (P Q : Type 0) → (P → Q) → OnOk r P → OnOk r Q
+on_ok (Ok x) P Q f h = f h
+on_ok (Err e) P Q f h = h
+
+pub fraction_written : (old mid new : List ℕ) (c d g : ℤ) → g ≡ gcd c d → mid ≡ old ++ signed_decimal (floor_div c g) → new ≡ mid ++ spell_denominator d g → new ≡ old ++ spell_fraction c d
+fraction_written old mid new c d g is first second =
+    second ∙ ap (λ t. t ++ spell_denominator d g) first ∙ append_assoc old (signed_decimal (floor_div c g)) (spell_denominator d g)
+    ∙ ap (λ z. old ++ (signed_decimal (floor_div c z) ++ spell_denominator d z)) is ∙ ap (λ t. old ++ t) (sym (fraction_parts c d))
+
+pub at_ok : {X E : Type 0} (r : Result X E) (P : Type 0) → is_err r ≡ false → OnOk r P → P
+at_ok (Ok x) P e h = h
+at_ok (Err x) P e h = cc

@@ -1,0 +1,23 @@
+use Rattle.std.proofs.Common.{rules, ◌+◌, ◌-◌}
+use Rattle.std.proofs.lemmas.Result.{err_from_is_err_and}
+use Rattle.pip_model.specs.TreeText.{fractions}
+use Rattle.quast_text.specs.Faults.{text_fault}
+use Rattle.quast_text.specs.Fractions.{next_fraction}
+use Rattle.quast_text.proofs.Fronts.{step_more, refused_more, fractions_more}
+use Rattle.quast_text.proofs.fraction.read_fractions.Goals as goal
+
+pub returns-in_err-entry-clause-agrees : goal.returns-in_err-entry-clause-agrees
+returns-in_err-entry-clause-agrees c =
+    let p = err_from_is_err_and c.from_residual-in_err-entry.result c.from_residual-in_err-entry.ensures.1 in
+    rw (p.1, p.2) (refused_more (text_fault c.in_err-entry.field-0.0) c.loop.read.items (next_fraction c.args.bytes.now c.loop.at)
+    (λ at. fractions c.args.bytes.now (c.args.count - (c.loop.counter + 1)) at)
+    _ _ (fractions_more c.args.bytes.now c.args.count c.loop.counter c.loop.at c.loop-test.true) c.loop.invariant.0 c.in_err-entry.ensures.agrees)
+
+pub loop-preserved : goal.loop-preserved
+loop-preserved c = (
+  rw c.in_ok-push.ensures.items (step_more _ _ _ _ (λ at. fractions c.args.bytes.now (c.args.count - (c.loop.counter + 1)) at) _ _
+      (fractions_more c.args.bytes.now c.args.count c.loop.counter c.loop.at c.loop-test.true) c.loop.invariant.0 (search rules)),
+  search rules,
+  search rules,
+  search rules,
+)

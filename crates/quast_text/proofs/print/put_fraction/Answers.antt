@@ -1,0 +1,21 @@
+use Rattle.std.proofs.Common.{◌≡◌, ◌++◌, refl, rules}
+use Rattle.std.specs.Prelude.{OnOk}
+use Rattle.std.specs.Fmt.{signed_decimal}
+use Rattle.pip_model.specs.Numbers.{floor_div, gcd}
+use Rattle.pip_model.specs.TreeText.{spell_fraction}
+use Rattle.quast_text.specs.Printing.{spell_denominator}
+use Rattle.quast_text.proofs.Spellings.{begins_through, on_ok, fraction_written}
+use Rattle.quast_text.proofs.print.put_fraction.Goals as goal
+
+pub returns-clause-ok : goal.returns-clause-ok
+returns-clause-ok c =
+    let g = gcd c.args.c c.args.d in
+    let old = c.args.out.now.items in
+    let mid = c.put_number.new.out.items in
+    let new = c.put_denominator.new.out.items in
+    let first : mid ≡ old ++ signed_decimal (floor_div c.args.c (gcd c.args.c c.args.d)) = search rules in
+    let second : OnOk c.put_denominator.result (c.put_denominator.new.out.items ≡ c.put_number.new.out.items ++ spell_denominator c.args.d (gcd c.args.c c.args.d)) = search rules in
+    on_ok c.put_denominator.result (new ≡ mid ++ spell_denominator c.args.d g) (new ≡ old ++ spell_fraction c.args.c c.args.d) (fraction_written old mid new c.args.c c.args.d g refl first) second
+
+pub returns-clause-kept : goal.returns-clause-kept
+returns-clause-kept c = begins_through _ _ _ c.in_ok-put_number.ensures.kept c.put_denominator.ensures.kept

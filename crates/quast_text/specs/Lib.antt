@@ -1,0 +1,7 @@
+pub mod Printing
+pub mod Faults
+pub mod Fractions
+pub mod Components
+pub mod Trees
+pub mod Lists
+pub mod Spoken

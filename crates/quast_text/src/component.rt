@@ -1,0 +1,58 @@
+ghost use Rattle.std.specs.Prelude.{◌≡◌, ◌≤◌, ◌<◌, ◌+◌, ◌≤ℤ◌, pos, length, All, IfOk};
+ghost use Rattle.pip_model.specs.TreeText.{component_of, component as component_at};
+ghost use Rattle.pip_model.specs.Agreement.{Agrees};
+ghost use Rattle.affine_rows.specs.Checks.{Fits};
+ghost use Rattle.quast.specs.Components.{IsComponent};
+ghost use Rattle.quast_text.specs.Faults.{text_fault};
+ghost use Rattle.quast_text.specs.Components.{component_of_parts};
+
+use crate::fraction::{Fraction, common_denominator, numerators, read_fractions};
+use crate::refusal::TextRefusal;
+use crate::steps::expect;
+use affine_rows::{Form, FormRefusal, Kind, token};
+use quast::Component;
+use std::alloc::Global;
+
+// The fractions over their common denominator; Wide, at the place of the component, where that or a numerator does not fit.
+fn over_one_denominator(
+    alloc: Global,
+    start: usize,
+    fractions: &[Fraction],
+) -> Result<(i128, Vec<i128>), TextRefusal>
+    ensures agrees { Agrees component_of_parts text_fault result (component_of start fractions.now) }
+    ensures positive { IfOk result (λ x. pos 1 ≤ℤ x.0) }
+    ensures denominator { IfOk result (λ x. Fits x.0) }
+    ensures numerators { IfOk result (λ x. All Fits x.1.items) }
+    ensures count { IfOk result (λ x. length x.1.items ≡ length fractions.now) }
+{
+    let Ok(denominator) = common_denominator(fractions) else {
+        return Err(TextRefusal::Wide(start));
+    };
+    match numerators(alloc, fractions, denominator) {
+        Ok(entries) => Ok((denominator, entries)),
+        Err(FormRefusal::Overflow) => Err(TextRefusal::Wide(start)),
+        Err(FormRefusal::WantOfMemory) => Err(TextRefusal::WantOfMemory),
+    }
+}
+
+/// A component over so many places between row brackets, and the place behind it.
+pub fn read_component(
+    alloc: Global,
+    bytes: &[u8],
+    width: usize,
+    place: usize,
+) -> Result<(Component, usize), TextRefusal>
+    requires place { place ≤ length bytes.now }
+    requires width { width < 1000 }
+    ensures agrees { Agrees (λ x. x) text_fault result (component_at bytes.now width place) }
+    ensures component { IfOk result (λ x. IsComponent width x.0) }
+    ensures order { IfOk result (λ x. (place ≤ x.1) × (x.1 ≤ length bytes.now)) }
+{
+    let first = expect(bytes, Kind::LeftRow, place)?;
+    let (fractions, at) = read_fractions(alloc, bytes, width + 1, first)?;
+    let after = expect(bytes, Kind::RightRow, at)?;
+    let start = token(bytes, place).start;
+    let (denominator, entries) = over_one_denominator(alloc, start, &fractions)?;
+    let component = Component::reduced(denominator, Form::from_entries(entries));
+    Ok((component, after))
+}

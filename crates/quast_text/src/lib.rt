@@ -1,0 +1,19 @@
+//! The text of answers to parametric integer programs: selection trees in the notation of PIP (Feautrier, RAIRO 1988; the PIP/PipLib user's guide).
+#![tactic(auto)]
+
+mod component;
+mod definition;
+mod fraction;
+mod list;
+mod print;
+mod read;
+mod refusal;
+mod row;
+mod steps;
+#[cfg(test)]
+mod tests;
+mod tree;
+
+pub use print::{print_answer, print_tree};
+pub use read::{Spoken, read_answer};
+pub use refusal::TextRefusal;

@@ -1,0 +1,247 @@
+ghost use Rattle.std.specs.Prelude.{◌≡◌, ◌+◌, ◌-◌, ◌≤◌, ◌≤ℤ◌, ◌++◌, ℕ, pos, length, All, decimal, codes, OnOk, OnErr};
+ghost use Rattle.std.specs.Fmt.{signed_decimal};
+ghost use Rattle.pip_model.specs.Forms.{width};
+ghost use Rattle.pip_model.specs.TreeText.{newline, spell_numbers, spell_form, spell_fraction, spell_fractions, spell_components, spell_tree, spell_answer, spell};
+ghost use Rattle.pip_model.specs.Printed.{IsGroup, IsPrintableAnswer};
+ghost use Rattle.pip_model.specs.Limits.{most_params};
+ghost use Rattle.affine_rows.specs.Checks.{Fits};
+ghost use Rattle.quast.specs.Trees.{tree_of, IsQuast};
+ghost use Rattle.quast.specs.Answers.{answer_of, IsOver};
+ghost use Rattle.quast_text.specs.Printing.{Begins, spell_entry, spell_denominator, spell_term, spell_component, IsReadBack};
+
+use affine_rows::{Bytes, Form, WantOfMemory, floor_div, gcd};
+use itoa::Buffer;
+use quast::{Answer, Component, Node, Quast};
+use std::alloc::AllocError;
+
+/// Appends the text of a tree, or leaves `out` as it was.
+pub fn print_tree(tree: &Quast, out: &mut Vec<u8>) -> Result<(), WantOfMemory>
+    ensures ok { OnOk result (out.new.items ≡ out.old.items ++ spell_tree tree.now.tree) }
+    ensures err { OnErr result (out.new.items ≡ out.old.items) }
+{
+    let start = out.len();
+    if put_node(out, tree.root()).is_err() {
+        out.truncate(start);
+        return Err(WantOfMemory);
+    }
+    Ok(())
+}
+
+/// Appends the text of an answer with its comment, or leaves `out` as it was. Behind a comment that is a group the text is read back as this answer, whatever
+/// stands behind it.
+pub fn print_answer(comment: &Bytes, answer: &Answer, out: &mut Vec<u8>) -> Result<(), WantOfMemory>
+    ensures ok { OnOk result (out.new.items ≡ out.old.items ++ spell comment.now (answer_of answer.now)) }
+    ensures err { OnErr result (out.new.items ≡ out.old.items) }
+    ensures read_back { OnOk result ((np : ℕ) → np ≤ most_params → IsGroup comment.now → IsOver np answer.now → IsReadBack (spell comment.now (answer_of answer.now)) np (record { comment = comment.now; answer = answer_of answer.now })) }
+{
+    let start = out.len();
+    if put_spoken(out, comment, answer).is_err() {
+        out.truncate(start);
+        return Err(WantOfMemory);
+    }
+    Ok(())
+}
+
+fn put_spoken(out: &mut Vec<u8>, comment: &Bytes, answer: &Answer) -> Result<(), AllocError>
+    ensures printable { OnOk result ((np : ℕ) → np ≤ most_params → IsOver np answer.now → IsPrintableAnswer np (answer_of answer.now)) }
+    ensures ok { OnOk result (out.new.items ≡ out.old.items ++ spell comment.now (answer_of answer.now)) }
+    ensures kept { Begins out.old.items out.new.items }
+{
+    put_comment(out, comment.as_slice())?;
+    put_solution(out, answer)?;
+    put(out, b")\n")
+}
+
+fn put_comment(out: &mut Vec<u8>, comment: &[u8]) -> Result<(), AllocError>
+    ensures ok { OnOk result (out.new.items ≡ out.old.items ++ (codes "(" ++ comment.now ++ newline)) }
+    ensures kept { Begins out.old.items out.new.items }
+{
+    put(out, b"(")?;
+    put(out, comment)?;
+    put(out, b"\n")
+}
+
+fn put_solution(out: &mut Vec<u8>, answer: &Answer) -> Result<(), AllocError>
+    ensures printable { OnOk result ((np : ℕ) → np ≤ most_params → IsOver np answer.now → IsPrintableAnswer np (answer_of answer.now)) }
+    ensures ok { OnOk result (out.new.items ≡ out.old.items ++ spell_answer (answer_of answer.now)) }
+    ensures kept { Begins out.old.items out.new.items }
+{
+    match answer {
+        Answer::Void => put(out, b"void\n"),
+        Answer::Tree(tree) => put_node(out, tree.root()),
+    }
+}
+
+fn put_node(out: &mut Vec<u8>, node: &Node) -> Result<(), AllocError>
+    ensures ok { OnOk result (out.new.items ≡ out.old.items ++ spell_tree (tree_of node.now)) }
+    ensures kept { Begins out.old.items out.new.items }
+{
+    match node {
+        Node::Bottom => put(out, b"()\n"),
+        Node::Leaf(components) => put_list(out, components.as_slice()),
+        Node::Select(v, a, b) => {
+            put_condition(out, v)?;
+            put_node(out, a)?;
+            put_node(out, b)?;
+            put(out, b")\n")
+        }
+        Node::Define(v, d, a) => {
+            put_definition(out, v, *d)?;
+            put_node(out, a)
+        }
+    }
+}
+
+fn put_condition(out: &mut Vec<u8>, v: &Form) -> Result<(), AllocError>
+    ensures ok { OnOk result (out.new.items ≡ out.old.items ++ (codes "(if " ++ spell_form v.now ++ newline)) }
+    ensures kept { Begins out.old.items out.new.items }
+{
+    put(out, b"(if ")?;
+    put_form(out, v)?;
+    put(out, b"\n")
+}
+
+fn put_definition(out: &mut Vec<u8>, v: &Form, d: i128) -> Result<(), AllocError>
+    ensures ok { OnOk result (out.new.items ≡ out.old.items ++ (codes "(newparm " ++ decimal (width v.now) ++ codes " (div " ++ spell_form v.now ++ codes " " ++ signed_decimal d ++ codes "))\n")) }
+    ensures kept { Begins out.old.items out.new.items }
+{
+    put_parameter(out, v.width())?;
+    put_form(out, v)?;
+    put_divisor(out, d)
+}
+
+fn put_parameter(out: &mut Vec<u8>, number: usize) -> Result<(), AllocError>
+    ensures ok { OnOk result (out.new.items ≡ out.old.items ++ (codes "(newparm " ++ decimal number ++ codes " (div ")) }
+    ensures kept { Begins out.old.items out.new.items }
+{
+    put(out, b"(newparm ")?;
+    put(out, Buffer::new().format(number).as_bytes())?;
+    put(out, b" (div ")
+}
+
+fn put_divisor(out: &mut Vec<u8>, d: i128) -> Result<(), AllocError>
+    ensures ok { OnOk result (out.new.items ≡ out.old.items ++ (codes " " ++ signed_decimal d ++ codes "))\n")) }
+    ensures kept { Begins out.old.items out.new.items }
+{
+    put_entry(out, d)?;
+    put(out, b"))\n")
+}
+
+fn put_form(out: &mut Vec<u8>, v: &Form) -> Result<(), AllocError>
+    ensures ok { OnOk result (out.new.items ≡ out.old.items ++ spell_form v.now) }
+    ensures kept { Begins out.old.items out.new.items }
+{
+    put(out, b"#[")?;
+    put_entries(out, v.as_slice())?;
+    put(out, b"]")
+}
+
+fn put_entries(out: &mut Vec<u8>, entries: &[i128]) -> Result<(), AllocError>
+    ensures ok { OnOk result (out.new.items ≡ out.old.items ++ spell_numbers entries.now) }
+    ensures kept { Begins out.old.items out.new.items }
+{
+    for entry in entries {
+        put_entry(out, *entry)?;
+    }
+    Ok(())
+}
+
+fn put_list(out: &mut Vec<u8>, components: &[Component]) -> Result<(), AllocError>
+    ensures ok { OnOk result (out.new.items ≡ out.old.items ++ (codes "(list\n" ++ spell_components components.now ++ codes ")\n")) }
+    ensures kept { Begins out.old.items out.new.items }
+{
+    put(out, b"(list\n")?;
+    put_components(out, components)?;
+    put(out, b")\n")
+}
+
+fn put_components(out: &mut Vec<u8>, components: &[Component]) -> Result<(), AllocError>
+    ensures ok { OnOk result (out.new.items ≡ out.old.items ++ spell_components components.now) }
+    ensures kept { Begins out.old.items out.new.items }
+{
+    for component in components {
+        put_component(out, component)?;
+    }
+    Ok(())
+}
+
+fn put_component(out: &mut Vec<u8>, component: &Component) -> Result<(), AllocError>
+    ensures ok { OnOk result (out.new.items ≡ out.old.items ++ spell_component component.now) }
+    ensures kept { Begins out.old.items out.new.items }
+{
+    put(out, b"#[")?;
+    put_fractions(out, component)?;
+    put(out, b"]\n")
+}
+
+fn put_fractions(out: &mut Vec<u8>, component: &Component) -> Result<(), AllocError>
+    ensures ok { OnOk result (out.new.items ≡ out.old.items ++ spell_fractions component.now.den component.now.form) }
+    ensures kept { Begins out.old.items out.new.items }
+{
+    for entry in component.form().as_slice() {
+        put_term(out, *entry, component.den())?;
+    }
+    Ok(())
+}
+
+fn put_term(out: &mut Vec<u8>, c: i128, d: i128) -> Result<(), AllocError>
+    requires positive { pos 1 ≤ℤ d }
+    requires c_fits { Fits c }
+    requires d_fits { Fits d }
+    ensures ok { OnOk result (out.new.items ≡ out.old.items ++ spell_term d c) }
+    ensures kept { Begins out.old.items out.new.items }
+{
+    put(out, b" ")?;
+    put_fraction(out, c, d)
+}
+
+// c over d in lowest terms, the denominator only where it is not 1.
+#[tactic(auto, using(crate::proofs::Spellings::gcd_positive, crate::proofs::Spellings::fraction_parts))]
+fn put_fraction(out: &mut Vec<u8>, c: i128, d: i128) -> Result<(), AllocError>
+    requires positive { pos 1 ≤ℤ d }
+    requires c_fits { Fits c }
+    requires d_fits { Fits d }
+    ensures ok { OnOk result (out.new.items ≡ out.old.items ++ spell_fraction c d) }
+    ensures kept { Begins out.old.items out.new.items }
+{
+    let divisor = gcd(c, d);
+    put_number(out, floor_div(c, divisor))?;
+    put_denominator(out, d, divisor)
+}
+
+// What stands behind the numerator: nothing where the divisor is d.
+#[tactic(auto, using(crate::proofs::Spellings::same_yes, crate::proofs::Spellings::same_no))]
+fn put_denominator(out: &mut Vec<u8>, d: i128, divisor: i128) -> Result<(), AllocError>
+    requires positive { pos 1 ≤ℤ divisor }
+    requires fits { Fits d }
+    ensures ok { OnOk result (out.new.items ≡ out.old.items ++ spell_denominator d divisor) }
+    ensures kept { Begins out.old.items out.new.items }
+{
+    if divisor == d {
+        return Ok(());
+    }
+    put(out, b"/")?;
+    put_number(out, floor_div(d, divisor))
+}
+
+fn put_entry(out: &mut Vec<u8>, entry: i128) -> Result<(), AllocError>
+    ensures ok { OnOk result (out.new.items ≡ out.old.items ++ spell_entry entry) }
+    ensures kept { Begins out.old.items out.new.items }
+{
+    put(out, b" ")?;
+    put_number(out, entry)
+}
+
+fn put_number(out: &mut Vec<u8>, number: i128) -> Result<(), AllocError>
+    ensures ok { OnOk result (out.new.items ≡ out.old.items ++ signed_decimal number) }
+    ensures kept { Begins out.old.items out.new.items }
+{
+    put(out, Buffer::new().format(number).as_bytes())
+}
+
+fn put(out: &mut Vec<u8>, bytes: &[u8]) -> Result<(), AllocError>
+    ensures ok { OnOk result (out.new.items ≡ out.old.items ++ bytes.now) }
+    ensures kept { Begins out.old.items out.new.items }
+{
+    out.extend_from_slice(bytes)
+}

@@ -1,0 +1,46 @@
+ghost use Rattle.std.specs.Prelude.{◌≡◌};
+ghost use Rattle.quast_text.specs.declared.refusal.TextRefusal.TheVariants as refusal;
+
+use affine_rows::WantOfMemory;
+use std::alloc::{AllocError, AllocFailed};
+use thiserror::Error;
+
+/// Why an answer's text is not read: the place of the token that differs, or of one whose numbers do not fit; more than 200 nested nodes;
+/// the number of components from which on a list has too many.
+#[derive(Clone, Copy, Debug, PartialEq, Eq, Error)]
+pub enum TextRefusal {
+    #[error("syntax at byte {0}")]
+    Syntax(usize),
+    #[error("the number at byte {0} is too wide")]
+    Wide(usize),
+    #[error("too deep a nesting")]
+    Nesting,
+    #[error("a list of {0} components")]
+    Components(i128),
+    #[error("want of memory")]
+    WantOfMemory,
+}
+
+impl From<WantOfMemory> for TextRefusal {
+    ghost from_gives = { λ _ e. e ≡ refusal.WantOfMemory };
+
+    fn from(_: WantOfMemory) -> TextRefusal {
+        TextRefusal::WantOfMemory
+    }
+}
+
+impl From<AllocError> for TextRefusal {
+    ghost from_gives = { λ _ e. e ≡ refusal.WantOfMemory };
+
+    fn from(_: AllocError) -> TextRefusal {
+        TextRefusal::WantOfMemory
+    }
+}
+
+impl<T: Drop> From<AllocFailed<T>> for TextRefusal {
+    ghost from_gives = { λ _ e. e ≡ refusal.WantOfMemory };
+
+    fn from(_: AllocFailed<T>) -> TextRefusal {
+        TextRefusal::WantOfMemory
+    }
+}

@@ -1,0 +1,4 @@
+pub mod ClassMeaning
+pub mod OppositeLengths
+pub mod TightSigns
+pub mod Widening

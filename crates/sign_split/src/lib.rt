@@ -1,0 +1,12 @@
+//! The sign of a form on a context: at least 0, below 0, or both, by the signs of its entries or by whole points.
+#![tactic(auto)]
+
+mod classes;
+mod sign;
+mod signs;
+
+pub use classes::{class, class_of_entries};
+pub use sign::Class;
+
+#[cfg(test)]
+mod tests;

@@ -1,0 +1,39 @@
+-- A tableau as its rows.
+use Rattle.std.specs.Prelude.{◌≡◌, ℕ, ◌+◌, ◌-◌, ℤ, pos, ◌≤ℤ◌, List, [], ◌∷◌, ◌++◌, length, slice_set, All}
+use Rattle.pip_model.specs.Rows.{Row, row_at}
+use Rattle.pip_model.specs.Cuts.{rounded}
+use Rattle.affine_rows.specs.Checks.{Fits}
+
+-- the numbers of columns and of places of a constant form, which are the parameters and the quotients, and the rows
+pub record TableauRows : Type 0 where
+  pub unknowns : ℕ
+  pub width : ℕ
+  pub rows : List Row
+
+-- a row over n columns, whose constant form stands over w places
+pub record IsRow (n w : ℕ) (r : Row) : Type 0 where
+  pub positive : pos 1 ≤ℤ r.den
+  pub den_fits : Fits r.den
+  pub coefs : length r.coefs ≡ n
+  pub constant : length r.constant ≡ w + 1
+  pub coefs_fit : All Fits r.coefs
+  pub constant_fit : All Fits r.constant
+
+pub record IsTableau (t : TableauRows) : Type 0 where
+  pub rows : All (IsRow t.unknowns t.width) t.rows
+
+-- the row of a denominator, coefficients and a constant form
+abbrev pub row_from : ℤ → List ℤ → List ℤ → Row
+row_from den coefs constant = record { den = den; coefs = coefs; constant = constant }
+
+-- a row over the columns and places that it has
+abbrev pub IsOwnRow : Row → Type 0
+IsOwnRow r = IsRow (length r.coefs) (length r.constant - 1) r
+
+-- the tableau with one more row
+abbrev pub with_row : TableauRows → Row → TableauRows
+with_row t r = record t { rows = t.rows ++ r ∷ [] }
+
+-- the tableau with row i rounded by the quotient at place q
+abbrev pub with_rounded : TableauRows → ℕ → ℕ → TableauRows
+with_rounded t i q = record t { rows = slice_set t.rows i (rounded (row_at t.rows i) q) }

@@ -1,0 +1,27 @@
+use super::*;
+use affine_rows::Form;
+use std::process::Abort;
+use std::test::Fail;
+
+fn has(rt: &impl Abort, row: RowView<'_>, den: i128, coefs: &[i128], constant: &[i128]) {
+    assert_eq!(rt; row.den, den);
+    assert_eq!(rt; row.coefs, coefs);
+    assert_eq!(rt; row.constant, constant);
+}
+
+#[test]
+fn what_takes_memory_answers(rt: HostRuntime) -> Result<(), Fail> {
+    let alloc = rt.alloc();
+    let form = Form::try_new(alloc, &[2, -1, 0])?;
+    let mut t = Tableau::start(alloc, 1, 1, &[form])?;
+    t.push_row(4, &[2], &[-6, 8])?;
+    t.push_unit(0)?;
+    t.widen_params()?;
+    let copy = t.try_clone(t.allocator())?;
+    assert_eq!(rt; copy.rows(), 4);
+    has(&rt, copy.row(0), 1, &[1], &[0, 0, 0]);
+    has(&rt, copy.row(1), 1, &[2], &[-1, 0, 0]);
+    has(&rt, copy.row(2), 2, &[1], &[-3, 0, 4]);
+    has(&rt, copy.row(3), 1, &[1], &[0, 0, 0]);
+    Ok(())
+}

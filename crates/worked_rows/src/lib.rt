@@ -1,0 +1,15 @@
+//! Worked rows: words, an input, and what the program writes, its line on the notes and its status.
+#![tactic(auto)]
+
+#[cfg(test)]
+mod faults;
+#[cfg(test)]
+mod limits;
+#[cfg(test)]
+mod refusing;
+#[cfg(test)]
+mod row;
+#[cfg(test)]
+mod solving;
+#[cfg(test)]
+mod valuing;
