@@ -22,6 +22,7 @@ use std::marker::Model;
 
 // The most parameters with the new parameters of a path, and the most components of a list.
 const MOST_SCOPE: usize = 232;
+
 const MOST_COMPONENTS: usize = 64;
 
 /// Where a parameter vector leads: to a bottom, or to a list, with the values of its components' forms, the numerators.
