@@ -98,8 +98,25 @@ def texts(folder):
         body = length - len(problem("", 1, 0, [], [], 1))
         Path(folder, f"comment-{size}").write_text(problem("c" * (body - 1), 1, 0, [], [], 1))
         Path(folder, f"small-{size}").write_text(small * (length // len(small)))
-    # a last problem that is refused, so that reading is measured and not solving
-    Path(folder, "refused-16").write_text(large[:-2] + ")")
+    Path(folder, "rows-16").write_text(large * ((16 << 20) // len(large)))
+
+
+def tree(depth, comment):
+    """An answer over one parameter whose tree has 2 ** depth lists."""
+    def node(level):
+        if level == 0:
+            return "(list\n#[ 1 1/2]\n)\n"
+        below = node(level - 1)
+        return "(if #[ 1 -{}]\n{}{})\n".format(level, below, below)
+    return "(({})\n{})\n".format(comment, node(depth))
+
+
+def answers(folder):
+    """Answers to value: trees of growing size, and many of them to fill 16 MB."""
+    for depth in (9, 12, 15):
+        Path(folder, f"tree-{2 ** (depth + 1)}").write_text(tree(depth, f"{2 ** depth} lists"))
+    one = tree(12, "many")
+    Path(folder, "trees-16").write_text(one * ((16 << 20) // len(one)))
 
 
 def main():
@@ -108,6 +125,7 @@ def main():
     for name, problems in GROUPS.items():
         Path(folder, name + ".pip").write_text("".join(problems))
     texts(folder)
+    answers(folder)
 
 
 if __name__ == "__main__":

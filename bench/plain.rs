@@ -458,9 +458,39 @@ fn spell(tree: &Tree, out: &mut Vec<u8>) {
     }
 }
 
+// Splits the bytes into tokens and adds up the numbers: what any reader has to do at least.
+fn split_tokens(bytes: &[u8]) {
+    let (mut tokens, mut sum, mut at) = (0u64, 0i128, 0);
+    while at < bytes.len() {
+        let first = at;
+        at += 1;
+        match bytes[first] {
+            b'(' | b')' | b']' => {}
+            b'#' => at += 1,
+            byte if byte.is_ascii_whitespace() => continue,
+            byte if byte.is_ascii_digit() || byte == b'-' => {
+                while at < bytes.len() && bytes[at].is_ascii_digit() {
+                    at += 1;
+                }
+                sum += std::str::from_utf8(&bytes[first..at]).unwrap().parse::<i128>().unwrap();
+            }
+            _ => {
+                while at < bytes.len() && bytes[at].is_ascii_alphabetic() {
+                    at += 1;
+                }
+            }
+        }
+        tokens += 1;
+    }
+    eprintln!("tokens {tokens} sum {sum}");
+}
+
 fn main() {
     let mut bytes = vec![];
     std::io::stdin().read_to_end(&mut bytes).unwrap();
+    if std::env::args().nth(1).as_deref() == Some("tokens") {
+        return split_tokens(&bytes);
+    }
     let mut reader = Reader { bytes, at: 0 };
     let (mut problems, mut pivots, mut cuts, mut splits, mut in_points) = (0u64, 0u64, 0u64, 0u64, 0u64);
     while reader.skip_to_open() {
