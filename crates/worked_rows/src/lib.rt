@@ -6,6 +6,8 @@ mod faults;
 #[cfg(test)]
 mod limits;
 #[cfg(test)]
+mod points;
+#[cfg(test)]
 mod refusing;
 #[cfg(test)]
 mod row;
