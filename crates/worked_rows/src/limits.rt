@@ -64,13 +64,12 @@ fn limits_are_kept(rt: HostRuntime) -> Result<(), Fail> {
 }
 
 // Where the fault is of a text that is cut to so many bytes: a sign or a `#` alone is one at its own place.
-fn fault_at(length: usize) -> usize
-    requires { 0 < length }
-{
-    if length == 14 || length == 20 || length == 26 {
-        length - 1
-    } else {
-        length
+fn fault_at(length: usize) -> usize {
+    match length {
+        14 => 13,
+        20 => 19,
+        26 => 25,
+        _ => length,
     }
 }
 
