@@ -1,7 +1,5 @@
 """Families of problems whose cost grows with their size, in native text, one group a file."""
 import random
-import sys
-from pathlib import Path
 
 
 def row(entries):
@@ -49,6 +47,17 @@ def greatest(m, integer):
     return problem(f"greatest of {m}", 1, m, rows, [], integer)
 
 
+def differences(count):
+    """At least as much as so many differences of two of 48 parameters, none of which follows from the others."""
+    pairs = [(i, 24 + j) for i in range(24) for j in range(24)]
+    rows = []
+    for high, low in pairs[:count]:
+        entries = [1, 0] + [0] * 48
+        entries[2 + high], entries[2 + low] = -1, 1
+        rows.append(entries)
+    return problem(f"{count} differences", 1, 48, rows, [], 1)
+
+
 def tiles(d):
     """The tile and the place in it of a point of d loops, tiles of 32."""
     rows = []
@@ -86,47 +95,3 @@ GROUPS = {
     "tiles": [tiles(d) for d in (1, 2)],
     "triangle": [triangle(n) for n in (1, 2, 3, 4)],
 }
-
-
-def texts(folder):
-    """Inputs for the reader alone: blanks, one long comment, many small problems, problems of 1,024 rows."""
-    small = problem("a", 1, 0, [[1, -3]], [], 1)
-    large = problem("rows", 64, 32, [[k % 7 for k in range(97)] for _ in range(1024)], [], 1)
-    for size in (1, 4, 16):
-        length = size << 20
-        Path(folder, f"blanks-{size}").write_text(" " * length)
-        body = length - len(problem("", 1, 0, [], [], 1))
-        Path(folder, f"comment-{size}").write_text(problem("c" * (body - 1), 1, 0, [], [], 1))
-        Path(folder, f"small-{size}").write_text(small * (length // len(small)))
-    Path(folder, "rows-16").write_text(large * ((16 << 20) // len(large)))
-
-
-def tree(depth, comment):
-    """An answer over one parameter whose tree has 2 ** depth lists."""
-    def node(level):
-        if level == 0:
-            return "(list\n#[ 1 1/2]\n)\n"
-        below = node(level - 1)
-        return "(if #[ 1 -{}]\n{}{})\n".format(level, below, below)
-    return "(({})\n{})\n".format(comment, node(depth))
-
-
-def answers(folder):
-    """Answers to value: trees of growing size, and many of them to fill 16 MB."""
-    for depth in (9, 12, 15):
-        Path(folder, f"tree-{2 ** (depth + 1)}").write_text(tree(depth, f"{2 ** depth} lists"))
-    one = tree(12, "many")
-    Path(folder, "trees-16").write_text(one * ((16 << 20) // len(one)))
-
-
-def main():
-    folder = Path(sys.argv[1])
-    folder.mkdir(parents=True, exist_ok=True)
-    for name, problems in GROUPS.items():
-        Path(folder, name + ".pip").write_text("".join(problems))
-    texts(folder)
-    answers(folder)
-
-
-if __name__ == "__main__":
-    main()

@@ -1,11 +1,34 @@
-ghost use Rattle.std.specs.Prelude.{◌≡◌, ◌-ℤ◌, ◌*ℤ◌, length, [], ◌∷◌, ◌++◌, All, IfOk, OnOk, OnErr, take, vec_len};
+ghost use Rattle.std.specs.Prelude.{◌≡◌, ◌^◌, ◌<◌, unsigned_abs, IsTrue, ◌-ℤ◌, ◌*ℤ◌, length, [], ◌∷◌, ◌++◌, All, IfOk, OnOk, OnErr, take, vec_len};
 ghost use Rattle.pip_model.specs.Forms.{combine};
-ghost use Rattle.pip_model.specs.Listed.{combine_listed};
+ghost use Rattle.pip_model.specs.Listed.{all_fit, combine_listed};
 ghost use Rattle.pip_model.specs.Agreement.{IsChecked};
 ghost use Rattle.affine_rows.specs.Checks.{Fits, is_overflow, is_form_overflow};
 
 use crate::memory::FormRefusal;
-use crate::numbers::{Overflow, minus, times};
+use crate::numbers::{Overflow, exact_difference, is_short, minus, short_product, times};
+
+// `a*x - b*y` for short numbers: it fits, and so do the products.
+fn short_difference(a: i128, x: i128, b: i128, y: i128) -> i128
+    requires a { unsigned_abs a < 2 ^ 63 }
+    requires x { unsigned_abs x < 2 ^ 63 }
+    requires b { unsigned_abs b < 2 ^ 63 }
+    requires y { unsigned_abs y < 2 ^ 63 }
+    ensures value { result ≡ a *ℤ x -ℤ b *ℤ y }
+    ensures listed { IsTrue (all_fit ((a *ℤ x) ∷ (b *ℤ y) ∷ (a *ℤ x -ℤ b *ℤ y) ∷ [])) }
+    ensures fits { Fits result }
+{
+    exact_difference(short_product(a, x), short_product(b, y))
+}
+
+// `a*x - b*y`, each step checked.
+fn checked_difference(a: i128, x: i128, b: i128, y: i128) -> Result<i128, Overflow>
+    ensures listed { IsChecked is_overflow ((a *ℤ x) ∷ (b *ℤ y) ∷ (a *ℤ x -ℤ b *ℤ y) ∷ []) result }
+    ensures value { IfOk result (λ z. z ≡ a *ℤ x -ℤ b *ℤ y) }
+    ensures fits { IfOk result Fits }
+{
+    let difference = minus(times(a, x)?, times(b, y)?)?;
+    Ok(difference)
+}
 
 /// `a*x - b*y`. It overflows exactly where a product or the difference does not fit.
 pub fn difference(a: i128, x: i128, b: i128, y: i128) -> Result<i128, Overflow>
@@ -13,8 +36,10 @@ pub fn difference(a: i128, x: i128, b: i128, y: i128) -> Result<i128, Overflow>
     ensures value { IfOk result (λ z. z ≡ a *ℤ x -ℤ b *ℤ y) }
     ensures fits { IfOk result Fits }
 {
-    let difference = minus(times(a, x)?, times(b, y)?)?;
-    Ok(difference)
+    if is_short(a) && is_short(x) && is_short(b) && is_short(y) {
+        return Ok(short_difference(a, x, b, y));
+    }
+    checked_difference(a, x, b, y)
 }
 
 // Appends `a*r - b*s` up to the first number that does not fit.

@@ -1,5 +1,5 @@
-ghost use Rattle.std.specs.Prelude.{◌≡◌, ◌+◌, ◌<◌, ◌≤ℤ◌, pos, length, All, IsTrue, IfOk, OnOk, OnErr};
-ghost use Rattle.pip_model.specs.Numbers.{divides, gcd_of};
+ghost use Rattle.std.specs.Prelude.{◌≡◌, ◌+◌, ◌<◌, ◌≤ℤ◌, ℤ, List, pos, length, All, IsTrue, IfOk, OnOk, OnErr};
+ghost use Rattle.pip_model.specs.Numbers.{divides, gcd_of, is_nonneg};
 ghost use Rattle.pip_model.specs.Forms.{width, entry, value, combine, floor_divided, scale, tighten, opposite, residue, widen, remove};
 ghost use Rattle.pip_model.specs.Listed.{value_listed, combine_listed, opposite_listed};
 ghost use Rattle.pip_model.specs.Agreement.{IsChecked};
@@ -133,7 +133,8 @@ impl Form {
     /// Divides the coefficients by their greatest common divisor, and rounds the constant over it down. A form whose
     /// coefficients are all 0 stays. The sign at whole vectors is the same as before.
     pub fn tighten(&mut self)
-        ensures { self.new ≡ tighten self.old }
+        ensures value { self.new ≡ tighten self.old }
+        ensures sign { (u : List ℤ) → length self.old ≡ length u + 1 → is_nonneg (value self.new u) ≡ is_nonneg (value self.old u) }
     {
         make_tight(&mut self.entries);
     }

@@ -8,6 +8,7 @@ mod entries;
 mod evaluation;
 mod form;
 mod groups;
+mod limits;
 mod memory;
 mod numbers;
 mod rounding;
@@ -19,6 +20,9 @@ pub use division::{divide_all, divided, gcd_with, is_whole, remainders, residues
 pub use entries::negate_all;
 pub use form::Form;
 pub use groups::{group_end, next_open};
+pub use limits::{
+    MOST_COMPONENTS, MOST_CONTEXT_ROWS, MOST_NESTING, MOST_PARAMETERS, MOST_ROWS, MOST_UNKNOWNS,
+};
 pub use memory::{FormRefusal, WantOfMemory};
 pub use numbers::{
     Overflow, divides, floor_div, floor_mod, gcd, minus, nonnegative, plus, positive, times,

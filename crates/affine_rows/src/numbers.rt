@@ -26,10 +26,51 @@ pub fn minus(a: i128, b: i128) -> Result<i128, Overflow>
     }
 }
 
+/// Whether the number lies from `-(2^63 - 1)` to `2^63 - 1`.
+pub fn is_short(z: i128) -> bool
+    ensures { IsTrue result → unsigned_abs z < 2 ^ 63 }
+{
+    -9223372036854775807 <= z && z <= 9223372036854775807
+}
+
+// The product of short numbers, in one multiplication.
+#[tactic(auto, using(crate::proofs::Short::product_fits))]
+fn exact_product(a: i128, b: i128) -> i128
+    requires a { unsigned_abs a < 2 ^ 63 }
+    requires b { unsigned_abs b < 2 ^ 63 }
+    ensures { result ≡ a *ℤ b }
+{
+    (a as i64 as i128) * (b as i64 as i128)
+}
+
+// The product of short numbers, and its bound.
+pub fn short_product(a: i128, b: i128) -> i128
+    requires a { unsigned_abs a < 2 ^ 63 }
+    requires b { unsigned_abs b < 2 ^ 63 }
+    ensures value { result ≡ a *ℤ b }
+    ensures bound { unsigned_abs result < 2 ^ 126 }
+    ensures fits { Fits (a *ℤ b) }
+{
+    exact_product(a, b)
+}
+
+// The difference of numbers that are far from the ends.
+pub fn exact_difference(a: i128, b: i128) -> i128
+    requires a { unsigned_abs a < 2 ^ 126 }
+    requires b { unsigned_abs b < 2 ^ 126 }
+    ensures value { result ≡ a -ℤ b }
+    ensures fits { Fits (a -ℤ b) }
+{
+    a - b
+}
+
 /// The product. It overflows exactly where the product does not fit.
 pub fn times(a: i128, b: i128) -> Result<i128, Overflow>
     ensures { IsFitted (a *ℤ b) result }
 {
+    if is_short(a) && is_short(b) {
+        return Ok(short_product(a, b));
+    }
     match a.checked_mul(b) {
         Some(number) if number != i128::MIN => Ok(number),
         _ => Err(Overflow),
@@ -45,6 +86,9 @@ pub fn floor_div(a: i128, d: i128) -> i128
     ensures some { d ≤ℤ a → pos 1 ≤ℤ result }
     ensures fits { Fits result }
 {
+    if is_short(a) && is_short(d) {
+        return (a as i64).div_euclid(d as i64) as i128;
+    }
     a.div_euclid(d)
 }
 
@@ -57,6 +101,9 @@ pub fn floor_mod(a: i128, d: i128) -> i128
     ensures high { result <ℤ d }
     ensures fits { Fits result }
 {
+    if is_short(a) && is_short(d) {
+        return (a as i64).rem_euclid(d as i64) as i128;
+    }
     a.rem_euclid(d)
 }
 
@@ -84,6 +131,20 @@ pub fn positive(z: i128) -> bool
     z > 0
 }
 
+// Euclid's algorithm on short numbers.
+fn gcd_short(a: u64, b: u64) -> u64
+    ensures { result ≡ euclid (b + 1) a b }
+{
+    let mut x = a;
+    let mut y = b;
+    while y != 0 {
+        let rest = x % y;
+        x = y;
+        y = rest;
+    }
+    x
+}
+
 // Euclid's algorithm.
 fn gcd_natural(a: u128, b: u128) -> u128
     requires a_below { a < 2 ^ 127 }
@@ -91,6 +152,9 @@ fn gcd_natural(a: u128, b: u128) -> u128
     ensures value { result ≡ euclid (b + 1) a b }
     ensures bound { result < 2 ^ 127 }
 {
+    if a <= 18446744073709551615 && b <= 18446744073709551615 {
+        return gcd_short(a as u64, b as u64) as u128;
+    }
     let mut x = a;
     let mut y = b;
     while y != 0 {

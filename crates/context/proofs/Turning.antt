@@ -1,13 +1,13 @@
 -- The turns of the run without parameters.
 use Rattle.std.proofs.Common.{◌≡◌, refl, ap, ℕ, ◌+◌, ◌<◌, ℤ, Bool, true, false, not, Option, Some, None, List, [], ◌∷◌, ◌++◌, length, drop, arith}
-use Rattle.std.specs.Prelude.{if◌then◌else◌}
+use Rattle.std.specs.Prelude.{if◌then◌else◌, IfSome}
 use Rattle.std.proofs.lemmas.List.{drop_more}
 use Rattle.pip_model.specs.Numbers.{is_nonneg, floor_div, gcd, gcd_of}
 use Rattle.pip_model.specs.Forms.{constant, coefficients, entry, floor_divided}
-use Rattle.pip_model.specs.Rows.{Row, row_at, form_row, first_fraction}
+use Rattle.pip_model.specs.Rows.{Row, row_at, form_row, first_fraction, is_whole}
 use Rattle.pip_model.specs.Cuts.{constant_cut}
-use Rattle.pip_model.specs.Run.{Work, Done, Node, Plus, Minus, Signs, AllPlus, MinusAt, go_on, scan, scan_on, turn, turn_by, last_turn, count_cut, row_component, Again, point_setting}
-use Rattle.context.specs.Turns.{negative_from, node_of}
+use Rattle.pip_model.specs.Run.{Work, Outcome, Done, Refused, Refusal, Node, Setting, Plus, Minus, Signs, AllPlus, MinusAt, go_on, scan, scan_on, turn, turn_by, last_turn, cut_turn, count_cut, give, row_component, Again, point_setting}
+use Rattle.context.specs.Turns.{negative_from, node_of, counted_cut}
 
 abbrev pub signs_of : Option ℕ → Signs
 signs_of None = AllPlus
@@ -45,9 +45,26 @@ module _ (i : ℕ) (rows : List Row) (h : i < length rows) where
 no_coefficients : (c : List ℤ) → length c ≡ 1 → coefficients c ≡ []
 no_coefficients c e = rw e refl
 
-pub cut_again : (n : ℕ) (rows : List Row) (i : ℕ) (w v : Work) → first_fraction n rows ≡ Some i → length (row_at rows i).constant ≡ 1 → count_cut w ≡ Done tt v
-    → last_turn (point_setting n) (node_of rows) (first_fraction n rows) w ≡ Done (Again (node_of (rows ++ constant_cut (row_at rows i) ∷ []))) v
-cut_again n rows i w v e one counted = rw (e, counted, no_coefficients (row_at rows i).constant one) refl
+-- a cut that leaves no parameter in it: it is counted, and the node goes on with it
+pub counted_again : (S : Setting) (N : Node) (i : ℕ) (w : Work) → is_whole (row_at N.rows i).den (coefficients (row_at N.rows i).constant) ≡ true
+    → cut_turn S N i (row_at N.rows i) w ≡ go_on (counted_cut N.rows i w) (λ rows. give (Again (record N { rows = rows })))
+counted_again S N i w whole = rw whole (by (count_cut w))
+  where
+    by : (o : Outcome (Unit {0})) → go_on o (λ done. give (Again (record N { rows = N.rows ++ constant_cut (row_at N.rows i) ∷ [] }))) ≡ go_on (go_on o (λ done. give (N.rows ++ constant_cut (row_at N.rows i) ∷ []))) (λ rows. give (Again (record N { rows = rows })))
+    by (Done x u) = refl
+    by (Refused f u) = refl
+
+-- so a point's run cuts
+pub cut_again : (n : ℕ) (rows : List Row) (i : ℕ) (w : Work) → first_fraction n rows ≡ Some i → length (row_at rows i).constant ≡ 1
+    → last_turn (point_setting n) (node_of rows) (first_fraction n rows) w ≡ go_on (counted_cut rows i w) (λ now. give (Again (node_of now)))
+cut_again n rows i w e one =
+    let none = no_coefficients (row_at rows i).constant one in
+    let whole : is_whole (row_at rows i).den (coefficients (row_at rows i).constant) ≡ true = rw none refl in
+    rw e (counted_again (point_setting n) (node_of rows) i w whole)
+
+pub cut_refused : (rows : List Row) (i : ℕ) (w u : Work) (o : Option Refusal) → IfSome o (λ f. counted_cut rows i w ≡ Refused f u) → IfSome o (λ f. go_on (counted_cut rows i w) (λ now. give (Again (node_of now))) ≡ Refused f u)
+cut_refused rows i w u None h = h
+cut_refused rows i w u (Some f) h = rw h refl
 
 -- ---- the values of a list
 

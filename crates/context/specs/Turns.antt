@@ -1,11 +1,13 @@
--- The run without parameters, turn by turn.
-use Rattle.std.specs.Prelude.{ℕ, ◌+◌, Option, Some, None, List, [], ◌∷◌, if◌then◌else◌}
+-- Steps of a run, and the run without parameters, turn by turn.
+use Rattle.std.specs.Prelude.{◌≡◌, ℕ, ◌+◌, ◌≤◌, Bool, true, false, Option, Some, None, List, [], ◌∷◌, ◌++◌, length, if◌then◌else◌}
 use Rattle.pip_model.specs.Numbers.{is_nonneg}
 use Rattle.pip_model.specs.Forms.{constant}
 use Rattle.pip_model.specs.Tree.{Bottom}
-use Rattle.pip_model.specs.Rows.{Row}
+use Rattle.pip_model.specs.Rows.{Row, row_at}
+use Rattle.pip_model.specs.Cuts.{constant_cut}
 use Rattle.pip_model.specs.Run as run
-use Rattle.pip_model.specs.Run.{Node, Setting, point_setting, leaf}
+use Rattle.pip_model.specs.Run.{Counted, ◌>>◌, give, count_cut, Node, Setting, point_setting, leaf}
+use Rattle.tableau.specs.Tableaus.{TableauRows}
 use Rattle.context.specs.declared.turns.Turn.{Turn}
 use Rattle.context.specs.declared.turns.Turn.TheVariants as code
 
@@ -23,3 +25,20 @@ abbrev pub made : ℕ → List Row → Turn → run.Turn
 made n rows code.Bottom = run.Closed Bottom
 made n rows code.List = run.Closed (leaf (point_setting n) (node_of rows))
 made n rows code.Again = run.Again (node_of rows)
+
+-- the turn of a node at a row below 0: bottom where no column enters, else it goes on from these rows
+abbrev pub pivoted : Node → List Row → Bool → run.Turn
+pivoted N rows true = run.Again (record N { rows = rows })
+pivoted N rows false = run.Closed Bottom
+
+-- a cut is counted, and then that of row i added
+abbrev pub counted_cut : List Row → ℕ → Counted (List Row)
+counted_cut rows i = do
+  count_cut
+  give (rows ++ constant_cut (row_at rows i) ∷ [])
+
+-- a tableau that became another over the same columns and places, and lost no unknown's row
+pub record HasSameScope (t now : TableauRows) : Type 0 where
+  pub unknowns : now.unknowns ≡ t.unknowns
+  pub width : now.width ≡ t.width
+  pub rows : t.unknowns ≤ length t.rows → t.unknowns ≤ length now.rows

@@ -6,12 +6,14 @@ mod points;
 mod refusal;
 mod rows;
 mod search;
+mod steps;
 mod turns;
 mod work;
 
 pub use context::{Context, ContextMark};
 pub use points::Point;
 pub use refusal::of_step;
+pub use steps::{count_and_cut, enter_and_pivot};
 pub use work::Work;
 
 #[cfg(test)]

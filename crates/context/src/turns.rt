@@ -7,11 +7,10 @@ ghost use Rattle.pip_model.specs.Agreement.{AgreesCounted};
 ghost use Rattle.pip_problem.specs.Faults.{run_fault};
 ghost use Rattle.context.specs.Turns.{negative_from, node_of, made};
 
-use crate::refusal::of_step;
+use crate::steps::{count_and_cut, enter_and_pivot};
 use crate::work::Work;
 use affine_rows::nonnegative;
-use dual_pivot::{entering, pivot};
-use gomory_cut::{constant_cut, first_fraction};
+use gomory_cut::first_fraction;
 use pip_problem::Refusal;
 use tableau::Tableau;
 
@@ -45,7 +44,7 @@ fn first_negative(t: &Tableau) -> Option<usize>
     None
 }
 
-// A pivot at row r, where a column enters.
+// At a row below 0: no point where no column enters, else a pivot.
 fn pivot_turn(t: &mut Tableau, w: &mut Work, r: usize) -> Result<Turn, Refusal>
     requires width { t.old.width ≡ 0 }
     requires rows { t.old.unknowns ≤ length t.old.rows }
@@ -56,12 +55,11 @@ fn pivot_turn(t: &mut Tableau, w: &mut Work, r: usize) -> Result<Turn, Refusal>
     ensures width { t.new.width ≡ 0 }
     ensures rows { t.new.unknowns ≤ length t.new.rows }
 {
-    let Some(c) = entering(t, r)? else {
-        return Ok(Turn::Bottom);
-    };
-    w.count_pivot()?;
-    pivot(t, r, c).map_err(of_step)?;
-    Ok(Turn::Again)
+    if enter_and_pivot(t, r, w)? {
+        Ok(Turn::Again)
+    } else {
+        Ok(Turn::Bottom)
+    }
 }
 
 // A cut at the first fraction, where there is one.
@@ -77,8 +75,7 @@ fn last_turn(t: &mut Tableau, w: &mut Work) -> Result<Turn, Refusal>
     let Some(i) = first_fraction(t) else {
         return Ok(Turn::List);
     };
-    w.count_cut()?;
-    constant_cut(t, i)?;
+    count_and_cut(t, i, w)?;
     Ok(Turn::Again)
 }
 

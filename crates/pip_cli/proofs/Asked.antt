@@ -1,4 +1,4 @@
--- A command that the words give has a budget of nesting that the reader of answers allows.
+-- A command that the words give may be asked for.
 use Rattle.std.proofs.Common.{◌≡◌, refl, arith, ℕ, ℤ, ◌≤◌, List, Option, Some, None, Bool, true, false, ◌&&◌, ◌==◌, not, nat_le, length}
 use Rattle.std.proofs.lemmas.Bool.{leb-true}
 use Rattle.std.specs.Prelude.{IfSome, if◌then◌else◌, codes}
@@ -7,16 +7,17 @@ use Rattle.std.specs.Str.{bytes_eq}
 use Rattle.std.specs.Option.{option_map}
 use Rattle.clap.specs.Words.{Row, Text, fault_of, subcommand_of, first_of, all_of}
 use Rattle.pip_model.specs.Tokens.{is_digit, natural_of}
-use Rattle.pip_model.specs.Limits.{most_nesting}
-use Rattle.pip_model.specs.Program.{Command, Solve, Eval}
+use Rattle.pip_model.specs.Limits.{most_input_bytes, most_pivots, most_cuts, most_splits, most_nesting}
+use Rattle.pip_model.specs.Run.{standard_budget}
+use Rattle.pip_model.specs.Commands.{Command, Eval}
+use Rattle.pip_model.specs.Output.{MayBeAsked}
 use Rattle.pip_words.specs.Arguments.{pip_app}
 use Rattle.pip_words.specs.Numbers.{number_of}
 use Rattle.pip_words.specs.Words.{command_of, command_in, solve_of, limit_of, number_or, is_accepted, parameters_of, texts_of, ◌>>=◌}
 
--- the budget of nesting is one that the reader of answers allows
+-- over each input within its limit
 abbrev pub IsAsked : Command → Type 0
-IsAsked (Solve o) = o.budget.nesting ≤ most_nesting
-IsAsked c = Unit {0}
+IsAsked c = (bytes : List ℕ) → length bytes ≤ most_input_bytes → MayBeAsked c bytes
 
 chosen : (b : Bool) (x y : Option Command) → IfSome x IsAsked → IfSome y IsAsked → IfSome (if b then x else y) IsAsked
 chosen true x y h k = h
@@ -46,14 +47,14 @@ limit_within most default (Some text) h = number_within most text
 
 solve_asked : (rows : List Row) → IfSome (solve_of rows) IsAsked
 solve_asked rows =
-    then_asked (λ x. Unit {0}) (limit_of (codes "pivots") 1000000000 1000000 rows) _ (any _) (λ pivots u.
-    then_asked (λ x. Unit {0}) (limit_of (codes "cuts") 1000000 100000 rows) _ (any _) (λ cuts u.
-    then_asked (λ x. Unit {0}) (limit_of (codes "splits") 1000000 10000 rows) _ (any _) (λ splits u.
-    then_asked (λ n. n ≤ 200) (limit_of (codes "nesting") 200 200 rows) _ (limit_within 200 200 (first_of (codes "nesting") rows) (omega arith)) (λ nesting h. h))))
+    then_asked (λ x. Unit {0}) (limit_of (codes "pivots") most_pivots standard_budget.pivots rows) _ (any _) (λ pivots u.
+    then_asked (λ x. Unit {0}) (limit_of (codes "cuts") most_cuts standard_budget.cuts rows) _ (any _) (λ cuts u.
+    then_asked (λ x. Unit {0}) (limit_of (codes "splits") most_splits standard_budget.splits rows) _ (any _) (λ splits u.
+    then_asked (λ n. n ≤ most_nesting) (limit_of (codes "nesting") most_nesting standard_budget.nesting rows) _ (limit_within most_nesting standard_budget.nesting (first_of (codes "nesting") rows) (omega arith)) (λ nesting h bytes within. h))))
 
 eval_asked : (u : Option (List ℤ)) → IfSome (option_map Eval u) IsAsked
 eval_asked None = tt
-eval_asked (Some u) = tt
+eval_asked (Some u) = λ bytes within. tt
 
 in_asked : (found : Option (Text × List Row)) → IfSome (command_in found) IsAsked
 in_asked None = tt

@@ -1,18 +1,6 @@
-//! The program: the words of the command line, the input and its items, and what is written of them.
+//! The program: the words of the command line, and then the command over the input.
 #![tactic(auto)]
 
-mod ending;
-mod input;
-mod input_refusal;
-mod item_refusal;
-mod items;
-mod output;
-mod output_refusal;
-mod polylib;
-mod refusal;
-mod run;
-mod solving;
-mod value;
-mod valuing;
+mod program;
 
-pub use run::pip_main;
+pub use program::pip_main;

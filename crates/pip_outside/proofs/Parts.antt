@@ -1,10 +1,10 @@
 -- Fronts of bytes, and bytes that are written in parts.
-use Rattle.std.proofs.Common.{◌≡◌, ℕ, ◌+◌, ◌≤◌, List, ◌++◌, length, take, drop, Option, sym, subst, arith, length-append}
-use Rattle.std.proofs.lemmas.List.{take-append-le}
+use Rattle.std.proofs.Common.{◌≡◌, ℕ, ◌+◌, ◌<◌, List, [], ◌++◌, length, take, drop, Option, Some, sym, subst, ap, ◌∙◌, arith, length-append}
+use Rattle.std.proofs.lemmas.List.{take-append-le, take-append-drop, drop-drop}
 use Rattle.std.proofs.Math.Seq.{take-add, take-append-add}
 use Rattle.std.proofs.KnownBytes.{Appends-trans}
 use Rattle.std.specs.Prelude.{Result, Ok, Err}
-use Rattle.std.specs.Io.KnownBytes.{Appends}
+use Rattle.std.specs.Io.KnownBytes.{Appends, Consumes, IsAtEnd}
 use Rattle.pip_outside.specs.Bytes.{AppendsFront, WritesAll}
 
 -- a front of the bytes, and then a front of the rest
@@ -25,3 +25,12 @@ front_after a b c xs ys p q =
 pub writes_after : {E : Type 0} (a b c : Option (List ℕ)) (xs ys : List ℕ) (r : Result (Unit {0}) E) → Appends a b xs → WritesAll b c r ys → WritesAll a c r (xs ++ ys)
 writes_after a b c xs ys (Ok u) p q = Appends-trans a b c xs ys p q
 writes_after a b c xs ys (Err e) p q = front_after a b c xs ys p q
+
+-- a read of n bytes at a place leaves those after them
+pub read_at : (at n : ℕ) (bytes buf : List ℕ) → take n buf ≡ take n (drop at bytes) → (n ≡ 0 → 0 < length buf → drop at bytes ≡ [])
+    → Consumes (Some (drop at bytes)) (Some (drop (at + n) bytes)) (take n buf) × (n ≡ 0 → 0 < length buf → IsAtEnd (Some (drop (at + n) bytes)))
+read_at at n bytes buf front end =
+    let rest : drop n (drop at bytes) ≡ drop (at + n) bytes = drop-drop n at bytes in (
+      sym (take-append-drop n (drop at bytes)) ∙ ap (λ xs. xs ++ drop n (drop at bytes)) (sym front) ∙ ap (λ xs. take n buf ++ xs) rest,
+      λ none room. let same : at + n ≡ at = omega (arith, none) in ap (λ k. drop k bytes) same ∙ end none room,
+    )

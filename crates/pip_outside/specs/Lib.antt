@@ -1,2 +1,4 @@
 pub mod Faults
 pub mod Bytes
+pub mod Plans
+pub mod Views

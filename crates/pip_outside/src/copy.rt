@@ -4,6 +4,7 @@ ghost use Rattle.std.specs.Prelude.{◌≡◌, ◌<◌, ◌≤◌, [], take, len
 pub fn copy_front(bytes: &[u8], most: usize, buf: &mut [u8]) -> usize
     requires { 0 < most }
     ensures bound { result ≤ length buf.new }
+    ensures piece { result ≤ most }
     ensures within { result ≤ length bytes.now }
     ensures front { take result buf.new ≡ take result bytes.now }
     ensures end { result ≡ 0 → 0 < length buf.new → bytes.now ≡ [] }

@@ -1,14 +1,15 @@
 //! Where the program's bytes come from and where they go: sources and sinks that count their faults.
 //!
 //! The program is written over [`Source`] and [`Sink`], so its contracts can name the bytes that were read and
-//! written. [`StdSource`] and [`StdSink`] stand over std's readers and writers and tell no content; the other four
-//! stand over memory.
+//! written. [`StdSource`] and [`StdSink`] stand over std's readers and writers and tell no content; their own clauses
+//! speak of what the reader and the writer tell. The other four stand over memory.
 #![tactic(auto)]
 
 mod copy;
 mod failed;
 mod memory_sink;
 mod memory_source;
+mod plan;
 mod sink;
 mod source;
 mod std_sink;

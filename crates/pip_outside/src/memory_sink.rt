@@ -1,17 +1,31 @@
-ghost use Rattle.std.specs.Prelude.{◌≡◌, ◌<◌, Some, []};
+ghost use Rattle.std.specs.Prelude.{◌≡◌, ◌<◌, min, Some, [], length, OnOk, IfOk, IsErr};
+ghost use Rattle.std.specs.Io.{WritesAtMost};
+ghost use Rattle.std.specs.Io.KnownBytes.{WriteAppends};
+ghost use Rattle.pip_outside.specs.Faults.{CountsFaults};
+ghost use Rattle.pip_outside.specs.Bytes.{TakesSome};
+ghost use Rattle.pip_outside.specs.Plans.{first_plan, FailsNext, after_call};
 
 use crate::failed::Failed;
+use crate::plan::Plan;
 use crate::sink::Sink;
+use std::marker::Model;
 
 /// A sink in memory that takes pieces of one size and fails at given calls.
+///
+/// Contracts see the bytes written, the plan of its calls, and the count of faults.
 #[derive(Drop)]
 pub struct MemorySink {
     bytes: Vec<u8>,
-    piece: usize,
-    fails: Vec<u64>,
-    calls: u64,
+    plan: Plan,
     faults: u64,
-    ghost moves: { 0 < piece },
+}
+
+impl Model for MemorySink {
+    ghost use Rattle.pip_outside.specs.Views.{MemoryOutput};
+
+    ghost Value = { MemoryOutput };
+
+    ghost view = { λ s. record { written = s.bytes.items; plan = s.plan; faults = s.faults } };
 }
 
 impl MemorySink {
@@ -22,12 +36,11 @@ impl MemorySink {
         requires room { room.items ≡ [] }
         ensures written { ⟦<MemorySink as Sink>⟧.written result ≡ Some [] }
         ensures faults { ⟦<MemorySink as Sink>⟧.faults result ≡ 0 }
+        ensures plan { result.plan ≡ first_plan piece fails.items }
     {
         MemorySink {
             bytes: room,
-            piece,
-            fails,
-            calls: 0,
+            plan: Plan::new(piece, fails),
             faults: 0,
         }
     }
@@ -41,15 +54,24 @@ impl MemorySink {
 }
 
 impl Sink for MemorySink {
-    ghost written = { λ s. Some s.bytes.items };
+    ghost written = { λ s. Some s.written };
 
     ghost faults = { λ s. s.faults };
 
-    fn write(&mut self, piece: &[u8]) -> Result<usize, Failed> {
-        let call = self.calls;
-        self.calls = call.saturating_add(1);
-        let count = self.piece.min(piece.len());
-        if self.fails.contains(&call) || self.bytes.extend_from_slice(&piece[..count]).is_err() {
+    fn write(&mut self, piece: &[u8]) -> Result<usize, Failed>
+        ensures bound { WritesAtMost result piece.now }
+        ensures some { TakesSome result piece.now }
+        ensures bytes { WriteAppends (Some self.old.written) (Some self.new.written) result piece.now }
+        ensures cause { CountsFaults self.old.faults self.new.faults result }
+        ensures quiet { OnOk result (self.new.faults ≡ self.old.faults) }
+
+        // the plan: which calls fail at least, and how much the others take
+        ensures planned { FailsNext self.old.plan → IsErr result }
+        ensures piece { IfOk result (λ n. n ≡ min self.old.plan.piece (length piece.now)) }
+        ensures call { self.new.plan ≡ after_call self.old.plan }
+    {
+        let count = self.plan.piece().min(piece.len());
+        if self.plan.fails_next() || self.bytes.extend_from_slice(&piece[..count]).is_err() {
             self.faults = self.faults.saturating_add(1);
             return Err(Failed);
         }

@@ -1,20 +1,36 @@
-ghost use Rattle.std.specs.Prelude.{◌≡◌, ◌<◌, ◌≤◌, Some, drop, vec_len};
+ghost use Rattle.std.specs.Prelude.{◌≡◌, ◌+◌, ◌<◌, ◌≤◌, ◌↔◌, Some, OnOk, IsErr};
+ghost use Rattle.std.specs.Io.{ReadsAtMost};
+ghost use Rattle.std.specs.Io.KnownBytes.{ReadConsumes};
+ghost use Rattle.pip_outside.specs.Faults.{CountsFaults};
+ghost use Rattle.pip_outside.specs.Bytes.{count_of};
+ghost use Rattle.pip_outside.specs.Plans.{first_plan, FailsNext, after_call};
 
 use crate::copy::copy_front;
 use crate::failed::Failed;
+use crate::plan::Plan;
 use crate::source::Source;
+use std::marker::Model;
 
 /// A source in memory that gives pieces of one size and fails at given calls.
+///
+/// Contracts see the bytes left, how many were taken, the plan of its calls, and the count of faults.
 #[derive(Drop)]
 pub struct MemorySource {
     bytes: Vec<u8>,
     at: usize,
-    piece: usize,
-    fails: Vec<u64>,
-    calls: u64,
+    plan: Plan,
     faults: u64,
-    ghost within: { at ≤ vec_len bytes },
-    ghost moves: { 0 < piece },
+}
+
+impl Model for MemorySource {
+    ghost use Rattle.std.specs.Prelude.{◌≤◌, drop, vec_len};
+    ghost use Rattle.pip_outside.specs.Views.{MemoryInput};
+
+    ghost Value = { MemoryInput };
+
+    ghost view = { λ s. record { left = drop s.at s.bytes.items; taken = s.at; plan = s.plan; faults = s.faults } };
+
+    ghost invariant = { λ s. s.at ≤ vec_len s.bytes };
 }
 
 impl MemorySource {
@@ -25,33 +41,41 @@ impl MemorySource {
         ensures left { ⟦<MemorySource as Source>⟧.left result ≡ Some bytes.items }
         ensures taken { ⟦<MemorySource as Source>⟧.taken result ≡ 0 }
         ensures faults { ⟦<MemorySource as Source>⟧.faults result ≡ 0 }
+        ensures plan { result.plan ≡ first_plan piece fails.items }
     {
         MemorySource {
             bytes,
             at: 0,
-            piece,
-            fails,
-            calls: 0,
+            plan: Plan::new(piece, fails),
             faults: 0,
         }
     }
 }
 
 impl Source for MemorySource {
-    ghost left = { λ s. Some (drop s.at s.bytes.items) };
+    ghost left = { λ s. Some s.left };
 
-    ghost taken = { λ s. s.at };
+    ghost taken = { λ s. s.taken };
 
     ghost faults = { λ s. s.faults };
 
-    fn read(&mut self, buf: &mut [u8]) -> Result<usize, Failed> {
-        let call = self.calls;
-        self.calls = call.saturating_add(1);
-        if self.fails.contains(&call) {
+    fn read(&mut self, buf: &mut [u8]) -> Result<usize, Failed>
+        ensures bound { ReadsAtMost result buf.new }
+        ensures bytes { ReadConsumes (Some self.old.left) (Some self.new.left) result buf.new }
+        ensures counted { self.new.taken ≡ self.old.taken + count_of result }
+        ensures cause { CountsFaults self.old.faults self.new.faults result }
+        ensures quiet { OnOk result (self.new.faults ≡ self.old.faults) }
+
+        // the plan: which calls fail, and how much the others give
+        ensures planned { IsErr result ↔ FailsNext self.old.plan }
+        ensures piece { count_of result ≤ self.old.plan.piece }
+        ensures call { self.new.plan ≡ after_call self.old.plan }
+    {
+        if self.plan.fails_next() {
             self.faults = self.faults.saturating_add(1);
             return Err(Failed);
         }
-        let count = copy_front(&self.bytes[self.at..], self.piece, buf);
+        let count = copy_front(&self.bytes[self.at..], self.plan.piece(), buf);
         self.at += count;
         Ok(count)
     }

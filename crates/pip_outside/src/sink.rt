@@ -1,4 +1,4 @@
-ghost use Rattle.std.specs.Prelude.{◌≡◌, ◌+◌, ℕ, List, Option, IfSome};
+ghost use Rattle.std.specs.Prelude.{◌≡◌, ◌+◌, ℕ, List, Option, IfSome, OnOk};
 ghost use Rattle.std.specs.Io.{WritesAtMost};
 ghost use Rattle.std.specs.Io.KnownBytes.{WriteAppends};
 ghost use Rattle.pip_outside.specs.Faults.{CountsFaults};
@@ -16,18 +16,20 @@ pub trait Sink {
 
     /// Appends the front of a piece, at least a byte of one that is not empty, and answers how many bytes it took.
     ///
-    /// A failed write appends nothing, and is counted.
+    /// A failed write appends nothing, and is counted; a write that answers counts nothing.
     fn write(&mut self, piece: &[u8]) -> Result<usize, Failed>
         ensures bound { WritesAtMost result piece.now }
         ensures some { TakesSome result piece.now }
         ensures bytes { WriteAppends (written self.old) (written self.new) result piece.now }
-        ensures cause { CountsFaults (faults self.old) (faults self.new) result };
+        ensures cause { CountsFaults (faults self.old) (faults self.new) result }
+        ensures quiet { OnOk result (faults self.new ≡ faults self.old) };
 }
 
 /// Appends all bytes, or a front of them where a write fails. It takes no memory.
 pub fn write_all<K: Sink>(sink: &mut K, bytes: &[u8]) -> Result<(), Failed>
     ensures bytes { WritesAll (K.written sink.old) (K.written sink.new) result bytes.now }
     ensures cause { CountsFaults (K.faults sink.old) (K.faults sink.new) result }
+    ensures quiet { OnOk result (K.faults sink.new ≡ K.faults sink.old) }
 {
     let mut at = 0;
     while at < bytes.len() {

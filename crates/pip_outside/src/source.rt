@@ -1,4 +1,4 @@
-ghost use Rattle.std.specs.Prelude.{◌≡◌, ◌+◌, ℕ, List, Option, IfSome};
+ghost use Rattle.std.specs.Prelude.{◌≡◌, ◌+◌, ℕ, List, Option, IfSome, OnOk};
 ghost use Rattle.std.specs.Io.{ReadsAtMost};
 ghost use Rattle.std.specs.Io.KnownBytes.{ReadConsumes};
 ghost use Rattle.pip_outside.specs.Faults.{CountsFaults};
@@ -20,10 +20,11 @@ pub trait Source {
     /// Puts the next bytes into the front of `buf` and answers how many.
     ///
     /// `Ok(0)` with room in `buf` is the end of the input, and comes only with nothing left where the source tells.
-    /// A failed read takes nothing, and is counted.
+    /// A failed read takes nothing, and is counted; a read that answers counts nothing.
     fn read(&mut self, buf: &mut [u8]) -> Result<usize, Failed>
         ensures bound { ReadsAtMost result buf.new }
         ensures bytes { ReadConsumes (left self.old) (left self.new) result buf.new }
         ensures counted { IfSome (left self.old) (λ _. taken self.new ≡ taken self.old + count_of result) }
-        ensures cause { CountsFaults (faults self.old) (faults self.new) result };
+        ensures cause { CountsFaults (faults self.old) (faults self.new) result }
+        ensures quiet { OnOk result (faults self.new ≡ faults self.old) };
 }

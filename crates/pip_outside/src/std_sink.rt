@@ -1,16 +1,29 @@
-ghost use Rattle.std.specs.Prelude.{◌≡◌, None};
+ghost use Rattle.std.specs.Prelude.{◌≡◌, None, OnOk};
+ghost use Rattle.std.specs.Io.{WritesAtMost};
+ghost use Rattle.pip_outside.specs.Faults.{CountsFaults};
+ghost use Rattle.pip_outside.specs.Bytes.{TakesSome, WriterTakes};
 
 use crate::failed::Failed;
 use crate::sink::Sink;
 use std::io::Write;
+use std::marker::Model;
 
 /// A sink over a writer of std, flushed at each write. It tells no content.
 ///
 /// A fault is any error of the writer or of its flush, and a write that takes nothing of a piece that is not empty.
+/// Contracts see what the writer tells that it holds (`contents`), and the count of faults.
 #[derive(Drop)]
 pub struct StdSink<W: Write> {
     writer: W,
     faults: u64,
+}
+
+impl<W: Write> Model for StdSink<W> {
+    ghost use Rattle.pip_outside.specs.Views.{WriterOutput};
+
+    ghost Value = { WriterOutput };
+
+    ghost view = { λ s. record { contents = W.contents s.writer; faults = s.faults } };
 }
 
 impl<W: Write> StdSink<W> {
@@ -18,6 +31,7 @@ impl<W: Write> StdSink<W> {
     pub fn new(writer: W) -> StdSink<W>
         ensures written { ⟦<StdSink<W> as Sink>⟧.written result ≡ None }
         ensures faults { ⟦<StdSink<W> as Sink>⟧.faults result ≡ 0 }
+        ensures writer { result.contents ≡ W.contents writer }
     {
         StdSink { writer, faults: 0 }
     }
@@ -28,7 +42,13 @@ impl<W: Write> Sink for StdSink<W> {
 
     ghost faults = { λ s. s.faults };
 
-    fn write(&mut self, piece: &[u8]) -> Result<usize, Failed> {
+    fn write(&mut self, piece: &[u8]) -> Result<usize, Failed>
+        ensures bound { WritesAtMost result piece.now }
+        ensures some { TakesSome result piece.now }
+        ensures writer { WriterTakes self.old.contents self.new.contents result piece.now }
+        ensures cause { CountsFaults self.old.faults self.new.faults result }
+        ensures quiet { OnOk result (self.new.faults ≡ self.old.faults) }
+    {
         match self.writer.write(piece) {
             Ok(count) if (0 < count || piece.is_empty()) && self.writer.flush().is_ok() => Ok(
                 count,

@@ -1,14 +1,28 @@
-ghost use Rattle.std.specs.Prelude.{◌≡◌, None};
+ghost use Rattle.std.specs.Prelude.{◌≡◌, None, OnOk};
+ghost use Rattle.std.specs.Io.{ReadsAtMost};
+ghost use Rattle.std.specs.Io.KnownBytes.{ReadConsumes};
+ghost use Rattle.pip_outside.specs.Faults.{CountsFaults};
 
 use crate::failed::Failed;
 use crate::source::Source;
 use std::io::Read;
+use std::marker::Model;
 
 /// A source over a reader of std. It tells no content, and any error of the reader is a fault.
+///
+/// Contracts see what the reader tells that is left in it (`remaining`), and the count of faults.
 #[derive(Drop)]
 pub struct StdSource<R: Read> {
     reader: R,
     faults: u64,
+}
+
+impl<R: Read> Model for StdSource<R> {
+    ghost use Rattle.pip_outside.specs.Views.{ReaderInput};
+
+    ghost Value = { ReaderInput };
+
+    ghost view = { λ s. record { remaining = R.remaining s.reader; faults = s.faults } };
 }
 
 impl<R: Read> StdSource<R> {
@@ -16,6 +30,7 @@ impl<R: Read> StdSource<R> {
     pub fn new(reader: R) -> StdSource<R>
         ensures left { ⟦<StdSource<R> as Source>⟧.left result ≡ None }
         ensures faults { ⟦<StdSource<R> as Source>⟧.faults result ≡ 0 }
+        ensures reader { result.remaining ≡ R.remaining reader }
     {
         StdSource { reader, faults: 0 }
     }
@@ -28,7 +43,12 @@ impl<R: Read> Source for StdSource<R> {
 
     ghost faults = { λ s. s.faults };
 
-    fn read(&mut self, buf: &mut [u8]) -> Result<usize, Failed> {
+    fn read(&mut self, buf: &mut [u8]) -> Result<usize, Failed>
+        ensures bound { ReadsAtMost result buf.new }
+        ensures reader { ReadConsumes self.old.remaining self.new.remaining result buf.new }
+        ensures cause { CountsFaults self.old.faults self.new.faults result }
+        ensures quiet { OnOk result (self.new.faults ≡ self.old.faults) }
+    {
         match self.reader.read(buf) {
             Ok(count) => Ok(count),
             Err(_) => {

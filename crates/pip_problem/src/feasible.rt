@@ -2,19 +2,20 @@ ghost use Rattle.std.specs.Prelude.{◌≡◌, ◌+◌, ◌≤◌, ◌++◌, len
 ghost use Rattle.std.specs.List.{list_all};
 ghost use Rattle.pip_model.specs.Numbers.{is_nonneg};
 ghost use Rattle.pip_model.specs.Problem.{all_nonneg as all_nonneg_of, rows_listed, feasible, feasible_listed};
+ghost use Rattle.pip_model.specs.Limits.{most_unknowns, most_params};
 ghost use Rattle.pip_model.specs.WellFormed.{IsRow};
 ghost use Rattle.pip_model.specs.Agreement.{IsChecked};
 ghost use Rattle.affine_rows.specs.Checks.{Fits, is_overflow};
 
 use crate::problem::Problem;
-use affine_rows::{Form, Overflow};
+use affine_rows::{Form, MOST_PARAMETERS, MOST_UNKNOWNS, Overflow};
 
 /// The most unknowns and parameters together.
-const MOST_PLACES: usize = 96;
+const MOST_PLACES: usize = MOST_UNKNOWNS + MOST_PARAMETERS;
 
 /// The point and then the parameters, in the front of an array.
 fn joined(point: &[i128], params: &[i128]) -> [i128; MOST_PLACES]
-    requires { length point.now + length params.now ≤ 96 }
+    requires { length point.now + length params.now ≤ most_unknowns + most_params }
     ensures { take (length point.now + length params.now) result ≡ point.now ++ params.now }
 {
     let mut vector = [0; MOST_PLACES];

@@ -10,7 +10,7 @@ mod refusal;
 #[cfg(test)]
 mod tests;
 
-pub use affine_rows::Bytes;
+pub use affine_rows::{Bytes, MOST_PARAMETERS};
 pub use feasible::is_feasible;
 pub use limits::Limits;
 pub use pip_model::{LimitKind, Option_};

@@ -80,7 +80,7 @@ impl Problem {
         }
     }
 
-    /// The number of unknowns, 1 to 64.
+    /// The number of unknowns, 1 to 128.
     pub fn unknowns(&self) -> usize
         ensures value { result ≡ self.now.unknowns }
         ensures problem { IsProblem self.now }
@@ -88,7 +88,7 @@ impl Problem {
         self.unknowns
     }
 
-    /// The number of parameters, 0 to 32.
+    /// The number of parameters, 0 to 48.
     pub fn params(&self) -> usize
         ensures value { result ≡ self.now.params }
         ensures problem { IsProblem self.now }

@@ -1,4 +1,3 @@
-pub mod Fronts
 pub mod Constants
 pub mod Stepwise
 pub mod NoOptions

@@ -1,17 +1,13 @@
 -- Reading a problem by steps is reading it at once.
-use Rattle.std.proofs.Common.{◌≡◌, refl, ◌≤◌, length, ℕ, List}
-use Rattle.std.specs.Prelude.{Result, Ok, Err}
+use Rattle.std.proofs.Common.{◌≡◌, ◌≤◌, length, ℕ, List}
+use Rattle.std.specs.Prelude.{Ok}
 use Rattle.pip_model.specs.Problem.{Problem}
-use Rattle.pip_model.specs.Reading.{◌>>=◌}
 use Rattle.pip_model.specs.NativeText.{problem_at}
 use Rattle.pip_model.specs.WellFormed.{IsProblem}
 use Rattle.pip_model.specs.Printed.{IsGroup}
 use Rattle.text_laws.proofs.ReadProblems.{problem_at-reads}
+use Rattle.text_steps.proofs.Binds.{bind_assoc}
 use Rattle.pip_reader.specs.Problems.{problem_by_steps}
-
-bind_assoc : {A B C E : Type 0} (r : Result A E) (f : A → Result B E) (g : B → Result C E) → ((r >>= f) >>= g) ≡ (r >>= λ x. f x >>= g)
-bind_assoc (Ok x) f g = refl
-bind_assoc (Err e) f g = refl
 
 pub problem_is_by_steps : (bytes : List ℕ) (place : ℕ) → problem_at bytes place ≡ problem_by_steps bytes place
 problem_is_by_steps bytes place = simp bind_assoc

@@ -1,11 +1,17 @@
 -- The numbers of a problem's head, in two steps: the sizes, and the mode.
 use Rattle.std.specs.Prelude.{ℕ, Bool, not, List, Ok}
+use Rattle.pip_model.specs.declared.LimitKind.{LimitKind}
 use Rattle.pip_model.specs.declared.LimitKind.TheVariants.{Unknowns, Parameters, Rows, ContextRows}
 use Rattle.pip_model.specs.Limits.{most_unknowns, most_params, most_rows, most_context_rows}
 use Rattle.pip_model.specs.Numbers.{is_zero}
-use Rattle.pip_model.specs.Reading.{Reads, ◌>>=◌, number, no_big_parameter}
+use Rattle.pip_model.specs.Reading.{Reads, ◌>>=◌, number, within, no_big_parameter}
 use Rattle.pip_reader.specs.declared.header.Sizes.{Sizes}
-use Rattle.pip_reader.specs.Steps.{limited}
+
+-- a number in its range
+abbrev pub limited : List ℕ → LimitKind → ℕ → ℕ → ℕ → Reads ℕ
+limited bytes kind low high place = do
+  z ← number bytes place
+  within kind low high z
 
 abbrev pub sizes : List ℕ → ℕ → Reads Sizes
 sizes bytes place = do

@@ -1,17 +1,15 @@
-ghost use Rattle.std.specs.Prelude.{◌≡◌, ◌≤◌, ◌<◌, ◌+◌, length, IfOk};
-ghost use Rattle.pip_model.specs.Limits.{most_params};
-ghost use Rattle.pip_model.specs.Reading.{block as block_of};
-ghost use Rattle.pip_model.specs.Agreement.{Agrees};
+ghost use Rattle.std.specs.Prelude.{◌≤◌, ◌<◌, length};
+ghost use Rattle.text_steps.specs.Steps.{AreRead, IsRead};
 ghost use Rattle.pip_problem.specs.Faults.{read_fault};
-ghost use Rattle.pip_reader.specs.Rows.{form_rows as form_rows_of, form_block as form_block_of};
+ghost use Rattle.pip_reader.specs.Rows as model;
 
 use crate::row::form_row;
-use crate::steps::expect;
 use affine_rows::{Form, Kind};
 use pip_problem::ReadRefusal;
 use std::alloc::Global;
+use text_steps::{Reads, expect};
 
-/// So many rows of `width` numbers as forms, and the place behind them.
+// So many rows of `width` numbers as forms, and the place behind them.
 fn form_rows(
     alloc: Global,
     bytes: &[u8],
@@ -19,11 +17,11 @@ fn form_rows(
     width: usize,
     coefficients: usize,
     place: usize,
-) -> Result<(Vec<Form>, usize), ReadRefusal>
+) -> Reads<Vec<Form>, ReadRefusal>
     requires place { place ≤ length bytes.now }
     requires constant { coefficients < width }
-    ensures agrees { Agrees (λ x. (x.0.items, x.1)) read_fault result (form_rows_of bytes.now count width coefficients place) }
-    ensures order { IfOk result (λ x. (place ≤ x.1) × (x.1 ≤ length bytes.now)) }
+    ensures { AreRead (λ v. v.items) read_fault bytes.now place result
+        (model.form_rows bytes.now count width coefficients place) }
 {
     let mut forms = Vec::with_capacity(alloc, count)?;
     let mut at = place;
@@ -35,8 +33,7 @@ fn form_rows(
     Ok((forms, at))
 }
 
-/// So many rows between brackets, and the place behind them.
-#[tactic(auto, using(crate::proofs::Constants::form_block_is))]
+/// So many rows between brackets, the constant of each behind its first coefficients, and the place behind them.
 pub fn form_block(
     alloc: Global,
     bytes: &[u8],
@@ -44,31 +41,14 @@ pub fn form_block(
     width: usize,
     coefficients: usize,
     place: usize,
-) -> Result<(Vec<Form>, usize), ReadRefusal>
+) -> Reads<Vec<Form>, ReadRefusal>
     requires place { place ≤ length bytes.now }
     requires constant { coefficients < width }
-    ensures agrees { Agrees (λ x. (x.0.items, x.1)) read_fault result (form_block_of bytes.now count width coefficients place) }
-    ensures order { IfOk result (λ x. (place ≤ x.1) × (x.1 ≤ length bytes.now)) }
+    ensures { IsRead (λ v. v.items) read_fault bytes.now place result
+        (model.form_block bytes.now count width coefficients place) }
 {
-    let first = expect(bytes, Kind::LeftParen, place)?;
-    let (forms, at) = form_rows(alloc, bytes, count, width, coefficients, first)?;
+    let at = expect(bytes, Kind::LeftParen, place)?;
+    let (forms, at) = form_rows(alloc, bytes, count, width, coefficients, at)?;
     let after = expect(bytes, Kind::RightParen, at)?;
     Ok((forms, after))
-}
-
-/// So many context rows over so many parameters, and the place behind them; the constant of each is its last number.
-#[tactic(auto, using(crate::proofs::Constants::form_block_same))]
-pub fn context_block(
-    alloc: Global,
-    bytes: &[u8],
-    count: usize,
-    params: usize,
-    place: usize,
-) -> Result<(Vec<Form>, usize), ReadRefusal>
-    requires place { place ≤ length bytes.now }
-    requires few { params ≤ most_params }
-    ensures agrees { Agrees (λ x. (x.0.items, x.1)) read_fault result (block_of bytes.now count (params + 1) place) }
-    ensures order { IfOk result (λ x. (place ≤ x.1) × (x.1 ≤ length bytes.now)) }
-{
-    form_block(alloc, bytes, count, params + 1, params, place)
 }

@@ -1,11 +1,12 @@
-ghost use Rattle.std.specs.Prelude.{◌≡◌, ◌≤◌, length, IfOk};
-ghost use Rattle.pip_model.specs.Limits.{most_unknowns, most_params, most_rows, most_context_rows};
-ghost use Rattle.pip_model.specs.Agreement.{Agrees};
+ghost use Rattle.std.specs.Prelude.{◌≤◌, length, IfOk};
+ghost use Rattle.pip_model.specs.Limits.{most_unknowns, most_params};
+ghost use Rattle.text_steps.specs.Steps.{IsRead};
 ghost use Rattle.pip_problem.specs.Faults.{read_fault};
-ghost use Rattle.pip_reader.specs.Header.{sizes as sizes_of, mode as mode_of};
+ghost use Rattle.pip_reader.specs.Header as model;
 
-use crate::steps::{limited, number};
-use pip_problem::{LimitKind, ReadRefusal, no_big_parameter};
+use affine_rows::{MOST_CONTEXT_ROWS, MOST_PARAMETERS, MOST_ROWS, MOST_UNKNOWNS};
+use pip_problem::{LimitKind, ReadRefusal, no_big_parameter, within};
+use text_steps::{Reads, number};
 
 /// How many unknowns, parameters, tableau rows and context rows a problem has.
 #[derive(Clone, Copy)]
@@ -16,18 +17,32 @@ pub struct Sizes {
     pub context_rows: usize,
 }
 
-/// The four numbers of sizes, each in its range, and the place behind them.
-pub fn read_sizes(bytes: &[u8], place: usize) -> Result<(Sizes, usize), ReadRefusal>
+// The number that is the next token, from `low` to `high`, and the place behind it.
+fn limited(
+    bytes: &[u8],
+    kind: LimitKind,
+    low: usize,
+    high: usize,
+    place: usize,
+) -> Reads<usize, ReadRefusal>
     requires { place ≤ length bytes.now }
-    ensures agrees { Agrees (λ x. x) read_fault result (sizes_of bytes.now place) }
+    ensures reads { IsRead (λ n. n) read_fault bytes.now place result (model.limited bytes.now kind low high place) }
+    ensures range { IfOk result (λ x. (low ≤ x.0) × (x.0 ≤ high)) }
+{
+    within(kind, low, high, number(bytes, place)?)
+}
+
+/// The four numbers of sizes, each in its range, and the place behind them.
+pub fn read_sizes(bytes: &[u8], place: usize) -> Reads<Sizes, ReadRefusal>
+    requires { place ≤ length bytes.now }
+    ensures reads { IsRead (λ s. s) read_fault bytes.now place result (model.sizes bytes.now place) }
     ensures unknowns { IfOk result (λ x. x.0.unknowns ≤ most_unknowns) }
     ensures params { IfOk result (λ x. x.0.params ≤ most_params) }
-    ensures order { IfOk result (λ x. (place ≤ x.1) × (x.1 ≤ length bytes.now)) }
 {
-    let (unknowns, at) = limited(bytes, LimitKind::Unknowns, 1, 64, place)?;
-    let (params, at) = limited(bytes, LimitKind::Parameters, 0, 32, at)?;
-    let (rows, at) = limited(bytes, LimitKind::Rows, 0, 1024, at)?;
-    let (context_rows, at) = limited(bytes, LimitKind::ContextRows, 0, 256, at)?;
+    let (unknowns, at) = limited(bytes, LimitKind::Unknowns, 1, MOST_UNKNOWNS, place)?;
+    let (params, at) = limited(bytes, LimitKind::Parameters, 0, MOST_PARAMETERS, at)?;
+    let (rows, at) = limited(bytes, LimitKind::Rows, 0, MOST_ROWS, at)?;
+    let (context_rows, at) = limited(bytes, LimitKind::ContextRows, 0, MOST_CONTEXT_ROWS, at)?;
     let sizes = Sizes {
         unknowns,
         params,
@@ -38,10 +53,9 @@ pub fn read_sizes(bytes: &[u8], place: usize) -> Result<(Sizes, usize), ReadRefu
 }
 
 /// No big parameter, then whether whole points are asked for, and the place behind them.
-pub fn read_mode(bytes: &[u8], place: usize) -> Result<(bool, usize), ReadRefusal>
+pub fn read_mode(bytes: &[u8], place: usize) -> Reads<bool, ReadRefusal>
     requires { place ≤ length bytes.now }
-    ensures agrees { Agrees (λ x. x) read_fault result (mode_of bytes.now place) }
-    ensures order { IfOk result (λ x. (place ≤ x.1) × (x.1 ≤ length bytes.now)) }
+    ensures { IsRead (λ integer. integer) read_fault bytes.now place result (model.mode bytes.now place) }
 {
     let at = no_big_parameter(number(bytes, place)?)?;
     let (flag, after) = number(bytes, at)?;

@@ -2,11 +2,9 @@
 #![tactic(auto)]
 
 mod block;
-mod group;
 mod header;
 mod problem;
 mod row;
-mod steps;
 #[cfg(test)]
 mod tests;
 

@@ -4,19 +4,19 @@ ghost use Rattle.pip_model.specs.Moved.{is_closed};
 ghost use Rattle.pip_model.specs.NativeText.{problem_at as problem_at_of, read_native};
 ghost use Rattle.pip_model.specs.Printed.{IsGroup};
 ghost use Rattle.pip_model.specs.Agreement.{Agrees};
+ghost use Rattle.text_steps.specs.Steps.{IsRead};
 ghost use Rattle.pip_problem.specs.Faults.{read_fault};
 ghost use Rattle.pip_reader.specs.Problems.{problem_of, problem_by_steps};
 ghost use Rattle.pip_reader.specs.Refusals.{IsNoOption};
 
-use crate::block::{context_block, form_block};
-use crate::group::group;
+use crate::block::form_block;
 use crate::header::{Sizes, read_mode, read_sizes};
-use crate::steps::expect;
 use affine_rows::{Form, Kind, next_open};
 use pip_problem::{Bytes, Problem, ReadRefusal};
 use std::alloc::Global;
+use text_steps::{Reads, block, expect, group};
 
-/// What a problem is made of.
+// What a problem is made of.
 #[derive(Drop)]
 struct Parts {
     sizes: Sizes,
@@ -26,11 +26,10 @@ struct Parts {
     comment: Bytes,
 }
 
-/// The parts of a problem, and the place behind its last `)`.
-fn parts_at(alloc: Global, bytes: &[u8], place: usize) -> Result<(Parts, usize), ReadRefusal>
+// The parts of a problem, and the place behind its last `)`.
+fn parts_at(alloc: Global, bytes: &[u8], place: usize) -> Reads<Parts, ReadRefusal>
     requires { place ≤ length bytes.now }
-    ensures agrees { Agrees (λ x. (problem_of x.0, x.1)) read_fault result (problem_by_steps bytes.now place) }
-    ensures order { IfOk result (λ x. (place < x.1) × (x.1 ≤ length bytes.now)) }
+    ensures { IsRead problem_of read_fault bytes.now place result (problem_by_steps bytes.now place) }
 {
     let first = expect(bytes, Kind::LeftParen, place)?;
     let (comment, at) = group(alloc, bytes, first)?;
@@ -38,7 +37,7 @@ fn parts_at(alloc: Global, bytes: &[u8], place: usize) -> Result<(Parts, usize),
     let (integer, at) = read_mode(bytes, at)?;
     let width = sizes.unknowns + 1 + sizes.params;
     let (rows, at) = form_block(alloc, bytes, sizes.rows, width, sizes.unknowns, at)?;
-    let (context, at) = context_block(alloc, bytes, sizes.context_rows, sizes.params, at)?;
+    let (context, at) = block(alloc, bytes, sizes.context_rows, sizes.params + 1, at)?;
     let after = expect(bytes, Kind::RightParen, at)?;
     let parts = Parts {
         sizes,
@@ -50,12 +49,11 @@ fn parts_at(alloc: Global, bytes: &[u8], place: usize) -> Result<(Parts, usize),
     Ok((parts, after))
 }
 
-/// The problem that begins at a place, and the place behind its last `)`.
+// The problem that begins at a place, and the place behind its last `)`.
 #[tactic(auto, using(crate::proofs::Stepwise::problem_is_by_steps))]
-fn problem_at(alloc: Global, bytes: &[u8], place: usize) -> Result<(Problem, usize), ReadRefusal>
+fn problem_at(alloc: Global, bytes: &[u8], place: usize) -> Reads<Problem, ReadRefusal>
     requires { place ≤ length bytes.now }
-    ensures agrees { Agrees (λ x. x) read_fault result (problem_at_of bytes.now place) }
-    ensures order { IfOk result (λ x. (place < x.1) × (x.1 ≤ length bytes.now)) }
+    ensures reads { IsRead (λ p. p) read_fault bytes.now place result (problem_at_of bytes.now place) }
     ensures group { IfOk result (λ x. IsGroup x.0.comment) }
 {
     let (parts, after) = parts_at(alloc, bytes, place)?;
@@ -70,7 +68,7 @@ fn problem_at(alloc: Global, bytes: &[u8], place: usize) -> Result<(Problem, usi
     Ok((problem, after))
 }
 
-/// The problem that begins with the first `(` at or behind `start`, and the place behind its last `)`.
+// The problem that begins with the first `(` at or behind `start`, and the place behind its last `)`.
 fn first_problem(
     alloc: Global,
     bytes: &[u8],

@@ -31,8 +31,8 @@ fn a_problem_is_read(rt: HostRuntime) -> Result<(), Fail> {
     is_refused(
         &rt,
         alloc,
-        "((u) 65 0 0 0 -1 1 () ())",
-        ReadRefusal::Limit(LimitKind::Unknowns, 65),
+        "((u) 129 0 0 0 -1 1 () ())",
+        ReadRefusal::Limit(LimitKind::Unknowns, 129),
     );
     Ok(())
 }

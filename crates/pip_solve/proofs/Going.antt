@@ -1,112 +1,129 @@
--- The run of a node, from one turn to the next.
-use Rattle.std.proofs.Common.{◌≡◌, sym, ap, ◌∙◌, ℕ, ◌+◌, ◌<◌, ◌≤◌, ◌++◌, ◌∷◌, [], map, take, Bool, List, ℤ, Option, Some, None, length, arith}
-use Rattle.std.specs.Prelude.{IfSome}
+-- What is in hand after a turn, and after a tree.
+use Rattle.std.proofs.Common.{◌≡◌, sym, ap, ◌∙◌, ℕ, ◌+◌, ◌++◌, ◌∷◌, [], map, take, List, ℤ, length, arith}
 use Rattle.std.proofs.Math.Seq.{take-append_seam}
-use Rattle.pip_model.specs.Tree.{NewParm}
-use Rattle.pip_model.specs.Rows.{Row, row_at, widened}
-use Rattle.pip_model.specs.Run.{Work, Done, Refused, Refusal, Node, Setting, Again, Split, Below, left, turn, run_from, class, go_on, give}
-use Rattle.pip_model.specs.Cuts.{Quotient, lower_bound, upper_bound, parametric_cut}
+use Rattle.std.proofs.lemmas.List.{append-nil, length-append, length-take-le}
 use Rattle.pip_model.specs.Forms.{opposite}
-use Rattle.pip_model.proofs.Fuel.{falls-class, again_less, again_run, below_run, split_run}
+use Rattle.pip_model.specs.Tree.{If, NewParm}
+use Rattle.pip_model.specs.Rows.{row_at, widened}
+use Rattle.pip_model.specs.Cuts.{Quotient, lower_bound, upper_bound, parametric_cut}
+use Rattle.pip_model.specs.Run.{Work, ◌>>=◌, go_on, give, run_from}
 use Rattle.tableau.specs.Tableaus.{TableauRows}
-use Rattle.context.specs.Scoped.{ScopedForms, SameContext}
+use Rattle.context.specs.declared.context.ContextMark.{ContextMark}
 use Rattle.new_parameters.specs.Scopes.{Scope, size}
-use Rattle.pip_solve.specs.Nodes.{node_of, setting_of, IsNode}
-use Rattle.pip_solve.specs.Turns as turns
-use Rattle.pip_solve.specs.Turns.{node, under, below}
+use Rattle.quast.specs.Trees.{ScopedTree}
+use Rattle.pip_solve.specs.declared.path.Path.{Path}
+use Rattle.pip_solve.specs.declared.pending.Frame.{Frame}
+use Rattle.pip_solve.specs.declared.pending.Frame.TheVariants as frame
+use Rattle.pip_solve.specs.declared.turn.Turn.TheVariants as code
+use Rattle.pip_solve.specs.Nodes.{node_of, setting_of, IsBelow, IsBack}
+use Rattle.pip_solve.specs.Turns.{under, below}
+use Rattle.pip_solve.specs.Frames.{node_run, gone_back, path_under, finished, whole_run, turned_run, AreMarks, Waits}
+use Rattle.pip_solve.proofs.Running.{grouped, same_after, node_same, Grown, finished_grown, grown_below}
 
--- what the loop over a node's turns keeps: the run from here is the run from the start
-pub record GoesOn (integer : Bool) (depth : ℕ) (start t : TableauRows) (before k : ScopedForms) (first q : Scope) (v w : Work) : Type 0 where
-  pub unknowns : t.unknowns ≡ start.unknowns
-  pub width : t.width ≡ start.width
-  pub rows : t.unknowns ≤ length t.rows
-  pub context : SameContext before k
-  pub room : 1 ≤ k.spare
-  pub quotients : q ≡ first
-  pub budget : w.budget ≡ v.budget
-  pub same : run_from (setting_of integer t q) (node_of t k q depth) w ≡ run_from (setting_of integer start first) (node_of start before first depth) v
+-- ---- an if: the second tree is due back here
 
--- the parts are those of a node
-pub is_node : (integer : Bool) (depth : ℕ) (start t : TableauRows) (before k : ScopedForms) (first q : Scope) (v w : Work) → GoesOn integer depth start t before k first q v w → IsNode start before first depth → IsNode t k q depth
-is_node integer depth start t before k first q v w g n = rw (g.quotients) record {
-  some_unknowns = rw (g.unknowns) (n.some_unknowns);
-  few_unknowns = rw (g.unknowns) (n.few_unknowns);
-  rows = g.rows;
-  scope = g.width ∙ n.scope;
-  context = g.context.0 ∙ n.context ∙ sym g.width;
-  few_params = n.few_params;
-  few_quotients = n.few_quotients;
+-- the path below, back at the marks of the path
+module _ (path now : Path) (c : List ℤ) (entered : IsBelow path (c ∷ []) [] now) (mark : ContextMark) (quotients : ℕ) (forms : mark.forms ≡ length path.context.forms) (added : quotients ≡ length path.quotients.quotients) (depth : ℕ) where
+  pub forms_back : take mark.forms now.context.forms ≡ path.context.forms
+  forms_back = rw (forms, entered.forms) (take-append_seam path.context.forms (c ∷ []))
+
+  pub quotients_back : (gone_back now mark quotients depth).quotients ≡ path.quotients
+  quotients_back =
+      ap (λ (q : Scope). let back : Scope = record q { quotients = take quotients q.quotients } in back) entered.quotients
+      ∙ ap (λ (n : ℕ). let back : Scope = record path.quotients { quotients = take n (path.quotients.quotients ++ []) } in back) added
+      ∙ ap (λ (qs : List Quotient). let back : Scope = record path.quotients { quotients = qs } in back) (take-append_seam path.quotients.quotients [])
+
+  pub back_again : Grown path (gone_back now mark quotients depth)
+  back_again = record {
+    integer = entered.integer;
+    forms = ([], forms_back ∙ sym (append-nil _));
+    room =
+        let more = ap (λ (fs : List (List ℤ)). length fs) entered.forms in
+        let long = length-append path.context.forms (c ∷ []) in
+        let kept = ap (λ (fs : List (List ℤ)). length fs) forms_back in
+        omega (arith, more, long, kept, forms, entered.room);
+    params = ap (λ (q : Scope). q.params) quotients_back;
+    quotients = ([], ap (λ (q : Scope). q.quotients) quotients_back ∙ sym (append-nil _));
+  }
+
+-- the run goes on with the first tree
+pub split_on : (most w : ℕ) (rows : TableauRows) (path now : Path) (frames : List Frame) (c : List ℤ) (mark : ContextMark) (quotients : ℕ)
+    → Waits most w path frames → IsBelow path (c ∷ []) [] now → mark.forms ≡ length path.context.forms → quotients ≡ length path.quotients.quotients → path.depth ≡ length frames
+    → (u : Work) → turned_run rows path frames (code.Split c) u ≡ whole_run rows now (frame.SecondDue c rows mark quotients ∷ frames) u
+split_on most w rows path now frames c mark quotients waits entered forms added deep u =
+    let S = setting_of rows path in
+    let N = node_of rows path in
+    let back = gone_back now mark quotients (length frames) in
+    let second = run_from S (under N (opposite c)) in
+    grouped (run_from S (under N c) u) (λ a. second >>= λ b. give (If c a b)) (λ t. finished path frames t)
+    ∙ ap (λ o. go_on o (λ a. (second >>= λ b. give (If c a b)) >>= λ t. finished path frames t)) (sym (node_same rows (path_under path c) now entered.integer entered.depth entered.forms (entered.quotients ∙ same) u))
+    ∙ same_after (node_run rows now u) _ (λ a. finished now (frame.SecondDue c rows mark quotients ∷ frames) a) (λ a v.
+    grouped (second v) (λ b. give (If c a b)) (λ t. finished path frames t)
+    ∙ ap (λ o. go_on o (λ b. finished path frames (If c a b))) (sym (node_same rows (path_under path (opposite c)) (path_under back (opposite c)) entered.integer (omega (arith, deep)) (ap (λ (fs : List (List ℤ)). fs ++ opposite c ∷ []) (forms_back path now c entered mark quotients forms added (length frames))) (quotients_back path now c entered mark quotients forms added (length frames)) v))
+    ∙ same_after (node_run rows (path_under back (opposite c)) v) (λ b. finished path frames (If c a b)) (λ b. finished back frames (If c a b)) (λ b x. sym (finished_grown most w path back frames (back_again path now c entered mark quotients forms added (length frames)) waits (If c a b) x)))
+  where
+    same : record path.quotients { quotients = path.quotients.quotients ++ [] } ≡ path.quotients
+    same = ap (λ (qs : List Quotient). let q : Scope = record path.quotients { quotients = qs } in q) (append-nil path.quotients.quotients)
+
+pub second_grown : (path mid now : Path) (frames : List Frame) (c : List ℤ) (mark : ContextMark) (quotients : ℕ) → AreMarks path mark quotients → IsBack path mark quotients mid → IsBelow mid (opposite c ∷ []) [] now
+    → Grown (gone_back path mark quotients (length frames)) now
+second_grown path mid now frames c mark quotients marks back entered = record {
+  integer = entered.integer ∙ back.integer;
+  forms = (opposite c ∷ [], entered.forms ∙ ap (λ (fs : List (List ℤ)). fs ++ opposite c ∷ []) back.forms);
+  room =
+      let long = length-take-le mark.forms path.context.forms marks.forms in
+      omega (arith, long, marks.forms, back.room, entered.room);
+  params = ap (λ (q : Scope). q.params) entered.quotients ∙ ap (λ (q : Scope). q.params) back.quotients;
+  quotients = ([], ap (λ (q : Scope). q.quotients) entered.quotients ∙ ap (λ (q : Scope). q.quotients ++ []) back.quotients);
 }
 
-module _ (integer : Bool) (depth : ℕ) (start t : TableauRows) (before k : ScopedForms) (first q : Scope) (v w : Work) (g : GoesOn integer depth start t before k first q v w) where
-  abbrev S : Setting
-  S = setting_of integer t q
+-- the run goes on with the second tree, where the path went back and one level down
+pub second_on : (most w : ℕ) (rows : TableauRows) (path mid now : Path) (frames : List Frame) (c : List ℤ) (mark : ContextMark) (quotients : ℕ)
+    → Waits most w path (frame.SecondDue c rows mark quotients ∷ frames) → IsBack path mark quotients mid → IsBelow mid (opposite c ∷ []) [] now → path.depth ≡ length frames
+    → (first : ScopedTree) (u : Work) → finished path (frame.SecondDue c rows mark quotients ∷ frames) first.tree u ≡ whole_run rows now (frame.FirstMade c first ∷ frames) u
+second_on most w rows path mid now frames c mark quotients waits back entered deep first u =
+    let before = gone_back path mark quotients (length frames) in
+    ap (λ o. go_on o (λ b. finished before frames (If c first.tree b))) (sym (node_same rows (path_under before (opposite c)) now (entered.integer ∙ back.integer) (omega (arith, entered.depth, back.depth, deep)) (entered.forms ∙ ap (λ (fs : List (List ℤ)). fs ++ opposite c ∷ []) back.forms) (entered.quotients ∙ same ∙ back.quotients) u))
+    ∙ same_after (node_run rows now u) (λ b. finished before frames (If c first.tree b)) (λ b. finished now frames (If c first.tree b)) (λ b v. sym (finished_grown most w before now frames grown waits.3 (If c first.tree b) v))
+  where
+    same : record mid.quotients { quotients = mid.quotients.quotients ++ [] } ≡ mid.quotients
+    same = ap (λ (qs : List Quotient). let q : Scope = record mid.quotients { quotients = qs } in q) (append-nil mid.quotients.quotients)
 
-  abbrev N : Node
-  N = node_of t k q depth
+    grown : Grown (gone_back path mark quotients (length frames)) now
+    grown = second_grown path mid now frames c mark quotients waits.0 back entered
 
-  -- what is counted falls by a turn after which the node goes on
-  pub less : (rows : List Row) (u : Work) → turn S N w ≡ Done (Again (record N { rows = rows })) u → left u < left w
-  less rows u e = again_less S falls-class N (record N { rows = rows }) w u e
+-- the node below a new parameter
+below_there : (rows now_rows : TableauRows) (path now : Path) (i : ℕ) (k : Quotient) → rows.width ≡ size path.quotients
+    → now_rows ≡ record { unknowns = rows.unknowns; width = rows.width + 1; rows = map widened rows.rows ++ parametric_cut (widened (row_at rows.rows i)) rows.width ∷ [] }
+    → IsBelow path (lower_bound (size path.quotients + 1) (size path.quotients) k ∷ upper_bound (size path.quotients + 1) (size path.quotients) k ∷ []) (k ∷ []) now
+    → (u : Work) → run_from (setting_of rows path) (below (node_of rows path) i (size path.quotients) k) u ≡ node_run now_rows now u
+below_there rows now_rows path now i k wide cut entered u =
+    sym (
+    ap (λ (t : TableauRows). node_run t now u) cut
+    ∙ ap (λ (n : ℕ). node_run (record { unknowns = rows.unknowns; width = n + 1; rows = map widened rows.rows ++ parametric_cut (widened (row_at rows.rows i)) n ∷ [] }) now u) wide
+    ∙ node_same (record { unknowns = rows.unknowns; width = size path.quotients + 1; rows = map widened rows.rows ++ parametric_cut (widened (row_at rows.rows i)) (size path.quotients) ∷ [] }) there now entered.integer entered.depth entered.forms entered.quotients u
+    )
+  where
+    there : Path
+    there = record path {
+      depth = path.depth + 1;
+      context = record path.context { forms = path.context.forms ++ lower_bound (size path.quotients + 1) (size path.quotients) k ∷ upper_bound (size path.quotients + 1) (size path.quotients) k ∷ [] };
+      quotients = record path.quotients { quotients = path.quotients.quotients ++ k ∷ [] };
+    }
 
-  pub goes_on : (now : TableauRows) (later : ScopedForms) (u : Work) → turn S N w ≡ Done (Again (record N { rows = now.rows })) u
-      → now.unknowns ≡ t.unknowns → now.width ≡ t.width → t.unknowns ≤ length now.rows → SameContext k later → k.spare ≤ later.spare → u.budget ≡ w.budget → GoesOn integer depth start now before later first q v u
-  goes_on now later u e unknowns width rows same spare budget = record {
-    unknowns = unknowns ∙ g.unknowns;
-    width = width ∙ g.width;
-    rows = omega (arith, unknowns, rows);
-    context = (same.0 ∙ g.context.0, same.1 ∙ g.context.1);
-    room = omega (arith, spare, g.room);
-    quotients = g.quotients;
-    budget = budget ∙ g.budget;
-    same = moved ∙ sym (again_run S falls-class N (record N { rows = now.rows }) w u e) ∙ g.same;
-  }
-    where
-      moved : run_from (setting_of integer now q) (node_of now later q depth) u ≡ run_from S (record N { rows = now.rows }) u
-      moved =
-          ap (λ (n : ℕ). run_from (record { unknowns = n; params = q.params; integer = integer; class = class }) (node_of now later q depth) u) unknowns
-          ∙ ap (λ (fs : List (List ℤ)). run_from S (node now.rows fs q.quotients depth) u) same.1
-
-  -- the run from the start, where this node splits
-  pub splits : (c : List ℤ) (now : TableauRows) (later : ScopedForms) (u : Work) → turn S N w ≡ Done (Split c (under N c) (under N (opposite c))) u → now ≡ t → SameContext k later
-      → run_from (setting_of integer start first) (node_of start before first depth) v ≡ turns.split_run (setting_of integer now q) (node_of now later q depth) c u
-  splits c now later u e at same = sym g.same ∙ split_run S falls-class N (under N c) (under N (opposite c)) c w u e ∙ sym moved
-    where
-      moved : turns.split_run (setting_of integer now q) (node_of now later q depth) c u ≡ turns.split_run S N c u
-      moved =
-          ap (λ (x : TableauRows). turns.split_run (setting_of integer x q) (node_of x later q depth) c u) at
-          ∙ ap (λ (fs : List (List ℤ)). turns.split_run S (node t.rows fs q.quotients depth) c u) same.1
-
-  -- the run from the start, where this node goes on below a new parameter
-  pub defines : (i place : ℕ) (p : Quotient) (now : TableauRows) (later : ScopedForms) (u : Work) → turn S N w ≡ Done (Below p (below N i place p)) u → now ≡ t → SameContext k later
-      → run_from (setting_of integer start first) (node_of start before first depth) v ≡ turns.below_run (setting_of integer now q) (node_of now later q depth) i place p u
-  defines i place p now later u e at same = sym g.same ∙ below_run S falls-class N (below N i place p) p w u e ∙ sym moved
-    where
-      moved : turns.below_run (setting_of integer now q) (node_of now later q depth) i place p u ≡ turns.below_run S N i place p u
-      moved =
-          ap (λ (x : TableauRows). turns.below_run (setting_of integer x q) (node_of x later q depth) i place p u) at
-          ∙ ap (λ (fs : List (List ℤ)). turns.below_run S (node t.rows fs q.quotients depth) i place p u) same.1
-
--- ---- below a new parameter
-
--- the node and the setting there
-pub node_below : (integer : Bool) (depth i : ℕ) (t now : TableauRows) (k later : ScopedForms) (q more : Scope) (p : Quotient) (w : Work) → t.width ≡ size q
-    → now ≡ record { unknowns = t.unknowns; width = t.width + 1; rows = map widened t.rows ++ parametric_cut (widened (row_at t.rows i)) t.width ∷ [] }
-    → more ≡ record q { quotients = q.quotients ++ p ∷ [] } → later.forms ≡ k.forms ++ lower_bound (size q + 1) (size q) p ∷ upper_bound (size q + 1) (size q) p ∷ []
-    → run_from (setting_of integer now more) (node_of now later more (depth + 1)) w ≡ run_from (setting_of integer t q) (below (node_of t k q depth) i (size q) p) w
-node_below integer depth i t now k later q more p w wide at add forms =
-    ap (λ (x : TableauRows). run_from (setting_of integer x more) (node_of x later more (depth + 1)) w) at
-    ∙ ap (λ (x : Scope). run_from (setting_of integer t x) (node (map widened t.rows ++ parametric_cut (widened (row_at t.rows i)) t.width ∷ []) later.forms x.quotients (depth + 1)) w) add
-    ∙ ap (λ (fs : List (List ℤ)). run_from (setting_of integer t q) (node (map widened t.rows ++ parametric_cut (widened (row_at t.rows i)) t.width ∷ []) fs (q.quotients ++ p ∷ []) (depth + 1)) w) forms
-    ∙ ap (λ (n : ℕ). run_from (setting_of integer t q) (node (map widened t.rows ++ parametric_cut (widened (row_at t.rows i)) n ∷ []) (k.forms ++ lower_bound (size q + 1) (size q) p ∷ upper_bound (size q + 1) (size q) p ∷ []) (q.quotients ++ p ∷ []) (depth + 1)) w) wide
-
-pub below_refused : (S : Setting) (N : Node) (i place : ℕ) (p : Quotient) (w u : Work) (o : Option Refusal) → IfSome o (λ f. run_from S (below N i place p) w ≡ Refused f u) → IfSome o (λ f. turns.below_run S N i place p w ≡ Refused f u)
-below_refused S N i place p w u None h = h
-below_refused S N i place p w u (Some f) h = ap (λ o. go_on o (λ a. give (NewParm p.form p.den a))) h
-
--- the quotients go back
-pub gone_back : (q more back : Scope) (p : Quotient) → more ≡ record q { quotients = q.quotients ++ p ∷ [] } → back ≡ record more { quotients = take (length q.quotients) more.quotients } → back ≡ q
-gone_back q more back p add e =
-    e
-    ∙ ap (λ (x : Scope). record x { quotients = take (length q.quotients) x.quotients }) add
-    ∙ ap (λ (qs : List Quotient). record q { quotients = qs }) (take-append_seam q.quotients (p ∷ []))
+-- a new parameter: the run goes on below it
+pub below_on : (most w : ℕ) (rows now_rows : TableauRows) (path now : Path) (frames : List Frame) (i : ℕ) (k : Quotient)
+    → Waits most w path frames → rows.width ≡ size path.quotients
+    → now_rows ≡ record { unknowns = rows.unknowns; width = rows.width + 1; rows = map widened rows.rows ++ parametric_cut (widened (row_at rows.rows i)) rows.width ∷ [] }
+    → IsBelow path (lower_bound (size path.quotients + 1) (size path.quotients) k ∷ upper_bound (size path.quotients + 1) (size path.quotients) k ∷ []) (k ∷ []) now
+    → (u : Work) → turned_run rows path frames (code.Below i k) u ≡ whole_run now_rows now (frame.NewParm k.form k.den ∷ frames) u
+below_on most w rows now_rows path now frames i k waits wide cut entered u =
+    let S = setting_of rows path in
+    let N = node_of rows path in
+    let q = size path.quotients in
+    grouped (run_from S (below N i q k) u) (λ a. give (NewParm k.form k.den a)) (λ t. finished path frames t)
+    ∙ ap (λ o. go_on o (λ a. finished path frames (NewParm k.form k.den a))) there
+    ∙ same_after (node_run now_rows now u) (λ a. finished path frames (NewParm k.form k.den a)) (λ a. finished now frames (NewParm k.form k.den a)) (λ a v. sym (finished_grown most w path now frames (grown_below path now _ _ entered) waits (NewParm k.form k.den a) v))
+  where
+    there : run_from (setting_of rows path) (below (node_of rows path) i (size path.quotients) k) u ≡ node_run now_rows now u
+    there = below_there rows now_rows path now i k wide cut entered u

@@ -1,5 +1,9 @@
+pub mod Running
+pub mod Going
+pub mod Handing
+pub mod Popping
+pub mod Turned
 pub mod Scanning
 pub mod Cutting
 pub mod Paths
 pub mod Answered
-pub mod Going

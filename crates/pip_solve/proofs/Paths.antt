@@ -1,16 +1,24 @@
 -- The rows and the path below a new parameter.
-use Rattle.std.proofs.Common.{◌≡◌, ℕ, ◌+◌, ◌-◌, ◌<◌, ℤ, pos, List, [], ◌∷◌, ◌++◌, length, map, append_assoc, arith}
+use Rattle.std.proofs.Common.{◌≡◌, sym, subst, ap, ℕ, ◌+◌, ◌-◌, ◌<◌, ◌≤◌, ℤ, pos, List, [], ◌∷◌, ◌++◌, length, map, All, true, append_assoc, arith}
 use Rattle.std.proofs.Math.Seq.{get_or-append_seam}
 use Rattle.std.proofs.lemmas.List.{get_or-map}
-use Rattle.pip_model.specs.Rows.{Row, row_at, form_row, widened, start}
+use Rattle.std.proofs.lemmas.List.Elements.{All-from_recursion}
+use Rattle.pip_model.specs.Forms.{tighten}
+use Rattle.pip_model.specs.Rows.{Row, row_at, form_row, widened, started, start}
 use Rattle.pip_model.specs.Cuts.{Quotient}
 use Rattle.pip_model.specs.Problem.{Problem}
-use Rattle.pip_model.specs.WellFormed.{IsProblem}
+use Rattle.pip_model.specs.Limits.{most_nesting}
+use Rattle.pip_model.specs.WellFormed.{IsRow, IsProblem}
+use Rattle.run_laws.proofs.Started.{started_formed}
 use Rattle.tableau.specs.Tableaus.{TableauRows}
-use Rattle.context.specs.Scoped.{ScopedForms}
 use Rattle.context.proofs.Pointing.{length_start}
 use Rattle.new_parameters.specs.Scopes.{Scope, size, quotient_at}
+use Rattle.pip_solve.specs.declared.path.Path.{Path}
 use Rattle.pip_solve.specs.Nodes.{IsNode}
+use Rattle.pip_solve.specs.Starts.{IsFirstPath}
+use Rattle.pip_solve.specs.Waiting.{Waiting}
+use Rattle.pip_solve.specs.Frames.{Waits, IsRunning}
+use Rattle.pip_solve.specs.declared.pending.Frame.{Frame}
 
 -- the quotient that was added last
 pub quotient_at-added : (q : Scope) (k : Quotient) → quotient_at (record q { quotients = q.quotients ++ k ∷ [] }) (size q) ≡ k
@@ -25,13 +33,40 @@ pub row_at-widened : (rows : List Row) (i : ℕ) → i < length rows → row_at 
 row_at-widened rows i h = get_or-map widened rows i (form_row 0 []) (form_row 0 []) h
 
 -- the first node of a problem
-pub starts : (P : Problem) (t : TableauRows) (k : ScopedForms) (q : Scope) → IsProblem P → t ≡ record { unknowns = P.unknowns; width = P.params; rows = start P.unknowns P.params P.rows } → k.width ≡ P.params → q ≡ record { params = P.params; quotients = [] } → IsNode t k q 0
-starts P t k q formed rows width path = rw (rows, path) record {
-  some_unknowns = formed.some_unknowns;
-  few_unknowns = formed.few_unknowns;
-  rows = length_start P.unknowns P.params P.rows;
-  scope = omega arith;
-  context = width;
-  few_params = formed.few_params;
-  few_quotients = omega arith;
-}
+pub starts : (P : Problem) (t : TableauRows) (path : Path) (levels : ℕ) → IsProblem P → t ≡ record { unknowns = P.unknowns; width = P.params; rows = start P.unknowns P.params (started P.integer P.rows) } → IsFirstPath P levels path → IsNode t path
+starts P t path levels formed rows first =
+    let size = ap (λ (q : Scope). size q) first.quotients in
+    let params = ap (λ (q : Scope). q.params) first.quotients in
+    let none = ap (λ (q : Scope). length q.quotients) first.quotients in
+    let width = first.width in
+    rw rows record {
+      some_unknowns = formed.some_unknowns;
+      few_unknowns = formed.few_unknowns;
+      rows = length_start P.unknowns P.params (started P.integer P.rows);
+      scope = omega (arith, size);
+      context = width;
+      few_params = omega (arith, params, formed.few_params);
+      few_quotients = omega (arith, none);
+      shallow = omega (arith, first.depth);
+      room = omega (arith, first.room);
+    }
+
+-- the node is in hand, and nothing waits
+pub starts_running : (P : Problem) (t : TableauRows) (path : Path) (pending : Waiting) → IsProblem P → t ≡ record { unknowns = P.unknowns; width = P.params; rows = start P.unknowns P.params (started P.integer P.rows) } → IsFirstPath P pending.most path → pending.frames ≡ [] → pending.most ≤ most_nesting → IsRunning t path pending
+starts_running P t path pending formed rows first none few =
+    let empty = ap (λ (fs : List Frame). length fs) none in
+    let width = ap (λ (x : TableauRows). x.width) rows in
+    let params = ap (λ (q : Scope). q.params) first.quotients in
+    let over : t.width ≡ path.quotients.params = omega (arith, width, params) in
+    record {
+      node = starts P t path pending.most formed rows first;
+      depth = omega (arith, first.depth, empty);
+      nested = omega (arith, first.depth);
+      few = few;
+      room = omega (arith, first.room, first.depth);
+      waits = subst (Waits pending.most t.width path) (sym none) over;
+    }
+
+-- tightened rows are as wide as a problem's rows
+pub tightened_wide : (P : Problem) → IsProblem P → All (λ form. length form ≡ P.unknowns + P.params + 1) (map tighten P.rows)
+tightened_wide P formed k d h = (All-from_recursion (IsRow (P.unknowns + P.params)) (map tighten P.rows) (started_formed (P.unknowns + P.params) true P.rows formed.rows) k d h).wide

@@ -1,3 +1,6 @@
+pub mod Frames
 pub mod Nodes
 pub mod Signs
+pub mod Starts
 pub mod Turns
+pub mod Waiting

@@ -1,25 +1,23 @@
 -- What a turn makes of a node.
 use Rattle.std.specs.Prelude.{◌≡◌, ℕ, ℤ, ◌+◌, ◌<◌, ◌≤◌, List, [], ◌∷◌, ◌++◌, map, length, None}
 use Rattle.pip_model.specs.Forms.{opposite}
-use Rattle.pip_model.specs.Rows.{Row, row_at, widened}
+use Rattle.pip_model.specs.Rows.{row_at, widened}
 use Rattle.pip_model.specs.Cuts.{Quotient, residue_of, find_from, lower_bound, upper_bound, parametric_cut}
 use Rattle.pip_model.specs.Tree.{Tree, If, NewParm, nesting}
 use Rattle.pip_model.specs.Run as run
-use Rattle.pip_model.specs.Run.{Node, Setting, Counted, ◌>>=◌, give, run_from}
+use Rattle.pip_model.specs.Run.{Node, Setting, Counted, ◌>>=◌, ◌>>◌, give, count_split, check_nesting, run_from}
 use Rattle.tableau.specs.Tableaus.{TableauRows, IsRow}
-use Rattle.new_parameters.specs.Scopes.{Scope, IsQuotient}
+use Rattle.new_parameters.specs.Scopes.{Scope, IsQuotient, size}
 use Rattle.quast.specs.Trees.{ScopedTree}
+use Rattle.pip_solve.specs.Nodes.{node_of}
 use Rattle.pip_solve.specs.Signs.{IsCondition}
+use Rattle.pip_solve.specs.declared.path.Path.{Path}
 use Rattle.pip_solve.specs.declared.turn.Turn.{Turn}
 use Rattle.pip_solve.specs.declared.turn.Turn.TheVariants as code
 
 -- the tree of a quast
 abbrev pub tree_in : ScopedTree → Tree
 tree_in q = q.tree
-
--- the node of these parts
-abbrev pub node : List Row → List (List ℤ) → List Quotient → ℕ → Node
-node rows K Q depth = record { rows = rows; context = K; quotients = Q; depth = depth }
 
 -- the node with one more form in its context, one level down
 abbrev pub under : Node → List ℤ → Node
@@ -34,24 +32,30 @@ below N i q k = record {
   depth = N.depth + 1;
 }
 
--- the run of a node that splits by a condition, and of one below whose new parameter k it goes on
-abbrev pub split_run : Setting → Node → List ℤ → Counted Tree
-split_run S N c = do
-  a ← run_from S (under N c)
-  b ← run_from S (under N (opposite c))
-  give (If c a b)
+-- the turn of a node of a path, whose rows are these after it
+abbrev pub turn_of : TableauRows → Path → Turn → run.Turn
+turn_of t path (code.Closed tree) = run.Closed tree.tree
+turn_of t path code.Again = run.Again (node_of t path)
+turn_of t path (code.Split c) = run.Split c (under (node_of t path) c) (under (node_of t path) (opposite c))
+turn_of t path (code.Below i k) = run.Below k (below (node_of t path) i (size path.quotients) k)
 
-abbrev pub below_run : Setting → Node → ℕ → ℕ → Quotient → Counted Tree
-below_run S N i q k = do
-  a ← run_from S (below N i q k)
+-- a split is counted, and then the nesting is raised
+abbrev pub counted_split : ℕ → Counted (Unit {0})
+counted_split nesting = do
+  count_split
+  check_nesting nesting
+
+-- the tree of a turn: a leaf, or what the run makes of the nodes that it leaves
+abbrev pub after : Setting → run.Turn → Counted Tree
+after S (run.Closed t) = give t
+after S (run.Again N) = run_from S N
+after S (run.Below k N) = do
+  a ← run_from S N
   give (NewParm k.form k.den a)
-
--- the turn of a node over q parameters and quotients, whose rows are these after it
-abbrev pub made : Node → ℕ → List Row → Turn → run.Turn
-made N q rows (code.Closed t) = run.Closed t.tree
-made N q rows code.Again = run.Again (record N { rows = rows })
-made N q rows (code.Split c) = run.Split c (under N c) (under N (opposite c))
-made N q rows (code.Below i k) = run.Below k (below N i q k)
+after S (run.Split c N M) = do
+  a ← run_from S N
+  b ← run_from S M
+  give (If c a b)
 
 -- k is the residue of row i over its denominator, and none of the path's quotients
 pub record IsNewParameter (t : TableauRows) (q : Scope) (i : ℕ) (k : Quotient) : Type 0 where
@@ -62,9 +66,9 @@ pub record IsNewParameter (t : TableauRows) (q : Scope) (i : ℕ) (k : Quotient)
   pub wide : length k.form ≡ t.width + 1
   pub absent : find_from q.params q.quotients k ≡ None
 
--- what a turn promises of the node that it leaves to be made: that a tree is over the node's scope and within its nesting, that the rows stay, and that a condition and a quotient are of the scope
-abbrev pub TurnIs : TableauRows → TableauRows → Scope → ℕ → Turn → Type 0
-TurnIs t now q room (code.Closed tree) = (tree.width ≡ t.width) × (nesting tree.tree ≡ 0)
-TurnIs t now q room code.Again = (now.unknowns ≡ t.unknowns) × (now.width ≡ t.width) × (t.unknowns ≤ length now.rows)
-TurnIs t now q room (code.Split c) = (now ≡ t) × (1 ≤ room) × IsCondition t.width c
-TurnIs t now q room (code.Below i k) = (now ≡ t) × (1 ≤ room) × IsNewParameter t q i k
+-- what a turn promises of the node that it leaves to be made: that a tree is over the node's scope and has no if and no newparm, that the rows stay, that a condition and a quotient are of the scope and one level down is within the nesting
+abbrev pub TurnIs : TableauRows → TableauRows → Path → ℕ → Turn → Type 0
+TurnIs t now path most (code.Closed tree) = (tree.width ≡ t.width) × (nesting tree.tree ≡ 0)
+TurnIs t now path most code.Again = (now.unknowns ≡ t.unknowns) × (now.width ≡ t.width) × (t.unknowns ≤ length now.rows)
+TurnIs t now path most (code.Split c) = (now ≡ t) × (path.depth + 1 ≤ most) × IsCondition t.width c
+TurnIs t now path most (code.Below i k) = (now ≡ t) × (path.depth + 1 ≤ most) × IsNewParameter t path.quotients i k

@@ -1,125 +1,110 @@
-ghost use Rattle.std.specs.Prelude.{◌≡◌, ℕ, ℤ, pos, ◌+◌, ◌-◌, ◌^◌, ◌<◌, ◌≤◌, Bool, Some, None, List, length, All, IfOk, IfSome, OnOk};
-ghost use Rattle.pip_model.specs.Forms.{coefficients, entry, width as width_of};
+ghost use Rattle.std.specs.Prelude.{◌≡◌, ℕ, pos, ◌+◌, ◌<◌, ◌≤◌, length, IfOk};
+ghost use Rattle.pip_model.specs.Forms.{coefficients, entry};
 ghost use Rattle.pip_model.specs.Rows.{row_at, is_whole as is_whole_by};
 ghost use Rattle.pip_model.specs.Cuts as cuts;
-ghost use Rattle.pip_model.specs.Run.{Work as Counts, cut_turn as cut_turn_by, quotient_cut as quotient_cut_by, known_cut as known_cut_by};
+ghost use Rattle.pip_model.specs.Run.{Work as Counts, class as class_by, cut_turn as cut_turn_by, quotient_cut as quotient_cut_by, known_cut as known_cut_by};
 ghost use Rattle.pip_model.specs.Agreement.{AgreesCounted};
-ghost use Rattle.affine_rows.specs.Forms.{IsResidue};
 ghost use Rattle.pip_problem.specs.Faults.{run_fault};
 ghost use Rattle.tableau.specs.Tableaus.{IsRow};
-ghost use Rattle.context.specs.Scoped.{SameContext};
 ghost use Rattle.sign_split.specs.Classes.{class_of};
-ghost use Rattle.new_parameters.specs.Scopes.{Scope, IsQuotient, size};
-ghost use Rattle.pip_solve.specs.Nodes.{node_of, setting_of};
-ghost use Rattle.pip_solve.specs.Turns.{node, made, TurnIs};
+ghost use Rattle.new_parameters.specs.Scopes.{IsQuotient};
+ghost use Rattle.pip_solve.specs.Nodes.{node_of, setting_of, IsNode, IsKept};
+ghost use Rattle.pip_solve.specs.Turns.{turn_of, TurnIs};
 
+use crate::path::Path;
 use crate::turn::Turn;
 use affine_rows::{Overflow, WantOfMemory, is_whole};
-use context::{Context, Work};
-use gomory_cut::{constant_cut, parametric_cut, residue_of, rewrite};
-use new_parameters::{Quotient, Quotients, rounding};
+use context::{Work, count_and_cut};
+use gomory_cut::{parametric_cut, residue_of, rewrite};
+use new_parameters::{Quotient, rounding};
 use pip_problem::Refusal;
 use sign_split::{Class, class};
-use std::alloc::Global;
 use tableau::Tableau;
 
 // Whether the denominator of row i divides each coefficient of its constant form.
-fn has_whole_coefficients(t: &Tableau, i: usize) -> bool
-    requires { i < length t.now.rows }
-    ensures { result ≡ is_whole_by (row_at t.now.rows i).den (coefficients (row_at t.now.rows i).constant) }
+fn has_whole_coefficients(rows: &Tableau, i: usize) -> bool
+    requires { i < length rows.now.rows }
+    ensures { result ≡ is_whole_by (row_at rows.now.rows i).den (coefficients (row_at rows.now.rows i).constant) }
 {
-    let row = t.row(i);
+    let row = rows.row(i);
     let (coefficients, _) = row.constant.split_at(row.constant.len() - 1);
     is_whole(row.den, coefficients)
 }
 
 // The residue of row i over its denominator.
-fn residue(alloc: Global, t: &Tableau, i: usize) -> Result<Quotient, WantOfMemory>
-    requires { i < length t.now.rows }
-    ensures value { IfOk result (λ k. k ≡ cuts.residue_of (row_at t.now.rows i)) }
-    ensures quotient { IfOk result (λ k. IsQuotient t.now.width k) }
-    ensures width { IfOk result (λ k. length k.form ≡ t.now.width + 1) }
-    ensures row { IsRow t.now.unknowns t.now.width (row_at t.now.rows i) }
+fn residue(rows: &Tableau, i: usize) -> Result<Quotient, WantOfMemory>
+    requires { i < length rows.now.rows }
+    ensures value { IfOk result (λ k. k ≡ cuts.residue_of (row_at rows.now.rows i)) }
+    ensures quotient { IfOk result (IsQuotient rows.now.width) }
+    ensures width { IfOk result (λ k. length k.form ≡ rows.now.width + 1) }
+    ensures row { IsRow rows.now.unknowns rows.now.width (row_at rows.now.rows i) }
 {
-    let den = t.row(i).den;
-    let (form, _) = residue_of(alloc, t, i)?;
+    let den = rows.row(i).den;
+    let (form, _) = residue_of(rows.allocator(), rows, i)?;
     Ok(Quotient { form, den })
 }
 
+// The class of what the quotient at a place, which is the row's residue's, leaves of it.
+fn class_by_quotient(
+    rows: &Tableau,
+    key: &Quotient,
+    place: usize,
+    path: &mut Path,
+    work: &mut Work,
+) -> Result<Class, Refusal>
+    requires node { IsNode rows.now path.old }
+    requires place { place < rows.now.width }
+    requires quotient { IsQuotient rows.now.width key.now }
+    requires width { length key.now.form ≡ rows.now.width + 1 }
+    requires free { entry key.now.form place ≡ pos 0 }
+    ensures gives { AgreesCounted class_of run_fault result work.new (class_by path.old.context.forms path.old.context.width (cuts.rounding rows.now.width place key.now) work.old) }
+    ensures budget { work.new.budget ≡ work.old.budget }
+    ensures path { IsKept path.old path.new }
+{
+    let alloc = rows.allocator();
+    let rounding = rounding(alloc, rows.width(), place, key)?;
+    class(alloc, &mut path.context, &rounding, work)
+}
+
 // The cut of row i by the quotient at a place: the row is rounded where that is its residue's quotient everywhere, else a row is added.
-fn cut_by(t: &mut Tableau, i: usize, place: usize, class: Class) -> Result<Turn, Refusal>
-    requires rows { t.old.unknowns ≤ length t.old.rows }
-    requires row { i < length t.old.rows }
-    requires place { place < t.old.width }
-    requires free { entry (cuts.residue_of (row_at t.old.rows i)).form place ≡ pos 0 }
-    ensures gives { (K : List (List ℤ)) (Q : List cuts.Quotient) (depth scope : ℕ) (w : Counts) → AgreesCounted (made (node t.old.rows K Q depth) scope t.new.rows) run_fault result w (known_cut_by (node t.old.rows K Q depth) i (row_at t.old.rows i) place (class_of class) w) }
-    ensures turn { (q : Scope) (room : ℕ) → IfOk result (TurnIs t.old t.new q room) }
+fn cut_by(rows: &mut Tableau, i: usize, place: usize, class: Class) -> Result<Turn, Refusal>
+    requires rows { rows.old.unknowns ≤ length rows.old.rows }
+    requires row { i < length rows.old.rows }
+    requires place { place < rows.old.width }
+    requires free { entry (cuts.residue_of (row_at rows.old.rows i)).form place ≡ pos 0 }
+    ensures gives { (path : Path) (w : Counts) → AgreesCounted (turn_of rows.new path) run_fault result w (known_cut_by (node_of rows.old path) i (row_at rows.old.rows i) place (class_of class) w) }
+    ensures turn { (path : Path) (most : ℕ) → IfOk result (TurnIs rows.old rows.new path most) }
 {
     match class {
-        Class::Plus => rewrite(t, i, place)?,
-        Class::Minus => parametric_cut(t, i, place)?,
-        Class::Unknown(_) => parametric_cut(t, i, place)?,
+        Class::Plus => rewrite(rows, i, place)?,
+        Class::Minus => parametric_cut(rows, i, place)?,
+        Class::Unknown(_) => parametric_cut(rows, i, place)?,
     }
     Ok(Turn::Again)
 }
 
-// The cut of row i by the quotient at a place, which is its residue's: it depends on the sign of what the quotient leaves.
-fn known_cut(
-    alloc: Global,
-    t: &mut Tableau,
-    i: usize,
-    k: &mut Context,
-    place: usize,
-    key: &Quotient,
-    w: &mut Work,
-) -> Result<Turn, Refusal>
-    requires rows { t.old.unknowns ≤ length t.old.rows }
-    requires row { i < length t.old.rows }
-    requires scope { k.old.width ≡ t.old.width }
-    requires room { 1 ≤ k.old.spare }
-    requires place { place < t.old.width }
-    requires key { key.now ≡ cuts.residue_of (row_at t.old.rows i) }
-    requires quotient { IsQuotient t.old.width key.now }
-    requires width { length key.now.form ≡ t.old.width + 1 }
-    requires free { entry key.now.form place ≡ pos 0 }
-    ensures gives { (integer : Bool) (q : Scope) (depth : ℕ) → t.old.width ≡ size q → AgreesCounted (made (node_of t.old k.old q depth) (size q) t.new.rows) run_fault result w.new (quotient_cut_by (setting_of integer t.old q) (node_of t.old k.old q depth) i (row_at t.old.rows i) (Some place) w.old) }
-    ensures turn { (q : Scope) (room : ℕ) → IfOk result (TurnIs t.old t.new q room) }
-    ensures budget { w.new.budget ≡ w.old.budget }
-    ensures same { SameContext k.old k.new }
-    ensures spare { k.old.spare ≤ k.new.spare }
-{
-    let rounding = rounding(alloc, t.width(), place, key)?;
-    let class = class(alloc, k, &rounding, w)?;
-    cut_by(t, i, place, class)
-}
-
 // The cut of row i by its residue's quotient: one of the path's, or a new one below this node.
 fn quotient_cut(
-    alloc: Global,
-    t: &mut Tableau,
+    rows: &mut Tableau,
     i: usize,
-    k: &mut Context,
-    q: &Quotients,
-    depth: u64,
-    w: &mut Work,
+    path: &mut Path,
+    work: &mut Work,
 ) -> Result<Turn, Refusal>
-    requires rows { t.old.unknowns ≤ length t.old.rows }
-    requires row { i < length t.old.rows }
-    requires scope { k.old.width ≡ t.old.width }
-    requires quotients { t.old.width ≡ size q.now }
-    requires room { 1 ≤ k.old.spare }
-    requires depth { depth < 2 ^ 64 - 1 }
-    ensures gives { (integer : Bool) → AgreesCounted (made (node_of t.old k.old q.now depth) (size q.now) t.new.rows) run_fault result w.new (quotient_cut_by (setting_of integer t.old q.now) (node_of t.old k.old q.now depth) i (row_at t.old.rows i) (cuts.find_from q.now.params q.now.quotients (cuts.residue_of (row_at t.old.rows i))) w.old) }
-    ensures turn { IfOk result (TurnIs t.old t.new q.now (w.new.budget.nesting - depth)) }
-    ensures budget { w.new.budget ≡ w.old.budget }
-    ensures same { SameContext k.old k.new }
-    ensures spare { k.old.spare ≤ k.new.spare }
+    requires node { IsNode rows.old path.old }
+    requires row { i < length rows.old.rows }
+    ensures gives { AgreesCounted (turn_of rows.new path.old) run_fault result work.new (quotient_cut_by (setting_of rows.old path.old) (node_of rows.old path.old) i (row_at rows.old.rows i) (cuts.find_from path.old.quotients.params path.old.quotients.quotients (cuts.residue_of (row_at rows.old.rows i))) work.old) }
+    ensures turn { IfOk result (TurnIs rows.old rows.new path.old work.new.budget.nesting) }
+    ensures budget { work.new.budget ≡ work.old.budget }
+    ensures path { IsKept path.old path.new }
 {
-    let key = residue(alloc, t, i)?;
-    match q.find(&key) {
-        Some(place) => known_cut(alloc, t, i, k, place, &key, w),
+    let key = residue(rows, i)?;
+    match path.quotients.find(&key) {
+        Some(place) => {
+            let class = class_by_quotient(rows, &key, place, path, work)?;
+            cut_by(rows, i, place, class)
+        }
         None => {
-            w.check_nesting(depth + 1)?;
+            work.check_nesting(path.depth + 1)?;
             Ok(Turn::Below(i, key))
         }
     }
@@ -127,30 +112,22 @@ fn quotient_cut(
 
 /// The cut of row i, whose constant form is not whole. It is counted before it is made.
 pub fn cut_turn(
-    alloc: Global,
-    t: &mut Tableau,
+    rows: &mut Tableau,
     i: usize,
-    k: &mut Context,
-    q: &Quotients,
-    depth: u64,
-    w: &mut Work,
+    path: &mut Path,
+    work: &mut Work,
 ) -> Result<Turn, Refusal>
-    requires rows { t.old.unknowns ≤ length t.old.rows }
-    requires row { i < length t.old.rows }
-    requires scope { k.old.width ≡ t.old.width }
-    requires quotients { t.old.width ≡ size q.now }
-    requires room { 1 ≤ k.old.spare }
-    requires depth { depth < 2 ^ 64 - 1 }
-    ensures gives { (integer : Bool) → AgreesCounted (made (node_of t.old k.old q.now depth) (size q.now) t.new.rows) run_fault result w.new (cut_turn_by (setting_of integer t.old q.now) (node_of t.old k.old q.now depth) i (row_at t.old.rows i) w.old) }
-    ensures turn { IfOk result (TurnIs t.old t.new q.now (w.new.budget.nesting - depth)) }
-    ensures budget { w.new.budget ≡ w.old.budget }
-    ensures same { SameContext k.old k.new }
-    ensures spare { k.old.spare ≤ k.new.spare }
+    requires node { IsNode rows.old path.old }
+    requires row { i < length rows.old.rows }
+    ensures gives { AgreesCounted (turn_of rows.new path.old) run_fault result work.new (cut_turn_by (setting_of rows.old path.old) (node_of rows.old path.old) i (row_at rows.old.rows i) work.old) }
+    ensures turn { IfOk result (TurnIs rows.old rows.new path.old work.new.budget.nesting) }
+    ensures budget { work.new.budget ≡ work.old.budget }
+    ensures path { IsKept path.old path.new }
 {
-    w.count_cut()?;
-    if has_whole_coefficients(t, i) {
-        constant_cut(t, i)?;
+    if has_whole_coefficients(rows, i) {
+        count_and_cut(rows, i, work)?;
         return Ok(Turn::Again);
     }
-    quotient_cut(alloc, t, i, k, q, depth, w)
+    work.count_cut()?;
+    quotient_cut(rows, i, path, work)
 }

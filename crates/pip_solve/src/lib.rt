@@ -1,10 +1,14 @@
 //! The written run of a problem: its answer, or the refusal of a number that does not fit or of a budget.
 #![tactic(auto)]
 
+mod closing;
 mod cut;
 mod node;
+mod path;
+mod pending;
 mod scan;
 mod solving;
 mod turn;
 
+pub use pending::{Frame, Pending};
 pub use solving::solve;

@@ -1,79 +1,29 @@
-ghost use Rattle.std.specs.Prelude.{◌≡◌, ◌+◌, ◌<◌, ◌≤◌, pos, ◌≤ℤ◌, ◌-◌, ◌^◌, None, [], ◌∷◌, ◌++◌, map, length, IfOk, OnOk, IsTrue};
-ghost use Rattle.pip_model.specs.Forms.{opposite as opposite_of};
-ghost use Rattle.pip_model.specs.Limits.{most_nesting};
-ghost use Rattle.pip_model.specs.Listed.{all_fit, opposite_listed};
-ghost use Rattle.pip_model.specs.Tree as model;
+ghost use Rattle.std.specs.Prelude.{◌≡◌, ℕ, ◌+◌, ◌*◌, ◌-◌, ◌^◌, ◌<◌, ◌≤◌, None, [], ◌∷◌, ◌++◌, map, length, IfOk, OnOk};
 ghost use Rattle.pip_model.specs.Rows.{row_at, widened};
 ghost use Rattle.pip_model.specs.Cuts as cuts;
-ghost use Rattle.pip_model.specs.Run.{run_from};
+ghost use Rattle.pip_model.specs.Run.{Work as Counts};
 ghost use Rattle.pip_model.specs.Agreement.{AgreesCounted};
-ghost use Rattle.affine_rows.specs.Checks.{Fits};
 ghost use Rattle.pip_problem.specs.Faults.{run_fault};
 ghost use Rattle.tableau.specs.Tableaus.{IsRow};
-ghost use Rattle.context.specs.Scoped.{SameContext};
 ghost use Rattle.new_parameters.specs.Scopes.{IsQuotient, size};
-ghost use Rattle.pip_solve.specs.Nodes.{node_of, setting_of, IsNode};
+ghost use Rattle.pip_solve.specs.Nodes.{IsBelow};
 ghost use Rattle.pip_solve.specs.Signs.{IsCondition};
-ghost use Rattle.pip_solve.specs.Turns.{tree_in, under, split_run, below_run, IsNewParameter};
+ghost use Rattle.pip_solve.specs.Turns.{tree_in, IsNewParameter};
+ghost use Rattle.pip_solve.specs.Frames.{whole_run, turned_run, next_run, IsRunning, IsTurned, IsNext, weight};
+ghost use Rattle.pip_solve.specs.declared.turn.Turn.TheVariants as turned;
 
-use crate::turn::{Place, Turn, take_turn};
+use crate::closing::{Next, close};
+use crate::path::Path;
+use crate::pending::{Frame, Pending};
+use crate::turn::{Turn, take_turn};
 use affine_rows::{Form, WantOfMemory};
-use context::{Context, Work};
+use context::Work;
 use gomory_cut::parametric_cut;
-use new_parameters::{Quotient, Quotients};
+use new_parameters::Quotient;
 use pip_problem::Refusal;
-use quast::{BuildRefusal, Quast};
+use quast::Quast;
 use std::alloc::Global;
 use tableau::Tableau;
-
-// The if of a condition.
-fn select(
-    alloc: Global,
-    condition: Form,
-    first: Quast,
-    second: Quast,
-) -> Result<Quast, WantOfMemory>
-    requires same_width { first.width ≡ second.width }
-    requires form_width { length condition ≡ first.width + 1 }
-    requires first { model.nesting first.tree < most_nesting }
-    requires second { model.nesting second.tree < most_nesting }
-    ensures { IfOk result (λ tree. tree ≡ record { width = first.width; tree = model.If condition first.tree second.tree }) }
-{
-    match Quast::select(alloc, condition, first, second) {
-        Ok(tree) => Ok(tree),
-        Err((_, BuildRefusal::WantOfMemory)) => Err(WantOfMemory),
-        Err((_, BuildRefusal::Nesting)) => unreachable!(),
-    }
-}
-
-// The new parameter of a quotient.
-fn define(alloc: Global, key: Quotient, below: Quast) -> Result<Quast, WantOfMemory>
-    requires form_width { length key.form ≡ below.width }
-    requires positive { pos 1 ≤ℤ key.den }
-    requires fits { Fits key.den }
-    requires below { model.nesting below.tree < most_nesting }
-    ensures { IfOk result (λ tree. (tree.width + 1 ≡ below.width) × (tree.tree ≡ model.NewParm key.form key.den below.tree)) }
-{
-    match Quast::define(alloc, key.form, key.den, below) {
-        Ok(tree) => Ok(tree),
-        Err((_, BuildRefusal::WantOfMemory)) => Err(WantOfMemory),
-        Err((_, BuildRefusal::Nesting)) => unreachable!(),
-    }
-}
-
-// The opposite of a condition, -c - 1.
-fn opposite(alloc: Global, condition: &Form) -> Result<Form, WantOfMemory>
-    requires some { 1 ≤ length condition.now }
-    requires fits { IsTrue (all_fit (opposite_listed condition.now)) }
-    ensures value { IfOk result (λ form. form ≡ opposite_of condition.now) }
-    ensures length { IfOk result (λ form. length form ≡ length condition.now) }
-{
-    let mut form = condition.try_clone(alloc)?;
-    match form.opposite() {
-        Ok(()) => Ok(form),
-        Err(_) => unreachable!(),
-    }
-}
 
 // The rows below a new parameter: each is over one place more, and the cut of row i by it is added.
 fn cut_below(t: Tableau, i: usize) -> Result<Tableau, WantOfMemory>
@@ -89,156 +39,111 @@ fn cut_below(t: Tableau, i: usize) -> Result<Tableau, WantOfMemory>
     Ok(rows)
 }
 
-// Adds a quotient to the path and its two bounds to the context, which gets its place. The quotient is handed back.
-fn add_quotient(
-    alloc: Global,
-    k: &mut Context,
-    q: &mut Quotients,
-    key: Quotient,
-) -> Result<Quotient, WantOfMemory>
-    requires absent { cuts.find_from q.old.params q.old.quotients key ≡ None }
-    requires quotient { IsQuotient (size q.old) key }
-    requires wide { length key.form ≡ size q.old + 1 }
-    requires room { size q.old < 2 ^ 64 - 1 }
-    requires scope { k.old.width ≡ size q.old }
-    ensures key { IfOk result (λ parameter. parameter ≡ key) }
-    ensures quotients { OnOk result (q.new ≡ record q.old { quotients = q.old.quotients ++ key ∷ [] }) }
-    ensures width { OnOk result (k.new.width ≡ k.old.width + 1) }
-    ensures forms { OnOk result (k.new.forms ≡ k.old.forms ++ cuts.lower_bound (size q.old + 1) (size q.old) key ∷ cuts.upper_bound (size q.old + 1) (size q.old) key ∷ []) }
+// Goes one level down, below a new quotient: it joins the path's quotients, and its two bounds the context.
+fn add_quotient(alloc: Global, path: &mut Path, key: Quotient) -> Result<(), WantOfMemory>
+    requires absent { cuts.find_from path.old.quotients.params path.old.quotients.quotients key ≡ None }
+    requires quotient { IsQuotient (size path.old.quotients) key }
+    requires wide { length key.form ≡ size path.old.quotients + 1 }
+    requires scope { path.old.context.width ≡ size path.old.quotients }
+    requires room { size path.old.quotients < 2 ^ 64 - 1 }
+    requires spare { 2 ≤ path.old.context.spare }
+    requires depth { path.old.depth < 2 ^ 64 - 1 }
+    ensures { OnOk result (IsBelow path.old (cuts.lower_bound (size path.old.quotients + 1) (size path.old.quotients) key ∷ cuts.upper_bound (size path.old.quotients + 1) (size path.old.quotients) key ∷ []) (key ∷ []) path.new) }
 {
-    let form = key.form.try_clone(alloc)?;
-    let parameter = Quotient { form, den: key.den };
-    let place = q.add(key)?;
-    let (lower, upper) = q.bounds(alloc, place)?;
-    k.reserve(2)?;
-    k.widen();
-    k.add(lower);
-    k.add(upper);
-    Ok(parameter)
+    let place = path.quotients.add(key)?;
+    let (lower, upper) = path.quotients.bounds(alloc, place)?;
+    path.context.widen();
+    path.context.add(lower);
+    path.context.add(upper);
+    path.depth += 1;
+    Ok(())
 }
 
-// The tree of the node with one more form in its context, one level down. The context goes back.
-#[cycle(node)]
-fn tree_under(
-    alloc: Global,
-    t: Tableau,
-    k: &mut Context,
-    q: &mut Quotients,
-    place: Place,
-    form: Form,
-    w: &mut Work,
-) -> Result<Quast, Refusal>
-    requires node { IsNode t k.old q.old place.depth }
-    requires form { length form ≡ t.width + 1 }
-    requires depth { place.depth + 1 ≤ w.old.budget.nesting }
-    requires nesting { w.old.budget.nesting ≤ most_nesting }
-    ensures gives { AgreesCounted tree_in run_fault result w.new (run_from (setting_of place.integer t q.old) (under (node_of t k.old q.old place.depth) form) w.old) }
-    ensures width { IfOk result (λ tree. tree.width ≡ t.width) }
-    ensures nested { IfOk result (λ tree. place.depth + 1 + model.nesting tree.tree ≤ w.old.budget.nesting) }
-    ensures budget { w.new.budget ≡ w.old.budget }
-    ensures context { OnOk result (SameContext k.old k.new) }
-    ensures quotients { OnOk result (q.new ≡ q.old) }
-{
-    let mark = k.mark();
-    k.reserve(1)?;
-    k.add(form);
-    let tree = node(alloc, t, k, q, place.below(), w)?;
-    k.back_to(mark);
-    Ok(tree)
-}
-
-// An if of a condition: the first tree has it in its context, the second its opposite.
-#[cycle(node)]
+// An if of a condition: the node of its first tree is next, that of its second is due.
 fn split(
-    alloc: Global,
-    t: Tableau,
-    k: &mut Context,
-    q: &mut Quotients,
-    place: Place,
+    rows: Tableau,
     condition: Form,
-    w: &mut Work,
-) -> Result<Quast, Refusal>
-    requires node { IsNode t k.old q.old place.depth }
-    requires condition { IsCondition t.width condition }
-    requires depth { place.depth + 1 ≤ w.old.budget.nesting }
-    requires nesting { w.old.budget.nesting ≤ most_nesting }
-    ensures gives { AgreesCounted tree_in run_fault result w.new (split_run (setting_of place.integer t q.old) (node_of t k.old q.old place.depth) condition w.old) }
-    ensures width { IfOk result (λ tree. tree.width ≡ t.width) }
-    ensures nested { IfOk result (λ tree. place.depth + model.nesting tree.tree ≤ w.old.budget.nesting) }
-    ensures budget { w.new.budget ≡ w.old.budget }
-    ensures context { OnOk result (SameContext k.old k.new) }
-    ensures quotients { OnOk result (q.new ≡ q.old) }
+    path: &mut Path,
+    pending: &mut Pending,
+) -> Result<Next, WantOfMemory>
+    requires running { IsRunning rows path.old pending.old }
+    requires nested { path.old.depth + 1 ≤ pending.old.most }
+    requires condition { IsCondition rows.width condition }
+    ensures gives { IfOk result (λ next. (w : Counts) → turned_run rows path.old pending.old.frames (turned.Split condition) w ≡ next_run path.new pending.new.frames next w) }
+    ensures next { IfOk result (IsNext 2 path.old pending.old path.new pending.new) }
 {
+    let alloc = rows.allocator();
     let holds = condition.try_clone(alloc)?;
-    let fails = opposite(alloc, &condition)?;
-    let rows = t.try_clone(alloc)?;
-    let first = tree_under(alloc, rows, k, q, place, holds, w)?;
-    let second = tree_under(alloc, t, k, q, place, fails, w)?;
-    let tree = select(alloc, condition, first, second)?;
-    Ok(tree)
+    let later = rows.try_clone(alloc)?;
+    pending.push(Frame::SecondDue {
+        condition,
+        rows: later,
+        context: path.context.mark(),
+        quotients: path.quotients.mark(),
+    });
+    path.enter(holds);
+    Ok(Next::Node(rows))
 }
 
-// The new parameter of the quotient that cuts row i, and the tree below it. The context and the quotients go back.
-#[cycle(node)]
-fn tree_below(
-    alloc: Global,
-    t: Tableau,
+// The new parameter of the quotient that cuts row i: the node below it is next.
+fn define_below(
+    rows: Tableau,
     i: usize,
-    k: &mut Context,
-    q: &mut Quotients,
-    place: Place,
     key: Quotient,
-    w: &mut Work,
-) -> Result<Quast, Refusal>
-    requires node { IsNode t k.old q.old place.depth }
-    requires parameter { IsNewParameter t q.old i key }
-    requires depth { place.depth + 1 ≤ w.old.budget.nesting }
-    requires nesting { w.old.budget.nesting ≤ most_nesting }
-    ensures gives { AgreesCounted tree_in run_fault result w.new (below_run (setting_of place.integer t q.old) (node_of t k.old q.old place.depth) i (size q.old) key w.old) }
-    ensures width { IfOk result (λ tree. tree.width ≡ t.width) }
-    ensures nested { IfOk result (λ tree. place.depth + model.nesting tree.tree ≤ w.old.budget.nesting) }
-    ensures budget { w.new.budget ≡ w.old.budget }
-    ensures context { OnOk result (SameContext k.old k.new) }
-    ensures quotients { OnOk result (q.new ≡ q.old) }
+    path: &mut Path,
+    pending: &mut Pending,
+) -> Result<Next, WantOfMemory>
+    requires running { IsRunning rows path.old pending.old }
+    requires nested { path.old.depth + 1 ≤ pending.old.most }
+    requires parameter { IsNewParameter rows path.old.quotients i key }
+    ensures gives { IfOk result (λ next. (w : Counts) → turned_run rows path.old pending.old.frames (turned.Below i key) w ≡ next_run path.new pending.new.frames next w) }
+    ensures next { IfOk result (IsNext 2 path.old pending.old path.new pending.new) }
 {
-    let context_mark = k.mark();
-    let quotients_mark = q.mark();
-    let rows = cut_below(t, i)?;
-    let parameter = add_quotient(alloc, k, q, key)?;
-    let tree = node(alloc, rows, k, q, place.below(), w)?;
-    k.back_to(context_mark);
-    q.back_to(quotients_mark);
-    let tree = define(alloc, parameter, tree)?;
-    Ok(tree)
+    let alloc = rows.allocator();
+    let form = key.form.try_clone(alloc)?;
+    pending.push(Frame::NewParm { form, den: key.den });
+    add_quotient(alloc, path, key)?;
+    let rows = cut_below(rows, i)?;
+    Ok(Next::Node(rows))
 }
 
-/// The tree of a node: the run from it, turn by turn. The context and the quotients of the path go back.
-#[cycle(node)]
-pub fn node(
-    alloc: Global,
-    mut t: Tableau,
-    k: &mut Context,
-    q: &mut Quotients,
-    place: Place,
-    w: &mut Work,
-) -> Result<Quast, Refusal>
-    requires node { IsNode t k.old q.old place.depth }
-    requires depth { place.depth ≤ w.old.budget.nesting }
-    requires nesting { w.old.budget.nesting ≤ most_nesting }
-    ensures gives { AgreesCounted tree_in run_fault result w.new (run_from (setting_of place.integer t q.old) (node_of t k.old q.old place.depth) w.old) }
-    ensures width { IfOk result (λ tree. tree.width ≡ t.width) }
-    ensures nested { IfOk result (λ tree. place.depth + model.nesting tree.tree ≤ w.old.budget.nesting) }
-    ensures budget { w.new.budget ≡ w.old.budget }
-    ensures context { OnOk result (SameContext k.old k.new) }
-    ensures quotients { OnOk result (q.new ≡ q.old) }
+// What is in hand after a turn.
+fn follow(
+    turn: Turn,
+    rows: Tableau,
+    path: &mut Path,
+    pending: &mut Pending,
+) -> Result<Next, WantOfMemory>
+    requires { IsTurned rows path.old pending.old turn }
+    ensures gives { IfOk result (λ next. (w : Counts) → turned_run rows path.old pending.old.frames turn w ≡ next_run path.new pending.new.frames next w) }
+    ensures next { IfOk result (IsNext (weight turn) path.old pending.old path.new pending.new) }
 {
-    k.reserve(1)?;
+    match turn {
+        Turn::Closed(tree) => close(rows.allocator(), tree, path, pending),
+        Turn::Again => Ok(Next::Node(rows)),
+        Turn::Split(condition) => split(rows, condition, path, pending),
+        Turn::Below(i, key) => define_below(rows, i, key, path, pending),
+    }
+}
+
+/// The tree of a node and of the frames that wait for it: the run from it, turn by turn.
+pub fn run(
+    node: Tableau,
+    path: &mut Path,
+    pending: &mut Pending,
+    work: &mut Work,
+) -> Result<Quast, Refusal>
+    requires running { IsRunning node path.old pending.old }
+    requires budget { pending.old.most ≡ work.old.budget.nesting }
+    ensures gives { AgreesCounted tree_in run_fault result work.new (whole_run node path.old pending.old.frames work.old) }
+    ensures width { IfOk result (λ tree. tree.width ≡ path.old.quotients.params) }
+{
+    let mut rows = node;
     loop {
-        match take_turn(alloc, &mut t, k, q, place, w)? {
-            Turn::Closed(tree) => return Ok(tree),
-            Turn::Again => {}
-            Turn::Split(condition) => return split(alloc, t, k, q, place, condition, w),
-            Turn::Below(i, key) => return tree_below(alloc, t, i, k, q, place, key, w),
+        let turn = take_turn(&mut rows, path, work)?;
+        match follow(turn, rows, path, pending)? {
+            Next::Node(next) => rows = next,
+            Next::Tree(tree) => return Ok(tree),
         }
     }
 }

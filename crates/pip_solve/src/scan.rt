@@ -11,7 +11,6 @@ use affine_rows::Form;
 use context::{Context, Work};
 use pip_problem::Refusal;
 use sign_split::{Class, class_of_entries};
-use std::alloc::Global;
 use tableau::Tableau;
 
 /// The signs of a node's rows: no row is below 0 or of both signs, or the first row below 0, or else the condition of the first row of both signs.
@@ -24,23 +23,22 @@ pub enum Signs {
 
 // The class of the constant form of row i.
 fn class_of_row(
-    alloc: Global,
-    t: &Tableau,
+    rows: &Tableau,
     i: usize,
-    k: &mut Context,
-    w: &mut Work,
+    context: &mut Context,
+    work: &mut Work,
 ) -> Result<Class, Refusal>
-    requires row { i < length t.now.rows }
-    requires scope { k.old.width ≡ t.now.width }
-    requires room { 1 ≤ k.old.spare }
-    ensures gives { AgreesCounted class_of run_fault result w.new (class_by k.old.forms k.old.width (row_at t.now.rows i).constant w.old) }
-    ensures class { IfOk result (ClassIs t.now.width) }
-    ensures budget { w.new.budget ≡ w.old.budget }
-    ensures same { SameContext k.old k.new }
-    ensures spare { k.old.spare ≤ k.new.spare }
+    requires row { i < length rows.now.rows }
+    requires scope { context.old.width ≡ rows.now.width }
+    requires room { 1 ≤ context.old.spare }
+    ensures gives { AgreesCounted class_of run_fault result work.new (class_by context.old.forms context.old.width (row_at rows.now.rows i).constant work.old) }
+    ensures class { IfOk result (ClassIs rows.now.width) }
+    ensures budget { work.new.budget ≡ work.old.budget }
+    ensures same { SameContext context.old context.new }
+    ensures spare { context.old.spare ≤ context.new.spare }
 {
-    let row = t.row(i);
-    class_of_entries(alloc, k, row.constant, w)
+    let row = rows.row(i);
+    class_of_entries(rows.allocator(), context, row.constant, work)
 }
 
 // The condition kept, which is the first of an unknown sign.
@@ -55,18 +53,18 @@ fn with_class(kept: Option<Form>, class: Class) -> Option<Form>
 }
 
 /// The rows are classed in order. The scan ends at the first row below 0, and the condition of the first of both signs is kept.
-pub fn scan(alloc: Global, t: &Tableau, k: &mut Context, w: &mut Work) -> Result<Signs, Refusal>
-    requires scope { k.old.width ≡ t.now.width }
-    requires room { 1 ≤ k.old.spare }
-    ensures gives { AgreesCounted signs_of run_fault result w.new (scanned k.old.forms k.old.width 0 AllPlus t.now.rows w.old) }
-    ensures signs { IfOk result (SignsAre (length t.now.rows) t.now.width) }
-    ensures budget { w.new.budget ≡ w.old.budget }
-    ensures same { SameContext k.old k.new }
-    ensures spare { k.old.spare ≤ k.new.spare }
+pub fn scan(rows: &Tableau, context: &mut Context, work: &mut Work) -> Result<Signs, Refusal>
+    requires scope { context.old.width ≡ rows.now.width }
+    requires room { 1 ≤ context.old.spare }
+    ensures gives { AgreesCounted signs_of run_fault result work.new (scanned context.old.forms context.old.width 0 AllPlus rows.now.rows work.old) }
+    ensures signs { IfOk result (SignsAre (length rows.now.rows) rows.now.width) }
+    ensures budget { work.new.budget ≡ work.old.budget }
+    ensures same { SameContext context.old context.new }
+    ensures spare { context.old.spare ≤ context.new.spare }
 {
     let mut kept = None;
-    for i in 0..t.rows() {
-        match class_of_row(alloc, t, i, k, w)? {
+    for i in 0..rows.rows() {
+        match class_of_row(rows, i, context, work)? {
             Class::Minus => return Ok(Signs::MinusAt(i)),
             class => kept = with_class(kept, class),
         }

@@ -1,18 +1,21 @@
-ghost use Rattle.std.specs.Prelude.{◌≡◌, ◌+◌, ◌≤◌, IfOk};
+ghost use Rattle.std.specs.Prelude.{◌≡◌, ◌+◌, ◌*◌, ◌≤◌, [], IfOk, map};
+ghost use Rattle.pip_model.specs.Forms.{tighten};
 ghost use Rattle.pip_model.specs.Leaves.{IsReached};
 ghost use Rattle.pip_model.specs.Limits.{most_nesting};
 ghost use Rattle.pip_model.specs.Right.{IsRight};
-ghost use Rattle.pip_model.specs.Rows.{start};
-ghost use Rattle.pip_model.specs.Run.{IsBudget, answer as answer_by, answered, root, run_from, setting, solve as solve_by};
+ghost use Rattle.pip_model.specs.Rows.{started, start};
+ghost use Rattle.pip_model.specs.Run.{IsBudget, answer as answer_by, answered, first_node, run_from, setting, solve as solve_by};
 ghost use Rattle.pip_model.specs.Agreement.{Agrees, AgreesCounted};
 ghost use Rattle.pip_model.specs.WellFormed.{IsProblem, IsWellFormedAnswer};
 ghost use Rattle.pip_problem.specs.Faults.{run_fault};
 ghost use Rattle.quast.specs.Answers.{answer_of, IsOver};
 ghost use Rattle.pip_solve.specs.Turns.{tree_in};
+ghost use Rattle.pip_solve.specs.Starts.{IsFirstPath};
 
-use crate::node::node;
-use crate::turn::Place;
-use affine_rows::WantOfMemory;
+use crate::node::run;
+use crate::path::Path;
+use crate::pending::Pending;
+use affine_rows::{Form, WantOfMemory};
 use context::{Context, Work};
 use new_parameters::Quotients;
 use pip_problem::{Limits, Problem, Refusal};
@@ -20,58 +23,97 @@ use quast::{Answer, Quast};
 use std::alloc::Global;
 use tableau::Tableau;
 
-// The context of a problem.
-fn context_of(alloc: Global, p: &Problem) -> Result<Context, WantOfMemory>
+// The context of a problem, with room for two more forms at each of so many levels, and for one form more.
+fn context_of(alloc: Global, p: &Problem, levels: usize) -> Result<Context, WantOfMemory>
+    requires { levels ≤ most_nesting }
     ensures width { IfOk result (λ k. k.width ≡ p.now.params) }
     ensures forms { IfOk result (λ k. k.forms ≡ p.now.context) }
+    ensures room { IfOk result (λ k. 2 * levels + 1 ≤ k.spare) }
 {
     let forms = p.context();
-    let mut k = Context::try_new(alloc, p.params())?;
-    k.reserve(forms.len())?;
+    let mut context = Context::try_new(alloc, p.params())?;
+    context.reserve(forms.len() + 2 * levels + 1)?;
     for form in forms {
         let copy = form.try_clone(alloc)?;
-        k.add(copy);
+        context.add(copy);
     }
-    Ok(k)
+    Ok(context)
 }
 
-// The rows that a problem starts from.
+// The path to a problem's first node, with room for so many levels below it.
+fn path_of(alloc: Global, p: &Problem, levels: usize) -> Result<Path, WantOfMemory>
+    requires { levels ≤ most_nesting }
+    ensures { IfOk result (IsFirstPath p.now levels) }
+{
+    let context = context_of(alloc, p, levels)?;
+    let quotients = Quotients::try_new(alloc, p.params())?;
+    Ok(Path {
+        integer: p.integer(),
+        depth: 0,
+        context,
+        quotients,
+    })
+}
+
+// Tightened copies of the rows.
+fn tightened(alloc: Global, rows: &[Form]) -> Result<Vec<Form>, WantOfMemory>
+    ensures { IfOk result (λ forms. forms.items ≡ map tighten rows.now) }
+{
+    let mut forms = Vec::with_capacity(alloc, rows.len())?;
+    for row in rows {
+        let mut form = row.try_clone(alloc)?;
+        form.tighten();
+        forms.push(form)?;
+    }
+    Ok(forms)
+}
+
+// The first tableau of a problem; in integer mode its rows are tightened.
 fn rows_of(alloc: Global, p: &Problem) -> Result<Tableau, WantOfMemory>
-    ensures rows { IfOk result (λ t. t ≡ record { unknowns = p.now.unknowns; width = p.now.params; rows = start p.now.unknowns p.now.params p.now.rows }) }
+    ensures rows { IfOk result (λ t. t ≡ record { unknowns = p.now.unknowns; width = p.now.params; rows = start p.now.unknowns p.now.params (started p.now.integer p.now.rows) }) }
     ensures problem { IsProblem p.now }
 {
-    Tableau::start(alloc, p.unknowns(), p.params(), p.rows())
+    if p.integer() {
+        let rows = tightened(alloc, p.rows())?;
+        Tableau::start(alloc, p.unknowns(), p.params(), &rows)
+    } else {
+        Tableau::start(alloc, p.unknowns(), p.params(), p.rows())
+    }
 }
 
 // The tree of a problem whose context has a point.
-fn tree(alloc: Global, p: &Problem, k: &mut Context, w: &mut Work) -> Result<Quast, Refusal>
-    requires width { k.old.width ≡ p.now.params }
-    requires forms { k.old.forms ≡ p.now.context }
-    requires nesting { w.old.budget.nesting ≤ most_nesting }
-    ensures gives { AgreesCounted tree_in run_fault result w.new (run_from (setting p.now) (root p.now.unknowns p.now.params p.now.rows p.now.context) w.old) }
+fn tree(
+    alloc: Global,
+    p: &Problem,
+    path: &mut Path,
+    pending: &mut Pending,
+    work: &mut Work,
+) -> Result<Quast, Refusal>
+    requires path { IsFirstPath p.now pending.old.most path.old }
+    requires pending { pending.old.frames ≡ [] }
+    requires nesting { pending.old.most ≡ work.old.budget.nesting }
+    requires few { pending.old.most ≤ most_nesting }
+    ensures gives { AgreesCounted tree_in run_fault result work.new (run_from (setting p.now) (first_node p.now) work.old) }
     ensures width { IfOk result (λ tree. tree.width ≡ p.now.params) }
 {
-    let t = rows_of(alloc, p)?;
-    let mut q = Quotients::try_new(alloc, p.params())?;
-    let place = Place {
-        integer: p.integer(),
-        depth: 0,
-    };
-    let tree = node(alloc, t, k, &mut q, place, w)?;
+    let rows = rows_of(alloc, p)?;
+    let tree = run(rows, path, pending, work)?;
     Ok(tree)
 }
 
-// The answer of the run, after what was counted.
-fn answer(alloc: Global, p: &Problem, w: &mut Work) -> Result<Answer, Refusal>
-    requires { w.old.budget.nesting ≤ most_nesting }
-    ensures gives { AgreesCounted answer_of run_fault result w.new (answer_by p.now w.old) }
+// The answer of the run, after what was counted. All that may be pending and join the context has its room from the start.
+fn answer(alloc: Global, p: &Problem, levels: usize, work: &mut Work) -> Result<Answer, Refusal>
+    requires nesting { levels ≡ work.old.budget.nesting }
+    requires few { levels ≤ most_nesting }
+    ensures gives { AgreesCounted answer_of run_fault result work.new (answer_by p.now work.old) }
     ensures scope { IfOk result (IsOver p.now.params) }
 {
-    let mut k = context_of(alloc, p)?;
-    match k.point(alloc, w)? {
+    let mut path = path_of(alloc, p, levels)?;
+    let mut pending = Pending::reserve(alloc, levels)?;
+    match path.context.point(alloc, work)? {
         None => Ok(Answer::Void),
         Some(_) => {
-            let tree = tree(alloc, p, &mut k, w)?;
+            let tree = tree(alloc, p, &mut path, &mut pending, work)?;
             Ok(Answer::Tree(tree))
         }
     }
@@ -85,8 +127,9 @@ fn solved(alloc: Global, p: &Problem, limits: &Limits) -> Result<Answer, Refusal
     ensures budget { IsBudget limits.now }
 {
     let _ = p.unknowns();
-    let mut w = Work::start(limits);
-    answer(alloc, p, &mut w)
+    let mut work = Work::start(limits);
+    let levels = limits.nesting() as usize;
+    answer(alloc, p, levels, &mut work)
 }
 
 /// The answer of the written run (P. Feautrier, "Parametric integer programming", RAIRO 1988): `void` exactly where no parameter

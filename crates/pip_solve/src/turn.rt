@@ -1,25 +1,22 @@
-ghost use Rattle.std.specs.Prelude.{◌≡◌, ℕ, ℤ, ◌+◌, ◌-◌, ◌^◌, ◌<◌, ◌≤◌, Bool, Option, None, List, map, take, length, All, IfOk, IfSome, OnOk, if◌then◌else◌};
+ghost use Rattle.std.specs.Prelude.{◌≡◌, ℕ, ◌+◌, ◌-◌, ◌^◌, ◌≤◌, ◌<◌, Bool, Option, None, map, take, length, All, IfOk, IfSome, OnOk, if◌then◌else◌};
 ghost use Rattle.pip_model.specs.Limits.{most_unknowns};
-ghost use Rattle.pip_model.specs.Rows.{Row, row_at, first_fraction as first_fraction_of};
-ghost use Rattle.pip_model.specs.Cuts as cuts;
-ghost use Rattle.pip_model.specs.Run.{Setting, Node, turn as turn_of, turn_by, MinusAt, UnknownBy, AllPlus, row_component};
+ghost use Rattle.pip_model.specs.Rows.{row_at, first_fraction as first_fraction_of};
+ghost use Rattle.pip_model.specs.Run.{turn as turn_at, turn_by, MinusAt, AllPlus, row_component};
 ghost use Rattle.pip_model.specs.Tree as model;
 ghost use Rattle.pip_model.specs.Agreement.{AgreesCounted};
 ghost use Rattle.pip_problem.specs.Faults.{run_fault};
 ghost use Rattle.quast.specs.Components.{IsComponent};
-ghost use Rattle.context.specs.Scoped.{SameContext};
-ghost use Rattle.new_parameters.specs.Scopes.{Scope, size};
-ghost use Rattle.pip_solve.specs.Nodes.{node_of, setting_of, IsNode};
+ghost use Rattle.pip_solve.specs.Nodes.{node_of, setting_of, IsNode, IsKept};
 ghost use Rattle.pip_solve.specs.Signs.{signs_of, SignsAre};
-ghost use Rattle.pip_solve.specs.Turns.{node, made, TurnIs};
+ghost use Rattle.pip_solve.specs.Turns.{turn_of, counted_split, TurnIs};
 
 use crate::cut::cut_turn;
+use crate::path::Path;
 use crate::scan::{Signs, scan};
 use affine_rows::{Form, WantOfMemory};
-use context::{Context, Work, of_step};
-use dual_pivot::{entering, pivot};
+use context::{Work, enter_and_pivot};
 use gomory_cut::first_fraction;
-use new_parameters::{Quotient, Quotients};
+use new_parameters::Quotient;
 use pip_problem::Refusal;
 use quast::{Component, Quast};
 use std::alloc::Global;
@@ -34,52 +31,31 @@ pub enum Turn {
     Below(usize, Quotient),
 }
 
-/// Where a node stands: the mode of its problem, and how many if and newparm nodes are above.
-#[derive(Clone, Copy)]
-pub struct Place {
-    pub integer: bool,
-    pub depth: u64,
-}
-
-impl Place {
-    /// One level down.
-    pub fn below(self) -> Place
-        requires { self.depth < 2 ^ 64 - 1 }
-        ensures { result ≡ record { integer = self.integer; depth = self.depth + 1 } }
-    {
-        Place {
-            integer: self.integer,
-            depth: self.depth + 1,
-        }
+// At a row below 0: bottom where no column enters, else a pivot.
+fn pivot_turn(rows: &mut Tableau, r: usize, work: &mut Work) -> Result<Turn, Refusal>
+    requires rows { rows.old.unknowns ≤ length rows.old.rows }
+    requires row { r < length rows.old.rows }
+    ensures gives { (path : Path) → AgreesCounted (turn_of rows.new path) run_fault result work.new (turn_by (setting_of rows.old path) (node_of rows.old path) (MinusAt r) work.old) }
+    ensures turn { (path : Path) (most : ℕ) → IfOk result (TurnIs rows.old rows.new path most) }
+    ensures budget { work.new.budget ≡ work.old.budget }
+{
+    if enter_and_pivot(rows, r, work)? {
+        Ok(Turn::Again)
+    } else {
+        Ok(Turn::Closed(Quast::bottom(rows.width())))
     }
 }
 
-// At a row below 0: bottom where no column enters, else a pivot.
-fn pivot_turn(t: &mut Tableau, w: &mut Work, r: usize) -> Result<Turn, Refusal>
-    requires rows { t.old.unknowns ≤ length t.old.rows }
-    requires row { r < length t.old.rows }
-    ensures gives { (S : Setting) (K : List (List ℤ)) (Q : List cuts.Quotient) (depth place : ℕ) → AgreesCounted (made (node t.old.rows K Q depth) place t.new.rows) run_fault result w.new (turn_by S (node t.old.rows K Q depth) (MinusAt r) w.old) }
-    ensures turn { (q : Scope) (room : ℕ) → IfOk result (TurnIs t.old t.new q room) }
-    ensures budget { w.new.budget ≡ w.old.budget }
-{
-    let Some(c) = entering(t, r)? else {
-        return Ok(Turn::Closed(Quast::bottom(t.width())));
-    };
-    w.count_pivot()?;
-    pivot(t, r, c).map_err(|step| of_step(step))?;
-    Ok(Turn::Again)
-}
-
-// At a row of both signs: an if of its condition.
-fn split_turn(w: &mut Work, depth: u64, condition: Form) -> Result<Turn, Refusal>
+// At a row of both signs: an if of its condition. It is counted first, and then the nesting is raised.
+fn split_turn(condition: Form, depth: u64, work: &mut Work) -> Result<Turn, Refusal>
     requires { depth < 2 ^ 64 - 1 }
-    ensures gives { (S : Setting) (N : Node) (place : ℕ) (rows : List Row) → N.depth ≡ depth → AgreesCounted (made N place rows) run_fault result w.new (turn_by S N (UnknownBy condition) w.old) }
+    ensures gives { AgreesCounted (λ turn. tt) run_fault result work.new (counted_split (depth + 1) work.old) }
     ensures split { IfOk result (λ turn. turn ≡ Turn.Split condition) }
-    ensures room { OnOk result (depth + 1 ≤ w.new.budget.nesting) }
-    ensures budget { w.new.budget ≡ w.old.budget }
+    ensures room { OnOk result (depth + 1 ≤ work.new.budget.nesting) }
+    ensures budget { work.new.budget ≡ work.old.budget }
 {
-    w.count_split()?;
-    w.check_nesting(depth + 1)?;
+    work.count_split()?;
+    work.check_nesting(depth + 1)?;
     Ok(Turn::Split(condition))
 }
 
@@ -129,77 +105,46 @@ fn fraction(t: &Tableau, integer: bool) -> Option<usize>
 }
 
 // Where no row is below 0: a cut where integer mode finds a fraction, else a list.
-fn last_turn(
-    alloc: Global,
-    t: &mut Tableau,
-    k: &mut Context,
-    q: &Quotients,
-    place: Place,
-    w: &mut Work,
-) -> Result<Turn, Refusal>
-    requires node { IsNode t.old k.old q.now place.depth }
-    requires room { 1 ≤ k.old.spare }
-    requires depth { place.depth < 2 ^ 64 - 1 }
-    ensures gives { AgreesCounted (made (node_of t.old k.old q.now place.depth) (size q.now) t.new.rows) run_fault result w.new (turn_by (setting_of place.integer t.old q.now) (node_of t.old k.old q.now place.depth) AllPlus w.old) }
-    ensures turn { IfOk result (TurnIs t.old t.new q.now (w.new.budget.nesting - place.depth)) }
-    ensures budget { w.new.budget ≡ w.old.budget }
-    ensures same { SameContext k.old k.new }
-    ensures spare { k.old.spare ≤ k.new.spare }
+fn last_turn(rows: &mut Tableau, path: &mut Path, work: &mut Work) -> Result<Turn, Refusal>
+    requires { IsNode rows.old path.old }
+    ensures gives { AgreesCounted (turn_of rows.new path.old) run_fault result work.new (turn_by (setting_of rows.old path.old) (node_of rows.old path.old) AllPlus work.old) }
+    ensures turn { IfOk result (TurnIs rows.old rows.new path.old work.new.budget.nesting) }
+    ensures budget { work.new.budget ≡ work.old.budget }
+    ensures path { IsKept path.old path.new }
 {
-    match fraction(t, place.integer) {
-        Some(i) => cut_turn(alloc, t, i, k, q, place.depth, w),
+    match fraction(rows, path.integer) {
+        Some(i) => cut_turn(rows, i, path, work),
         None => {
-            let leaf = leaf(alloc, t)?;
+            let leaf = leaf(rows.allocator(), rows)?;
             Ok(Turn::Closed(leaf))
         }
     }
 }
 
 // What the signs of the rows ask for: a pivot or bottom at a row below 0, an if at one of both signs, else a cut or a list.
-fn act(
-    alloc: Global,
-    t: &mut Tableau,
-    k: &mut Context,
-    q: &Quotients,
-    place: Place,
-    signs: Signs,
-    w: &mut Work,
-) -> Result<Turn, Refusal>
-    requires node { IsNode t.old k.old q.now place.depth }
-    requires signs { SignsAre (length t.old.rows) t.old.width signs }
-    requires room { 1 ≤ k.old.spare }
-    requires depth { place.depth < 2 ^ 64 - 1 }
-    ensures gives { AgreesCounted (made (node_of t.old k.old q.now place.depth) (size q.now) t.new.rows) run_fault result w.new (turn_by (setting_of place.integer t.old q.now) (node_of t.old k.old q.now place.depth) (signs_of signs) w.old) }
-    ensures turn { IfOk result (TurnIs t.old t.new q.now (w.new.budget.nesting - place.depth)) }
-    ensures budget { w.new.budget ≡ w.old.budget }
-    ensures same { SameContext k.old k.new }
-    ensures spare { k.old.spare ≤ k.new.spare }
+fn act(signs: Signs, rows: &mut Tableau, path: &mut Path, work: &mut Work) -> Result<Turn, Refusal>
+    requires node { IsNode rows.old path.old }
+    requires signs { SignsAre (length rows.old.rows) rows.old.width signs }
+    ensures gives { AgreesCounted (turn_of rows.new path.old) run_fault result work.new (turn_by (setting_of rows.old path.old) (node_of rows.old path.old) (signs_of signs) work.old) }
+    ensures turn { IfOk result (TurnIs rows.old rows.new path.old work.new.budget.nesting) }
+    ensures budget { work.new.budget ≡ work.old.budget }
+    ensures path { IsKept path.old path.new }
 {
     match signs {
-        Signs::MinusAt(r) => pivot_turn(t, w, r),
-        Signs::UnknownBy(condition) => split_turn(w, place.depth, condition),
-        Signs::AllPlus => last_turn(alloc, t, k, q, place, w),
+        Signs::MinusAt(r) => pivot_turn(rows, r, work),
+        Signs::UnknownBy(condition) => split_turn(condition, path.depth, work),
+        Signs::AllPlus => last_turn(rows, path, work),
     }
 }
 
 /// One turn of a node, by the signs of its rows' constant forms on its context.
-pub fn take_turn(
-    alloc: Global,
-    t: &mut Tableau,
-    k: &mut Context,
-    q: &Quotients,
-    place: Place,
-    w: &mut Work,
-) -> Result<Turn, Refusal>
-    requires node { IsNode t.old k.old q.now place.depth }
-    requires room { 1 ≤ k.old.spare }
-    requires depth { place.depth < 2 ^ 64 - 1 }
-    ensures gives { AgreesCounted (made (node_of t.old k.old q.now place.depth) (size q.now) t.new.rows) run_fault result w.new (turn_of (setting_of place.integer t.old q.now) (node_of t.old k.old q.now place.depth) w.old) }
-    ensures turn { IfOk result (TurnIs t.old t.new q.now (w.new.budget.nesting - place.depth)) }
-    ensures budget { w.new.budget ≡ w.old.budget }
-    ensures same { SameContext k.old k.new }
-    ensures spare { k.old.spare ≤ k.new.spare }
+pub fn take_turn(rows: &mut Tableau, path: &mut Path, work: &mut Work) -> Result<Turn, Refusal>
+    requires { IsNode rows.old path.old }
+    ensures gives { AgreesCounted (turn_of rows.new path.old) run_fault result work.new (turn_at (setting_of rows.old path.old) (node_of rows.old path.old) work.old) }
+    ensures turn { IfOk result (TurnIs rows.old rows.new path.old work.new.budget.nesting) }
+    ensures budget { work.new.budget ≡ work.old.budget }
+    ensures path { IsKept path.old path.new }
 {
-    let signs = scan(alloc, t, k, w)?;
-    act(alloc, t, k, q, place, signs, w)
+    let signs = scan(rows, &mut path.context, work)?;
+    act(signs, rows, path, work)
 }

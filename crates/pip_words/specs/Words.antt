@@ -5,15 +5,19 @@ use Rattle.std.specs.Str.{bytes_eq}
 use Rattle.clap.specs.Words.{Row, Text, Kinds, fault_of, subcommand_of, first_of, all_of}
 use Rattle.pip_model.specs.Limits.{most_params, most_pivots, most_cuts, most_splits, most_nesting}
 use Rattle.pip_model.specs.Run.{standard_budget}
-use Rattle.pip_model.specs.Program.{Command, Solve, Eval}
+use Rattle.pip_model.specs.Commands.{SolveOptions, Command, Solve, Eval}
 use Rattle.pip_words.specs.Arguments.{pip_app}
 use Rattle.pip_words.specs.Numbers.{number_of, parameter_of}
 use Rattle.pip_words.specs.declared.command.Command.{Command as Given}
+use Rattle.pip_words.specs.declared.command.SolveOptions.{SolveOptions as GivenOptions}
 use Rattle.pip_words.specs.declared.command.Command.TheVariants as given
 
 -- what the code's command is in the model
+abbrev pub options_of : GivenOptions → SolveOptions
+options_of o = record { polylib = o.polylib; simplify = false; certificate = false; budget = o.limits }
+
 abbrev pub meaning_of : Given → Command
-meaning_of (given.Solve o) = Solve (record { polylib = o.polylib; simplify = false; budget = o.limits })
+meaning_of (given.Solve o) = Solve (options_of o)
 meaning_of (given.Eval u) = Eval u
 
 infixl 10 ◌>>=◌
@@ -44,6 +48,7 @@ solve_of rows = do
   Some (Solve (record {
     polylib = flag_of (codes "polylib") rows;
     simplify = false;
+    certificate = false;
     budget = record { pivots = pivots; cuts = cuts; splits = splits; nesting = nesting };
   }))
 

@@ -3,7 +3,7 @@ ghost use Rattle.std.specs.Prelude.{◌≡◌, []};
 use std::alloc::Global;
 use std::marker::Model;
 
-/// The parameters' values: at most 32 numbers, each from 0 to 2^127 - 1.
+/// The parameters' values: at most 48 numbers, each from 0 to 2^127 - 1.
 #[derive(Drop)]
 pub struct ParameterVector {
     entries: Vec<i128>,

@@ -9,10 +9,8 @@ use crate::parameter_vector::ParameterVector;
 use crate::refusal::WordsRefusal;
 use clap::ArgMatches;
 use clap::error::ErrorKind;
-use pip_problem::Limits;
+use pip_problem::{Limits, MOST_PARAMETERS};
 use std::alloc::Global;
-
-const MAX_PARAMETERS: usize = 32;
 
 const MAX_PIVOTS: u64 = 1_000_000_000;
 
@@ -94,7 +92,7 @@ fn parameters(alloc: Global, texts: &[&str]) -> Result<ParameterVector, WordsRef
     ensures ok { IfOk result (λ vector. parameters_of (map (λ text. text.now) texts.now) ≡ Some vector) }
     ensures usage { IfErr result (λ e. e ≡ WordsRefusal.Usage → parameters_of (map (λ text. text.now) texts.now) ≡ None) }
 {
-    if texts.len() > MAX_PARAMETERS {
+    if texts.len() > MOST_PARAMETERS {
         return Err(WordsRefusal::Usage);
     }
     let mut entries = Vec::new(alloc);

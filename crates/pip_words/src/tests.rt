@@ -77,7 +77,7 @@ fn words_of_lines(rt: HostRuntime) -> Result<(), Fail> {
             "eval [1, 1, 1, 1, 1, 1, 1, 1, 1, 1, 1, 1, 1, 1, 1, 1, 1, 1, 1, 1, 1, 1, 1, 1, 1, 1, 1, 1, 1, 1, 1, 1]",
         ),
         (
-            "pip eval 1 1 1 1 1 1 1 1 1 1 1 1 1 1 1 1 1 1 1 1 1 1 1 1 1 1 1 1 1 1 1 1 1",
+            "pip eval 1 1 1 1 1 1 1 1 1 1 1 1 1 1 1 1 1 1 1 1 1 1 1 1 1 1 1 1 1 1 1 1 1 1 1 1 1 1 1 1 1 1 1 1 1 1 1 1 1",
             "usage",
         ),
         ("pip simplify 1", "usage"),
@@ -88,5 +88,13 @@ fn words_of_lines(rt: HostRuntime) -> Result<(), Fail> {
         let text = read(alloc, line)?;
         assert_eq!(rt; text.as_str(), wanted, "at {line}");
     }
+    Ok(())
+}
+
+#[test]
+fn no_words_give_no_command(rt: HostRuntime) -> Result<(), Fail> {
+    let alloc = rt.alloc();
+    let words: Vec<String> = Vec::new(alloc);
+    assert!(rt; matches!(read_words(alloc, &words), Err(WordsRefusal::Usage)));
     Ok(())
 }

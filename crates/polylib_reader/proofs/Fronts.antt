@@ -1,22 +1,12 @@
 -- A list that is being read, with what was read before it.
-use Rattle.std.proofs.Common.{◌≡◌, ◌∙◌, ℕ, suc, ◌+◌, ◌-◌, ◌<◌, ℤ, List, [], ◌∷◌, ◌++◌, Bool, Ok, Err, refl, sym, ap, append_assoc, arith}
+use Rattle.std.proofs.Common.{◌≡◌, ◌∙◌, ℕ, suc, ◌+◌, ◌-◌, ◌<◌, ℤ, List, ◌++◌, Bool, Ok, Err, refl, sym, ap, arith}
 use Rattle.pip_model.specs.declared.LimitKind.{LimitKind}
 use Rattle.pip_model.specs.Reading.{Fault, Reads, ◌>>=◌}
 use Rattle.pip_model.specs.MatrixText.{matrix_number, matrix_numbers, inequalities, matrix_rows}
+use Rattle.text_steps.specs.Fronts.{with_front}
+use Rattle.text_steps.proofs.Fronts.{one_more, front_front}
 use Rattle.polylib_reader.specs.Matrices.{row_head}
 use Rattle.polylib_reader.proofs.Chains.{matrix_rows-more}
-
--- what is read, with these before it
-abbrev pub with_front : {A : Type 0} → List A → Reads (List A) → Reads (List A)
-with_front front read = read >>= λ x. Ok (front ++ x.0, x.1)
-
--- a value and a place, read
-abbrev read_as : {A : Type 0} → A → ℕ → Reads A
-read_as x place = Ok (x, place)
-
-front_push : {A : Type 0} (front more : List A) (read : Reads (List A)) → with_front front (with_front more read) ≡ with_front (front ++ more) read
-front_push front more (Ok rest) = ap (λ xs. read_as xs rest.1) (sym (append_assoc front more rest.0))
-front_push front more (Err e) = refl
 
 -- the same chain as `with_front` after its first two steps
 two_steps : {A B C : Type 0} (one : Reads A) (two : A → ℕ → Reads B) (rest : A → B → ℕ → Reads (List C)) (x : A) (p : ℕ) (y : B) (q : ℕ) → one ≡ Ok (x, p) → two x p ≡ Ok (y, q)
@@ -25,20 +15,8 @@ two_steps one two rest x p y q e f = rw (e, f) refl
 
 -- ---- numbers
 
-pub numbers_kept : (front : List ℤ) (z : ℤ) (bytes : List ℕ) (count i place after : ℕ) (whole : Reads (List ℤ)) → i < count
-    → with_front front (matrix_numbers bytes (count - i) place) ≡ whole → matrix_number bytes place ≡ Ok (z, after)
-    → with_front (front ++ z ∷ []) (matrix_numbers bytes (count - (i + 1)) after) ≡ whole
-numbers_kept front z bytes count i place after whole h so_far e =
-    let left : count - i ≡ suc (count - (i + 1)) = omega arith in
-    let step : matrix_numbers bytes (count - i) place ≡ with_front (z ∷ []) (matrix_numbers bytes (count - (i + 1)) after) = rw (left, e) refl in
-    sym (front_push front (z ∷ []) (matrix_numbers bytes (count - (i + 1)) after)) ∙ ap (with_front front) (sym step) ∙ so_far
-
-pub numbers_refused : (front : List ℤ) (bytes : List ℕ) (count i place : ℕ) (whole : Reads (List ℤ)) → i < count
-    → with_front front (matrix_numbers bytes (count - i) place) ≡ whole → (f : Fault) → matrix_number bytes place ≡ Err f → whole ≡ Err f
-numbers_refused front bytes count i place whole h so_far f e =
-    let left : count - i ≡ suc (count - (i + 1)) = omega arith in
-    let step : matrix_numbers bytes (count - i) place ≡ Err f = rw (left, e) refl in
-    sym so_far ∙ ap (with_front front) step
+pub numbers_more : (bytes : List ℕ) (count i place : ℕ) → i < count → matrix_numbers bytes (count - i) place ≡ one_more (matrix_number bytes place) (λ at. matrix_numbers bytes (count - (i + 1)) at)
+numbers_more bytes count i place h = let left : count - i ≡ suc (count - (i + 1)) = omega arith in rw left refl
 
 -- ---- rows
 
@@ -52,7 +30,7 @@ rows_kept front bytes kind most n count row_count i place equality now behind_he
     let step : matrix_rows bytes kind most n count (row_count - i) place ≡ with_front (inequalities equality c) rest =
     ap (λ k. matrix_rows bytes kind most n count k place) left ∙ matrix_rows-more bytes kind most n count (row_count - (i + 1)) place
     ∙ two_steps (row_head bytes kind most count place) (λ head p. matrix_numbers bytes n p) (λ head entries q. with_front (inequalities head.0 entries) (matrix_rows bytes kind most n head.1 (row_count - (i + 1)) q)) (equality, now) behind_head c after e f in
-    sym (front_push front (inequalities equality c) rest) ∙ ap (with_front front) (sym step) ∙ so_far
+    sym (front_front front (inequalities equality c) rest) ∙ ap (with_front front) (sym step) ∙ so_far
 
 -- the head of the next row is refused
 pub head_refused : (front : List (List ℤ)) (bytes : List ℕ) (kind : LimitKind) (most n count row_count i place : ℕ) (whole : Reads (List (List ℤ))) → i < row_count

@@ -2,4 +2,3 @@ pub mod Chains
 pub mod Fronts
 pub mod Options
 pub mod Problems
-pub mod Spelling

@@ -9,7 +9,7 @@ use Rattle.pip_model.specs.MatrixText.{options, read_matrices}
 use Rattle.text_laws.proofs.ReadProblems.{Whole}
 use Rattle.text_laws.proofs.ReadMatrices.{read_matrices-reads}
 use Rattle.polylib_reader.specs.Matrices.{context_matrix, big_parameter, constraint_matrix}
-use Rattle.polylib_reader.proofs.Chains.{bind-assoc}
+use Rattle.text_steps.proofs.Binds.{bind_assoc}
 
 -- a matrix that was read: its size and its forms, and the place behind it
 abbrev pub Read : Type 0
@@ -43,7 +43,7 @@ module _ {A B C D X : Type 0} (a : Result A Fault) (b : A → Result B Fault) (c
 -- the two matrices, and what stands between and behind them
 read_matrices-steps : (bytes : List ℕ)
     → read_matrices bytes ≡ chain (context_matrix bytes) (λ context. big_parameter bytes context.1) (λ context place. constraint_matrix bytes context.0.0 place) (λ tableau. options bytes (length bytes) true tableau.1) problem_of
-read_matrices-steps bytes = simp bind-assoc refl
+read_matrices-steps bytes = simp bind_assoc refl
 
 pub context_refused : (bytes : List ℕ) (f : Fault) → context_matrix bytes ≡ Err f → read_matrices bytes ≡ Err f
 context_refused bytes f g = read_matrices-steps bytes ∙ first_refused (context_matrix bytes) (λ context. big_parameter bytes context.1) (λ context place. constraint_matrix bytes context.0.0 place) (λ tableau. options bytes (length bytes) true tableau.1) problem_of f g

@@ -2,22 +2,16 @@ ghost use Rattle.std.specs.Prelude.{◌≤◌, ◌<◌, length, IfOk};
 ghost use Rattle.pip_model.specs.Limits.{most_params, most_rows};
 ghost use Rattle.pip_model.specs.MatrixText.{matrix_rows as matrix_rows_of};
 ghost use Rattle.pip_model.specs.Agreement.{Agrees};
+ghost use Rattle.text_steps.specs.Steps.{AreRead};
 ghost use Rattle.pip_problem.specs.Faults.{read_fault};
 ghost use Rattle.polylib_reader.specs.Matrices.{context_matrix as context_matrix_of, constraint_matrix as constraint_matrix_of};
 
 use crate::number::{limited, numbers};
 use crate::row::{push_inequalities, row_head};
-use affine_rows::Form;
+use affine_rows::{Form, MOST_CONTEXT_ROWS, MOST_PARAMETERS, MOST_ROWS, MOST_UNKNOWNS};
 use pip_problem::{LimitKind, ReadRefusal};
 use std::alloc::Global;
-
-const MAX_UNKNOWNS: usize = 64;
-
-const MAX_PARAMS: usize = 32;
-
-const MAX_ROWS: usize = 1024;
-
-const MAX_CONTEXT_ROWS: usize = 256;
+use text_steps::Reads;
 
 /// A matrix that was read.
 #[derive(Drop)]
@@ -38,12 +32,12 @@ fn matrix_rows(
     width: usize,
     row_count: usize,
     place: usize,
-) -> Result<(Vec<Form>, usize), ReadRefusal>
+) -> Reads<Vec<Form>, ReadRefusal>
     requires place { place ≤ length bytes.now }
     requires width { 0 < width }
     requires most { most ≤ most_rows }
-    ensures agrees { Agrees (λ x. (x.0.items, x.1)) read_fault result (matrix_rows_of bytes.now kind most width 0 row_count place) }
-    ensures order { IfOk result (λ x. (place ≤ x.1) × (x.1 ≤ length bytes.now)) }
+    ensures { AreRead (λ v. v.items) read_fault bytes.now place result
+        (matrix_rows_of bytes.now kind most width 0 row_count place) }
 {
     let mut forms = Vec::new(alloc);
     let mut count = 0;
@@ -64,14 +58,14 @@ pub fn context_matrix(alloc: Global, bytes: &[u8]) -> Result<Matrix, ReadRefusal
     ensures params { IfOk result (λ m. m.size ≤ most_params) }
     ensures order { IfOk result (λ m. m.after ≤ length bytes.now) }
 {
-    let (rows, at) = limited(bytes, LimitKind::ContextRows, 0, MAX_CONTEXT_ROWS, 0)?;
-    let (columns, at) = limited(bytes, LimitKind::ContextColumns, 2, MAX_PARAMS + 2, at)?;
+    let (rows, at) = limited(bytes, LimitKind::ContextRows, 0, MOST_CONTEXT_ROWS, 0)?;
+    let (columns, at) = limited(bytes, LimitKind::ContextColumns, 2, MOST_PARAMETERS + 2, at)?;
     let params = columns - 2;
     let (forms, after) = matrix_rows(
         alloc,
         bytes,
         LimitKind::ContextRows,
-        MAX_CONTEXT_ROWS,
+        MOST_CONTEXT_ROWS,
         params + 1,
         rows,
         at,
@@ -92,20 +86,21 @@ pub fn constraint_matrix(
 ) -> Result<Matrix, ReadRefusal>
     requires place { place ≤ length bytes.now }
     requires params { params ≤ most_params }
-    ensures agrees { Agrees (λ m. ((m.size, m.forms.items), m.after)) read_fault result (constraint_matrix_of bytes.now params place) }
+    ensures agrees { Agrees (λ m. ((m.size, m.forms.items), m.after)) read_fault result
+        (constraint_matrix_of bytes.now params place) }
     ensures order { IfOk result (λ m. m.after ≤ length bytes.now) }
 {
-    let (rows, at) = limited(bytes, LimitKind::Rows, 0, MAX_ROWS, place)?;
+    let (rows, at) = limited(bytes, LimitKind::Rows, 0, MOST_ROWS, place)?;
     let (columns, at) = limited(
         bytes,
         LimitKind::Columns,
         params + 3,
-        params + 2 + MAX_UNKNOWNS,
+        params + 2 + MOST_UNKNOWNS,
         at,
     )?;
     let unknowns = columns - params - 2;
     let width = unknowns + params + 1;
-    let (forms, after) = matrix_rows(alloc, bytes, LimitKind::Rows, MAX_ROWS, width, rows, at)?;
+    let (forms, after) = matrix_rows(alloc, bytes, LimitKind::Rows, MOST_ROWS, width, rows, at)?;
     Ok(Matrix {
         size: unknowns,
         forms,

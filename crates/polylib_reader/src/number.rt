@@ -1,7 +1,8 @@
-ghost use Rattle.std.specs.Prelude.{◌≡◌, ◌≤◌, length, All, IfOk};
+ghost use Rattle.std.specs.Prelude.{◌≡◌, ◌≤◌, ◌<◌, length, All, IfOk};
 ghost use Rattle.pip_model.specs.MatrixText.{number_word as number_word_of, matrix_number, matrix_numbers};
 ghost use Rattle.pip_model.specs.Agreement.{Agrees};
 ghost use Rattle.affine_rows.specs.Checks.{Fits};
+ghost use Rattle.text_steps.specs.Steps.{AreRead, IsRead};
 ghost use Rattle.pip_problem.specs.Faults.{read_fault};
 ghost use Rattle.polylib_reader.specs.Words.{word_of};
 ghost use Rattle.polylib_reader.specs.Matrices.{limited as limited_of};
@@ -10,12 +11,14 @@ use crate::word::{Word, next_word};
 use affine_rows::{digits, integer, unsigned_part};
 use pip_problem::{LimitKind, ReadRefusal, within};
 use std::alloc::Global;
+use text_steps::Reads;
 
 /// The number that a word spells, and the place behind it.
-pub fn number_word(word: &Word<'_>) -> Result<(i128, usize), ReadRefusal>
+pub fn number_word(word: &Word<'_>) -> Reads<i128, ReadRefusal>
     ensures agrees { Agrees (λ x. x) read_fault result (number_word_of (word_of word.now)) }
     ensures fits { IfOk result (λ x. Fits x.0) }
     ensures place { IfOk result (λ x. x.1 ≡ word.now.after) }
+    ensures some { IfOk result (λ x. 0 < length word.now.text.now) }
 {
     let unsigned = unsigned_part(word.text);
     if unsigned.is_empty() || digits(unsigned).len() != unsigned.len() {
@@ -28,11 +31,10 @@ pub fn number_word(word: &Word<'_>) -> Result<(i128, usize), ReadRefusal>
 }
 
 /// The number that is the next word, and the place behind it.
-pub fn number(bytes: &[u8], place: usize) -> Result<(i128, usize), ReadRefusal>
+pub fn number(bytes: &[u8], place: usize) -> Reads<i128, ReadRefusal>
     requires { place ≤ length bytes.now }
-    ensures agrees { Agrees (λ x. x) read_fault result (matrix_number bytes.now place) }
+    ensures reads { IsRead (λ z. z) read_fault bytes.now place result (matrix_number bytes.now place) }
     ensures fits { IfOk result (λ x. Fits x.0) }
-    ensures order { IfOk result (λ x. (place ≤ x.1) × (x.1 ≤ length bytes.now)) }
 {
     number_word(&next_word(bytes, place))
 }
@@ -43,12 +45,11 @@ pub fn numbers(
     bytes: &[u8],
     count: usize,
     place: usize,
-) -> Result<(Vec<i128>, usize), ReadRefusal>
+) -> Reads<Vec<i128>, ReadRefusal>
     requires { place ≤ length bytes.now }
-    ensures agrees { Agrees (λ x. (x.0.items, x.1)) read_fault result (matrix_numbers bytes.now count place) }
+    ensures reads { AreRead (λ v. v.items) read_fault bytes.now place result (matrix_numbers bytes.now count place) }
     ensures count { IfOk result (λ x. length x.0.items ≡ count) }
     ensures fits { IfOk result (λ x. All Fits x.0.items) }
-    ensures order { IfOk result (λ x. (place ≤ x.1) × (x.1 ≤ length bytes.now)) }
 {
     let mut read = Vec::with_capacity(alloc, count)?;
     let mut at = place;
@@ -67,11 +68,10 @@ pub fn limited(
     low: usize,
     high: usize,
     place: usize,
-) -> Result<(usize, usize), ReadRefusal>
+) -> Reads<usize, ReadRefusal>
     requires { place ≤ length bytes.now }
-    ensures agrees { Agrees (λ x. x) read_fault result (limited_of bytes.now kind low high place) }
+    ensures reads { IsRead (λ n. n) read_fault bytes.now place result (limited_of bytes.now kind low high place) }
     ensures range { IfOk result (λ x. (low ≤ x.0) × (x.0 ≤ high)) }
-    ensures order { IfOk result (λ x. (place ≤ x.1) × (x.1 ≤ length bytes.now)) }
 {
     within(kind, low, high, number(bytes, place)?)
 }

@@ -1,34 +1,27 @@
 ghost use Rattle.std.specs.Prelude.{◌≡◌, ◌≤◌, length, true, IfOk};
 ghost use Rattle.pip_model.specs.MatrixText.{accepted_option as accepted_option_of, options as options_of};
-ghost use Rattle.pip_model.specs.Tokens.{same_bytes};
 ghost use Rattle.pip_model.specs.Agreement.{Agrees};
 ghost use Rattle.pip_problem.specs.Faults.{read_fault};
 ghost use Rattle.polylib_reader.specs.Words.{word_of};
 
 use crate::word::{Word, next_word};
 use pip_problem::{Option_, ReadRefusal};
-
-/// The word has this spelling.
-fn spells(word: &Word<'_>, wanted: &[u8]) -> bool
-    ensures { result ≡ same_bytes word.now.text.now wanted.now }
-{
-    word.text == wanted
-}
+use text_steps::same_bytes;
 
 /// The place behind the one option that is taken, `Rational`.
 fn accepted_option(word: &Word<'_>) -> Result<usize, ReadRefusal>
     ensures agrees { Agrees (λ x. x) read_fault result (accepted_option_of (word_of word.now)) }
     ensures place { IfOk result (λ place. place ≡ word.now.after) }
 {
-    if spells(word, b"Rational") {
+    if same_bytes(word.text, b"Rational") {
         Ok(word.after)
-    } else if spells(word, b"Maximize") {
+    } else if same_bytes(word.text, b"Maximize") {
         Err(ReadRefusal::OptionWord(Option_::Maximize))
-    } else if spells(word, b"Urs_parms") {
+    } else if same_bytes(word.text, b"Urs_parms") {
         Err(ReadRefusal::OptionWord(Option_::UrsParms))
-    } else if spells(word, b"Urs_unknowns") {
+    } else if same_bytes(word.text, b"Urs_unknowns") {
         Err(ReadRefusal::OptionWord(Option_::UrsUnknowns))
-    } else if spells(word, b"Dual") {
+    } else if same_bytes(word.text, b"Dual") {
         Err(ReadRefusal::OptionWord(Option_::Dual))
     } else {
         Err(ReadRefusal::Syntax(word.start))

@@ -12,6 +12,7 @@ use crate::word::next_word;
 use affine_rows::{Form, WantOfMemory, negate_all};
 use pip_problem::{LimitKind, ReadRefusal};
 use std::alloc::Global;
+use text_steps::Reads;
 
 /// What a row's first entry says.
 #[derive(Clone, Copy)]
@@ -23,7 +24,7 @@ pub struct RowHead {
 }
 
 /// Whether a row is an equality, by its first entry that was read, and the place behind that.
-fn is_equality(start: usize, first: (i128, usize)) -> Result<(bool, usize), ReadRefusal>
+fn is_equality(start: usize, first: (i128, usize)) -> Reads<bool, ReadRefusal>
     ensures agrees { Agrees (λ x. x) read_fault result (is_equality_of start first) }
     ensures place { IfOk result (λ x. x.1 ≡ first.1) }
 {
@@ -57,7 +58,8 @@ pub fn row_head(
     requires place { place ≤ length bytes.now }
     requires count { count ≤ most }
     requires most { most ≤ most_rows }
-    ensures agrees { Agrees (λ head. ((head.equality, head.count), head.after)) read_fault result (row_head_of bytes.now kind most count place) }
+    ensures agrees { Agrees (λ head. ((head.equality, head.count), head.after)) read_fault result
+        (row_head_of bytes.now kind most count place) }
     ensures within { IfOk result (λ head. head.count ≤ most) }
     ensures order { IfOk result (λ head. (place ≤ head.after) × (head.after ≤ length bytes.now)) }
 {

@@ -51,10 +51,10 @@ fn texts(rt: HostRuntime) -> Result<(), Fail> {
             "Wide(13)",
         ),
         ("257 3", "Limit(ContextRows, 257)"),
-        ("0 35", "Limit(ContextColumns, 35)"),
+        ("0 51", "Limit(ContextColumns, 51)"),
         ("0 2 0", "BigParameter(0)"),
         ("0 2 -1 -1", "Limit(Rows, -1)"),
-        ("0 2 -1 1 67", "Limit(Columns, 67)"),
+        ("0 2 -1 1 131", "Limit(Columns, 131)"),
     ];
     let alloc = rt.alloc();
     for (text, wanted) in rows {

@@ -1,4 +1,4 @@
-ghost use Rattle.std.specs.Prelude.{◌≡◌, ◌≤◌, false, length};
+ghost use Rattle.std.specs.Prelude.{◌≡◌, ◌≤◌, ◌+◌, false, length};
 ghost use Rattle.std.specs.List.{prefix_len, take_while};
 ghost use Rattle.pip_model.specs.MatrixText.{skipped as skipped_of, word as word_at};
 ghost use Rattle.polylib_reader.specs.Words.{is_word_byte, word_of};
@@ -56,6 +56,7 @@ fn word_text(bytes: &[u8]) -> &[u8]
 pub fn next_word(bytes: &[u8], place: usize) -> Word<'_>
     requires { place ≤ length bytes.now }
     ensures value { word_of result ≡ word_at bytes.now place }
+    ensures sized { result.after ≡ result.start + length result.text.now }
     ensures order { (place ≤ result.start) × (result.start ≤ result.after) × (result.after ≤ length bytes.now) }
 {
     let (_, rest) = bytes.split_at(place);

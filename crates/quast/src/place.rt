@@ -3,7 +3,7 @@ ghost use Rattle.std.specs.Option.{option_map};
 ghost use Rattle.pip_model.specs.Numbers.{floor_div as floor_div_of};
 ghost use Rattle.pip_model.specs.Forms.{value};
 ghost use Rattle.pip_model.specs.Listed.{value_listed};
-ghost use Rattle.pip_model.specs.Limits.{most_params};
+ghost use Rattle.pip_model.specs.Limits.{most_params, most_components};
 ghost use Rattle.pip_model.specs.Tree.{is_scoped, nesting, leaf_of};
 ghost use Rattle.pip_model.specs.Printed.{tree_fits};
 ghost use Rattle.pip_model.specs.Values.{tree_value_listed};
@@ -16,14 +16,14 @@ ghost use Rattle.quast.specs.Places.{landing_of, landed, path_listed, IsLanding}
 use crate::component::{Component, Components};
 use crate::node::Node;
 use crate::quast::Quast;
-use affine_rows::{Overflow, WantOfMemory, floor_div};
+use affine_rows::{
+    MOST_COMPONENTS, MOST_NESTING, MOST_PARAMETERS, Overflow, WantOfMemory, floor_div,
+};
 use std::alloc::Global;
 use std::marker::Model;
 
-// The most parameters with the new parameters of a path, and the most components of a list.
-const MOST_SCOPE: usize = 232;
-
-const MOST_COMPONENTS: usize = 64;
+// The most parameters with the new parameters of a path.
+const MOST_SCOPE: usize = MOST_PARAMETERS + MOST_NESTING;
 
 /// Where a parameter vector leads: to a bottom, or to a list, with the values of its components' forms, the numerators.
 #[derive(Clone, Copy)]
@@ -40,17 +40,18 @@ pub struct Scratch {
 }
 
 impl Model for Scratch {
-    ghost use Rattle.std.specs.Prelude.{ℤ, ◌≤◌, List, vec_capacity};
+    ghost use Rattle.std.specs.Prelude.{ℤ, ◌+◌, ◌≤◌, List, vec_capacity};
+    ghost use Rattle.pip_model.specs.Limits.{most_params, most_nesting, most_components};
 
     ghost Value = { List ℤ × List ℤ };
 
     ghost view = { λ s. (s.vector.items, s.numerators.items) };
 
-    ghost invariant = { λ s. (232 ≤ vec_capacity s.vector) × (64 ≤ vec_capacity s.numerators) };
+    ghost invariant = { λ s. (most_params + most_nesting ≤ vec_capacity s.vector) × (most_components ≤ vec_capacity s.numerators) };
 }
 
 impl Scratch {
-    /// Room for any path of a tree over at most 32 parameters.
+    /// Room for any path of a tree over at most 48 parameters.
     pub fn reserve(alloc: Global) -> Result<Scratch, WantOfMemory>
         ensures { IfOk result (λ s. s ≡ ([], [])) }
     {
@@ -99,7 +100,7 @@ fn find_leaf<'t>(node: &'t Node, vector: &mut Vec<i128>) -> Result<Option<&'t Co
     ensures listed { IsChecked is_overflow (path_listed (tree_of node.now) vector.old.items) result }
     ensures leaf { IfOk result (λ o. option_map (λ c. (c.now, vector.new.items)) o ≡ leaf_of (tree_of node.now) vector.old.items) }
     ensures some { IfOk result (λ o. IfSome o (λ c. 0 < length c.now)) }
-    ensures few { IfOk result (λ o. IfSome o (λ c. length c.now ≤ 64)) }
+    ensures few { IfOk result (λ o. IfSome o (λ c. length c.now ≤ most_components)) }
     ensures components { IfOk result (λ o. IfSome o (λ c. All (IsComponent (vec_len vector.new)) c.now)) }
     ensures fits { All Fits vector.new.items }
     ensures room { vec_capacity vector.old ≤ vec_capacity vector.new }

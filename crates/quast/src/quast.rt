@@ -7,15 +7,12 @@ ghost use Rattle.quast.specs.Trees.{tree_of, IsQuast};
 
 use crate::component::{Component, Components};
 use crate::node::Node;
-use affine_rows::Form;
+use affine_rows::{Form, MOST_NESTING};
 use std::alloc::Global;
 use std::marker::Model;
 
-// The most Select and Define nodes on one path.
-const MOST_NESTING: usize = 200;
-
 /// A selection tree over a number of parameters: each form has the width of its scope, a new parameter adds one to the scope of the tree below it,
-/// each divisor is at least 1, a list has 1 to 64 components, and at most 200 nodes that choose or define stand on one path.
+/// each divisor is at least 1, a list has 1 to 128 components, and at most 200 nodes that choose or define stand on one path.
 #[derive(Drop)]
 pub struct Quast {
     width: usize,

@@ -20,6 +20,13 @@ fn dividend(alloc: Global) -> Result<Form, WantOfMemory>
     Form::try_new(alloc, &[1, 0])
 }
 
+// 3, to be halved.
+fn three(alloc: Global) -> Result<Form, WantOfMemory>
+    ensures { IfOk result (λ form. form ≡ pos 3 ∷ []) }
+{
+    Form::try_new(alloc, &[3])
+}
+
 // 2*p + 2*q + 6, over 4.
 fn numerator(alloc: Global) -> Result<Form, WantOfMemory>
     ensures { IfOk result (λ form. form ≡ pos 2 ∷ pos 2 ∷ pos 6 ∷ []) }
@@ -56,5 +63,41 @@ fn a_tree_is_built_and_leads_to_its_lists(rt: HostRuntime) -> Result<(), Fail> {
     leads(&rt, tree.value_at(&[1], &mut scratch), &[]);
     leads(&rt, tree.value_at(&[-7], &mut scratch), &[]);
     leads(&rt, tree.value_at(&[i128::MAX], &mut scratch), &[-1]);
+    Ok(())
+}
+
+// A tree of 200 nested choices.
+fn deepest(alloc: Global) -> Result<Quast, Fail>
+    ensures { IfOk result (λ tree. tree.width ≡ 1) }
+{
+    let mut tree = Quast::bottom(1);
+    for _ in 0..200 {
+        tree = match Quast::select(alloc, condition(alloc)?, tree, Quast::bottom(1)) {
+            Ok(tree) => tree,
+            Err(_) => return Err("select")?,
+        };
+    }
+    Ok(tree)
+}
+
+#[test]
+fn a_tree_too_deep_is_handed_back(rt: HostRuntime) -> Result<(), Fail> {
+    let alloc = rt.alloc();
+    let chosen = Quast::select(alloc, condition(alloc)?, Quast::bottom(1), deepest(alloc)?);
+    let Err((Parts::Select(form, above, below), BuildRefusal::Nesting)) = chosen else {
+        panic!(rt; "select");
+    };
+    assert_eq!(rt; form.as_slice(), [1, -2].as_slice());
+    assert_eq!(rt; (above.nesting(), below.nesting()), (0, 200));
+    let Err((Parts::Define(form, divisor, below), BuildRefusal::Nesting)) = Quast::define(
+        alloc,
+        three(alloc)?,
+        2,
+        below,
+    ) else {
+        panic!(rt; "define");
+    };
+    assert_eq!(rt; form.as_slice(), [3].as_slice());
+    assert_eq!(rt; (divisor, below.nesting()), (2, 200));
     Ok(())
 }

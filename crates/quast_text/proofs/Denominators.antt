@@ -1,11 +1,11 @@
 -- The common denominator, fraction by fraction, and the numerators over it.
-use Rattle.std.proofs.Common.{◌≡◌, ◌∙◌, refl, ap, sym, ℕ, ◌+◌, ◌<◌, ◌≤◌, ℤ, pos, ◌*ℤ◌, arith, Bool, true, false, ◌&&◌, IsTrue, IsFalse, List, [], ◌∷◌, ◌++◌, length, take, drop, get_or, map}
+use Rattle.std.proofs.Common.{◌≡◌, ◌∙◌, refl, ap, sym, ℕ, ◌+◌, ◌<◌, ◌≤◌, ℤ, pos, Bool, true, false, ◌&&◌, IsTrue, IsFalse, List, [], ◌∷◌, ◌++◌, length, take, drop, get_or, map}
 use Rattle.std.proofs.lemmas.List.{drop_more, drop_all, take_more, take_all, map-append}
 use Rattle.std.specs.Prelude.{All, Err}
 use Rattle.affine_rows.specs.Checks.{Fits}
 use Rattle.quast.proofs.Conditions.{all_fit_from}
 use Rattle.std.proofs.lemmas.List.Folds.{list_all-map, list_all_at}
-use Rattle.pip_model.specs.Numbers.{fits, floor_div, lcm}
+use Rattle.pip_model.specs.Numbers.{fits, lcm}
 use Rattle.pip_model.specs.Listed.{all_fit}
 use Rattle.pip_model.specs.TreeText.{common_denominators, last_of, component_of}
 use Rattle.pip_model.specs.Reading.{Wide}

@@ -1,5 +1,5 @@
 -- What is read of an answer's text, by what the definitions read.
-use Rattle.std.proofs.Common.{◌≡◌, ◌∙◌, refl, sym, ap, ℕ, Bool, true, Ok, Err, Result, ◌↔◌, IsTrue}
+use Rattle.std.proofs.Common.{◌≡◌, refl, ℕ, Bool, true, Ok, Err, Result, ◌↔◌, IsTrue}
 use Rattle.std.specs.Prelude.{Option, Some, None, IfOk, IfSome}
 use Rattle.pip_model.specs.Reading.{Fault}
 use Rattle.pip_model.specs.TreeText as text

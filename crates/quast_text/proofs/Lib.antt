@@ -1,6 +1,5 @@
 pub mod Spellings
 pub mod Fronts
-pub mod Words
 pub mod Lowest
 pub mod Denominators
 pub mod TreeSteps

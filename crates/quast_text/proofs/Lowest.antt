@@ -1,13 +1,12 @@
 -- Lowest terms: their divisor, and components that are in them.
-use Rattle.std.proofs.Common.{◌≡◌, ◌∙◌, refl, ap, sym, length, ℕ, zero, suc, ◌<◌, ◌≤◌, ℤ, pos, negsuc, ◌≤ℤ◌, ◌*ℤ◌, unsigned_abs, Bool, true, false, arith, List}
+use Rattle.std.proofs.Common.{◌≡◌, ◌∙◌, refl, ap, sym, length, ℕ, zero, suc, ◌<◌, ◌≤◌, ℤ, pos, negsuc, ◌≤ℤ◌, ◌*ℤ◌, unsigned_abs, true, false, arith, List}
 use Rattle.std.proofs.lemmas.Int.{ints}
 use Rattle.std.proofs.Math.Nat.{le_of_dvd}
 use Rattle.pip_model.specs.Numbers.{floor_div, gcd, gcd_of, is_zero, lcm}
 use Rattle.pip_model.proofs.Order.{mul_pp}
 use Rattle.affine_rows.proofs.Divisors.{quotient_positive}
 use Rattle.quast_text.proofs.Spellings.{gcd_positive}
-use Rattle.std.specs.Prelude.{Ok, int_le, ◌&&◌}
-use Rattle.pip_model.specs.Forms.{floor_divided}
+use Rattle.std.specs.Prelude.{Ok, int_le}
 use Rattle.pip_model.specs.Numbers.{same_number}
 use Rattle.pip_model.specs.Tree.{Component, reduced, is_form}
 use Rattle.pip_model.specs.TreeText.{component}

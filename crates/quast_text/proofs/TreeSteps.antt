@@ -1,24 +1,21 @@
 -- What a tree is read as, by its `(` and the word behind it.
-use Rattle.std.proofs.Common.{◌≡◌, ◌∙◌, refl, ap, ℕ, zero, suc, ◌+◌, ◌-◌, ◌<◌, arith, sub-one, Ok, Err, Result, List, [], ◌∷◌}
+use Rattle.std.proofs.Common.{◌≡◌, ◌∙◌, refl, sym, ℕ, zero, suc, ◌-◌, ◌<◌, arith, sub-one, Ok, Err, List, [], ◌∷◌}
 use Rattle.std.specs.Prelude.{Option, Some, None, IfSome}
 use Rattle.pip_model.specs.declared.Kind.TheVariants.{LeftParen}
 use Rattle.pip_model.specs.Tree.{Tree, Bottom, Leaf, Component}
 use Rattle.pip_model.specs.Limits.{most_components}
 use Rattle.pip_model.specs.Reading.{Fault, TooNested, Reads, ◌>>=◌, expect}
 use Rattle.pip_model.specs.TreeText.{Head, Ends, Lists, Chooses, Defines, head, room_for, behind_head, tree_by, tree, component, components}
-use Rattle.quast_text.specs.Lists.{with_front}
+use Rattle.text_steps.specs.Fronts.{with_front}
+use Rattle.text_steps.proofs.Binds.{bind_assoc}
 use Rattle.quast_text.specs.Trees.{opening, components_behind, list_at, choice_at, define_at}
-
-bind_assoc : {A B C : Type 0} (r : Result A Fault) (f : A → Result B Fault) (g : B → Result C Fault) → (r >>= λ x. (f x >>= g)) ≡ ((r >>= f) >>= g)
-bind_assoc (Ok x) f g = refl
-bind_assoc (Err e) f g = refl
 
 -- the tree by its opening
 abbrev behind : List ℕ → ℕ → (ℕ → ℕ → Reads Tree) → ℕ → Head × ℕ → Reads Tree
 behind bytes room subtree w h = room_for room h.0 >>= λ kind. behind_head bytes subtree w kind h.1
 
 opened : (bytes : List ℕ) (room : ℕ) (subtree : ℕ → ℕ → Reads Tree) (w p : ℕ) → tree_by bytes room subtree w p ≡ (opening bytes p >>= behind bytes room subtree w)
-opened bytes room subtree w p = bind_assoc (expect bytes LeftParen p) (λ first. head bytes first) (behind bytes room subtree w)
+opened bytes room subtree w p = sym (bind_assoc (expect bytes LeftParen p) (λ first. head bytes first) (behind bytes room subtree w))
 
 pub tree_fault : (bytes : List ℕ) (n w p : ℕ) (e : Fault) → opening bytes p ≡ Err e → tree bytes n w p ≡ Err e
 tree_fault bytes zero w p e h = opened bytes 0 (λ v after. Err TooNested) w p ∙ rw h refl

@@ -3,15 +3,16 @@ ghost use Rattle.pip_model.specs.TreeText.{component_of, component as component_
 ghost use Rattle.pip_model.specs.Agreement.{Agrees};
 ghost use Rattle.affine_rows.specs.Checks.{Fits};
 ghost use Rattle.quast.specs.Components.{IsComponent};
+ghost use Rattle.text_steps.specs.Steps.{IsRead};
 ghost use Rattle.quast_text.specs.Faults.{text_fault};
 ghost use Rattle.quast_text.specs.Components.{component_of_parts};
 
 use crate::fraction::{Fraction, common_denominator, numerators, read_fractions};
 use crate::refusal::TextRefusal;
-use crate::steps::expect;
 use affine_rows::{Form, FormRefusal, Kind, token};
 use quast::Component;
 use std::alloc::Global;
+use text_steps::{Reads, expect};
 
 // The fractions over their common denominator; Wide, at the place of the component, where that or a numerator does not fit.
 fn over_one_denominator(
@@ -41,12 +42,11 @@ pub fn read_component(
     bytes: &[u8],
     width: usize,
     place: usize,
-) -> Result<(Component, usize), TextRefusal>
+) -> Reads<Component, TextRefusal>
     requires place { place ≤ length bytes.now }
     requires width { width < 1000 }
-    ensures agrees { Agrees (λ x. x) text_fault result (component_at bytes.now width place) }
+    ensures reads { IsRead (λ c. c) text_fault bytes.now place result (component_at bytes.now width place) }
     ensures component { IfOk result (λ x. IsComponent width x.0) }
-    ensures order { IfOk result (λ x. (place ≤ x.1) × (x.1 ≤ length bytes.now)) }
 {
     let first = expect(bytes, Kind::LeftRow, place)?;
     let (fractions, at) = read_fractions(alloc, bytes, width + 1, first)?;

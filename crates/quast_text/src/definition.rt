@@ -1,14 +1,14 @@
 ghost use Rattle.std.specs.Prelude.{◌≡◌, ◌≤◌, ◌<◌, ◌+◌, ◌≤ℤ◌, pos, length, IfOk};
-ghost use Rattle.pip_model.specs.TreeText.{scope_number as scope_number_of, divisor as divisor_of, definition as definition_of};
-ghost use Rattle.pip_model.specs.Agreement.{Agrees};
+ghost use Rattle.pip_model.specs.TreeText as model;
 ghost use Rattle.affine_rows.specs.Checks.{Fits};
+ghost use Rattle.text_steps.specs.Steps.{IsPassed, IsRead};
 ghost use Rattle.quast_text.specs.Faults.{text_fault};
 
 use crate::refusal::TextRefusal;
 use crate::row::read_form;
-use crate::steps::{expect, expect_word, number};
 use affine_rows::{Form, Kind, token};
 use std::alloc::Global;
+use text_steps::{Reads, expect, expect_word, number};
 
 /// A form over a divisor, whose floor a new parameter is.
 #[derive(Drop)]
@@ -21,8 +21,7 @@ pub struct Quotient {
 #[tactic(auto, using(crate::proofs::Spellings::same_yes, crate::proofs::Spellings::same_no))]
 fn scope_number(bytes: &[u8], width: usize, place: usize) -> Result<usize, TextRefusal>
     requires { place ≤ length bytes.now }
-    ensures agrees { Agrees (λ x. x) text_fault result (scope_number_of bytes.now width place) }
-    ensures order { IfOk result (λ after. (place ≤ after) × (after ≤ length bytes.now)) }
+    ensures { IsPassed text_fault bytes.now place result (model.scope_number bytes.now width place) }
 {
     let (number, after) = number(bytes, place)?;
     if number == width as i128 {
@@ -33,12 +32,11 @@ fn scope_number(bytes: &[u8], width: usize, place: usize) -> Result<usize, TextR
 }
 
 // A number of at least 1, and the place behind it.
-fn divisor(bytes: &[u8], place: usize) -> Result<(i128, usize), TextRefusal>
+fn divisor(bytes: &[u8], place: usize) -> Reads<i128, TextRefusal>
     requires { place ≤ length bytes.now }
-    ensures agrees { Agrees (λ x. x) text_fault result (divisor_of bytes.now place) }
+    ensures reads { IsRead (λ d. d) text_fault bytes.now place result (model.divisor bytes.now place) }
     ensures positive { IfOk result (λ x. pos 1 ≤ℤ x.0) }
     ensures fits { IfOk result (λ x. Fits x.0) }
-    ensures order { IfOk result (λ x. (place ≤ x.1) × (x.1 ≤ length bytes.now)) }
 {
     let (number, after) = number(bytes, place)?;
     if number >= 1 {
@@ -54,14 +52,14 @@ pub fn read_definition(
     bytes: &[u8],
     width: usize,
     place: usize,
-) -> Result<(Quotient, usize), TextRefusal>
+) -> Reads<Quotient, TextRefusal>
     requires place { place ≤ length bytes.now }
     requires width { width < 1000 }
-    ensures agrees { Agrees (λ x. ((x.0.form, x.0.divisor), x.1)) text_fault result (definition_of bytes.now width place) }
+    ensures reads { IsRead (λ q. (q.form, q.divisor)) text_fault bytes.now place result
+        (model.definition bytes.now width place) }
     ensures width { IfOk result (λ x. length x.0.form ≡ width + 1) }
     ensures positive { IfOk result (λ x. pos 1 ≤ℤ x.0.divisor) }
     ensures fits { IfOk result (λ x. Fits x.0.divisor) }
-    ensures order { IfOk result (λ x. (place ≤ x.1) × (x.1 ≤ length bytes.now)) }
 {
     let at = scope_number(bytes, width, place)?;
     let at = expect(bytes, Kind::LeftParen, at)?;

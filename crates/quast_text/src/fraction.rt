@@ -4,6 +4,7 @@ ghost use Rattle.pip_model.specs.Listed.{all_fit};
 ghost use Rattle.pip_model.specs.TreeText.{lowest_terms as lowest_terms_of, fractions as fractions_of, common_denominators, last_of};
 ghost use Rattle.pip_model.specs.Agreement.{Agrees, IsChecked};
 ghost use Rattle.affine_rows.specs.Checks.{Fits, IsFitted, is_overflow, is_form_overflow};
+ghost use Rattle.text_steps.specs.Steps.{AreRead, IsRead};
 ghost use Rattle.quast_text.specs.Faults.{text_fault};
 ghost use Rattle.quast_text.specs.Fractions.{IsFraction, next_fraction, numerator_of};
 
@@ -11,6 +12,7 @@ use crate::refusal::TextRefusal;
 use affine_rows::{FormRefusal, Kind, Overflow, floor_div, gcd, times, token};
 use std::alloc::Global;
 use std::marker::Model;
+use text_steps::Reads;
 
 /// A fraction in lowest terms, its denominator at least 1.
 #[derive(Drop)]
@@ -59,12 +61,7 @@ impl Fraction {
 
 // n over d in lowest terms, for a token between these places.
 #[tactic(auto, using(crate::proofs::Spellings::gcd_positive, crate::proofs::Lowest::gcd_below, crate::proofs::Lowest::zero_yes, crate::proofs::Lowest::zero_no))]
-fn lowest_terms(
-    start: usize,
-    n: i128,
-    d: i128,
-    after: usize,
-) -> Result<(Fraction, usize), TextRefusal>
+fn lowest_terms(start: usize, n: i128, d: i128, after: usize) -> Reads<Fraction, TextRefusal>
     requires low { pos 0 ≤ℤ d }
     requires n_fits { Fits n }
     requires d_fits { Fits d }
@@ -80,10 +77,9 @@ fn lowest_terms(
 }
 
 // The number or fraction that is the next token, and the place behind it.
-fn read_fraction(bytes: &[u8], place: usize) -> Result<(Fraction, usize), TextRefusal>
+fn read_fraction(bytes: &[u8], place: usize) -> Reads<Fraction, TextRefusal>
     requires { place ≤ length bytes.now }
-    ensures agrees { Agrees (λ x. x) text_fault result (next_fraction bytes.now place) }
-    ensures order { IfOk result (λ x. (place ≤ x.1) × (x.1 ≤ length bytes.now)) }
+    ensures { IsRead (λ f. f) text_fault bytes.now place result (next_fraction bytes.now place) }
 {
     let token = token(bytes, place);
     match token.kind {
@@ -101,11 +97,10 @@ pub fn read_fractions(
     bytes: &[u8],
     count: usize,
     place: usize,
-) -> Result<(Vec<Fraction>, usize), TextRefusal>
+) -> Reads<Vec<Fraction>, TextRefusal>
     requires { place ≤ length bytes.now }
-    ensures agrees { Agrees (λ x. (x.0.items, x.1)) text_fault result (fractions_of bytes.now count place) }
+    ensures reads { AreRead (λ v. v.items) text_fault bytes.now place result (fractions_of bytes.now count place) }
     ensures count { IfOk result (λ x. length x.0.items ≡ count) }
-    ensures order { IfOk result (λ x. (place ≤ x.1) × (x.1 ≤ length bytes.now)) }
 {
     let mut read = Vec::with_capacity(alloc, count)?;
     let mut at = place;

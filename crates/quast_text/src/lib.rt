@@ -9,7 +9,6 @@ mod print;
 mod read;
 mod refusal;
 mod row;
-mod steps;
 #[cfg(test)]
 mod tests;
 mod tree;

@@ -3,18 +3,16 @@ ghost use Rattle.pip_model.specs.Limits.{most_components};
 ghost use Rattle.pip_model.specs.Tree.{nesting};
 ghost use Rattle.pip_model.specs.Agreement.{Agrees};
 ghost use Rattle.quast.specs.Components.{IsComponent};
+ghost use Rattle.text_steps.specs.Steps.{AreRead, IsRead};
 ghost use Rattle.quast_text.specs.Faults.{text_fault};
 ghost use Rattle.quast_text.specs.Trees.{next_component as next_component_of, components_behind, list_at};
 
 use crate::component::read_component;
 use crate::refusal::TextRefusal;
-use crate::steps::{expect, same_bracket};
-use affine_rows::{Kind, token};
+use affine_rows::{Kind, MOST_COMPONENTS, token};
 use quast::{Component, Quast};
 use std::alloc::Global;
-
-// The most components of a list.
-const MOST_COMPONENTS: usize = 64;
+use text_steps::{Reads, expect, same_bracket};
 
 // The next component of a list of which so many may follow, and the place behind it; none at its `)`.
 fn next_component(
@@ -36,7 +34,7 @@ fn next_component(
     }
     if left == 0 {
         expect(bytes, Kind::LeftRow, place)?;
-        return Err(TextRefusal::Components(65));
+        return Err(TextRefusal::Components(MOST_COMPONENTS as i128 + 1));
     }
     let (component, after) = read_component(alloc, bytes, width, place)?;
     Ok(Some((component, after)))
@@ -49,15 +47,15 @@ fn read_components(
     width: usize,
     first: Component,
     place: usize,
-) -> Result<(Vec<Component>, usize), TextRefusal>
+) -> Reads<Vec<Component>, TextRefusal>
     requires place { place ≤ length bytes.now }
     requires width { width < 1000 }
     requires first { IsComponent width first }
-    ensures agrees { Agrees (λ x. (x.0.items, x.1)) text_fault result (components_behind bytes.now width first place) }
+    ensures reads { AreRead (λ v. v.items) text_fault bytes.now place result
+        (components_behind bytes.now width first place) }
     ensures components { IfOk result (λ x. All (IsComponent width) x.0.items) }
     ensures some { IfOk result (λ x. 0 < length x.0.items) }
     ensures few { IfOk result (λ x. length x.0.items ≤ most_components) }
-    ensures order { IfOk result (λ x. (place ≤ x.1) × (x.1 ≤ length bytes.now)) }
 {
     let mut read = Vec::new(alloc);
     read.push(first)?;
@@ -78,13 +76,12 @@ pub fn read_list(
     bytes: &[u8],
     width: usize,
     place: usize,
-) -> Result<(Quast, usize), TextRefusal>
+) -> Reads<Quast, TextRefusal>
     requires place { place ≤ length bytes.now }
     requires width { width < 1000 }
-    ensures agrees { Agrees (λ x. (x.0.tree, x.1)) text_fault result (list_at bytes.now width place) }
+    ensures reads { IsRead (λ q. q.tree) text_fault bytes.now place result (list_at bytes.now width place) }
     ensures width { IfOk result (λ x. x.0.width ≡ width) }
     ensures nested { IfOk result (λ x. nesting x.0.tree ≡ 0) }
-    ensures order { IfOk result (λ x. (place ≤ x.1) × (x.1 ≤ length bytes.now)) }
 {
     let (first, at) = read_component(alloc, bytes, width, place)?;
     let (components, after) = read_components(alloc, bytes, width, first, at)?;

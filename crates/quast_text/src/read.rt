@@ -2,23 +2,20 @@ ghost use Rattle.std.specs.Prelude.{◌≡◌, ◌≤◌, ◌<◌, ◌↔◌, le
 ghost use Rattle.std.specs.List.{list_all};
 ghost use Rattle.pip_model.specs.Limits.{most_params};
 ghost use Rattle.pip_model.specs.Moved.{is_closed};
-ghost use Rattle.pip_model.specs.Reading.{group as group_of};
 ghost use Rattle.pip_model.specs.TreeText.{tree_or_void as tree_or_void_of, spoken_at as spoken_at_of, read_answer as read_answer_of};
 ghost use Rattle.pip_model.specs.Printed.{IsSpoken};
 ghost use Rattle.pip_model.specs.Agreement.{Agrees};
 ghost use Rattle.quast.specs.Answers.{answer_of, IsOver};
+ghost use Rattle.text_steps.specs.Steps.{IsRead};
 ghost use Rattle.quast_text.specs.Faults.{text_fault};
 ghost use Rattle.quast_text.specs.Spoken.{spoken_of, found_of};
 
 use crate::refusal::TextRefusal;
-use crate::steps::{expect, spells};
 use crate::tree::read_tree;
-use affine_rows::{Bytes, Kind, group_end, next_open, token};
+use affine_rows::{Bytes, Kind, MOST_NESTING, next_open, token};
 use quast::Answer;
 use std::alloc::Global;
-
-// The most nodes that choose or define on one path.
-const MOST_NESTING: usize = 200;
+use text_steps::{Reads, expect, group, spells};
 
 /// An answer with its comment, a group with its brackets.
 #[derive(Drop)]
@@ -27,35 +24,12 @@ pub struct Spoken {
     pub answer: Answer,
 }
 
-// The group that is next, with its brackets, and the place behind it.
-fn group(alloc: Global, bytes: &[u8], place: usize) -> Result<(Bytes, usize), TextRefusal>
-    requires { place ≤ length bytes.now }
-    ensures agrees { Agrees (λ x. x) text_fault result (group_of bytes.now place) }
-    ensures order { IfOk result (λ x. (place ≤ x.1) × (x.1 ≤ length bytes.now)) }
-{
-    let first = expect(bytes, Kind::LeftParen, place)?;
-    match group_end(bytes, first) {
-        Some(after) => {
-            let (_, rest) = bytes.split_at(first - 1);
-            let (text, _) = rest.split_at(after - (first - 1));
-            Ok((Bytes::try_new(alloc, text)?, after))
-        }
-        None => Err(TextRefusal::Syntax(bytes.len())),
-    }
-}
-
 // The word `void` or a tree, and the place behind it.
-fn tree_or_void(
-    alloc: Global,
-    bytes: &[u8],
-    np: usize,
-    place: usize,
-) -> Result<(Answer, usize), TextRefusal>
+fn tree_or_void(alloc: Global, bytes: &[u8], np: usize, place: usize) -> Reads<Answer, TextRefusal>
     requires place { place ≤ length bytes.now }
     requires few { np ≤ most_params }
-    ensures agrees { Agrees (λ x. (answer_of x.0, x.1)) text_fault result (tree_or_void_of bytes.now np place) }
+    ensures reads { IsRead answer_of text_fault bytes.now place result (tree_or_void_of bytes.now np place) }
     ensures scope { IfOk result (λ x. IsOver np x.0) }
-    ensures order { IfOk result (λ x. (place ≤ x.1) × (x.1 ≤ length bytes.now)) }
 {
     let token = token(bytes, place);
     if spells(bytes, token, b"void") {
@@ -66,17 +40,11 @@ fn tree_or_void(
 }
 
 // The answer with its comment that begins at a place, and the place behind its last `)`.
-fn spoken_at(
-    alloc: Global,
-    bytes: &[u8],
-    np: usize,
-    place: usize,
-) -> Result<(Spoken, usize), TextRefusal>
+fn spoken_at(alloc: Global, bytes: &[u8], np: usize, place: usize) -> Reads<Spoken, TextRefusal>
     requires place { place ≤ length bytes.now }
     requires few { np ≤ most_params }
-    ensures agrees { Agrees (λ x. (spoken_of x.0, x.1)) text_fault result (spoken_at_of bytes.now np place) }
+    ensures reads { IsRead spoken_of text_fault bytes.now place result (spoken_at_of bytes.now np place) }
     ensures scope { IfOk result (λ x. IsOver np x.0.answer) }
-    ensures order { IfOk result (λ x. (place < x.1) × (x.1 ≤ length bytes.now)) }
 {
     let first = expect(bytes, Kind::LeftParen, place)?;
     let (comment, at) = group(alloc, bytes, first)?;
@@ -104,12 +72,12 @@ fn first_spoken(
     }
 }
 
-/// The answer over `np` parameters, at most 32, that begins with the first `(` at or behind `start`, and the place behind its last `)`; none exactly where
+/// The answer over `np` parameters, at most 48, that begins with the first `(` at or behind `start`, and the place behind its last `)`; none exactly where
 /// there is no `(`. What is read is well formed, its components are brought to lowest terms, and its numbers fit.
 ///
 /// The first token that differs from the format decides the refusal, which keeps the place of that token's first byte (the number of bytes at their
 /// end). A number of more than 127 bits where one is expected is `Wide`, and so is a component whose common denominator or a numerator over it does not
-/// fit, at its `#[`. A 65th component is `Components(65)`, and a 201st nested node `Nesting`.
+/// fit, at its `#[`. A 129th component is `Components(129)`, and a 201st nested node `Nesting`.
 pub fn read_answer(
     alloc: Global,
     bytes: &[u8],

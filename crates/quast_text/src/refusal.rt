@@ -3,6 +3,7 @@ ghost use Rattle.quast_text.specs.declared.refusal.TextRefusal.TheVariants as re
 
 use affine_rows::WantOfMemory;
 use std::alloc::{AllocError, AllocFailed};
+use text_steps::TextFault;
 use thiserror::Error;
 
 /// Why an answer's text is not read: the place of the token that differs, or of one whose numbers do not fit; more than 200 nested nodes;
@@ -42,5 +43,20 @@ impl<T: Drop> From<AllocFailed<T>> for TextRefusal {
 
     fn from(_: AllocFailed<T>) -> TextRefusal {
         TextRefusal::WantOfMemory
+    }
+}
+
+impl From<TextFault> for TextRefusal {
+    ghost use Rattle.text_steps.specs.Steps.{fault_of};
+    ghost use Rattle.quast_text.specs.Faults.{text_fault};
+
+    ghost from_gives = { λ fault e. text_fault e ≡ fault_of fault };
+
+    fn from(fault: TextFault) -> TextRefusal {
+        match fault {
+            TextFault::Syntax(place) => TextRefusal::Syntax(place),
+            TextFault::Wide(place) => TextRefusal::Wide(place),
+            TextFault::WantOfMemory => TextRefusal::WantOfMemory,
+        }
     }
 }

@@ -1,4 +1,5 @@
 use super::*;
+use quast::Answer;
 use std::alloc::Global;
 use std::process::Abort;
 use std::test::Fail;
@@ -51,5 +52,22 @@ fn answers_are_read_and_printed(rt: HostRuntime) -> Result<(), Fail> {
         TextRefusal::Wide(10),
     );
     is_refused(&rt, alloc, "((z)(list #[1/0 0]))", TextRefusal::Syntax(12));
+    Ok(())
+}
+
+#[test]
+fn a_tree_is_printed_alone(rt: HostRuntime) -> Result<(), Fail> {
+    let alloc = rt.alloc();
+    let text = b"((a)(if#[1 0](list #[2/4 3])()))";
+    let mut out = b"x".to_vec(alloc)?;
+    if let Some((spoken, _)) = read_answer(alloc, text, 0, 1)? {
+        if let Answer::Tree(tree) = &spoken.answer {
+            print_tree(tree, &mut out)?;
+        }
+    }
+    assert_eq!(rt;
+        out.as_slice(),
+        b"x(if #[ 1 0]\n(list\n#[ 1/2 3]\n)\n()\n)\n".as_slice()
+    );
     Ok(())
 }

@@ -2,8 +2,8 @@ ghost use Rattle.std.specs.Prelude.{◌≡◌, ◌≤◌, ◌<◌, ◌+◌, ◌�
 ghost use Rattle.pip_model.specs.Limits.{most_nesting};
 ghost use Rattle.pip_model.specs.Tree.{If, NewParm, nesting};
 ghost use Rattle.pip_model.specs.TreeText.{head as head_at, tree as tree_at};
-ghost use Rattle.pip_model.specs.Agreement.{Agrees};
 ghost use Rattle.affine_rows.specs.Checks.{Fits};
+ghost use Rattle.text_steps.specs.Steps.{IsRead};
 ghost use Rattle.quast_text.specs.Faults.{text_fault};
 ghost use Rattle.quast_text.specs.Trees.{head_of, opening as opening_of, choice_at, define_at};
 
@@ -11,10 +11,10 @@ use crate::definition::{Quotient, read_definition};
 use crate::list::read_list;
 use crate::refusal::TextRefusal;
 use crate::row::read_form;
-use crate::steps::{expect, same_bracket, spells};
 use affine_rows::{Form, Kind, token};
 use quast::{BuildRefusal, Quast};
 use std::alloc::Global;
+use text_steps::{Reads, expect, same_bracket, spells};
 
 /// Which tree begins behind a `(`.
 #[derive(Clone, Copy, Debug, PartialEq, Eq)]
@@ -26,10 +26,9 @@ pub enum Head {
 }
 
 // Which tree begins with the next token, and the place behind that.
-fn read_head(bytes: &[u8], place: usize) -> Result<(Head, usize), TextRefusal>
+fn read_head(bytes: &[u8], place: usize) -> Reads<Head, TextRefusal>
     requires { place ≤ length bytes.now }
-    ensures agrees { Agrees (λ x. (head_of x.0, x.1)) text_fault result (head_at bytes.now place) }
-    ensures order { IfOk result (λ x. (place ≤ x.1) × (x.1 ≤ length bytes.now)) }
+    ensures { IsRead head_of text_fault bytes.now place result (head_at bytes.now place) }
 {
     let token = token(bytes, place);
     if same_bracket(token.kind, Kind::RightParen) {
@@ -46,10 +45,9 @@ fn read_head(bytes: &[u8], place: usize) -> Result<(Head, usize), TextRefusal>
 }
 
 // The `(` of a tree, which tree begins behind it, and the place behind that.
-fn opening(bytes: &[u8], place: usize) -> Result<(Head, usize), TextRefusal>
+fn opening(bytes: &[u8], place: usize) -> Reads<Head, TextRefusal>
     requires { place ≤ length bytes.now }
-    ensures agrees { Agrees (λ x. (head_of x.0, x.1)) text_fault result (opening_of bytes.now place) }
-    ensures order { IfOk result (λ x. (place ≤ x.1) × (x.1 ≤ length bytes.now)) }
+    ensures { IsRead head_of text_fault bytes.now place result (opening_of bytes.now place) }
 {
     let first = expect(bytes, Kind::LeftParen, place)?;
     read_head(bytes, first)
@@ -95,14 +93,13 @@ pub fn read_tree(
     width: usize,
     room: usize,
     place: usize,
-) -> Result<(Quast, usize), TextRefusal>
+) -> Reads<Quast, TextRefusal>
     requires place { place ≤ length bytes.now }
     requires scope { width + room < 1000 }
     requires room { room ≤ most_nesting }
-    ensures agrees { Agrees (λ x. (x.0.tree, x.1)) text_fault result (tree_at bytes.now room width place) }
+    ensures reads { IsRead (λ q. q.tree) text_fault bytes.now place result (tree_at bytes.now room width place) }
     ensures width { IfOk result (λ x. x.0.width ≡ width) }
     ensures nested { IfOk result (λ x. nesting x.0.tree ≤ room) }
-    ensures order { IfOk result (λ x. (place ≤ x.1) × (x.1 ≤ length bytes.now)) }
 {
     let (head, at) = opening(bytes, place)?;
     match head {
@@ -132,14 +129,13 @@ fn read_choice(
     width: usize,
     room: usize,
     place: usize,
-) -> Result<(Quast, usize), TextRefusal>
+) -> Reads<Quast, TextRefusal>
     requires place { place ≤ length bytes.now }
     requires scope { width + room + 1 < 1000 }
     requires room { room < most_nesting }
-    ensures agrees { Agrees (λ x. (x.0.tree, x.1)) text_fault result (choice_at bytes.now room width place) }
+    ensures reads { IsRead (λ q. q.tree) text_fault bytes.now place result (choice_at bytes.now room width place) }
     ensures width { IfOk result (λ x. x.0.width ≡ width) }
     ensures nested { IfOk result (λ x. nesting x.0.tree ≤ room + 1) }
-    ensures order { IfOk result (λ x. (place ≤ x.1) × (x.1 ≤ length bytes.now)) }
 {
     let (v, at) = read_form(alloc, bytes, width, place)?;
     let (a, at) = read_tree(alloc, bytes, width, room, at)?;
@@ -158,14 +154,13 @@ fn read_new_parameter(
     width: usize,
     room: usize,
     place: usize,
-) -> Result<(Quast, usize), TextRefusal>
+) -> Reads<Quast, TextRefusal>
     requires place { place ≤ length bytes.now }
     requires scope { width + room + 1 < 1000 }
     requires room { room < most_nesting }
-    ensures agrees { Agrees (λ x. (x.0.tree, x.1)) text_fault result (define_at bytes.now room width place) }
+    ensures reads { IsRead (λ q. q.tree) text_fault bytes.now place result (define_at bytes.now room width place) }
     ensures width { IfOk result (λ x. x.0.width ≡ width) }
     ensures nested { IfOk result (λ x. nesting x.0.tree ≤ room + 1) }
-    ensures order { IfOk result (λ x. (place ≤ x.1) × (x.1 ≤ length bytes.now)) }
 {
     let (quotient, at) = read_definition(alloc, bytes, width, place)?;
     let (a, after) = read_tree(alloc, bytes, width + 1, room, at)?;

@@ -11,9 +11,8 @@ use Rattle.pip_model.specs.Forms.{coefficients, constant, width, floor_divided, 
 use Rattle.pip_model.specs.Listed.{opposite_listed}
 use Rattle.pip_model.specs.Run.{Work, Outcome, Counted, Done, Refused, Class, Plus, Minus, go_on, ◌>>=◌, give, listed, root, run_from, point_setting, numbers_of, point, point_run, class, class_of, class_above, class_below, class_by_points}
 use Rattle.pip_model.proofs.Division.{form-parts, gcd_of-natural}
-use Rattle.run_laws.proofs.Lengths.{length_map}
+use Rattle.run_laws.proofs.Lengths.{length_map, length_tighten}
 use Rattle.run_laws.proofs.Scopes.{entry_end, coefficients-end, constant-end, length-widen_to}
-use Rattle.run_laws.proofs.ClassRight.{length_tighten}
 use Rattle.affine_rows.proofs.Opposites.{opposite_set}
 use Rattle.affine_rows.proofs.Units.{widen_same}
 use Rattle.sign_split.specs.Classes.{widened_class}

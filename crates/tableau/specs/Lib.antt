@@ -1,3 +1,4 @@
 pub mod Refusals
+pub mod Short
 pub mod Tableaus
 pub mod Views

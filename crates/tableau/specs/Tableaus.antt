@@ -1,5 +1,6 @@
 -- A tableau as its rows.
 use Rattle.std.specs.Prelude.{◌≡◌, ℕ, ◌+◌, ◌-◌, ℤ, pos, ◌≤ℤ◌, List, [], ◌∷◌, ◌++◌, length, slice_set, All}
+use Rattle.pip_model.specs.Numbers.{gcd, gcd_of}
 use Rattle.pip_model.specs.Rows.{Row, row_at}
 use Rattle.pip_model.specs.Cuts.{rounded}
 use Rattle.affine_rows.specs.Checks.{Fits}
@@ -19,8 +20,17 @@ pub record IsRow (n w : ℕ) (r : Row) : Type 0 where
   pub coefs_fit : All Fits r.coefs
   pub constant_fit : All Fits r.constant
 
+-- the greatest common divisor of all numbers of a row
+abbrev pub content : Row → ℤ
+content r = gcd r.den (gcd (gcd_of r.coefs) (gcd_of r.constant))
+
+-- the numbers of a row have no common divisor
+abbrev pub IsReduced : Row → Type 0
+IsReduced r = content r ≡ pos 1
+
 pub record IsTableau (t : TableauRows) : Type 0 where
   pub rows : All (IsRow t.unknowns t.width) t.rows
+  pub reduced : All IsReduced t.rows
 
 -- the row of a denominator, coefficients and a constant form
 abbrev pub row_from : ℤ → List ℤ → List ℤ → Row

@@ -2,6 +2,8 @@
 //! over the parameters (P. Feautrier, "Parametric integer programming", RAIRO 1988).
 #![tactic(auto)]
 
+mod elimination;
+mod exchange;
 mod refusal;
 mod row;
 mod tableau;

@@ -3,7 +3,7 @@ ghost use Rattle.pip_model.specs.Rows as model;
 ghost use Rattle.pip_model.specs.Cuts.{rounded, rounded_listed};
 ghost use Rattle.pip_model.specs.Agreement.{IsChecked};
 ghost use Rattle.affine_rows.specs.Checks.{Fits, is_overflow};
-ghost use Rattle.tableau.specs.Tableaus.{IsRow, IsOwnRow, row_from};
+ghost use Rattle.tableau.specs.Tableaus.{IsRow, IsOwnRow, IsReduced, row_from};
 
 use affine_rows::{Overflow, WantOfMemory, divide_all, divided, floor_div, gcd_with, round_form};
 use std::alloc::Global;
@@ -35,6 +35,7 @@ pub fn reduced(
     requires { IsOwnRow (row_from den coefs.now constant.now) }
     ensures value { IfOk result (λ r. r ≡ model.divided (row_from den coefs.now constant.now)) }
     ensures row { IfOk result (λ r. (n w : ℕ) → IsRow n w (row_from den coefs.now constant.now) → IsRow n w r) }
+    ensures reduced { IfOk result IsReduced }
 {
     let divisor = gcd_with(gcd_with(den, coefs), constant);
     let coefs = divided(alloc, divisor, coefs)?;
@@ -51,6 +52,7 @@ pub fn unit(alloc: Global, unknowns: usize, width: usize, c: usize) -> Result<Ro
     requires { c < unknowns }
     ensures value { IfOk result (λ r. r ≡ model.unit_row unknowns width c) }
     ensures row { IfOk result (IsRow unknowns width) }
+    ensures reduced { IfOk result IsReduced }
 {
     let mut coefs = vec![in alloc; 0; unknowns]?;
     coefs[c] = 1;
@@ -69,6 +71,7 @@ pub fn of_form(alloc: Global, unknowns: usize, form: &[i128]) -> Result<Row, Wan
     requires fits { All Fits form.now }
     ensures value { IfOk result (λ r. r ≡ model.form_row unknowns form.now) }
     ensures row { IfOk result (IsRow unknowns (length form.now - 1 - unknowns)) }
+    ensures reduced { IfOk result IsReduced }
 {
     let (coefs, constant) = form.split_at(unknowns);
     Ok(Row {
@@ -136,6 +139,7 @@ fn round_parts(
     ensures listed { IsChecked is_overflow (rounded_listed (row_from den coefs.old constant.old) q) result }
     ensures ok { IfOk result (λ d. row_from d coefs.new constant.new ≡ rounded (row_from den coefs.old constant.old) q) }
     ensures row { IfOk result (λ d. IsRow (length coefs.old) (length constant.old - 1) (row_from d coefs.new constant.new)) }
+    ensures reduced { IfOk result (λ d. IsReduced (row_from d coefs.new constant.new)) }
     ensures err { OnErr result ((coefs.new ≡ coefs.old) × (constant.new ≡ constant.old)) }
 {
     round_form(den, constant, q)?;
@@ -152,6 +156,7 @@ pub fn round(row: &mut Row, q: usize) -> Result<(), Overflow>
     ensures listed { IsChecked is_overflow (rounded_listed row.old q) result }
     ensures ok { OnOk result (row.new ≡ rounded row.old q) }
     ensures row { OnOk result (IsRow (length row.old.coefs) (length row.old.constant - 1) row.new) }
+    ensures reduced { OnOk result (IsReduced row.new) }
     ensures err { OnErr result (row.new ≡ row.old) }
 {
     let den = round_parts(row.den, &mut row.coefs, &mut row.constant, q)?;

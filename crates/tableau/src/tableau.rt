@@ -1,4 +1,5 @@
-ghost use Rattle.std.specs.Prelude.{◌≡◌, ◌+◌, ◌-◌, ◌^◌, ◌<◌, All, map, [], length, IfOk, OnOk, OnErr};
+ghost use Rattle.std.specs.Prelude.{◌≡◌, ◌+◌, ◌-◌, ◌^◌, ◌<◌, pos, ◌≤ℤ◌, All, map, [], length, IfOk, OnOk, OnErr};
+ghost use Rattle.pip_model.specs.Forms.{entry};
 ghost use Rattle.pip_model.specs.Rows as model;
 ghost use Rattle.pip_model.specs.Cuts.{rounded_listed};
 ghost use Rattle.pip_model.specs.Agreement.{IsChecked};
@@ -6,6 +7,7 @@ ghost use Rattle.affine_rows.specs.Checks.{is_overflow};
 ghost use Rattle.tableau.specs.Tableaus.{IsRow, row_from, with_row, with_rounded};
 ghost use Rattle.tableau.specs.Views.{row_of};
 
+use crate::exchange::{check_exchange, exchange_rows};
 use crate::row::{Row, copied, of_form, reduced, round, unit, widened};
 use crate::view::RowView;
 use affine_rows::{Form, Overflow, WantOfMemory};
@@ -169,6 +171,21 @@ impl Tableau {
         let rows = widened(*self.rows.allocator(), &self.rows)?;
         self.rows = rows;
         self.width += 1;
+        Ok(())
+    }
+
+    /// The pivot on row r and column c, in place: the row, solved for the column's quantity, is put into each other
+    /// row, and row r becomes the row of the column. It takes no memory.
+    pub fn exchange(&mut self, r: usize, c: usize) -> Result<(), Overflow>
+        requires row { r < length self.old.rows }
+        requires column { c < self.old.unknowns }
+        requires positive { pos 1 ≤ℤ entry (model.row_at self.old.rows r).coefs c }
+        ensures listed { IsChecked is_overflow (model.pivot_listed self.old.rows r c) result }
+        ensures ok { OnOk result (self.new ≡ record self.old { rows = model.pivot self.old.rows r c }) }
+        ensures err { OnErr result (self.new ≡ self.old) }
+    {
+        check_exchange(&self.rows, r, c)?;
+        exchange_rows(&mut self.rows, r, c);
         Ok(())
     }
 

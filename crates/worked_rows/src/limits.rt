@@ -53,14 +53,47 @@ fn limits_are_kept(rt: HostRuntime) -> Result<(), Fail> {
     };
     check_on(&rt, alloc, &deeper, nested(alloc, 201)?)?;
     let longer = Row {
-        name: "65 components",
+        name: "129 components",
         words: "pip eval",
         input: "",
         output: "",
-        notes: "pip: limit of components 65\n",
+        notes: "pip: limit of components 129\n",
         status: 9,
     };
-    check_on(&rt, alloc, &longer, listed(alloc, 65)?)
+    check_on(&rt, alloc, &longer, listed(alloc, 129)?)
+}
+
+// A list of so many zeros, as it is printed.
+fn zeros(alloc: Global, comment: &[u8], count: usize) -> Result<Vec<u8>, AllocError> {
+    let mut text = b"(".to_vec(alloc)?;
+    text.extend_from_slice(comment)?;
+    text.extend_from_slice(b"\n(list\n")?;
+    repeat(&mut text, b"#[ 0]\n", count)?;
+    text.extend_from_slice(b")\n)\n")?;
+    Ok(text)
+}
+
+#[test]
+fn long_lists_are_answered(rt: HostRuntime) -> Result<(), Fail> {
+    let alloc = rt.alloc();
+    let rows = [
+        (
+            "pip solve",
+            b"((u) 65 0 0 0 -1 1 () ())".to_vec(alloc)?,
+            zeros(alloc, b"(u)", 65)?,
+        ),
+        ("pip eval", listed(alloc, 128)?, zeros(alloc, b"(e)", 128)?),
+    ];
+    for (line, input, output) in rows {
+        let words = words_of(alloc, line)?;
+        let mut source = MemorySource::new(input, 7, Vec::new(alloc));
+        let mut sink = MemorySink::new(Vec::new(alloc), 7, Vec::new(alloc));
+        let mut notes = MemorySink::new(Vec::new(alloc), 7, Vec::new(alloc));
+        let status = pip_main(alloc, &words, &mut source, &mut sink, &mut notes);
+        assert_eq!(rt; status, 0);
+        assert_eq!(rt; sink.written(), output.as_slice());
+    }
+    Ok(())
 }
 
 // Where the fault is of a text that is cut to so many bytes: a sign or a `#` alone is one at its own place.

@@ -1,18 +1,31 @@
 use Rattle.std.proofs.Common.{rules, ◌≡◌, sym, subst, Some}
 use Rattle.pip_model.specs.Rows.{row_at}
 use Rattle.pip_model.specs.Cuts as cuts
-use Rattle.pip_model.specs.Run.{quotient_cut}
+use Rattle.pip_model.specs.Run.{Done, class, quotient_cut}
 use Rattle.pip_model.specs.Agreement.{AgreesCounted}
 use Rattle.pip_problem.specs.Faults.{run_fault}
+use Rattle.sign_split.specs.Classes.{class_of}
 use Rattle.new_parameters.specs.Scopes.{size}
 use Rattle.pip_solve.specs.Nodes.{node_of, setting_of}
-use Rattle.pip_solve.specs.Turns.{made}
+use Rattle.pip_solve.specs.Turns.{turn_of}
+use Rattle.pip_solve.proofs.Cutting.{known_by}
 use Rattle.pip_solve.proofs.cut.quotient_cut.Goals as goal
 
-pub returns-in-Some-clause-gives : goal.returns-in-Some-clause-gives
-returns-in-Some-clause-gives c = λ integer.
-    let found : cuts.find_from c.args.q.now.params c.args.q.now.quotients (cuts.residue_of (row_at c.args.t.now.rows c.args.i)) ≡ Some c.in-Some.place = search rules in
-    subst (λ o. AgreesCounted (made (node_of c.args.t.now c.args.k.now c.args.q.now c.args.depth) (size c.args.q.now) c.known_cut.new.t.rows) run_fault c.known_cut.result c.known_cut.new.w (quotient_cut (setting_of integer c.args.t.now c.args.q.now) (node_of c.args.t.now c.args.k.now c.args.q.now c.args.depth) c.args.i (row_at c.args.t.now.rows c.args.i) o c.args.w.now)) (sym found) (c.known_cut.ensures.gives integer c.args.q.now c.args.depth c.requires.quotients)
+pub returns-in_ok-class-in-Some-clause-gives : goal.returns-in_ok-class-in-Some-clause-gives
+returns-in_ok-class-in-Some-clause-gives c =
+    let path = c.args.path.now in
+    let S = setting_of c.args.rows.now path in
+    let N = node_of c.args.rows.now path in
+    let R = row_at c.args.rows.now.rows c.args.i in
+    let found : cuts.find_from path.quotients.params path.quotients.quotients (cuts.residue_of R) ≡ Some c.in-Some.place = search rules in
+    let told : class path.context.forms path.context.width (cuts.rounding c.args.rows.now.width c.in-Some.place c.in_ok-key.key) c.args.work.now ≡ Done (class_of c.in_ok-class-in-Some.class) c.class_by_quotient.new.work = search rules in
+    let key : c.in_ok-key.key ≡ cuts.residue_of R = search rules in
+    let scope = c.requires.node.scope in
+    let context = c.requires.node.context in
+    let here : class path.context.forms (size path.quotients) (cuts.rounding (size path.quotients) c.in-Some.place (cuts.residue_of R)) c.args.work.now ≡ Done (class_of c.in_ok-class-in-Some.class) c.class_by_quotient.new.work = cc in
+    let by = known_by S N c.args.i R c.in-Some.place c.args.work.now c.class_by_quotient.new.work (class_of c.in_ok-class-in-Some.class) here in
+    let cut = subst (AgreesCounted (turn_of c.cut_by.new.rows path) run_fault c.cut_by.result c.class_by_quotient.new.work) (sym by) (c.cut_by.ensures.gives path c.class_by_quotient.new.work) in
+    subst (λ o. AgreesCounted (turn_of c.cut_by.new.rows path) run_fault c.cut_by.result c.class_by_quotient.new.work (quotient_cut S N c.args.i R o c.args.work.now)) (sym found) cut
 
-pub returns-in-Some-clause-turn : goal.returns-in-Some-clause-turn
-returns-in-Some-clause-turn c = c.known_cut.ensures.turn c.args.q.now _
+pub returns-in_ok-class-in-Some-clause-turn : goal.returns-in_ok-class-in-Some-clause-turn
+returns-in_ok-class-in-Some-clause-turn c = c.cut_by.ensures.turn c.args.path.now _

@@ -11,23 +11,23 @@ use Rattle.pip_solve.proofs.scan.scan.Goals as goal
 
 pub returns-in_err-class-clause-gives : goal.returns-in_err-class-clause-gives
 returns-in_err-class-clause-gives c =
-    let given : IfSome (run_fault c.in_err-class.field-0.0) (λ f. class c.args.k.now.forms c.args.k.now.width (row_at c.args.t.now.rows c.loop-i.i).constant c.loop-i.w ≡ Refused f c.class_of_row.new.w) = rw (← c.loop-i.invariant.1, ← c.loop-i.invariant.0) c.in_err-class.ensures.gives in
-    let fault = refused_from c.args.k.now.forms c.args.k.now.width c.loop-i.i (kept_signs c.loop-i.kept) c.args.t.now.rows c.loop-i.w c.class_of_row.new.w (search rules) (run_fault c.in_err-class.field-0.0) given _ c.loop-i.invariant.4 in
+    let given : IfSome (run_fault c.in_err-class.field-0.0) (λ f. class c.args.context.now.forms c.args.context.now.width (row_at c.args.rows.now.rows c.loop-i.i).constant c.loop-i.work ≡ Refused f c.class_of_row.new.work) = rw (← c.loop-i.invariant.1, ← c.loop-i.invariant.0) c.in_err-class.ensures.gives in
+    let fault = refused_from c.args.context.now.forms c.args.context.now.width c.loop-i.i (kept_signs c.loop-i.kept) c.args.rows.now.rows c.loop-i.work c.class_of_row.new.work (search rules) (run_fault c.in_err-class.field-0.0) given _ c.loop-i.invariant.4 in
     grind (arith, common_steps, fault)
 
 pub returns-in-Minus-clause-gives : goal.returns-in-Minus-clause-gives
 returns-in-Minus-clause-gives c =
-    let given : class c.args.k.now.forms c.args.k.now.width (row_at c.args.t.now.rows c.loop-i.i).constant c.loop-i.w ≡ Done Minus c.class_of_row.new.w = search rules in
-    sym c.loop-i.invariant.4 ∙ scanned_minus c.args.k.now.forms c.args.k.now.width c.loop-i.i (kept_signs c.loop-i.kept) c.args.t.now.rows c.loop-i.w c.class_of_row.new.w (search rules) given
+    let given : class c.args.context.now.forms c.args.context.now.width (row_at c.args.rows.now.rows c.loop-i.i).constant c.loop-i.work ≡ Done Minus c.class_of_row.new.work = search rules in
+    sym c.loop-i.invariant.4 ∙ scanned_minus c.args.context.now.forms c.args.context.now.width c.loop-i.i (kept_signs c.loop-i.kept) c.args.rows.now.rows c.loop-i.work c.class_of_row.new.work (search rules) given
 
 pub loop-i-preserved : goal.loop-i-preserved
 loop-i-preserved c =
-    let given : class c.args.k.now.forms c.args.k.now.width (row_at c.args.t.now.rows c.loop-i.i).constant c.loop-i.w ≡ Done (class_of c.in_ok-class.class) c.class_of_row.new.w = search rules in
-    let step = scanned_on c.args.k.now.forms c.args.k.now.width c.loop-i.i (kept_signs c.loop-i.kept) c.args.t.now.rows c.loop-i.w c.class_of_row.new.w (search rules) (class_of c.in_ok-class.class) (not_minus c.in_ok-class.class c.in_default.not-Minus) given in (
+    let given : class c.args.context.now.forms c.args.context.now.width (row_at c.args.rows.now.rows c.loop-i.i).constant c.loop-i.work ≡ Done (class_of c.in_ok-class.class) c.class_of_row.new.work = search rules in
+    let step = scanned_on c.args.context.now.forms c.args.context.now.width c.loop-i.i (kept_signs c.loop-i.kept) c.args.rows.now.rows c.loop-i.work c.class_of_row.new.work (search rules) (class_of c.in_ok-class.class) (not_minus c.in_ok-class.class c.in_default.not-Minus) given in (
       search rules,
       search rules,
       search rules,
       search rules,
       rw c.with_class-kept.ensures.kept (sym step ∙ c.loop-i.invariant.4),
-      c.with_class-kept.ensures.condition c.args.t.now.width c.loop-i.invariant.5 (search rules),
+      c.with_class-kept.ensures.condition c.args.rows.now.width c.loop-i.invariant.5 (search rules),
     )

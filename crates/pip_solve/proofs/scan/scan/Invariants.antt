@@ -6,9 +6,9 @@ use Rattle.pip_solve.proofs.scan.scan.Given as goal
 
 abbrev pub invariant-loop-i : goal.invariant-loop-i
 invariant-loop-i l =
-    (l.k.width ≡ l.fn.k.width)
-    × (l.k.forms ≡ l.fn.k.forms)
-    × (l.fn.k.spare ≤ l.k.spare)
-    × (l.w.budget ≡ l.fn.w.budget)
-    × (scanned l.fn.k.forms l.fn.k.width l.i (kept_signs l.kept) (drop l.i l.t.rows) l.w ≡ scanned l.fn.k.forms l.fn.k.width 0 AllPlus l.t.rows l.fn.w)
-    × IfSome l.kept (IsCondition l.t.width)
+    (l.context.width ≡ l.fn.context.width)
+    × (l.context.forms ≡ l.fn.context.forms)
+    × (l.fn.context.spare ≤ l.context.spare)
+    × (l.work.budget ≡ l.fn.work.budget)
+    × (scanned l.fn.context.forms l.fn.context.width l.i (kept_signs l.kept) (drop l.i l.rows.rows) l.work ≡ scanned l.fn.context.forms l.fn.context.width 0 AllPlus l.rows.rows l.fn.work)
+    × IfSome l.kept (IsCondition l.rows.width)

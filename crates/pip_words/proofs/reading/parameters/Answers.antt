@@ -1,13 +1,14 @@
 use Rattle.std.proofs.Common.{ap, sym, ◌∙◌, map, length, nat_le, add-one, arith, rules}
 use Rattle.std.proofs.lemmas.Grind.{common_steps}
 use Rattle.std.proofs.lemmas.List.Folds.{list_all-append}
+use Rattle.pip_model.specs.Limits.{most_params}
 use Rattle.pip_words.specs.Numbers.{parameter_of}
 use Rattle.pip_words.specs.Words.{all_parameters}
 use Rattle.pip_words.proofs.Parameters.{refused, more, none_either}
 use Rattle.pip_words.proofs.reading.parameters.Goals as goal
 
 pub returns-in-None-clause-usage : goal.returns-in-None-clause-usage
-returns-in-None-clause-usage c = λ _. none_either (nat_le (length (map (λ text. text.now) c.args.texts.now)) 32) (all_parameters (map (λ text. text.now) c.args.texts.now))
+returns-in-None-clause-usage c = λ _. none_either (nat_le (length (map (λ text. text.now) c.args.texts.now)) most_params) (all_parameters (map (λ text. text.now) c.args.texts.now))
     (refused c.args.texts.now c.loop-text.text-index _ c.loop-text-test.true (ap parameter_of (sym c.as_bytes.ensures.value) ∙ sym c.in-None.ensures.value))
 
 pub loop-text-preserved : goal.loop-text-preserved

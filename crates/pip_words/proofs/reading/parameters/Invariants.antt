@@ -1,5 +1,6 @@
 use Rattle.std.proofs.Common.{◌≡◌, ◌≤◌, take, map, Some, length, IsTrue}
 use Rattle.std.specs.List.{list_all}
+use Rattle.pip_model.specs.Limits.{most_params}
 use Rattle.pip_model.specs.Listed.{all_fit}
 use Rattle.pip_model.specs.Numbers.{is_nonneg}
 use Rattle.pip_words.specs.Words.{all_parameters}
@@ -8,7 +9,7 @@ use Rattle.pip_words.proofs.reading.parameters.Given as goal
 abbrev pub invariant-loop-text : goal.invariant-loop-text
 invariant-loop-text l = record {
   so_far : all_parameters (take l.text-index (map (λ text. text.now) l.texts)) ≡ Some l.entries.items;
-  few : length l.texts ≤ 32;
+  few : length l.texts ≤ most_params;
   long : length l.entries.items ≡ l.text-index;
   fitting : IsTrue (all_fit l.entries.items);
   nonnegative : IsTrue (list_all is_nonneg l.entries.items);

@@ -3,27 +3,27 @@ use Rattle.std.proofs.lemmas.Result.{err_from_is_err_and}
 use Rattle.pip_model.specs.MatrixText.{matrix_numbers, matrix_rows}
 use Rattle.pip_problem.specs.Faults.{read_fault}
 use Rattle.polylib_reader.specs.Matrices.{row_head}
-use Rattle.polylib_reader.proofs.Chains.{refused_by}
+use Rattle.text_steps.proofs.Binds.{refused_by}
 use Rattle.polylib_reader.proofs.Fronts.{rows_kept, head_refused, entries_refused}
 use Rattle.polylib_reader.proofs.matrix.matrix_rows.Goals as goal
 
-pub returns-in_err-head-clause-agrees : goal.returns-in_err-head-clause-agrees
-returns-in_err-head-clause-agrees c =
+pub returns-in_err-head : goal.returns-in_err-head
+returns-in_err-head c =
     let p = err_from_is_err_and c.from_residual.result c.from_residual.ensures.1 in
     rw (p.1, p.2) (refused_by (read_fault c.in_err-head.field-0.0) (row_head c.args.bytes.now c.args.kind c.args.most c.loop.count c.loop.at) (matrix_rows c.args.bytes.now c.args.kind c.args.most c.args.width 0 c.args.row_count c.args.place)
     (head_refused c.loop.forms.items c.args.bytes.now c.args.kind c.args.most c.args.width c.loop.count c.args.row_count c.loop.counter c.loop.at _ c.loop-test.true c.loop.invariant.so_far) c.in_err-head.ensures.agrees)
 
-pub returns-in_err-entries-clause-agrees : goal.returns-in_err-entries-clause-agrees
-returns-in_err-entries-clause-agrees c =
+pub returns-in_err-entries : goal.returns-in_err-entries
+returns-in_err-entries c =
     let p = err_from_is_err_and c.from_residual-in_err-entries.result c.from_residual-in_err-entries.ensures.1 in
     let head = c.in_ok-head.head in
     rw (p.1, p.2) (refused_by (read_fault c.in_err-entries.field-0.0) (matrix_numbers c.args.bytes.now c.args.width head.after) (matrix_rows c.args.bytes.now c.args.kind c.args.most c.args.width 0 c.args.row_count c.args.place)
     (entries_refused c.loop.forms.items c.args.bytes.now c.args.kind c.args.most c.args.width c.loop.count c.args.row_count c.loop.counter c.loop.at ((head.equality, head.count), head.after) _ c.loop-test.true c.loop.invariant.so_far c.in_ok-head.ensures.agrees)
-    c.in_err-entries.ensures.agrees)
+    c.in_err-entries.ensures.reads)
 
 pub loop-preserved : goal.loop-preserved
 loop-preserved c = record {
-  so_far = rw c.in_ok-push_inequalities.ensures (rows_kept _ _ _ _ _ _ _ c.loop.counter c.loop.at _ _ c.in_ok-head.head.after _ _ _ c.loop-test.true c.loop.invariant.so_far c.in_ok-head.ensures.agrees c.in_ok-entries.ensures.agrees);
+  so_far = rw c.in_ok-push_inequalities.ensures (rows_kept _ _ _ _ _ _ _ c.loop.counter c.loop.at _ _ c.in_ok-head.head.after _ _ _ c.loop-test.true c.loop.invariant.so_far c.in_ok-head.ensures.agrees c.in_ok-entries.ensures.reads.0);
   count = search rules;
   behind = search rules;
   within = search rules;

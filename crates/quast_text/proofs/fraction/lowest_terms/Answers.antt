@@ -1,6 +1,4 @@
-use Rattle.std.proofs.Common.{◌≡◌, ◌≤ℤ◌, pos, arith, rules}
-use Rattle.std.proofs.lemmas.Int.{ints, to_z-of_z}
-use Rattle.std.proofs.lemmas.Grind.{common_steps}
+use Rattle.std.proofs.Common.{◌≡◌, ◌≤ℤ◌, pos, rules}
 use Rattle.pip_model.specs.Numbers.{gcd}
 use Rattle.quast_text.proofs.Lowest.{gcd_below, from_one}
 use Rattle.quast_text.proofs.fraction.lowest_terms.Goals as goal

@@ -3,15 +3,16 @@ use Rattle.std.proofs.lemmas.Result.{err_from_is_err_and}
 use Rattle.pip_model.specs.TreeText.{fractions}
 use Rattle.quast_text.specs.Faults.{text_fault}
 use Rattle.quast_text.specs.Fractions.{next_fraction}
-use Rattle.quast_text.proofs.Fronts.{step_more, refused_more, fractions_more}
+use Rattle.text_steps.proofs.Fronts.{step_more, refused_more}
+use Rattle.quast_text.proofs.Fronts.{fractions_more}
 use Rattle.quast_text.proofs.fraction.read_fractions.Goals as goal
 
-pub returns-in_err-entry-clause-agrees : goal.returns-in_err-entry-clause-agrees
-returns-in_err-entry-clause-agrees c =
+pub returns-in_err-entry-clause-reads : goal.returns-in_err-entry-clause-reads
+returns-in_err-entry-clause-reads c =
     let p = err_from_is_err_and c.from_residual-in_err-entry.result c.from_residual-in_err-entry.ensures.1 in
     rw (p.1, p.2) (refused_more (text_fault c.in_err-entry.field-0.0) c.loop.read.items (next_fraction c.args.bytes.now c.loop.at)
     (λ at. fractions c.args.bytes.now (c.args.count - (c.loop.counter + 1)) at)
-    _ _ (fractions_more c.args.bytes.now c.args.count c.loop.counter c.loop.at c.loop-test.true) c.loop.invariant.0 c.in_err-entry.ensures.agrees)
+    _ _ (fractions_more c.args.bytes.now c.args.count c.loop.counter c.loop.at c.loop-test.true) c.loop.invariant.0 c.in_err-entry.ensures)
 
 pub loop-preserved : goal.loop-preserved
 loop-preserved c = (

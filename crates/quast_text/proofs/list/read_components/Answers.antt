@@ -1,13 +1,11 @@
-use Rattle.std.proofs.Common.{◌≡◌, ◌<◌, ◌++◌, ◌∷◌, [], ap, length-append, arith, rules, refl, ◌∙◌, Ok, Some, None}
+use Rattle.std.proofs.Common.{◌≡◌, ◌<◌, ◌++◌, ◌∷◌, [], length-append, arith, rules, refl, ◌∙◌, Ok, Some, None}
 use Rattle.std.proofs.lemmas.Result.{err_from_is_err_and}
 use Rattle.std.proofs.lemmas.List.Elements.{All-push, All-cons, All-nil}
-use Rattle.pip_model.specs.Limits.{most_components}
-use Rattle.pip_model.specs.TreeText.{components}
 use Rattle.quast.specs.Components.{IsComponent}
 use Rattle.quast_text.specs.Faults.{text_fault}
-use Rattle.quast_text.specs.Lists.{with_front}
 use Rattle.quast_text.specs.Trees.{next_component, components_behind}
-use Rattle.quast_text.proofs.ListSteps.{components_end, components_more, components_refused}
+use Rattle.text_steps.proofs.Ends.{list_end, list_more, list_refused}
+use Rattle.quast_text.proofs.ListSteps.{components_by}
 use Rattle.quast_text.proofs.list.read_components.Goals as goal
 
 pub loop-read-init : goal.loop-read-init
@@ -23,10 +21,11 @@ loop-read-init c =
       high = c.requires.place;
     })
 
-pub returns-in_err-component-clause-agrees : goal.returns-in_err-component-clause-agrees
-returns-in_err-component-clause-agrees c =
+pub returns-in_err-component-clause-reads : goal.returns-in_err-component-clause-reads
+returns-in_err-component-clause-reads c =
     let p = err_from_is_err_and c.from_residual-in_err-component.result c.from_residual-in_err-component.ensures.1 in
-    rw (p.1, p.2) (components_refused (text_fault c.in_err-component.field-0.0) c.loop-read.read.items c.args.bytes.now c.args.width c.loop-read.left c.loop-read.at _ c.loop-read.invariant.so_far c.in_err-component.ensures.agrees)
+    rw (p.1, p.2) (list_refused c.loop-read.read.items _ _ _ _ _ (components_by c.args.bytes.now c.args.width c.loop-read.left c.loop-read.at) c.loop-read.invariant.so_far
+    (text_fault c.in_err-component.field-0.0) c.in_err-component.ensures.agrees)
 
 pub loop-read-preserved : goal.loop-read-preserved
 loop-read-preserved c =
@@ -35,7 +34,7 @@ loop-read-preserved c =
     let component : IsComponent c.args.width c.in-Some.component = search rules in
     let left : 0 < c.loop-read.left = search rules in
     rw items (record {
-      so_far = components_more c.loop-read.read.items c.args.bytes.now c.args.width c.loop-read.left c.loop-read.at c.in-Some.after c.in-Some.component _ c.loop-read.invariant.so_far next;
+      so_far = list_more c.loop-read.read.items _ _ _ _ _ (components_by c.args.bytes.now c.args.width c.loop-read.left c.loop-read.at) c.loop-read.invariant.so_far c.in-Some.component c.in-Some.after next;
       all = All-push (IsComponent c.args.width) c.loop-read.read.items c.in-Some.component c.loop-read.invariant.all component;
       some = simp length-append (omega arith);
       few = simp length-append (omega (arith, c.loop-read.invariant.few));
@@ -43,7 +42,8 @@ loop-read-preserved c =
       high = search rules;
     })
 
-pub returns-clause-agrees : goal.returns-clause-agrees
-returns-clause-agrees c =
+pub returns-clause-reads : goal.returns-clause-reads
+returns-clause-reads c =
     let next : next_component c.args.bytes.now c.args.width c.loop-read.left c.loop-read.at ≡ Ok None = search rules in
-    components_end c.loop-read.read.items c.args.bytes.now c.args.width c.loop-read.left c.loop-read.at _ c.loop-read.invariant.so_far next ∙ search rules
+    let read = list_end c.loop-read.read.items _ _ _ _ _ (components_by c.args.bytes.now c.args.width c.loop-read.left c.loop-read.at) c.loop-read.invariant.so_far next in
+    (read ∙ search rules, search rules, search rules)

@@ -1,4 +1,4 @@
-use Rattle.std.proofs.Common.{◌∙◌, ap, rules}
+use Rattle.std.proofs.Common.{◌∙◌, ap}
 use Rattle.quast.specs.Trees.{ScopedTree}
 use Rattle.quast.proofs.Lists.{list-components, list-width}
 use Rattle.quast_text.proofs.list.read_list.Goals as goal

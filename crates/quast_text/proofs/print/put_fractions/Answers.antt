@@ -1,4 +1,4 @@
-use Rattle.std.proofs.Common.{◌≡◌, ◌++◌, ◌∙◌, ap, arith, sym, subst}
+use Rattle.std.proofs.Common.{◌++◌, ◌∙◌, ap, arith}
 use Rattle.pip_model.specs.TreeText.{spell_fractions}
 use Rattle.quast_text.specs.Printing.{spell_term}
 use Rattle.quast_text.proofs.Spellings.{written, fractions_flat}

@@ -5,7 +5,10 @@ use Rattle.pip_model.specs.Forms.{entry}
 use Rattle.pip_model.specs.Listed.{all_fit}
 use Rattle.pip_model.specs.Rows.{divided}
 use Rattle.affine_rows.specs.Forms.{raised}
-use Rattle.tableau.specs.Tableaus.{row_from}
+use Rattle.pip_model.specs.Forms.{add, negate, width}
+use Rattle.pip_model.specs.Cuts.{rounding, residue_of}
+use Rattle.tableau.specs.Tableaus.{content, row_from}
+use Rattle.tableau.proofs.Contents.{content-divided}
 use Rattle.tableau.proofs.RowLaws.{divided_row}
 use Rattle.tableau.proofs.Rounding.{rounded_listed_is, rounded_form}
 use Rattle.tableau.proofs.row.round_parts.Goals as goal
@@ -32,3 +35,9 @@ returns-clause-ok c =
     let form = rounded_form (row_from c.args.den c.args.coefs.now c.args.constant.now) (length c.args.constant.now - 1) c.args.q long (omega (arith, c.requires.place)) in
     divided_row c.args.den c.args.coefs.now c.round_form.new.entries c.gcd_with-divisor.result _ _ _ (search rules) (search rules) (search rules) (search rules)
     ∙ ap (λ (k : List ℤ). divided (row_from c.args.den c.args.coefs.now k)) (made ∙ sym form)
+
+pub returns-clause-reduced : goal.returns-clause-reduced
+returns-clause-reduced c =
+    let r = row_from c.args.den c.args.coefs.now c.args.constant.now in
+    ap content (returns-clause-ok c)
+    ∙ content-divided (row_from c.args.den c.args.coefs.now (add r.constant (negate (rounding (width r.constant) c.args.q (residue_of r))))) c.requires.row.positive

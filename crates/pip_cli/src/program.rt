@@ -1,0 +1,87 @@
+ghost use Rattle.std.specs.Prelude.{◌≡◌, ◌≢◌, ◌⊎◌, ◌+◌, ◌≤◌, None, IsErrOf, IfSome};
+ghost use Rattle.std.specs.Io.KnownBytes.{IsAtEnd};
+ghost use Rattle.pip_outside.specs.Faults.{HasRisen};
+ghost use Rattle.pip_model.specs.Limits.{most_input_bytes};
+ghost use Rattle.pip_model.specs.Endings.{all_done, wrong_words, read_failed, write_failed, memory_refused, past_limit};
+ghost use Rattle.pip_items.specs.Outputs.{WritesOutput, IsRead};
+ghost use Rattle.pip_cli.specs.Runs.{command_given, IsWordsEnding};
+ghost use Rattle.pip_cli.specs.Ends.{GainsLine, IsNoted, HasEnded, AnswersRight, Completes};
+
+use pip_items::{Ending, Status, write_output};
+use pip_outside::{Sink, Source};
+use pip_words::read_words;
+use std::alloc::Global;
+
+// Reads the words, and then lets their command read the input and write its output.
+fn run<S: Source, K: Sink>(
+    alloc: Global,
+    words: &Vec<String>,
+    source: &mut S,
+    sink: &mut K,
+) -> Result<(), Ending>
+    ensures usage { IsErrOf result Ending.Usage → command_given words.now ≡ None }
+    ensures refused { command_given words.now ≡ None → IsWordsEnding result }
+    ensures untouched { command_given words.now ≡ None → (source.new ≡ source.old) × (sink.new ≡ sink.old) }
+    ensures end { IsRead result → IsAtEnd (S.left source.new) }
+    ensures taken { IfSome (S.left source.old) (λ _. S.taken source.new ≤ S.taken source.old + (most_input_bytes + 1)) }
+    ensures read_fault { IsErrOf result Ending.ReadFault → HasRisen (S.faults source.old) (S.faults source.new) }
+    ensures write_fault { IsErrOf result Ending.WriteFault → HasRisen (K.faults sink.old) (K.faults sink.new) }
+    ensures read_quiet { ¬ IsErrOf result Ending.ReadFault → S.faults source.new ≡ S.faults source.old }
+    ensures write_quiet { ¬ IsErrOf result Ending.WriteFault → K.faults sink.new ≡ K.faults sink.old }
+    ensures unread { IsErrOf result Ending.ReadFault → sink.new ≡ sink.old }
+    ensures output { IfSome (command_given words.now) (λ c. IfSome (S.left source.old) (λ bytes.
+        WritesOutput c bytes (K.written sink.old) (K.written sink.new) result)) }
+{
+    let command = read_words(alloc, words)?;
+    write_output(alloc, &command, source, sink)
+}
+
+/// Does all that the program does and answers its status.
+///
+/// The words come first, then the whole input is read, and then each item is read, answered, printed and written, up to the first
+/// refusal. Its line goes to the notes; a write of it that fails changes neither the status nor the sink.
+pub fn pip_main<S: Source, K: Sink, N: Sink>(
+    alloc: Global,
+    words: &Vec<String>,
+    source: &mut S,
+    sink: &mut K,
+    notes: &mut N,
+) -> u8
+    // the words
+    ensures usage { result ≡ wrong_words → command_given words.now ≡ None }
+    ensures refused { command_given words.now ≡ None → (result ≡ wrong_words) ⊎ (result ≡ memory_refused) }
+    ensures untouched { command_given words.now ≡ None → (source.new ≡ source.old) × (sink.new ≡ sink.old) }
+
+    // what is read of the source, whatever it tells
+    ensures read_to_end { result ≢ wrong_words → result ≢ read_failed → result ≢ memory_refused → result ≢ past_limit → IsAtEnd (S.left source.new) }
+    ensures taken { IfSome (S.left source.old) (λ _. S.taken source.new ≤ S.taken source.old + (most_input_bytes + 1)) }
+
+    // the causes of faults, each of which ends the run
+    ensures read_fault { result ≡ read_failed → HasRisen (S.faults source.old) (S.faults source.new) }
+    ensures write_fault { result ≡ write_failed → HasRisen (K.faults sink.old) (K.faults sink.new) }
+    ensures read_fault_ends { S.faults source.new ≢ S.faults source.old → result ≡ read_failed }
+    ensures write_fault_ends { K.faults sink.new ≢ K.faults sink.old → result ≡ write_failed }
+    ensures nothing_at_read_fault { result ≡ read_failed → sink.new ≡ sink.old }
+
+    // the headline: each text is right for the item in its place
+    ensures right { IfSome (command_given words.now) (λ c. IfSome (S.left source.old) (λ bytes.
+        AnswersRight c bytes (K.written sink.old) (K.written sink.new) result)) }
+
+    // which texts they are, and the line on the notes
+    ensures output { IfSome (command_given words.now) (λ c. IfSome (S.left source.old) (λ bytes.
+        HasEnded c bytes (K.written sink.old) (K.written sink.new) (GainsLine (N.written notes.old) (N.written notes.new) (N.faults notes.old) (N.faults notes.new)) result)) }
+    ensures notes { IsNoted (GainsLine (N.written notes.old) (N.written notes.new) (N.faults notes.old) (N.faults notes.new)) result }
+    ensures quiet_notes { result ≡ all_done → notes.new ≡ notes.old }
+
+    // where neither the outside nor an item refuses
+    ensures complete { ¬ HasRisen (S.faults source.old) (S.faults source.new) → ¬ HasRisen (K.faults sink.old) (K.faults sink.new) →
+        IfSome (command_given words.now) (λ c. IfSome (S.left source.old) (λ bytes. Completes c bytes (K.written sink.old) (K.written sink.new) result)) }
+{
+    match run(alloc, words, source, sink) {
+        Ok(()) => Status::AllDone.number(),
+        Err(ending) => {
+            let _ = ending.write_line(notes);
+            ending.status().number()
+        }
+    }
+}

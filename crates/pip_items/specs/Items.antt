@@ -1,0 +1,49 @@
+-- What is written of the items of an input, in order.
+use Rattle.std.specs.Prelude.{◌≡◌, ℕ, List, Option, Some, None, IfSome, Result, Ok, Err}
+use Rattle.std.specs.List.{concat}
+use Rattle.std.specs.Io.KnownBytes.{Appends}
+use Rattle.pip_outside.specs.Bytes.{AppendsFront}
+use Rattle.pip_model.specs.Endings as model
+use Rattle.pip_model.specs.Items.{ItemAt, FirstItems, Items, IsItself, NoEnd}
+use Rattle.pip_items.specs.Endings.{told}
+use Rattle.pip_items.specs.declared.ending.Ending.{Ending}
+use Rattle.pip_items.specs.declared.ending.Ending.TheVariants as ending
+
+-- this text is the one that is wanted, or the refusal is its end; nothing is said of want of memory
+abbrev pub IsTextOfItem : Result (List ℕ) model.Ending → Result (Unit {0}) Ending → List ℕ → Type 0
+IsTextOfItem wanted (Ok u) t = wanted ≡ Ok t
+IsTextOfItem wanted (Err e) t = IfSome (told e) (λ f. wanted ≡ Err f)
+
+-- the same of the item at a place
+abbrev pub IsTextAt : ItemAt (List ℕ) → Result (Option ℕ) Ending → List ℕ → Type 0
+IsTextAt wanted (Ok (Some after)) t = wanted ≡ Ok (Some (t, after))
+IsTextAt wanted (Ok None) t = wanted ≡ Ok None
+IsTextAt wanted (Err e) t = IfSome (told e) (λ f. wanted ≡ Err f)
+
+-- the bytes gained are such texts, whole and in order
+pub record Gained (Are : List (List ℕ) → Type 0) (before after : Option (List ℕ)) : Type 0 where
+  pub texts : List (List ℕ)
+  pub are : Are texts
+  pub gained : Appends before after (concat texts)
+
+-- or a front of them
+pub record GainedFront (Are : List (List ℕ) → Type 0) (before after : Option (List ℕ)) : Type 0 where
+  pub texts : List (List ℕ)
+  pub are : Are texts
+  pub gained : AppendsFront before after (concat texts)
+
+module _ (First : List (List ℕ) → Type 0) (Whole : List (List ℕ) → model.Ending → Type 0) (before after : Option (List ℕ)) where
+  -- all texts of an input that has this end, or first texts where memory was refused
+  abbrev pub WritesTill : Option model.Ending → Type 0
+  WritesTill (Some e) = Gained (λ ts. Whole ts e) before after
+  WritesTill None = Gained First before after
+
+  -- or a front of first texts where a write failed
+  abbrev pub Writes : Result (Unit {0}) Ending → Type 0
+  Writes (Ok u) = WritesTill (Some model.finished)
+  Writes (Err ending.WriteFault) = GainedFront First before after
+  Writes (Err e) = WritesTill (told e)
+
+-- the items whose texts are these
+abbrev pub WritesItems : (ℕ → ItemAt (List ℕ)) → Option (List ℕ) → Option (List ℕ) → Result (Unit {0}) Ending → Type 0
+WritesItems text before after result = Writes (FirstItems text IsItself 0) (Items text IsItself NoEnd 0) before after result

@@ -1,0 +1,29 @@
+-- What a command writes of an input that is told, by how it ends.
+use Rattle.std.specs.Prelude.{◌⊎◌, ℕ, ◌<◌, ◌≤◌, List, length, Option, Result, Err, ⊤}
+use Rattle.std.specs.Io.KnownBytes.{Keeps}
+use Rattle.pip_model.specs.Limits.{most_input_bytes}
+use Rattle.pip_model.specs.Commands.{Command}
+use Rattle.pip_model.specs.Output.{IsOutput, IsFirstOutput}
+use Rattle.pip_items.specs.Items.{Writes}
+use Rattle.pip_items.specs.declared.ending.Ending.{Ending}
+use Rattle.pip_items.specs.declared.ending.Ending.TheVariants as ending
+
+-- the texts of an input within its limit
+abbrev pub WritesWithin : Command → List ℕ → Option (List ℕ) → Option (List ℕ) → Result (Unit {0}) Ending → Type 0
+WritesWithin c bytes before after r = (length bytes ≤ most_input_bytes) × Writes (IsFirstOutput c bytes) (IsOutput c bytes) before after r
+
+-- the same, or nothing where the input is not read
+abbrev pub WritesOutput : Command → List ℕ → Option (List ℕ) → Option (List ℕ) → Result (Unit {0}) Ending → Type 0
+WritesOutput c bytes before after (Err ending.Usage) = ⊥
+WritesOutput c bytes before after (Err ending.ReadFault) = Keeps before after
+WritesOutput c bytes before after (Err ending.InputTooLong) = (most_input_bytes < length bytes) × Keeps before after
+WritesOutput c bytes before after (Err ending.WantOfMemory) = Keeps before after ⊎ WritesWithin c bytes before after (Err ending.WantOfMemory)
+WritesOutput c bytes before after r = WritesWithin c bytes before after r
+
+-- the whole input is read, whatever its items are
+abbrev pub IsRead : Result (Unit {0}) Ending → Type 0
+IsRead (Err ending.Usage) = ⊥
+IsRead (Err ending.ReadFault) = ⊥
+IsRead (Err ending.InputTooLong) = ⊥
+IsRead (Err ending.WantOfMemory) = ⊥
+IsRead r = ⊤

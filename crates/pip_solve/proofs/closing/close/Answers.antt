@@ -1,0 +1,43 @@
+use Rattle.std.proofs.Common.{rules, arith, subst, ◌≡◌, ◌+◌, ◌-◌, ◌∷◌, []}
+use Rattle.std.proofs.lemmas.Grind.{common_steps}
+use Rattle.std.proofs.lemmas.Int.{to_z-of_z}
+use Rattle.pip_model.specs.Tree.{NewParm}
+use Rattle.pip_solve.specs.declared.pending.Frame.TheVariants as frame
+use Rattle.pip_solve.specs.Nodes.{IsBelow}
+use Rattle.pip_solve.proofs.Popping.{popped, selected, defined, second_next, second_same}
+use Rattle.pip_solve.proofs.closing.close.Goals as goal
+
+pub returns-in-SecondDue-clause-gives : goal.returns-in-SecondDue-clause-gives
+returns-in-SecondDue-clause-gives c =
+    let due = frame.SecondDue c.in-SecondDue.condition c.in-SecondDue.rows c.in-SecondDue.context c.in-SecondDue.quotients in
+    let e : c.loop-frame.pending ≡ record c.pop.new.self { frames = due ∷ c.pop.new.self.frames } = search rules in
+    let h = popped c.args.tree c.args.path.now c.args.pending.now c.loop-frame.tree c.loop-frame.path c.loop-frame.pending c.pop.new.self due c.loop-frame.invariant e in
+    let entered = subst (λ f. IsBelow c.back_to.new.self (f ∷ []) [] c.enter.new.self) c.in_ok-fails-in-SecondDue.ensures.value c.enter.ensures in
+    let deep : c.loop-frame.path.depth - 1 + 1 ≡ c.loop-frame.path.depth = omega (arith, h.closing.depth) in
+    second_same c.args.tree c.args.path.now c.args.pending.now c.loop-frame.tree c.loop-frame.path c.pop.new.self (c.loop-frame.path.depth - 1) c.in-SecondDue.condition c.in-SecondDue.rows c.in-SecondDue.context c.in-SecondDue.quotients h c.back_to.new.self c.enter.new.self c.push.new.self deep c.back_to.ensures entered c.push.ensures
+
+pub returns-in-SecondDue-clause-next : goal.returns-in-SecondDue-clause-next
+returns-in-SecondDue-clause-next c =
+    let due = frame.SecondDue c.in-SecondDue.condition c.in-SecondDue.rows c.in-SecondDue.context c.in-SecondDue.quotients in
+    let e : c.loop-frame.pending ≡ record c.pop.new.self { frames = due ∷ c.pop.new.self.frames } = search rules in
+    let h = popped c.args.tree c.args.path.now c.args.pending.now c.loop-frame.tree c.loop-frame.path c.loop-frame.pending c.pop.new.self due c.loop-frame.invariant e in
+    let entered = subst (λ f. IsBelow c.back_to.new.self (f ∷ []) [] c.enter.new.self) c.in_ok-fails-in-SecondDue.ensures.value c.enter.ensures in
+    let deep : c.loop-frame.path.depth - 1 + 1 ≡ c.loop-frame.path.depth = omega (arith, h.closing.depth) in
+    second_next c.args.tree c.args.path.now c.args.pending.now c.loop-frame.tree c.loop-frame.path c.pop.new.self (c.loop-frame.path.depth - 1) c.in-SecondDue.condition c.in-SecondDue.rows c.in-SecondDue.context c.in-SecondDue.quotients h c.back_to.new.self c.enter.new.self c.push.new.self deep c.back_to.ensures entered c.push.ensures
+
+pub loop-frame-preserved-in-FirstMade : goal.loop-frame-preserved-in-FirstMade
+loop-frame-preserved-in-FirstMade c =
+    let made = frame.FirstMade c.in-FirstMade.condition c.in-FirstMade.first in
+    let e : c.loop-frame.pending ≡ record c.pop.new.self { frames = made ∷ c.pop.new.self.frames } = search rules in
+    let h = popped c.args.tree c.args.path.now c.args.pending.now c.loop-frame.tree c.loop-frame.path c.loop-frame.pending c.pop.new.self made c.loop-frame.invariant e in
+    let deep : c.loop-frame.path.depth - 1 + 1 ≡ c.loop-frame.path.depth = omega (arith, h.closing.depth) in
+    selected c.args.tree c.args.path.now c.args.pending.now c.loop-frame.tree c.loop-frame.path c.pop.new.self (c.loop-frame.path.depth - 1) c.in-FirstMade.condition c.in-FirstMade.first h c.in_ok-tree-in-FirstMade.tree c.in_ok-tree-in-FirstMade.ensures deep
+
+pub loop-frame-preserved : goal.loop-frame-preserved
+loop-frame-preserved c =
+    let parm = frame.NewParm c.in-NewParm.form c.in-NewParm.den in
+    let e : c.loop-frame.pending ≡ record c.pop.new.self { frames = parm ∷ c.pop.new.self.frames } = search rules in
+    let h = popped c.args.tree c.args.path.now c.args.pending.now c.loop-frame.tree c.loop-frame.path c.loop-frame.pending c.pop.new.self parm c.loop-frame.invariant e in
+    let deep : c.loop-frame.path.depth - 1 + 1 ≡ c.loop-frame.path.depth = omega (arith, h.closing.depth) in
+    let made : c.in_ok-tree-in-NewParm.tree.tree ≡ NewParm c.in-NewParm.form c.in-NewParm.den c.loop-frame.tree.tree = grind (arith, common_steps, to_z-of_z, c.in_ok-tree-in-NewParm.ensures) in
+    defined c.args.tree c.args.path.now c.args.pending.now c.loop-frame.tree c.loop-frame.path c.pop.new.self (c.loop-frame.path.depth - 1) c.in-NewParm.form c.in-NewParm.den h c.in_ok-tree-in-NewParm.tree c.in_ok-tree-in-NewParm.ensures.0 made deep

@@ -1,0 +1,80 @@
+ghost use Rattle.std.specs.Prelude.{◌≡◌, ◌<◌, ◌≤◌, [], ◌∷◌, length, IfSome, ◌↔◌, IfOk, None};
+
+use affine_rows::{Form, WantOfMemory};
+use context::ContextMark;
+use quast::Quast;
+use std::alloc::Global;
+use std::marker::Model;
+use tableau::Tableau;
+
+/// What waits for a tree: an if whose second tree is due, from these rows and back at these marks, once its first is
+/// made; an if whose first tree is made, and which waits for its second; a new parameter, which waits for the tree below.
+#[derive(Drop)]
+pub enum Frame {
+    SecondDue {
+        condition: Form,
+        rows: Tableau,
+        context: ContextMark,
+        quotients: usize,
+    },
+    FirstMade {
+        condition: Form,
+        first: Quast,
+    },
+    NewParm {
+        form: Form,
+        den: i128,
+    },
+}
+
+/// The frames that wait, on a stack with room for all of them. Contracts see them as a list, the one pushed last first,
+/// and how many may wait.
+#[derive(Drop)]
+pub struct Pending {
+    most: usize,
+    stack: Vec<Frame>,
+}
+
+impl Model for Pending {
+    ghost use Rattle.std.specs.Prelude.{◌≤◌, reverse, length};
+    ghost use Rattle.std.specs.Vec.{vec_capacity};
+    ghost use Rattle.std.specs.Coded.{codes};
+    ghost use Rattle.quast.specs.Trees.{scoped_code};
+    ghost use Rattle.pip_solve.specs.Waiting.{Waiting};
+
+    ghost Value = { Waiting };
+
+    ghost coded = { Prim.hlevel (codes, scoped_code) };
+
+    ghost view = { λ p. record { frames = reverse p.stack.items; most = p.most } };
+
+    ghost invariant = { λ p. (length p.stack.items ≤ p.most) × (p.most ≤ vec_capacity p.stack) };
+}
+
+impl Pending {
+    /// Nothing waits, and n frames may.
+    pub fn reserve(alloc: Global, n: usize) -> Result<Pending, WantOfMemory>
+        ensures { IfOk result (λ p. p ≡ record { frames = []; most = n }) }
+    {
+        let stack = Vec::with_capacity(alloc, n)?;
+        Ok(Pending { most: n, stack })
+    }
+
+    /// One more frame waits. Takes no memory.
+    pub fn push(&mut self, f: Frame)
+        requires { length self.old.frames < self.old.most }
+        ensures { self.new ≡ record self.old { frames = f ∷ self.old.frames } }
+    {
+        self.stack.push(f).unwrap();
+    }
+
+    /// The frame that was pushed last, which waits no more; none where nothing waits. No more than may ever wait.
+    pub fn pop(&mut self) -> Option<Frame>
+        ensures last { IfSome result (λ f. self.old ≡ record self.new { frames = f ∷ self.new.frames }) }
+        ensures none { result ≡ None ↔ self.old.frames ≡ [] }
+        ensures empty { result ≡ None → self.new ≡ self.old }
+        ensures bound { length self.old.frames ≤ self.old.most }
+    {
+        self.stack.pop()
+    }
+}

@@ -1,0 +1,201 @@
+ghost use Rattle.std.specs.Prelude.{◌≡◌, ◌+◌, ◌-◌, ◌<◌, pos, ◌≤ℤ◌, ◌*ℤ◌, ◌-ℤ◌, [], ◌∷◌, ◌++◌, length, take, drop, slice_set, All, IsTrue};
+ghost use Rattle.std.specs.List.{list_all};
+ghost use Rattle.pip_model.specs.Forms.{combine, entry, remove};
+ghost use Rattle.pip_model.specs.Listed.{all_fit, combine_listed};
+ghost use Rattle.pip_model.specs.Rows as model;
+ghost use Rattle.pip_model.specs.Agreement.{IsChecked};
+ghost use Rattle.affine_rows.specs.Checks.{Fits, is_overflow};
+ghost use Rattle.tableau.specs.Short.{is_short as is_short_number};
+ghost use Rattle.tableau.specs.Tableaus.{IsRow, IsOwnRow, IsReduced, row_from};
+ghost use Rattle.tableau.specs.Views.{row_of};
+
+use crate::view::RowView;
+use affine_rows::{Overflow, difference, divide_all, floor_div, gcd_with, times};
+
+// Whether the number lies from -(2^63 - 1) to 2^63 - 1.
+fn is_short(z: i128) -> bool
+    ensures { result ≡ is_short_number z }
+{
+    z.unsigned_abs() < 9223372036854775808
+}
+
+// Whether all of them do.
+fn all_short(entries: &[i128]) -> bool
+    ensures { result ≡ list_all is_short_number entries.now }
+{
+    entries.iter().all(|entry| is_short(*entry))
+}
+
+// Checks `a*r - b*s`, entry by entry.
+fn check_each(a: i128, r: &[i128], b: i128, s: &[i128]) -> Result<(), Overflow>
+    requires { length r.now ≡ length s.now }
+    ensures { IsChecked is_overflow (combine_listed a r.now b s.now) result }
+{
+    for i in 0..r.len() {
+        difference(a, r[i], b, s[i])?;
+    }
+    Ok(())
+}
+
+// Checks `a*r - b*s`; short numbers need no product for that.
+#[tactic(auto, using(crate::proofs::Combining::short_listed))]
+fn check_combined(a: i128, r: &[i128], b: i128, s: &[i128]) -> Result<(), Overflow>
+    requires { length r.now ≡ length s.now }
+    ensures { IsChecked is_overflow (combine_listed a r.now b s.now) result }
+{
+    if is_short(a) && is_short(b) && all_short(r) && all_short(s) {
+        return Ok(());
+    }
+    check_each(a, r, b, s)
+}
+
+// Checks `a*r - b*s` but for place c.
+#[tactic(auto, using(crate::proofs::Places::listed_but, crate::proofs::Places::drop_two))]
+fn check_but(a: i128, r: &[i128], b: i128, s: &[i128], c: usize) -> Result<(), Overflow>
+    requires lengths { length r.now ≡ length s.now }
+    requires place { c < length r.now }
+    ensures { IsChecked is_overflow (combine_listed a (take c r.now ++ drop (c + 1) r.now) b (take c s.now ++ drop (c + 1) s.now)) result }
+{
+    let (r_front, r_rest) = r.split_at(c);
+    let (s_front, s_rest) = s.split_at(c);
+    check_combined(a, r_front, b, s_front)?;
+    let (_, r_back) = r_rest.split_at(1);
+    let (_, s_back) = s_rest.split_at(1);
+    check_combined(a, r_back, b, s_back)?;
+    Ok(())
+}
+
+// Checks the numbers of a row with row p, solved for column c, put in.
+pub fn check_eliminated(p: &RowView<'_>, c: usize, row: &RowView<'_>) -> Result<(), Overflow>
+    requires coefs { length row.now.coefs.now ≡ length p.now.coefs.now }
+    requires constant { length row.now.constant.now ≡ length p.now.constant.now }
+    requires column { c < length p.now.coefs.now }
+    ensures { IsChecked is_overflow (model.eliminated_listed (row_of p.now) c (row_of row.now)) result }
+{
+    let a = p.coefs[c];
+    let b = row.coefs[c];
+    times(row.den, a)?;
+    times(b, p.den)?;
+    check_but(a, row.coefs, b, p.coefs, c)?;
+    check_combined(a, row.constant, b, p.constant)?;
+    Ok(())
+}
+
+// `a*x - b*y`, known to fit.
+fn exact_difference(a: i128, x: i128, b: i128, y: i128) -> i128
+    requires { IsTrue (all_fit ((a *ℤ x) ∷ (b *ℤ y) ∷ (a *ℤ x -ℤ b *ℤ y) ∷ [])) }
+    ensures value { result ≡ a *ℤ x -ℤ b *ℤ y }
+    ensures fits { Fits result }
+{
+    match difference(a, x, b, y) {
+        Ok(number) => number,
+        Err(_) => unreachable!(),
+    }
+}
+
+// `a*b`, known to fit.
+fn exact_product(a: i128, b: i128) -> i128
+    requires { Fits (a *ℤ b) }
+    ensures value { result ≡ a *ℤ b }
+    ensures fits { Fits result }
+{
+    match times(a, b) {
+        Ok(number) => number,
+        Err(_) => unreachable!(),
+    }
+}
+
+// Makes `a*r - b*s` of r, entry by entry.
+fn combine_all(a: i128, r: &mut [i128], b: i128, s: &[i128])
+    requires lengths { length r.old ≡ length s.now }
+    requires listed { IsTrue (all_fit (combine_listed a r.old b s.now)) }
+    requires fits { All Fits r.old }
+    ensures value { r.new ≡ combine a r.old b s.now }
+    ensures fits { All Fits r.new }
+{
+    for i in 0..r.len() {
+        r[i] = exact_difference(a, r[i], b, s[i]);
+    }
+}
+
+// Makes `a*r - b*s` of r but for place c, which gets the entry.
+fn combine_but(a: i128, r: &mut [i128], b: i128, s: &[i128], c: usize, entry: i128)
+    requires lengths { length r.old ≡ length s.now }
+    requires place { c < length r.old }
+    requires listed { IsTrue (all_fit (combine_listed a (remove c r.old) b (remove c s.now))) }
+    requires entry { Fits entry }
+    requires fits { All Fits r.old }
+    ensures value { r.new ≡ slice_set (combine a r.old b s.now) c entry }
+    ensures fits { All Fits r.new }
+{
+    let (s_front, s_rest) = s.split_at(c);
+    let (_, s_back) = s_rest.split_at(1);
+    let (front, rest) = r.split_at_mut(c);
+    combine_all(a, front, b, s_front);
+    let (at, back) = rest.split_at_mut(1);
+    combine_all(a, back, b, s_back);
+    at[0] = entry;
+}
+
+// Divides a row by the greatest common divisor of its numbers; the new denominator.
+pub fn divide_parts(den: i128, coefs: &mut [i128], constant: &mut [i128]) -> i128
+    requires { IsOwnRow (row_from den coefs.old constant.old) }
+    ensures value { row_from result coefs.new constant.new ≡ model.divided (row_from den coefs.old constant.old) }
+    ensures row { IsRow (length coefs.old) (length constant.old - 1) (row_from result coefs.new constant.new) }
+    ensures reduced { IsReduced (row_from result coefs.new constant.new) }
+{
+    let divisor = gcd_with(gcd_with(den, coefs), constant);
+    divide_all(coefs, divisor);
+    divide_all(constant, divisor);
+    floor_div(den, divisor)
+}
+
+// Puts row p, solved for column c, into a row; the new denominator.
+fn substitute_parts(
+    p: &RowView<'_>,
+    c: usize,
+    den: i128,
+    coefs: &mut [i128],
+    constant: &mut [i128],
+) -> i128
+    requires p { IsRow (length coefs.old) (length constant.old - 1) (row_of p.now) }
+    requires row { IsOwnRow (row_from den coefs.old constant.old) }
+    requires column { c < length coefs.old }
+    requires positive { pos 1 ≤ℤ entry p.now.coefs.now c }
+    requires listed { IsTrue (all_fit (model.eliminated_listed (row_of p.now) c (row_from den coefs.old constant.old))) }
+    ensures value { row_from result coefs.new constant.new ≡ model.substituted (row_of p.now) c (row_from den coefs.old constant.old) }
+    ensures row { IsRow (length coefs.old) (length constant.old - 1) (row_from result coefs.new constant.new) }
+{
+    let a = p.coefs[c];
+    let b = coefs[c];
+    let entry = exact_product(b, p.den);
+    combine_but(a, coefs, b, p.coefs, c, entry);
+    combine_all(a, constant, b, p.constant);
+    exact_product(den, a)
+}
+
+// Makes of a row what it is after the pivot on row p and column c; the new denominator. A row that is 0 in the
+// column stays, since its numbers have no common divisor.
+pub fn eliminate_parts(
+    p: &RowView<'_>,
+    c: usize,
+    den: i128,
+    coefs: &mut [i128],
+    constant: &mut [i128],
+) -> i128
+    requires p { IsRow (length coefs.old) (length constant.old - 1) (row_of p.now) }
+    requires row { IsOwnRow (row_from den coefs.old constant.old) }
+    requires reduced { IsReduced (row_from den coefs.old constant.old) }
+    requires column { c < length coefs.old }
+    requires positive { pos 1 ≤ℤ entry p.now.coefs.now c }
+    requires listed { IsTrue (all_fit (model.eliminated_listed (row_of p.now) c (row_from den coefs.old constant.old))) }
+    ensures value { row_from result coefs.new constant.new ≡ model.eliminated (row_of p.now) c (row_from den coefs.old constant.old) }
+    ensures row { IsRow (length coefs.old) (length constant.old - 1) (row_from result coefs.new constant.new) }
+    ensures reduced { IsReduced (row_from result coefs.new constant.new) }
+{
+    if coefs[c] == 0 {
+        return den;
+    }
+    let den = substitute_parts(p, c, den, coefs, constant);
+    divide_parts(den, coefs, constant)
+}

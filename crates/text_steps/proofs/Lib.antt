@@ -1,0 +1,4 @@
+pub mod Binds
+pub mod Fronts
+pub mod Ends
+pub mod Words

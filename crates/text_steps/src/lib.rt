@@ -1,0 +1,15 @@
+//! The steps by which texts are read. A step goes from a place to what it reads and the place behind that, or to the fault of the first token that
+//! differs.
+#![tactic(auto)]
+
+mod fault;
+mod groups;
+mod lists;
+mod steps;
+#[cfg(test)]
+mod tests;
+
+pub use fault::{Reads, TextFault};
+pub use groups::group;
+pub use lists::{block, numbers, row, rows};
+pub use steps::{expect, expect_word, number, same_bracket, same_bytes, spells};

@@ -1,0 +1,84 @@
+ghost use Rattle.std.specs.Prelude.{◌≡◌, ◌≤◌, ◌<◌, length, All, IfOk};
+ghost use Rattle.pip_model.specs.Reading as model;
+ghost use Rattle.affine_rows.specs.Checks.{Fits};
+ghost use Rattle.text_steps.specs.Steps.{fault_of, AreRead, IsRead};
+
+use crate::fault::{Reads, TextFault};
+use crate::steps::{expect, number};
+use affine_rows::{Form, Kind};
+use std::alloc::Global;
+
+/// So many numbers, and the place behind them.
+pub fn numbers(
+    alloc: Global,
+    bytes: &[u8],
+    count: usize,
+    place: usize,
+) -> Reads<Vec<i128>, TextFault>
+    requires { place ≤ length bytes.now }
+    ensures reads { AreRead (λ v. v.items) fault_of bytes.now place result (model.numbers bytes.now count place) }
+    ensures count { IfOk result (λ x. length x.0.items ≡ count) }
+    ensures fits { IfOk result (λ x. All Fits x.0.items) }
+{
+    let mut read = Vec::with_capacity(alloc, count)?;
+    let mut at = place;
+    for _ in 0..count {
+        let (entry, after) = number(bytes, at)?;
+        read.push(entry)?;
+        at = after;
+    }
+    Ok((read, at))
+}
+
+/// So many numbers between row brackets, and the place behind them.
+pub fn row(alloc: Global, bytes: &[u8], count: usize, place: usize) -> Reads<Vec<i128>, TextFault>
+    requires { place ≤ length bytes.now }
+    ensures reads { IsRead (λ v. v.items) fault_of bytes.now place result (model.row bytes.now count place) }
+    ensures count { IfOk result (λ x. length x.0.items ≡ count) }
+    ensures fits { IfOk result (λ x. All Fits x.0.items) }
+{
+    let at = expect(bytes, Kind::LeftRow, place)?;
+    let (entries, at) = numbers(alloc, bytes, count, at)?;
+    let after = expect(bytes, Kind::RightRow, at)?;
+    Ok((entries, after))
+}
+
+/// So many rows of `width` numbers as forms, and the place behind them.
+pub fn rows(
+    alloc: Global,
+    bytes: &[u8],
+    count: usize,
+    width: usize,
+    place: usize,
+) -> Reads<Vec<Form>, TextFault>
+    requires place { place ≤ length bytes.now }
+    requires width { 0 < width }
+    ensures { AreRead (λ v. v.items) fault_of bytes.now place result (model.rows bytes.now count width place) }
+{
+    let mut forms = Vec::with_capacity(alloc, count)?;
+    let mut at = place;
+    for _ in 0..count {
+        let (entries, after) = row(alloc, bytes, width, at)?;
+        forms.push(Form::from_entries(entries))?;
+        at = after;
+    }
+    Ok((forms, at))
+}
+
+/// So many rows of `width` numbers between brackets, as forms, and the place behind them.
+pub fn block(
+    alloc: Global,
+    bytes: &[u8],
+    count: usize,
+    width: usize,
+    place: usize,
+) -> Reads<Vec<Form>, TextFault>
+    requires place { place ≤ length bytes.now }
+    requires width { 0 < width }
+    ensures { IsRead (λ v. v.items) fault_of bytes.now place result (model.block bytes.now count width place) }
+{
+    let at = expect(bytes, Kind::LeftParen, place)?;
+    let (forms, at) = rows(alloc, bytes, count, width, at)?;
+    let after = expect(bytes, Kind::RightParen, at)?;
+    Ok((forms, after))
+}

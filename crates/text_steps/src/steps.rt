@@ -1,0 +1,79 @@
+ghost use Rattle.std.specs.Prelude.{◌≡◌, ◌≤◌, length, IfOk};
+ghost use Rattle.pip_model.specs.Reading as model;
+ghost use Rattle.pip_model.specs.Tokens as tokens;
+ghost use Rattle.pip_model.specs.TreeText as words;
+ghost use Rattle.affine_rows.specs.Checks.{Fits};
+ghost use Rattle.text_steps.specs.Steps.{fault_of, IsPassed, IsRead};
+
+use crate::fault::{Reads, TextFault};
+use affine_rows::{Kind, Lexeme, token};
+
+/// Whether the kind is the wanted bracket.
+pub fn same_bracket(kind: Kind, wanted: Kind) -> bool
+    ensures { result ≡ model.same_bracket kind wanted }
+{
+    matches!(
+        (kind, wanted),
+        (Kind::LeftParen, Kind::LeftParen)
+            | (Kind::RightParen, Kind::RightParen)
+            | (Kind::LeftRow, Kind::LeftRow)
+            | (Kind::RightRow, Kind::RightRow)
+    )
+}
+
+/// The place behind the wanted bracket, which is the next token.
+pub fn expect(bytes: &[u8], wanted: Kind, place: usize) -> Result<usize, TextFault>
+    requires { place ≤ length bytes.now }
+    ensures { IsPassed fault_of bytes.now place result (model.expect bytes.now wanted place) }
+{
+    let token = token(bytes, place);
+    if same_bracket(token.kind, wanted) {
+        Ok(token.after)
+    } else {
+        Err(TextFault::Syntax(token.start))
+    }
+}
+
+/// Whether the bytes are the same.
+#[tactic(auto, using(crate::proofs::Words::same_bytes_is))]
+pub fn same_bytes(x: &[u8], y: &[u8]) -> bool
+    ensures { result ≡ tokens.same_bytes x.now y.now }
+{
+    x == y
+}
+
+/// Whether the token is this word.
+pub fn spells(bytes: &[u8], token: Lexeme, wanted: &[u8]) -> bool
+    requires order { token.start ≤ token.after }
+    requires within { token.after ≤ length bytes.now }
+    ensures { result ≡ tokens.spells bytes.now token wanted.now }
+{
+    matches!(token.kind, Kind::Word) && same_bytes(&bytes[token.start..token.after], wanted)
+}
+
+/// The place behind the wanted word, which is the next token.
+pub fn expect_word(bytes: &[u8], wanted: &[u8], place: usize) -> Result<usize, TextFault>
+    requires { place ≤ length bytes.now }
+    ensures { IsPassed fault_of bytes.now place result (words.expect_word bytes.now wanted.now place) }
+{
+    let token = token(bytes, place);
+    if spells(bytes, token, wanted) {
+        Ok(token.after)
+    } else {
+        Err(TextFault::Syntax(token.start))
+    }
+}
+
+/// The number that is the next token, and the place behind it.
+pub fn number(bytes: &[u8], place: usize) -> Reads<i128, TextFault>
+    requires { place ≤ length bytes.now }
+    ensures reads { IsRead (λ z. z) fault_of bytes.now place result (model.number bytes.now place) }
+    ensures fits { IfOk result (λ x. Fits x.0) }
+{
+    let token = token(bytes, place);
+    match token.kind {
+        Kind::Number(number) => Ok((number, token.after)),
+        Kind::WideNumber => Err(TextFault::Wide(token.start)),
+        _ => Err(TextFault::Syntax(token.start)),
+    }
+}
