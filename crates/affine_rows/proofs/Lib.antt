@@ -1,3 +1,4 @@
+pub mod QuotientForms
 pub mod Closing
 pub mod Combined
 pub mod Divisors

@@ -7,7 +7,7 @@ use Rattle.std.proofs.lemmas.List.Elements.{All-append, All-take, All-replicate,
 use Rattle.pip_model.specs.Forms.{coefficients, constant, widen, remove}
 use Rattle.affine_rows.specs.Checks.{Fits}
 use Rattle.affine_rows.specs.Forms.{IsForm}
-use Rattle.affine_rows.proofs.Units.{last_parts}
+use Rattle.pip_model.proofs.Division.{form-parts}
 
 pub remove_same : (c : List ℤ) (i : ℕ) → removed c i ≡ remove i c
 remove_same [] zero = refl
@@ -49,7 +49,7 @@ widen_made c grown made m w n some m_is w_is is made_is =
     let more : m - length c ≡ n = omega arith in
     let same : grown ≡ c ++ replicate n (pos 0) = rw more at is ∙ ap (λ (ys : List ℤ). ys ++ replicate n (pos 0)) (take_all m c (omega arith)) in
     let whole : c ++ replicate n (pos 0) ≡ coefficients c ++ constant c ∷ replicate n (pos 0) =
-    ap (λ (ys : List ℤ). ys ++ replicate n (pos 0)) (sym (last_parts c (omega arith))) ∙ append_assoc (coefficients c) (constant c ∷ []) (replicate n (pos 0)) in
+    ap (λ (ys : List ℤ). ys ++ replicate n (pos 0)) (form-parts (length c - 1) c (omega arith)).0 ∙ append_assoc (coefficients c) (constant c ∷ []) (replicate n (pos 0)) in
     let front : length (coefficients c) ≡ w = simp length-take (omega arith) in
     let size : length grown ≡ length c + n = rw same (simp (length-append, length-replicate) refl) in
     made_is

@@ -1,5 +1,5 @@
 -- Products of numbers of 64 bits.
-use Rattle.std.proofs.Common.{◌≡◌, refl, sym, ℕ, ◌^◌, ◌-◌, ◌*◌, ◌<◌, ◌≤◌, ℤ, ◌*ℤ◌, ◌-ℤ◌, unsigned_abs, arith, [], ◌∷◌}
+use Rattle.std.proofs.Common.{◌≡◌, refl, sym, ◌^◌, ◌-◌, ◌<◌, ℤ, ◌*ℤ◌, ◌-ℤ◌, unsigned_abs, arith, [], ◌∷◌}
 use Rattle.std.specs.Prelude.{IsTrue}
 use Rattle.std.proofs.lemmas.Int.{unsigned_abs-mul}
 use Rattle.std.proofs.lemmas.Nat.{mul-le}

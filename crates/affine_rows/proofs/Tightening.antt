@@ -4,7 +4,7 @@ use Rattle.std.proofs.lemmas.Int.{ints}
 use Rattle.std.specs.Prelude.{if◌then◌else◌}
 use Rattle.pip_model.specs.Numbers.{gcd_of, is_zero}
 use Rattle.pip_model.specs.Forms.{coefficients, floor_divided, tighten}
-use Rattle.affine_rows.proofs.Divisors.{floor_divided_one}
+use Rattle.pip_model.proofs.Gcd.{floor_divided_one}
 
 by_divisor : (e : ℤ) (c : List ℤ) → pos 1 <ℤ e → (if is_zero e then c else floor_divided e c) ≡ floor_divided e c
 by_divisor (pos zero) c h = absurd (omega (arith, ints))

@@ -1,9 +1,9 @@
 -- Sums with a form that has one coefficient alone.
-use Rattle.std.proofs.Common.{◌≡◌, refl, ap, sym, ◌∙◌, ℕ, zero, suc, ◌+◌, ◌-◌, ◌<◌, ◌≤◌, ℤ, pos, ◌+ℤ◌, neg_ℤ, arith, List, [], ◌∷◌, ◌++◌, length, replicate, append-nil}
+use Rattle.std.proofs.Common.{◌≡◌, refl, ap, ◌∙◌, ℕ, zero, suc, ◌+◌, ◌-◌, ◌≤◌, ℤ, pos, ◌+ℤ◌, neg_ℤ, arith, List, [], ◌∷◌, ◌++◌, length, replicate}
 use Rattle.std.specs.Prelude.{slice_set}
 use Rattle.std.proofs.lemmas.Int.{ints}
-use Rattle.std.proofs.lemmas.List.{take_more, take_all}
-use Rattle.pip_model.specs.Forms.{entry, add, negate, constant_form, unit_form, widen_to, width, coefficients, constant}
+use Rattle.pip_model.specs.Forms.{entry, add, negate, constant_form, unit_form}
+pub use Rattle.pip_model.proofs.Forms.{widen_same}
 
 plus_zero : (x : ℤ) → x +ℤ pos 0 ≡ x
 plus_zero x = omega (arith, ints)
@@ -25,19 +25,6 @@ add_last xs w z e = add_one xs w 0 z (omega arith)
 -- one entry grows
 pub add_unit : (xs : List ℤ) (w q : ℕ) (z : ℤ) → length xs ≡ w + 1 → q ≤ w → add xs (unit_form w q z) ≡ slice_set xs q (entry xs q +ℤ z)
 add_unit xs w q z e h = add_one xs q (w - q) z (omega arith)
-
--- ---- a form over its own width
-
--- a form is its coefficients and its constant
-pub last_parts : (c : List ℤ) → 0 < length c → coefficients c ++ constant c ∷ [] ≡ c
-last_parts c h =
-    let n : length c - 1 + 1 ≡ length c = omega arith in
-    sym (take_more c (length c - 1) (pos 0) (omega arith)) ∙ take_all (length c - 1 + 1) c (omega arith)
-
-pub widen_same : (n : ℕ) (c : List ℤ) → length c ≡ n + 1 → widen_to n c ≡ c
-widen_same n c e =
-    let z : n - width c ≡ 0 = omega arith in
-    rw z (ap (λ (xs : List ℤ). xs ++ constant c ∷ []) (append-nil (coefficients c)) ∙ last_parts c (omega arith))
 
 -- ---- a sum with the opposite
 

@@ -1,11 +1,11 @@
 -- Steps of a form's value, which is summed product by product.
-use Rattle.std.proofs.Common.{◌≡◌, refl, ℕ, ◌+◌, ◌<◌, ℤ, pos, ◌+ℤ◌, ◌*ℤ◌, Bool, true, false, ◌&&◌, List, [], ◌∷◌, ◌++◌, length, drop, get_or}
+use Rattle.std.proofs.Common.{◌≡◌, ℕ, ◌+◌, ◌<◌, ℤ, pos, ◌+ℤ◌, ◌*ℤ◌, List, [], ◌∷◌, ◌++◌, length, drop, get_or}
 use Rattle.std.specs.Prelude.{IsTrue}
 use Rattle.std.proofs.lemmas.List.{drop_more}
 use Rattle.std.proofs.Math.IntN.{+ℤ_assoc}
-use Rattle.pip_model.specs.Numbers.{fits}
 use Rattle.pip_model.specs.Forms.{dot}
 use Rattle.pip_model.specs.Listed.{all_fit, dot_listed}
+use Rattle.pip_model.proofs.Fitting.{fit_behind}
 
 -- the vector's numbers from place i on, and the 1 of the constant
 abbrev pub vector_from : ℕ → List ℤ → List ℤ
@@ -15,14 +15,6 @@ vector_from i v = drop i v ++ pos 1 ∷ []
 abbrev pub listed_at : ℤ → ℤ → ℤ → List ℤ
 listed_at sum c x = (c *ℤ x) ∷ (sum +ℤ c *ℤ x) ∷ []
 
-fit_more : (p s : ℤ) (rest : List ℤ) → IsTrue (all_fit (p ∷ s ∷ [])) → all_fit (p ∷ s ∷ rest) ≡ all_fit rest
-fit_more p s rest e = cases (fits p) (fits s) (all_fit rest) e
-  where
-    cases : (a b c : Bool) → IsTrue (a && (b && true)) → (a && (b && c)) ≡ c
-    cases true true c e = refl
-    cases true false c e = absurd cc
-    cases false b c e = absurd cc
-
 module _ (sum : ℤ) (form v : List ℤ) (i : ℕ) where
   pub value_listed_step : (next : ℤ) → i < length form → i < length v
       → IsTrue (all_fit (listed_at sum (get_or form i (pos 0)) (get_or v i (pos 0))))
@@ -30,7 +22,7 @@ module _ (sum : ℤ) (form v : List ℤ) (i : ℕ) where
       → all_fit (dot_listed sum (drop i form) (vector_from i v)) ≡ all_fit (dot_listed next (drop (i + 1) form) (vector_from (i + 1) v))
   value_listed_step next h k e is =
       rw (drop_more form i (pos 0) h, drop_more v i (pos 0) k, is)
-      (fit_more (get_or form i (pos 0) *ℤ get_or v i (pos 0)) (sum +ℤ get_or form i (pos 0) *ℤ get_or v i (pos 0)) (dot_listed (sum +ℤ get_or form i (pos 0) *ℤ get_or v i (pos 0)) (drop (i + 1) form) (vector_from (i + 1) v)) e)
+      (fit_behind (listed_at sum (get_or form i (pos 0)) (get_or v i (pos 0))) (dot_listed (sum +ℤ get_or form i (pos 0) *ℤ get_or v i (pos 0)) (drop (i + 1) form) (vector_from (i + 1) v)) e)
 
   pub value_step : (next : ℤ) → i < length form → i < length v
       → next ≡ sum +ℤ get_or form i (pos 0) *ℤ get_or v i (pos 0)

@@ -44,9 +44,9 @@ pub fn gcd_with(start: i128, entries: &[i128]) -> i128
     fold_gcd(start, entries)
 }
 
-/// The greatest common divisor of all entries, 0 where all are 0.
-#[tactic(auto, using(crate::proofs::Divisors::gcd_zero, crate::proofs::Divisors::gcd_of_divides))]
-pub fn divisor(entries: &[i128]) -> i128
+// The greatest common divisor of all entries, 0 where all are 0.
+#[tactic(auto, using(pip_model::proofs::Gcd::gcd_zero, crate::proofs::Divisors::gcd_of_divides))]
+pub(crate) fn divisor(entries: &[i128]) -> i128
     requires { All Fits entries.now }
     ensures value { result ≡ gcd_of entries.now }
     ensures low { pos 0 ≤ℤ result }
@@ -69,7 +69,7 @@ pub fn divide_all(entries: &mut [i128], d: i128)
 }
 
 /// Each entry over a d of at least 1, rounded down.
-#[tactic(auto, using(crate::proofs::Divisors::floor_divided_one))]
+#[tactic(auto, using(pip_model::proofs::Gcd::floor_divided_one))]
 pub fn divided(alloc: Global, d: i128, entries: &[i128]) -> Result<Vec<i128>, WantOfMemory>
     requires positive { pos 1 ≤ℤ d }
     requires fits { All Fits entries.now }

@@ -21,7 +21,7 @@ pub fn negate_all(entries: &mut [i128])
 }
 
 // `-c - 1`. A refusal leaves all as it was.
-pub fn make_opposite(entries: &mut [i128]) -> Result<(), Overflow>
+pub(crate) fn make_opposite(entries: &mut [i128]) -> Result<(), Overflow>
     requires { IsForm entries.old }
     ensures listed { IsChecked is_overflow (opposite_listed entries.old) result }
     ensures ok { OnOk result (entries.new ≡ opposite entries.old) }
@@ -37,7 +37,7 @@ pub fn make_opposite(entries: &mut [i128]) -> Result<(), Overflow>
 
 // Divides by the gcd of the coefficients and rounds the constant down.
 #[tactic(auto, using(crate::proofs::Tightening::tighten_divided, crate::proofs::Tightening::tighten_kept))]
-pub fn make_tight(entries: &mut [i128])
+pub(crate) fn make_tight(entries: &mut [i128])
     requires { IsForm entries.old }
     ensures value { entries.new ≡ tighten entries.old }
     ensures form { IsForm entries.new }
@@ -50,8 +50,8 @@ pub fn make_tight(entries: &mut [i128])
 }
 
 // Divides by a divisor of each entry.
-#[tactic(auto, using(crate::proofs::Divisors::floor_divided_one, crate::proofs::Divisors::scale_divided, crate::proofs::Divisors::scale_one))]
-pub fn divide_evenly(entries: &mut [i128], d: i128)
+#[tactic(auto, using(pip_model::proofs::Gcd::floor_divided_one, crate::proofs::Divisors::scale_divided, pip_model::proofs::Forms::scale_one))]
+pub(crate) fn divide_evenly(entries: &mut [i128], d: i128)
     requires positive { pos 1 ≤ℤ d }
     requires divides { All (λ x. IsTrue (divides d x)) entries.old }
     requires fits { All Fits entries.old }

@@ -17,7 +17,7 @@ fn add_product(sum: i128, c: i128, x: i128) -> Result<i128, Overflow>
 }
 
 // The value of a form at v: the products are added in order, and then the constant.
-pub fn evaluate(form: &[i128], v: &[i128]) -> Result<i128, Overflow>
+pub(crate) fn evaluate(form: &[i128], v: &[i128]) -> Result<i128, Overflow>
     requires lengths { length v.now + 1 ≡ length form.now }
     requires fits { All Fits form.now }
     ensures listed { IsChecked is_overflow (value_listed form.now v.now) result }

@@ -134,7 +134,8 @@ impl Form {
     /// coefficients are all 0 stays. The sign at whole vectors is the same as before.
     pub fn tighten(&mut self)
         ensures value { self.new ≡ tighten self.old }
-        ensures sign { (u : List ℤ) → length self.old ≡ length u + 1 → is_nonneg (value self.new u) ≡ is_nonneg (value self.old u) }
+        ensures sign { (u : List ℤ) → length self.old ≡ length u + 1
+            → is_nonneg (value self.new u) ≡ is_nonneg (value self.old u) }
     {
         make_tight(&mut self.entries);
     }

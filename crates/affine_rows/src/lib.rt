@@ -1,6 +1,7 @@
 //! Affine forms over whole numbers of 128 bits, the checked arithmetic under them, and the tokens of texts.
 #![tactic(auto)]
 
+mod bounds;
 mod bytes;
 mod combination;
 mod division;
@@ -10,10 +11,11 @@ mod form;
 mod groups;
 mod limits;
 mod memory;
+mod multiples;
 mod numbers;
-mod rounding;
 mod tokens;
 
+pub use bounds::{lower_bound, negate_around, rounding, upper_bound};
 pub use bytes::Bytes;
 pub use combination::{add_combined, difference};
 pub use division::{divide_all, divided, gcd_with, is_whole, remainders, residues};
@@ -24,10 +26,10 @@ pub use limits::{
     MOST_COMPONENTS, MOST_CONTEXT_ROWS, MOST_NESTING, MOST_PARAMETERS, MOST_ROWS, MOST_UNKNOWNS,
 };
 pub use memory::{FormRefusal, WantOfMemory};
+pub use multiples::round_form;
 pub use numbers::{
     Overflow, divides, floor_div, floor_mod, gcd, minus, nonnegative, plus, positive, times,
 };
-pub use rounding::round_form;
 pub use tokens::{Kind, Lexeme, blank, digits, integer, token, unsigned_part};
 
 #[cfg(test)]

@@ -26,8 +26,8 @@ pub fn minus(a: i128, b: i128) -> Result<i128, Overflow>
     }
 }
 
-/// Whether the number lies from `-(2^63 - 1)` to `2^63 - 1`.
-pub fn is_short(z: i128) -> bool
+// Whether the number lies from `-(2^63 - 1)` to `2^63 - 1`.
+pub(crate) fn is_short(z: i128) -> bool
     ensures { IsTrue result → unsigned_abs z < 2 ^ 63 }
 {
     -9223372036854775807 <= z && z <= 9223372036854775807
@@ -44,7 +44,7 @@ fn exact_product(a: i128, b: i128) -> i128
 }
 
 // The product of short numbers, and its bound.
-pub fn short_product(a: i128, b: i128) -> i128
+pub(crate) fn short_product(a: i128, b: i128) -> i128
     requires a { unsigned_abs a < 2 ^ 63 }
     requires b { unsigned_abs b < 2 ^ 63 }
     ensures value { result ≡ a *ℤ b }
@@ -55,7 +55,7 @@ pub fn short_product(a: i128, b: i128) -> i128
 }
 
 // The difference of numbers that are far from the ends.
-pub fn exact_difference(a: i128, b: i128) -> i128
+pub(crate) fn exact_difference(a: i128, b: i128) -> i128
     requires a { unsigned_abs a < 2 ^ 126 }
     requires b { unsigned_abs b < 2 ^ 126 }
     ensures value { result ≡ a -ℤ b }
@@ -78,7 +78,7 @@ pub fn times(a: i128, b: i128) -> Result<i128, Overflow>
 }
 
 /// The quotient of a fitting a and a d of at least 1, rounded down.
-#[tactic(auto, using(crate::proofs::Divisors::quotient_positive))]
+#[tactic(auto, using(pip_model::proofs::Gcd::quotient_positive))]
 pub fn floor_div(a: i128, d: i128) -> i128
     requires positive { pos 1 ≤ℤ d }
     requires fits { Fits a }

@@ -10,20 +10,19 @@ use Rattle.pip_model.specs.Problem.{Problem}
 use Rattle.pip_model.specs.Printed.{component_fits, step_fits, vector_fits, certificate_fits, tree_fits, leaf_fits}
 use Rattle.pip_model.specs.Tree.{Tree, Bottom, Leaf, If, NewParm, Component, Answer, Void, Solved, is_scoped, nesting}
 use Rattle.pip_model.specs.Right.{IsRight}
-use Rattle.pip_model.specs.WellFormed.{IsRow, IsProblem}
+use Rattle.pip_model.specs.WellFormed.{IsProblem}
 use Rattle.pip_model.specs.Certificate.{Refutation, LeafProofs, Certificate}
 use Rattle.pip_model.specs.Check.{LeafCase, leaf_cases, places_from, scope_forms, unknown_forms, row_form, plus_term, is_whole_list, put_in, put_in_listed, Premises, row_premises, sign_premises, least_premises, smaller_from, fronts_from, leaf_premises, joined, leaf_forms}
 use Rattle.pip_model.specs.Run.{Budget, IsBudget, Work, start_work, Outcome, Done, Refused, Overflow, Counted, go_on, ◌>>=◌, ◌>>◌, give, listed, left, Plus, Minus, root, run_from, numbers_of, point_setting, point_run, point, setting, answer_from, solve, first_node}
 use Rattle.pip_model.specs.Refuting.{indices, positive_terms, refute}
 use Rattle.pip_model.specs.Made.{PathQuotient, path_quotients, quotient_step, quotient_steps, narrow_to, steps_or_none, made_refutation, made_refutations, made_leaf, made_leaves, void_leaf, run_certificate, solve_with_certificate, unshared}
 use Rattle.pip_model.proofs.Tests.{both, both_true, every-append, every-parts}
-use Rattle.pip_model.proofs.Fitting.{fit_parts, fit_head, fit_take, fit_drop, fit_entry}
-use Rattle.run_laws.proofs.FitNumbers.{fit_widen}
+use Rattle.pip_model.proofs.Fitting.{fit_parts, fit_head, fit_take, fit_drop, fit_entry, fit_widen}
 use Rattle.pip_model.proofs.Fuel.{AtMost, falls-point, falls-run_from, falls-class}
 use Rattle.run_laws.proofs.Ensured.{OnDone, Ensures, ensures-bind, ensures-give}
 use Rattle.run_laws.proofs.Lengths.{length_map}
 use Rattle.run_laws.proofs.FitRows.{start_fits}
-use Rattle.run_laws.proofs.FitRun.{ClassFits, TreeFits, AnswerFits, run_from_fits, solve-fits}
+use Rattle.run_laws.proofs.FitRun.{ClassFits, TreeFits, AnswerFits, run_from_fits, solve-fits, fitting_rows}
 use Rattle.run_laws.proofs.Budgets.{solve-nested}
 use Rattle.run_laws.proofs.SolveRight.{solve_good}
 use Rattle.run_laws.proofs.PointRight.{IsPointOf, point_right}
@@ -31,12 +30,13 @@ use Rattle.certificate_laws.proofs.TreeShape.{Shaped}
 use Rattle.certificate_laws.proofs.LeafFacts.{AllPairs, pairs-kept, AllQuotients, LeafFacts, SizedList, leaf_facts}
 use Rattle.pip_model.specs.RefutedPoint.{IsRefutedPoint}
 use Rattle.certificate_laws.proofs.SameRun.{refute-same}
-use Rattle.certificate_laws.proofs.MadeRefutation.{IsPremises, narrow_context, length-places, known_long}
+use Rattle.certificate_laws.proofs.MadeRefutation.{IsPremises, narrow_context, known_long}
 use Rattle.certificate_laws.proofs.MadeLeaves.{Ready, leaf_ready}
-use Rattle.certificate_laws.proofs.FitSteps.{most_index, UpTo, AllUpTo, fits_up_to, up_to_indices, term_fits, positive_fits, StepsFit, steps_fit_append, IfFits, AllFit, refute_fits}
+use Rattle.certificate_laws.proofs.FitSteps.{most_index, UpTo, AllUpTo, fits_up_to, up_to_indices, term_fits, positive_fits, StepsFit, steps_fit_append, IfFits, AllFit, refute_fits, fit_widened}
 use Rattle.certificate_laws.proofs.NoPoint.{narrow_rows}
 use Rattle.certificate_laws.proofs.Accepted.{void_whole, void_none, void_known, tree_shaped, answer_of, done_by, fitting_done, certified_by, certified-answer}
-use Rattle.certificate_laws.proofs.FitForms.{places_fit, widened_fit, narrowed_fit, row_forms_fit, opposite_fits, put_in_fits, smaller_fit, ListFits, QuotientsFit, MaybeListFits, FitFacts, fit_facts}
+use Rattle.certificate_laws.proofs.FitForms.{places_fit, narrowed_fit, row_forms_fit, opposite_fits, put_in_fits, smaller_fit, ListFits, QuotientsFit, MaybeListFits, FitFacts, fit_facts}
+use Rattle.check_laws.proofs.ShareReadable.{length-places}
 
 -- ---- parts that begin with at most n left
 
@@ -164,10 +164,6 @@ module _ (P : Problem) (L : LeafCase) (ks : List PathQuotient) (n W limit most :
 
 -- ---- what a leaf's refutations start from
 
-fitting_rows : (w : ℕ) (cs : List (List ℤ)) → AllByRecursion (IsRow w) cs → AllFit cs
-fitting_rows w [] h = tt
-fitting_rows w (c ∷ cs) h = (h.0.fitting, fitting_rows w cs h.1)
-
 -- the most known forms
 abbrev most_known : ℕ
 most_known = 100000
@@ -198,8 +194,8 @@ module _ (P : Problem) (formed : IsProblem P) (t : Tree) (shallow : nesting t �
   scope_fit : all_fit L.listed ≡ true → AllFit (scope_forms P L)
   scope_fit e =
       every-append (λ (c : List ℤ). all_fit c ≡ true) (places_from W 0 P.params ++ map (widen_to W) P.context) (map (widen_to W) L.path)
-      (every-append (λ (c : List ℤ). all_fit c ≡ true) (places_from W 0 P.params) (map (widen_to W) P.context) (places_fit W 0 P.params) (widened_fit W P.context (fitting_rows P.params P.context formed.context)))
-      (widened_fit W L.path (fit.path_fit e))
+      (every-append (λ (c : List ℤ). all_fit c ≡ true) (places_from W 0 P.params) (map (widen_to W) P.context) (places_fit W 0 P.params) (fit_widened W P.context (fitting_rows P.params P.context formed.context)))
+      (fit_widened W L.path (fit.path_fit e))
 
   scope_long : length (scope_forms P L) ≤ most_params + most_context_rows + 2 * most_nesting
   scope_long =
@@ -219,7 +215,7 @@ module _ (P : Problem) (formed : IsProblem P) (t : Tree) (shallow : nesting t �
   goal_fits c some s is parts = record {
     fit = λ e.
         let es = parts e in
-        subst AllFit (sym is) (every-append (λ (c : List ℤ). all_fit c ≡ true) (scope_forms P L) (widen_to W (opposite c) ∷ []) (scope_fit es.0) (widened_fit W (opposite c ∷ []) (opposite_fits c some es.1 es.2, tt)));
+        subst AllFit (sym is) (every-append (λ (c : List ℤ). all_fit c ≡ true) (scope_forms P L) (widen_to W (opposite c) ∷ []) (scope_fit es.0) (fit_widened W (opposite c ∷ []) (opposite_fits c some es.1 es.2, tt)));
     few = omega (arith, ap length is, length-append (scope_forms P L) (widen_to W (opposite c) ∷ []), scope_long);
   }
 
@@ -352,7 +348,7 @@ module _ (w : ℕ) (K : List (List ℤ)) (fit : AllFit K) where
   run_point_fits =
       let N = root w 0 (map (widen_to w) K) [] in
       ensures-bind TreeFits VectorFits (run_from (point_setting w) N) (λ t. give (numbers_of t))
-      (run_from_fits (point_setting w) (λ L v c h. ensures-give ClassFits (if is_nonneg (constant c) then Plus else Minus) (class_fits (is_nonneg (constant c)))) N (start_fits w 0 (map (widen_to w) K) (widened_fit w K fit)))
+      (run_from_fits (point_setting w) (λ L v c h. ensures-give ClassFits (if is_nonneg (constant c) then Plus else Minus) (class_fits (is_nonneg (constant c)))) N (start_fits w 0 (map (widen_to w) K) (fit_widened w K fit)))
       (λ t h. ensures-give VectorFits (numbers_of t) (numbers_fit t h))
 
 pub point_fits : (w : ℕ) (K : List (List ℤ)) → AllFit K → Ensures (λ (p : Option (List ℤ)). vector_fits p ≡ true) (point w K)
@@ -383,7 +379,7 @@ module _ (P : Problem) (formed : IsProblem P) (limit : ℕ) (room : most_known +
       let A = places_from m 0 m in
       let B = map (widen_to m) P.context in
       let known : KnownFits most_known s = record {
-        fit = λ e. every-append (λ (c : List ℤ). all_fit c ≡ true) (A ++ B) [] (every-append (λ (c : List ℤ). all_fit c ≡ true) A B (places_fit m 0 m) (widened_fit m P.context (fitting_rows m P.context formed.context))) tt;
+        fit = λ e. every-append (λ (c : List ℤ). all_fit c ≡ true) (A ++ B) [] (every-append (λ (c : List ℤ). all_fit c ≡ true) A B (places_fit m 0 m) (fit_widened m P.context (fitting_rows m P.context formed.context))) tt;
         few = omega (arith, length-append (A ++ B) [], length-append A B, length-places m 0 m, length_map (widen_to m) P.context, formed.few_params, formed.few_context_rows);
       } in
       let few : most_known + 0 + suc limit ≤ most_index = omega (arith, room) in

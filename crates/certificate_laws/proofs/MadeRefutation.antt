@@ -1,5 +1,5 @@
 -- A refutation that is made succeeds, where no whole vector makes its known forms >= 0.
-use Rattle.std.proofs.Common.{◌≡◌, refl, ap, ap₂, sym, subst, ◌∙◌, ℕ, zero, suc, ◌+◌, ◌<◌, ◌≤◌, arith, Option, Some, None, List, [], ◌∷◌, ◌++◌, append_assoc, length, length-append, Bool, true, false, ℤ, pos, ◌*ℤ◌}
+use Rattle.std.proofs.Common.{◌≡◌, refl, ap, ap₂, sym, subst, ◌∙◌, ℕ, zero, suc, ◌+◌, ◌<◌, ◌≤◌, arith, Option, Some, None, List, [], ◌∷◌, ◌++◌, append_assoc, length, length-append, Bool, true, false, ℤ, pos}
 use Rattle.std.proofs.Math.ListN.{get_or-append}
 use Rattle.std.proofs.Math.Seq.{get_or-append_seam}
 use Rattle.std.proofs.lemmas.List.{get_or-append-add}
@@ -14,11 +14,10 @@ use Rattle.pip_model.specs.Listed.{all_fit}
 use Rattle.pip_model.specs.Run.{Work, Refusal, Overflow, Outcome, Done, Refused, ◌>>=◌, give, listed, point}
 use Rattle.pip_model.specs.Refuting.{indices, refute}
 use Rattle.pip_model.specs.Made.{PathQuotient, quotient_steps, narrow_to, steps_or_none, made_refutation}
-use Rattle.pip_model.proofs.Polynomials.{var, num, ◌⊗◌, ring}
 use Rattle.pip_model.proofs.Tests.{every-append}
 use Rattle.run_laws.proofs.Ensured.{OnDone, Ensures}
 use Rattle.run_laws.proofs.PointRefusals.{point-refusal}
-use Rattle.certificate_laws.proofs.Making.{OnMade, Makes, makes-bind, makes-then, makes-give}
+use Rattle.run_laws.proofs.Making.{OnMade, Makes, makes-bind, makes-then, makes-give}
 use Rattle.run_laws.proofs.Scopes.{Narrow, InScope}
 use Rattle.run_laws.proofs.PointRight.{IsPointOf, point_right}
 use Rattle.run_laws.proofs.Lengths.{length_map}
@@ -31,12 +30,10 @@ use Rattle.pip_model.specs.RefutedPoint.{IsRefutedPoint}
 use Rattle.certificate_laws.proofs.SameRun.{refute-same}
 use Rattle.certificate_laws.proofs.LeafFacts.{AllQuotients}
 use Rattle.certificate_laws.proofs.QuotientSteps.{entry-unit_form, Places, Stands, quotient_steps_good, length-quotient_steps}
+use Rattle.pip_model.proofs.RingLaws.{one-*ℤ}
+use Rattle.check_laws.proofs.ShareReadable.{length-places}
 
 -- ---- places among the known forms
-
-pub length-places : (W i n : ℕ) → length (places_from W i n) ≡ n
-length-places W i zero = refl
-length-places W i (suc n) = ap suc (length-places W (i + 1) n)
 
 places_entries : (known pre post : List (List ℤ)) (W i n first j : ℕ) → known ≡ pre ++ (places_from W i n ++ post) → length pre ≡ first → entries_at known j (indices first n) ≡ units_from i n j
 places_entries known pre post W i zero first j is e = refl
@@ -45,11 +42,8 @@ places_entries known pre post W i (suc n) first j is e =
     let rest = places_from W (i + 1) n ++ post in
     let here : named known (pos first) ≡ c = ap (λ (k : List (List ℤ)). named k (pos first)) is ∙ ap (λ (n : ℕ). named (pre ++ (c ∷ rest)) (pos n)) (sym e) ∙ get_or-append_seam pre c rest [] in
     let next : known ≡ (pre ++ c ∷ []) ++ rest = is ∙ sym (append_assoc pre (c ∷ []) rest) in
-    ap₂ (λ (x : ℤ) (xs : List ℤ). x ∷ xs) (ap (λ (x : List ℤ). entry x j) here ∙ entry-unit_form W i (pos 1) j ∙ once (one_at i j))
+    ap₂ (λ (x : ℤ) (xs : List ℤ). x ∷ xs) (ap (λ (x : List ℤ). entry x j) here ∙ entry-unit_form W i (pos 1) j ∙ one-*ℤ (one_at i j))
     (places_entries known (pre ++ c ∷ []) post W (i + 1) n (first + 1) j next (length-append pre (c ∷ []) ∙ omega (arith, e)))
-  where
-    once : (x : ℤ) → pos 1 *ℤ x ≡ x
-    once x = ring (x ∷ []) (num (pos 1) ⊗ var 0) (var 0) refl
 
 at_map : (f : List ℤ → List ℤ) (xs : List (List ℤ)) (b : ℕ) → b < length xs → slice_index_or (map f xs) b [] ≡ f (slice_index_or xs b [])
 at_map f [] b h = absurd (omega arith)

@@ -6,7 +6,6 @@ use Rattle.pip_model.specs.Forms.{coefficients, negate, residue, widen_to}
 use Rattle.pip_model.specs.Tree.{Tree, Bottom, Leaf, If, NewParm}
 use Rattle.pip_model.specs.Rows.{Row, row_at, unit_row, form_row, count_from, start, pivot, pivot_listed, entering, entering_listed, is_whole, first_fraction}
 use Rattle.pip_model.specs.Cuts.{constant_cut, residue_of, find_from}
-use Rattle.pip_model.specs.Certificate.{Refutation}
 use Rattle.pip_model.specs.Run.{Work, Outcome, Done, Refused, Counted, go_on, ◌>>=◌, ◌>>◌, give, listed, count_pivot, count_cut, Node, Turn, Closed, Again, Below, Split, Signs, AllPlus, MinusAt, UnknownBy, scan, pivot_turn, last_turn, quotient_cut, leaf, turn_by, point_setting, left, run, root, numbers_of, point_run, point}
 use Rattle.pip_model.specs.Refuting.{Trace, traced, refute_run, first_trace, refute_by, refute}
 use Rattle.pip_model.specs.RefutedPoint.{IsRefutedPoint}
@@ -18,6 +17,8 @@ use Rattle.run_laws.proofs.CutsAt.{length_residue}
 use Rattle.run_laws.proofs.Lengths.{length_floors, length_negate}
 use Rattle.run_laws.proofs.Scopes.{Narrow, length-widen_to}
 use Rattle.certificate_laws.proofs.RefuteRun.{IsSigns, scan_signs}
+use Rattle.pip_model.proofs.Forms.{no_coefficients}
+use Rattle.certificate_laws.proofs.FirstTrace.{flat_append}
 
 -- what a turn without parameters makes
 abbrev FlatTurn : Turn → Type 0
@@ -28,11 +29,6 @@ FlatTurn (Closed (NewParm v d a)) = ⊥
 FlatTurn (Again N) = FormsWide 1 N.rows
 FlatTurn (Below k N) = ⊥
 FlatTurn (Split c N M) = ⊥
-
-pub no_coefficients : (d : ℤ) (t : List ℤ) → length t ≡ 1 → is_whole d (coefficients t) ≡ true
-no_coefficients d [] e = absurd (omega arith)
-no_coefficients d (x ∷ []) e = refl
-no_coefficients d (x ∷ y ∷ t) e = absurd (omega arith)
 
 flat_chosen : (b : Bool) (x y : Counted Turn) → b ≡ true → Ensures FlatTurn x → Ensures FlatTurn (if b then x else y)
 flat_chosen true x y e h = h
@@ -103,10 +99,6 @@ module _ (w : ℕ) where
   forms_flat : (K : List (List ℤ)) → Narrow w K → FormsWide 1 (map (form_row w) (map (widen_to w) K))
   forms_flat [] h = tt
   forms_flat (c ∷ K) h = (length-drop w (widen_to w c) ∙ omega (arith, length-widen_to w c h.0 h.1), forms_flat K h.2)
-
-  flat_append : (rows more : List Row) → FormsWide 1 rows → FormsWide 1 more → FormsWide 1 (rows ++ more)
-  flat_append [] more h k = k
-  flat_append (r ∷ rows) more h k = (h.0, flat_append rows more h.1 k)
 
   -- the rows of a point's first node
   pub start_flat : (K : List (List ℤ)) → Narrow w K → FormsWide 1 (start w 0 (map (widen_to w) K))

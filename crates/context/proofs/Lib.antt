@@ -1,4 +1,9 @@
+pub mod Counting
 pub mod Turning
 pub mod Pointing
 pub mod WidenedRows
+pub mod FurtherRows
+pub mod Replaying
+pub mod OneFormMore
+pub mod Ending
 pub mod PointMeaning

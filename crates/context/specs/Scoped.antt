@@ -1,5 +1,5 @@
 -- A context as its forms.
-use Rattle.std.specs.Prelude.{◌≡◌, ℕ, ℤ, List}
+use Rattle.std.specs.Prelude.{◌≡◌, ◌≤◌, ℕ, ℤ, List}
 
 -- forms over the first `width` places or fewer of them, and the room that is left for more
 pub record ScopedForms : Type 0 where
@@ -7,6 +7,8 @@ pub record ScopedForms : Type 0 where
   pub forms : List (List ℤ)
   pub spare : ℕ
 
--- as before: of the room nothing is said
-abbrev pub SameContext : ScopedForms → ScopedForms → Type 0
-SameContext before after = (after.width ≡ before.width) × (after.forms ≡ before.forms)
+-- as before, with no less room
+pub record IsKeptContext (before now : ScopedForms) : Type 0 where
+  pub width : now.width ≡ before.width
+  pub forms : now.forms ≡ before.forms
+  pub spare : before.spare ≤ now.spare

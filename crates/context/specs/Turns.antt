@@ -8,8 +8,8 @@ use Rattle.pip_model.specs.Cuts.{constant_cut}
 use Rattle.pip_model.specs.Run as run
 use Rattle.pip_model.specs.Run.{Counted, ◌>>◌, give, count_cut, Node, Setting, point_setting, leaf}
 use Rattle.tableau.specs.Tableaus.{TableauRows}
-use Rattle.context.specs.declared.turns.Turn.{Turn}
-use Rattle.context.specs.declared.turns.Turn.TheVariants as code
+use Rattle.context.specs.declared.point_turn.Turn.{Turn}
+use Rattle.context.specs.declared.point_turn.Turn.TheVariants as code
 
 -- the first row, from place i on, whose constant is below 0
 abbrev pub negative_from : ℕ → List Row → Option ℕ

@@ -1,12 +1,15 @@
 ghost use Rattle.std.specs.Prelude.{◌≡◌, ◌+◌, ◌-◌, ◌^◌, ◌<◌, ◌≤◌, [], ◌∷◌, ◌++◌, length, take, IfOk, OnOk, IfErr, IfSome};
 ghost use Rattle.pip_model.specs.Contexts.{IsContext, PointTells, IsPointRefusal};
-ghost use Rattle.pip_model.specs.Run.{point as point_of};
-ghost use Rattle.pip_model.specs.Agreement.{AgreesCounted};
+ghost use Rattle.pip_model.specs.Run as model;
 ghost use Rattle.pip_problem.specs.Faults.{run_fault};
-ghost use Rattle.context.specs.Scoped.{SameContext};
+ghost use Rattle.context.specs.Counts.{IsCountedRun};
+ghost use Rattle.context.specs.Remembered.{has_point};
+ghost use Rattle.context.specs.Scoped.{IsKeptContext};
 
-use crate::points::Point;
-use crate::search::find_point;
+use crate::asking::{ask, ask_plainly};
+use crate::point::Point;
+use crate::point_run::find_point;
+use crate::remembered::{Remembered, remember};
 use crate::work::Work;
 use affine_rows::{Form, WantOfMemory};
 use pip_problem::Refusal;
@@ -16,10 +19,14 @@ use std::marker::Model;
 /// A context: forms over the parameters and quotients in scope, which it takes to be at least 0. Its width is their
 /// number; a form that is narrower reads 0 at the missing places. It stands for the whole vectors of numbers from 0 on
 /// at which no form is below 0. Contracts see the width, the forms in order, and the room that is left for more.
+///
+/// From one question with a form more to the next a context keeps the first pivots of its own forms' run, no more
+/// than it has places and forms, and the rows that they made, until its forms or its width change.
 #[derive(Drop)]
 pub struct Context {
     width: usize,
     forms: Vec<Form>,
+    known: Option<Remembered>,
 }
 
 /// How many forms a context had, and its width: where it can go back to.
@@ -32,14 +39,15 @@ pub struct ContextMark {
 impl Model for Context {
     ghost use Rattle.std.specs.Prelude.{◌-◌};
     ghost use Rattle.std.specs.Vec.{vec_len, vec_capacity};
-    ghost use Rattle.pip_model.specs.Contexts.{IsContext};
+    ghost use Rattle.context.specs.Remembered.{IsKnown};
     ghost use Rattle.context.specs.Scoped.{ScopedForms};
 
     ghost Value = { ScopedForms };
 
-    ghost view = { λ k. record { width = k.width; forms = k.forms.items; spare = vec_capacity k.forms - vec_len k.forms } };
+    ghost view = { λ k.
+        record { width = k.width; forms = k.forms.items; spare = vec_capacity k.forms - vec_len k.forms } };
 
-    ghost invariant = { λ k. IsContext k.width k.forms.items };
+    ghost invariant = { λ k. IsKnown k.width k.forms.items k.known };
 }
 
 impl Context {
@@ -51,14 +59,14 @@ impl Context {
         Ok(Context {
             width,
             forms: Vec::new(alloc),
+            known: None,
         })
     }
 
     /// Makes room for at least n more forms. The context stays as it was, and so does the room after a refusal.
     pub fn reserve(&mut self, n: usize) -> Result<(), WantOfMemory>
-        ensures same { SameContext self.old self.new }
+        ensures kept { IsKeptContext self.old self.new }
         ensures room { OnOk result (n ≤ self.new.spare) }
-        ensures spare { self.old.spare ≤ self.new.spare }
     {
         self.forms.reserve(n)?;
         Ok(())
@@ -75,6 +83,7 @@ impl Context {
     {
         let _ = f.width();
         self.forms.push(f).unwrap();
+        self.known = None;
     }
 
     /// Adds a place, at which all forms read 0. Takes no memory.
@@ -85,6 +94,7 @@ impl Context {
         ensures spare { self.old.spare ≤ self.new.spare }
     {
         self.width += 1;
+        self.known = None;
     }
 
     /// The number of forms and the width. Each form is no wider.
@@ -99,8 +109,8 @@ impl Context {
         }
     }
 
-    /// Goes back to a mark: keeps as many of the first forms as it says, none of them wider than its width, which becomes
-    /// the context's. The room of the others is free again. Takes no memory.
+    /// Goes back to a mark: keeps as many of the first forms as it says, none of them wider than its width, which
+    /// becomes the context's. The room of the others is free again. Takes no memory.
     pub fn back_to(&mut self, mark: ContextMark)
         requires forms { mark.forms ≤ length self.old.forms }
         requires narrow { IsContext mark.width (take mark.forms self.old.forms) }
@@ -110,17 +120,52 @@ impl Context {
     {
         self.forms.truncate(mark.forms);
         self.width = mark.width;
+        self.known = None;
     }
 
     /// A whole vector of numbers from 0 on at which no form is below 0; None exactly where there is none. It is found
     /// by the run of the dual simplex with Gomory cuts over the forms as rows, whose pivots and cuts are counted. The
     /// refusals are those of that run: an overflow or a budget of pivots or cuts. The counts stay at what was counted.
-    pub fn point(&self, alloc: Global, w: &mut Work) -> Result<Option<Point>, Refusal>
-        ensures gives { AgreesCounted (λ o. o) run_fault result w.new (point_of self.now.width self.now.forms w.old) }
-        ensures budget { w.new.budget ≡ w.old.budget }
+    pub fn point(&self, alloc: Global, work: &mut Work) -> Result<Option<Point>, Refusal>
+        ensures gives { IsCountedRun (λ o. o) run_fault result work.old work.new
+            (model.point self.now.width self.now.forms) }
         ensures tells { IfOk result (PointTells self.now.width self.now.forms) }
         ensures refusal { IfErr result (λ e. IfSome (run_fault e) IsPointRefusal) }
     {
-        find_point(alloc, self.width, &self.forms, w)
+        find_point(alloc, self.width, &self.forms, work)
+    }
+
+    // Makes the run of the forms alone, where it is not known.
+    fn recall(&mut self, alloc: Global)
+        ensures kept { IsKeptContext self.old self.new }
+    {
+        if self.known.is_some() {
+            return;
+        }
+        if let Ok(known) = remember(alloc, self.width, &self.forms) {
+            self.known = Some(known);
+        }
+    }
+
+    /// Whether the context with one form more has a point, as `point` would find it; the form is no wider than the
+    /// context, which stays as it was, and no room is needed for it. What is counted and the refusals are those of the
+    /// run over all the forms. The pivots of the context's own forms are made at the first question, and kept for the
+    /// next ones.
+    pub fn point_with(
+        &mut self,
+        alloc: Global,
+        form: &Form,
+        work: &mut Work,
+    ) -> Result<bool, Refusal>
+        requires narrow { length form.now ≤ self.old.width + 1 }
+        ensures gives { IsCountedRun (λ b. b) run_fault result work.old work.new
+            (has_point self.old.width (self.old.forms ++ form.now ∷ [])) }
+        ensures kept { IsKeptContext self.old self.new }
+    {
+        self.recall(alloc);
+        if let Some(known) = &self.known {
+            return ask(alloc, known, form, work);
+        }
+        ask_plainly(alloc, self.width, &self.forms, form, work)
     }
 }

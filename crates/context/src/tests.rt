@@ -11,6 +11,7 @@ use std::test::Fail;
 fn context_of(alloc: Global, a: i128, b: i128) -> Result<Context, WantOfMemory>
     requires a { Fits a }
     requires b { Fits b }
+    ensures { IfOk result (λ k. k.width ≡ 1) }
 {
     let mut k = Context::try_new(alloc, 1)?;
     k.reserve(1)?;
@@ -34,6 +35,31 @@ fn points_are_found_and_counted(rt: HostRuntime) -> Result<(), Fail> {
             Some(point) => point.as_slice().first().copied(),
             None => None,
         };
+        assert_eq!(rt; found, wanted, "{a}*u + {b}");
+        assert_eq!(rt;
+            (w.pivots(), w.cuts(), w.splits()),
+            (pivots, cuts, 0),
+            "{a}*u + {b}"
+        );
+    }
+    Ok(())
+}
+
+#[test]
+fn questions_are_answered_and_counted(rt: HostRuntime) -> Result<(), Fail> {
+    let alloc = rt.alloc();
+    let limits = Limits::standard();
+    let mut k = context_of(alloc, 1, -3)?;
+    let rows: [(i128, i128, bool, u64, u64); 4] = [
+        (-1, 5, true, 1, 0),
+        (-1, 2, false, 1, 0),
+        (2, -7, true, 3, 1),
+        (-1, 3, true, 1, 0),
+    ];
+    for (a, b, wanted, pivots, cuts) in rows {
+        let form = Form::try_new(alloc, &[a, b])?;
+        let mut w = Work::start(&limits);
+        let found = k.point_with(alloc, &form, &mut w)?;
         assert_eq!(rt; found, wanted, "{a}*u + {b}");
         assert_eq!(rt;
             (w.pivots(), w.cuts(), w.splits()),

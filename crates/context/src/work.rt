@@ -1,7 +1,9 @@
 ghost use Rattle.std.specs.Prelude.{◌≡◌, ◌≤◌, OnOk};
-ghost use Rattle.pip_model.specs.Run.{IsBudget, start_work, count_pivot as count_pivot_of, count_cut as count_cut_of, count_split as count_split_of, check_nesting as check_nesting_of};
+ghost use Rattle.pip_model.specs.Run as model;
+ghost use Rattle.pip_model.specs.Run.{IsBudget, start_work};
 ghost use Rattle.pip_model.specs.Agreement.{AgreesCounted};
 ghost use Rattle.pip_problem.specs.Faults.{run_fault};
+ghost use Rattle.context.specs.Counts.{IsCountedRun};
 
 use pip_problem::{Limits, Refusal};
 use std::marker::Model;
@@ -75,8 +77,7 @@ impl Work {
     /// Counts a pivot, before it is made. It is refused exactly where the count stands at its limit, which it does then
     /// as before.
     pub fn count_pivot(&mut self) -> Result<(), Refusal>
-        ensures gives { AgreesCounted (λ x. tt) run_fault result self.new (count_pivot_of self.old) }
-        ensures budget { self.new.budget ≡ self.old.budget }
+        ensures gives { IsCountedRun (λ x. tt) run_fault result self.old self.new model.count_pivot }
     {
         if self.pivots >= self.most_pivots {
             return Err(Refusal::Pivots(self.most_pivots));
@@ -88,8 +89,7 @@ impl Work {
     /// Counts a cut, before it is made. It is refused exactly where the count stands at its limit, which it does then
     /// as before.
     pub fn count_cut(&mut self) -> Result<(), Refusal>
-        ensures gives { AgreesCounted (λ x. tt) run_fault result self.new (count_cut_of self.old) }
-        ensures budget { self.new.budget ≡ self.old.budget }
+        ensures gives { IsCountedRun (λ x. tt) run_fault result self.old self.new model.count_cut }
     {
         if self.cuts >= self.most_cuts {
             return Err(Refusal::Cuts(self.most_cuts));
@@ -101,8 +101,7 @@ impl Work {
     /// Counts a split, before it is made. It is refused exactly where the count stands at its limit, which it does then
     /// as before.
     pub fn count_split(&mut self) -> Result<(), Refusal>
-        ensures gives { AgreesCounted (λ x. tt) run_fault result self.new (count_split_of self.old) }
-        ensures budget { self.new.budget ≡ self.old.budget }
+        ensures gives { IsCountedRun (λ x. tt) run_fault result self.old self.new model.count_split }
     {
         if self.splits >= self.most_splits {
             return Err(Refusal::Splits(self.most_splits));
@@ -113,7 +112,7 @@ impl Work {
 
     /// Refuses n nested nodes exactly where n is above the limit. Nothing is counted.
     pub fn check_nesting(&self, n: u64) -> Result<(), Refusal>
-        ensures gives { AgreesCounted (λ x. tt) run_fault result self.now (check_nesting_of n self.now) }
+        ensures gives { AgreesCounted (λ x. tt) run_fault result self.now (model.check_nesting n self.now) }
         ensures within { OnOk result (n ≤ self.now.budget.nesting) }
     {
         if n > self.most_nesting {

@@ -5,7 +5,7 @@ ghost use Rattle.affine_rows.specs.Checks.{is_overflow};
 ghost use Rattle.tableau.specs.Views.{row_of};
 ghost use Rattle.dual_pivot.specs.Choices.{product_at, compared, better, better_listed, IsCandidate};
 
-use affine_rows::{Overflow, positive, times};
+use affine_rows::{Overflow, positive};
 use tableau::{RowView, Tableau};
 
 // The products by which columns k and b are compared at row i.
@@ -20,12 +20,14 @@ fn products_at(
     requires columns { length p.now.coefs.now ≡ t.now.unknowns }
     requires k { k < t.now.unknowns }
     requires b { b < t.now.unknowns }
-    ensures listed { IsChecked is_overflow (product_at t.now.rows i (row_of p.now) k b ∷ product_at t.now.rows i (row_of p.now) b k ∷ []) result }
-    ensures value { IfOk result (λ both. both ≡ (product_at t.now.rows i (row_of p.now) k b, product_at t.now.rows i (row_of p.now) b k)) }
+    ensures listed { IsChecked is_overflow (product_at t.now.rows i (row_of p.now) k b ∷ product_at t.now.rows i
+        (row_of p.now) b k ∷ []) result }
+    ensures value { IfOk result (λ both. both ≡
+        (product_at t.now.rows i (row_of p.now) k b, product_at t.now.rows i (row_of p.now) b k)) }
 {
-    let coefs = t.row(i).coefs;
-    let of_k = times(coefs[k], p.coefs[b])?;
-    let of_b = times(coefs[b], p.coefs[k])?;
+    let row = t.row(i);
+    let of_k = row.product(k, p, b)?;
+    let of_b = row.product(b, p, k)?;
     Ok((of_k, of_b))
 }
 
@@ -53,7 +55,8 @@ fn better_of(t: &Tableau, p: &RowView<'_>, best: Option<usize>, k: usize) -> Res
     requires columns { length p.now.coefs.now ≡ t.now.unknowns }
     requires k { IsCandidate t.now.unknowns (row_of p.now) k }
     requires best { IfSome best (IsCandidate t.now.unknowns (row_of p.now)) }
-    ensures listed { IsChecked is_overflow (better_listed (take t.now.unknowns t.now.rows) (row_of p.now) best k) result }
+    ensures listed { IsChecked is_overflow (better_listed (take t.now.unknowns t.now.rows)
+        (row_of p.now) best k) result }
     ensures value { IfOk result (λ b. b ≡ better (take t.now.unknowns t.now.rows) (row_of p.now) best k) }
     ensures candidate { IfOk result (IsCandidate t.now.unknowns (row_of p.now)) }
 {

@@ -1,3 +1,3 @@
-pub mod FirstFraction
 pub mod Residues
 pub mod Roundings
+pub mod Wholes

@@ -1,9 +1,9 @@
 -- The entries of a residue.
-use Rattle.std.proofs.Common.{◌≡◌, sym, ap, ◌∙◌, ℕ, zero, suc, ◌+◌, ◌<◌, ◌%◌, ℤ, pos, negsuc, neg_ℤ, ◌≤ℤ◌, List, [], ◌∷◌, ◌++◌, length, append_assoc, length-append, arith}
+use Rattle.std.proofs.Common.{◌≡◌, refl, sym, ap, ◌∙◌, ℕ, zero, suc, ◌+◌, ◌-◌, ◌<◌, ◌%◌, ℤ, pos, negsuc, neg_ℤ, ◌≤ℤ◌, List, [], ◌∷◌, ◌++◌, length, take, append_assoc, length-append, arith}
 use Rattle.std.specs.Prelude.{All}
 use Rattle.std.proofs.Math.Nat.{mod-lt, mod-eq_of_lt}
 use Rattle.std.proofs.Math.Seq.{get_or-append_seam}
-use Rattle.std.proofs.lemmas.List.{length-take, get_or-map}
+use Rattle.std.proofs.lemmas.List.{length-take, length-map, get_or-map, map-append, take-map}
 use Rattle.std.proofs.lemmas.Int.{ints}
 use Rattle.std.proofs.lemmas.List.Elements.{All-map}
 use Rattle.pip_model.specs.Numbers.{floor_mod}
@@ -42,3 +42,23 @@ widened_free r w e h =
     get_or-map (λ x. floor_mod (neg_ℤ x) r.den) (widen 1 r.constant) w (pos 0) (pos 0) long
     ∙ ap (λ x. floor_mod (neg_ℤ x) r.den) zero
     ∙ mod_zero r.den h
+
+widen_residue : (d : ℤ) (c : List ℤ) (w : ℕ) → length c ≡ w + 1 → pos 1 ≤ℤ d → widen 1 (residue d c) ≡ residue d (widen 1 c)
+widen_residue d c w e h =
+    let f : ℤ → ℤ = λ z. floor_mod (neg_ℤ z) d in
+    let n : length c - 1 ≡ w = omega (arith, e) in
+    let long : length (residue d c) ≡ length c = simp length-map refl in
+    let m : length (residue d c) - 1 ≡ w = omega (arith, e, long) in
+    let front : take w (residue d c) ≡ residue d (take w c) = take-map f w c in
+    let last : entry (residue d c) w ≡ floor_mod (neg_ℤ (entry c w)) d = get_or-map f c w (pos 0) (pos 0) (omega (arith, e)) in
+    let zero : floor_mod (pos 0) d ≡ pos 0 = mod_zero d h in
+    let parts : residue d (take w c ++ pos 0 ∷ []) ≡ residue d (take w c) ++ floor_mod (pos 0) d ∷ [] = map-append f (take w c) (pos 0 ∷ []) in
+    let whole : residue d (take w c ++ pos 0 ∷ [] ++ entry c w ∷ []) ≡ residue d (take w c ++ pos 0 ∷ []) ++ floor_mod (neg_ℤ (entry c w)) d ∷ [] = map-append f (take w c ++ pos 0 ∷ []) (entry c w ∷ []) in
+    let middle : take w (residue d c) ++ pos 0 ∷ [] ++ entry (residue d c) w ∷ [] ≡ residue d (take w c ++ pos 0 ∷ [] ++ entry c w ∷ []) = cc in
+    ap (λ (k : ℕ). take k (residue d c) ++ pos 0 ∷ [] ++ entry (residue d c) k ∷ []) m
+    ∙ middle
+    ∙ sym (ap (λ (k : ℕ). residue d (take k c ++ pos 0 ∷ [] ++ entry c k ∷ [])) n)
+
+-- the residue of a row that was widened is the row's, widened
+pub widened_residue : (r : Row) (w : ℕ) → length r.constant ≡ w + 1 → pos 1 ≤ℤ r.den → widen 1 (residue_of r).form ≡ (residue_of (widened r)).form
+widened_residue r w e h = widen_residue r.den r.constant w e h

@@ -24,9 +24,10 @@ rounding_made r w q e h free =
     rw (width_is, widen_same w g long)
     (ap (λ z. slice_set (negate g) q z) (sym one) ∙ sym (add_unit (negate g) w q r.den (simp length-map e) (omega (arith, h))))
 
-pub parametric_made : (r v : Row) (w q : ℕ) (coefs made : List ℤ) → v ≡ r → length v.constant ≡ w + 1 → q < w → entry (residue r.den r.constant) q ≡ pos 0
-    → coefs ≡ map (λ x. floor_mod x v.den) v.coefs → made ≡ slice_set (negate (residue v.den v.constant)) q v.den
+pub parametric_made : (r v : Row) (w q : ℕ) (coefs g made : List ℤ) → v ≡ r → length v.constant ≡ w + 1 → q < w → g ≡ residue r.den r.constant → entry g q ≡ pos 0
+    → coefs ≡ map (λ x. floor_mod x v.den) v.coefs → made ≡ slice_set (negate g) q v.den
     → divided (row_from v.den coefs made) ≡ parametric_cut r q
-parametric_made r v w q coefs made same e h free a b =
+parametric_made r v w q coefs g made same e h is free a b =
     let long : length r.constant ≡ w + 1 = ap (λ (x : Row). length x.constant) (sym same) ∙ e in
-    rw (b, a, same, rounding_made r w q long h free) refl
+    let zero : entry (residue r.den r.constant) q ≡ pos 0 = ap (λ (xs : List ℤ). entry xs q) (sym is) ∙ free in
+    rw (b, a, is, same, rounding_made r w q long h zero) refl

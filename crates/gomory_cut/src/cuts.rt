@@ -1,13 +1,12 @@
-ghost use Rattle.std.specs.Prelude.{◌≡◌, ◌<◌, pos, ◌≤ℤ◌, length, slice_set, All, IfOk, OnOk, OnErr};
-ghost use Rattle.pip_model.specs.Forms.{entry, negate, residue};
+ghost use Rattle.std.specs.Prelude.{◌≡◌, ◌<◌, pos, length, slice_set, All, OnOk, OnErr};
+ghost use Rattle.pip_model.specs.Forms.{entry, negate};
 ghost use Rattle.pip_model.specs.Rows.{row_at};
 ghost use Rattle.pip_model.specs.Cuts as model;
 ghost use Rattle.pip_model.specs.Agreement.{IsChecked};
 ghost use Rattle.affine_rows.specs.Checks.{Fits, is_overflow};
 ghost use Rattle.tableau.specs.Tableaus.{with_row, with_rounded};
 
-use affine_rows::{Overflow, WantOfMemory, negate_all, remainders, residues};
-use std::alloc::Global;
+use affine_rows::{Form, Overflow, WantOfMemory, negate_all, negate_around, remainders, residues};
 use tableau::Tableau;
 
 /// Adds the cut by a row whose residue is a constant: where the row's quantity is whole, the sum of the fractional
@@ -27,30 +26,36 @@ pub fn constant_cut(t: &mut Tableau, row: usize) -> Result<(), WantOfMemory>
     Ok(())
 }
 
-// The opposite of each entry, and then d at place q.
-fn negate_around(entries: &mut [i128], q: usize, d: i128)
-    requires place { q < length entries.old }
+// The cut's constant form: the opposite of the residue, and d at place q.
+fn cut_form(residue: Vec<i128>, q: usize, d: i128) -> Vec<i128>
+    requires place { q < length residue.items }
     requires d { Fits d }
-    requires fits { All Fits entries.old }
-    ensures value { entries.new ≡ slice_set (negate entries.old) q d }
-    ensures fits { All Fits entries.new }
+    requires fits { All Fits residue.items }
+    ensures value { result.items ≡ slice_set (negate residue.items) q d }
+    ensures fits { All Fits result.items }
 {
-    negate_all(entries);
-    entries[q] = d;
+    let mut made = residue;
+    negate_around(&mut made, q, d);
+    made
 }
 
-// The opposite of the residue of each entry, and d at place q.
-fn cut_form(alloc: Global, d: i128, entries: &[i128], q: usize) -> Result<Vec<i128>, WantOfMemory>
-    requires d { pos 1 ≤ℤ d }
-    requires d_fits { Fits d }
-    requires place { q < length entries.now }
-    requires fits { All Fits entries.now }
-    ensures value { IfOk result (λ v. v.items ≡ slice_set (negate (residue d entries.now)) q d) }
-    ensures fits { IfOk result (λ v. All Fits v.items) }
+// Adds the cut by a row, whose residue this is, and the quotient at place q.
+fn push_cut(t: &mut Tableau, row: usize, residue: Vec<i128>, q: usize) -> Result<(), WantOfMemory>
+    requires row { row < length t.old.rows }
+    requires place { q < t.old.width }
+    requires residue { residue.items ≡ (model.residue_of (row_at t.old.rows row)).form }
+    requires fits { All Fits residue.items }
+    requires free { entry residue.items q ≡ pos 0 }
+    ensures ok { OnOk result (t.new ≡ with_row t.old (model.parametric_cut (row_at t.old.rows row) q)) }
+    ensures err { OnErr result (t.new ≡ t.old) }
 {
-    let mut made = residues(alloc, d, entries)?;
-    negate_around(&mut made, q, d);
-    Ok(made)
+    let alloc = t.allocator();
+    let row = t.row(row);
+    let den = row.den;
+    let coefs = remainders(alloc, den, row.coefs)?;
+    let constant = cut_form(residue, q, den);
+    t.push_row(den, &coefs, &constant)?;
+    Ok(())
 }
 
 /// Adds the cut by a row whose residue over the row's denominator is the quotient at place q, a place at which the
@@ -63,12 +68,27 @@ pub fn parametric_cut(t: &mut Tableau, row: usize, q: usize) -> Result<(), WantO
     ensures err { OnErr result (t.new ≡ t.old) }
 {
     let alloc = t.allocator();
-    let row = t.row(row);
-    let den = row.den;
-    let coefs = remainders(alloc, den, row.coefs)?;
-    let constant = cut_form(alloc, den, row.constant, q)?;
-    t.push_row(den, &coefs, &constant)?;
-    Ok(())
+    let view = t.row(row);
+    let residue = residues(alloc, view.den, view.constant)?;
+    push_cut(t, row, residue, q)
+}
+
+/// Adds the same cut, where the row's residue is at hand.
+pub fn parametric_cut_by(
+    t: &mut Tableau,
+    row: usize,
+    residue: &Form,
+    q: usize,
+) -> Result<(), WantOfMemory>
+    requires row { row < length t.old.rows }
+    requires place { q < t.old.width }
+    requires residue { residue.now ≡ (model.residue_of (row_at t.old.rows row)).form }
+    requires free { entry residue.now q ≡ pos 0 }
+    ensures ok { OnOk result (t.new ≡ with_row t.old (model.parametric_cut (row_at t.old.rows row) q)) }
+    ensures err { OnErr result (t.new ≡ t.old) }
+{
+    let residue = Vec::from_slice(t.allocator(), residue.as_slice())?;
+    push_cut(t, row, residue, q)
 }
 
 /// Rounds a row's constant form by the quotient at place q, in place of a cut. It takes no memory.

@@ -5,8 +5,8 @@
 mod cuts;
 mod fractions;
 
-pub use cuts::{constant_cut, parametric_cut, rewrite};
-pub use fractions::{first_fraction, residue_of};
+pub use cuts::{constant_cut, parametric_cut, parametric_cut_by, rewrite};
+pub use fractions::{Fraction, find_fraction, first_fraction, residue_of};
 pub use tableau::StepRefusal;
 
 #[cfg(test)]

@@ -25,8 +25,10 @@ fn cuts_answer(rt: HostRuntime) -> Result<(), Fail> {
     assert_eq!(rt; den, 2);
     assert_eq!(rt; form.at(1), 0);
     parametric_cut(&mut t, 0, 1)?;
-    assert_eq!(rt; t.rows(), 3);
+    parametric_cut_by(&mut t, 0, &form, 1)?;
+    assert_eq!(rt; t.rows(), 4);
     has(&rt, t.row(1), 2, &[1], &[-1, 0, 0]);
     has(&rt, t.row(2), 2, &[1], &[-1, 2, 0]);
+    has(&rt, t.row(3), 2, &[1], &[-1, 2, 0]);
     Ok(())
 }

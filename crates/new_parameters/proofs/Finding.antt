@@ -10,7 +10,8 @@ use Rattle.pip_model.specs.Cuts.{Quotient, same_quotient, find_from}
 use Rattle.new_parameters.specs.Keys.{trimmed, is_same_key}
 use Rattle.new_parameters.specs.Scopes.{IsQuotient, AreQuotients}
 use Rattle.new_parameters.proofs.Trimming.{padded, trimmed_is}
-use Rattle.new_parameters.proofs.SameKeys.{same_quotient_is_key, same_key, length_coefficients}
+use Rattle.new_parameters.proofs.SameKeys.{same_quotient_is_key, same_key}
+use Rattle.pip_model.proofs.Forms.{length-coefficients, entry-padded}
 
 -- ---- lists of quotients
 
@@ -83,24 +84,14 @@ absent_place i (l ∷ ls) k h = let more = absent_more i l ls k h in let rest = 
 
 -- ---- the form of a key that is found at place q is 0 there
 
-zeros_at : (n q : ℕ) → entry (replicate n (pos 0)) q ≡ pos 0
-zeros_at zero q = refl
-zeros_at (suc n) zero = refl
-zeros_at (suc n) (suc q) = zeros_at n q
-
-pub padded_at : (n : ℕ) (ts : List ℤ) (q : ℕ) → length ts ≤ q → entry (padded n ts) q ≡ pos 0
-padded_at n [] q h = zeros_at n q
-padded_at n (x ∷ ts) zero h = absurd (omega arith)
-padded_at n (x ∷ ts) (suc q) h = padded_at n ts q (omega arith)
-
 -- coefficients whose trimmed part is that of at most q coefficients
 pub trimmed_at : (c d : List ℤ) (q : ℕ) → trimmed (coefficients c) ≡ trimmed (coefficients d) → width d ≤ q → q < width c → entry c q ≡ pos 0
 trimmed_at c d q e h lt =
     let mine = trimmed_is (coefficients c) in
     let other = trimmed_is (coefficients d) in
     let long : length (coefficients d) ≡ length (trimmed (coefficients d)) + other.0 = ap length other.1 ∙ simp (length-append, length-replicate) refl in
-    let short : length (trimmed (coefficients c)) ≤ q = omega (arith, ap length e, long, length_coefficients d, h) in
-    sym (get_or-take (width c) c q (pos 0) lt) ∙ ap (λ (xs : List ℤ). entry xs q) mine.1 ∙ padded_at mine.0 (trimmed (coefficients c)) q short
+    let short : length (trimmed (coefficients c)) ≤ q = omega (arith, ap length e, long, length-coefficients d, h) in
+    sym (get_or-take (width c) c q (pos 0) lt) ∙ ap (λ (xs : List ℤ). entry xs q) mine.1 ∙ entry-padded mine.0 (trimmed (coefficients c)) q short
 
 pub found_at : (i : ℕ) (ls : List Quotient) (k : Quotient) (q : ℕ) → AreQuotients i ls → find_from i ls k ≡ Some q → q < width k.form → entry k.form q ≡ pos 0
 found_at i [] k q h e = absurd cc

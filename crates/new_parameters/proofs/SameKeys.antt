@@ -13,6 +13,7 @@ use Rattle.pip_model.specs.Forms.{width, coefficients, constant, same_form, wide
 use Rattle.pip_model.specs.Cuts.{Quotient, same_quotient}
 use Rattle.new_parameters.specs.Keys.{trimmed, is_same_key}
 use Rattle.new_parameters.proofs.Trimming.{padded, trimmed-padded, trimmed_is}
+use Rattle.pip_model.proofs.Forms.{length-coefficients}
 
 -- ---- tests that decide
 
@@ -44,9 +45,6 @@ decides_form (x ∷ xs) (y ∷ ys) =
 
 -- ---- forms over a wider scope
 
-pub length_coefficients : (c : List ℤ) → length (coefficients c) ≡ width c
-length_coefficients c = simp length-take (omega arith)
-
 -- the coefficients over w places are the trimmed ones and zeros
 spread : (w : ℕ) (xs ts : List ℤ) (n : ℕ) → xs ≡ padded n ts → length xs ≤ w → padded (w - length xs) xs ≡ padded (w - length ts) ts
 spread w xs ts n e le =
@@ -59,7 +57,7 @@ spread w xs ts n e le =
 
 coefficients_spread : (w : ℕ) (c : List ℤ) → width c ≤ w → padded (w - width c) (coefficients c) ≡ padded (w - length (trimmed (coefficients c))) (trimmed (coefficients c))
 coefficients_spread w c le =
-    let long = length_coefficients c in
+    let long = length-coefficients c in
     let is = trimmed_is (coefficients c) in
     ap (λ (n : ℕ). padded (w - n) (coefficients c)) (sym long) ∙ spread w (coefficients c) (trimmed (coefficients c)) is.0 is.1 (omega (arith, long, le))
 

@@ -3,9 +3,9 @@ ghost use Rattle.pip_model.specs.Forms.{width, entry};
 ghost use Rattle.pip_model.specs.Cuts as model;
 ghost use Rattle.new_parameters.specs.Scopes.{IsQuotient, quotient_at, size};
 
-use crate::bounds::{lower_bound, upper_bound};
+use crate::bounds::upper_bound;
 use crate::quotient::Quotient;
-use affine_rows::{Form, WantOfMemory};
+use affine_rows::{Form, WantOfMemory, lower_bound};
 use indexmap::IndexSet;
 use std::alloc::Global;
 use std::marker::Model;
@@ -101,7 +101,7 @@ impl Quotients {
         ensures upper { IfOk result (λ b. b.1 ≡ model.upper_bound (i + 1) i (quotient_at self.now i)) }
     {
         let k = self.at(i);
-        let lower = lower_bound(alloc, i + 1, i, k)?;
+        let lower = lower_bound(alloc, i + 1, i, k.form.as_slice(), k.den)?;
         let upper = upper_bound(alloc, i + 1, i, k)?;
         Ok((lower, upper))
     }

@@ -1,5 +1,5 @@
 -- A command that the words give may be asked for.
-use Rattle.std.proofs.Common.{◌≡◌, refl, arith, ℕ, ℤ, ◌≤◌, List, Option, Some, None, Bool, true, false, ◌&&◌, ◌==◌, not, nat_le, length}
+use Rattle.std.proofs.Common.{◌≡◌, refl, arith, ℕ, ℤ, ◌-◌, ◌^◌, ◌≤◌, List, Option, Some, None, Bool, true, false, ◌&&◌, ◌==◌, not, nat_le, length}
 use Rattle.std.proofs.lemmas.Bool.{leb-true}
 use Rattle.std.specs.Prelude.{IfSome, if◌then◌else◌, codes}
 use Rattle.std.specs.List.{list_all}
@@ -7,17 +7,18 @@ use Rattle.std.specs.Str.{bytes_eq}
 use Rattle.std.specs.Option.{option_map}
 use Rattle.clap.specs.Words.{Row, Text, fault_of, subcommand_of, first_of, all_of}
 use Rattle.pip_model.specs.Tokens.{is_digit, natural_of}
-use Rattle.pip_model.specs.Limits.{most_input_bytes, most_pivots, most_cuts, most_splits, most_nesting}
+use Rattle.pip_model.specs.Limits.{most_params, most_pivots, most_cuts, most_splits, most_nesting}
 use Rattle.pip_model.specs.Run.{standard_budget}
-use Rattle.pip_model.specs.Commands.{Command, Eval}
+use Rattle.pip_model.specs.Commands.{Command, Eval, Simplify}
 use Rattle.pip_model.specs.Output.{MayBeAsked}
+use Rattle.pip_items.specs.Outputs.{IsWithin}
 use Rattle.pip_words.specs.Arguments.{pip_app}
-use Rattle.pip_words.specs.Numbers.{number_of}
-use Rattle.pip_words.specs.Words.{command_of, command_in, solve_of, limit_of, number_or, is_accepted, parameters_of, texts_of, ◌>>=◌}
+use Rattle.pip_words.specs.Numbers.{number_of, most_drawn}
+use Rattle.pip_words.specs.Words.{command_of, command_in, solve_of, limit_of, number_or, needed_of, trial_of, is_accepted, parameters_of, texts_of, ◌>>=◌}
 
 -- over each input within its limit
 abbrev pub IsAsked : Command → Type 0
-IsAsked c = (bytes : List ℕ) → length bytes ≤ most_input_bytes → MayBeAsked c bytes
+IsAsked c = (bytes : List ℕ) → IsWithin c bytes → MayBeAsked c bytes
 
 chosen : (b : Bool) (x y : Option Command) → IfSome x IsAsked → IfSome y IsAsked → IfSome (if b then x else y) IsAsked
 chosen true x y h k = h
@@ -56,11 +57,26 @@ eval_asked : (u : Option (List ℤ)) → IfSome (option_map Eval u) IsAsked
 eval_asked None = tt
 eval_asked (Some u) = λ bytes within. tt
 
+needed_within : (most : ℕ) (text : Option Text) → IfSome (text >>= number_of most) (λ n. n ≤ most)
+needed_within most None = tt
+needed_within most (Some text) = number_within most text
+
+simplify_asked : (m : Option ℕ) → IfSome m (λ n. n ≤ most_params) → IfSome (option_map Simplify m) IsAsked
+simplify_asked None h = tt
+simplify_asked (Some m) h = λ bytes within. h
+
+trial_asked : (rows : List Row) → IfSome (trial_of rows) IsAsked
+trial_asked rows =
+    then_asked (λ x. Unit {0}) (needed_of (codes "seed") (2 ^ 64 - 1) rows) _ (any _) (λ seed u.
+    then_asked (λ x. Unit {0}) (needed_of (codes "count") most_drawn rows) _ (any _) (λ count v bytes within. tt))
+
 in_asked : (found : Option (Text × List Row)) → IfSome (command_in found) IsAsked
 in_asked None = tt
 in_asked (Some found) =
     chosen (bytes_eq found.0 (codes "solve")) _ _ (solve_asked found.1)
-    (chosen (bytes_eq found.0 (codes "eval")) _ _ (eval_asked (parameters_of (texts_of (all_of (codes "parameter") found.1)))) tt)
+    (chosen (bytes_eq found.0 (codes "eval")) _ _ (eval_asked (parameters_of (texts_of (all_of (codes "parameter") found.1))))
+    (chosen (bytes_eq found.0 (codes "simplify")) _ _ (simplify_asked (needed_of (codes "parameters") most_params found.1) (needed_within most_params (first_of (codes "parameters") found.1)))
+    (chosen (bytes_eq found.0 (codes "trial")) _ _ (trial_asked found.1) tt)))
 
 pub command-asked : (words : List Text) → IfSome (command_of words) IsAsked
 command-asked words = chosen (is_accepted (fault_of pip_app words)) _ _ (in_asked (subcommand_of pip_app words)) tt

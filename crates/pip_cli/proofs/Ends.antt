@@ -1,12 +1,11 @@
 -- How a run ends, by its status.
-use Rattle.std.proofs.Common.{◌≡◌, ◌≢◌, ◌⊎◌, inl, inr, refl, sym, subst, ◌∙◌, ap, arith, ℕ, ◌≤◌, List, [], length, Option, Some, None}
+use Rattle.std.proofs.Common.{◌≡◌, ◌≢◌, ◌⊎◌, inl, inr, refl, sym, subst, ◌∙◌, ap, arith, ℕ, ◌≤◌, List, [], Option, Some, None}
 use Rattle.std.proofs.lemmas.List.{append-nil}
 use Rattle.std.specs.Prelude.{Result, Ok, Err, IfSome, option_map}
 use Rattle.std.specs.List.{concat}
 use Rattle.std.specs.Io.KnownBytes.{Appends, Keeps}
 use Rattle.pip_outside.specs.Bytes.{WritesAll}
 use Rattle.pip_outside.specs.Faults.{CountsFaults}
-use Rattle.pip_model.specs.Limits.{most_input_bytes}
 use Rattle.pip_model.specs.Reading.{Fault, Syntax, Wide, Limit, BigParameter, OptionWord, TooNested, Components, Version}
 use Rattle.pip_model.specs.Run.{Refusal, Overflow, Pivots, Cuts, Splits, Nesting}
 use Rattle.pip_model.specs.Endings.{Ending, finished, fault_ending, refusal_ending, notes_of}
@@ -21,7 +20,7 @@ use Rattle.headline.proofs.OutputRight.{output-right, first_output-right}
 use Rattle.headline.proofs.OutputUnique.{output-unique}
 use Rattle.pip_items.specs.Endings.{read_ending, text_ending, run_ending, or_memory, ending_of}
 use Rattle.pip_items.specs.Items.{Gained, GainedFront, WritesTill}
-use Rattle.pip_items.specs.Outputs.{WritesOutput, IsRead}
+use Rattle.pip_items.specs.Outputs.{WritesOutput, IsRead, IsWithin, IsTooLong}
 use Rattle.pip_items.specs.declared.ending.Ending.{Ending as Refused}
 use Rattle.pip_items.specs.declared.ending.Ending.TheVariants as ending
 use Rattle.pip_cli.specs.Ends.{ending_by, GainsLine, IsNoted, AreFirst, EndsWith, HasEnded, AnswersRight, Completes}
@@ -203,6 +202,9 @@ module _ (Noted : Ending → Type 0) where
 
 -- ---- the sink
 
+within_or_not : (c : Command) (bytes : List ℕ) → IsWithin c bytes → IsTooLong c bytes → ⊥
+within_or_not c bytes within long = let short = within long.0 in omega (arith, short, long.1)
+
 Appends-kept : (a b : Option (List ℕ)) → Keeps a b → Appends a b []
 Appends-kept None b h = tt
 Appends-kept (Some xs) None h = h
@@ -219,13 +221,13 @@ module _ (c : Command) (asked : IsAsked c) (bytes : List ℕ) (a b : Option (Lis
   nothing_first h = record { texts = []; are = (tt, tt); gained = Appends-kept a b h }
 
   -- the texts of first items are right
-  are_first : length bytes ≤ most_input_bytes → (ts : List (List ℕ)) → First ts → AreFirst c bytes ts
+  are_first : IsWithin c bytes → (ts : List (List ℕ)) → First ts → AreFirst c bytes ts
   are_first within ts h = (h, first_output-right c bytes (asked bytes within) ts h)
 
-  gained_first : length bytes ≤ most_input_bytes → Gained First a b → Gained (AreFirst c bytes) a b
+  gained_first : IsWithin c bytes → Gained First a b → Gained (AreFirst c bytes) a b
   gained_first within h = record { texts = h.texts; are = are_first within h.texts h.are; gained = h.gained }
 
-  front_first : length bytes ≤ most_input_bytes → GainedFront First a b → GainedFront (AreFirst c bytes) a b
+  front_first : IsWithin c bytes → GainedFront First a b → GainedFront (AreFirst c bytes) a b
   front_first within h = record { texts = h.texts; are = are_first within h.texts h.are; gained = h.gained }
 
   module _ (Noted : Ending → Type 0) (s : ℕ) where
@@ -241,17 +243,17 @@ module _ (c : Command) (asked : IsAsked c) (bytes : List ℕ) (a b : Option (Lis
       want_of_memory = λ p. nothing_first h;
     }
 
-    at_item : (o : Option Ending) → IsItemEnd o → s ≡ (or_memory o).status → Noted (or_memory o) → length bytes ≤ most_input_bytes → WritesTill First Whole a b o → HasEnded c bytes a b Noted s
+    at_item : (o : Option Ending) → IsItemEnd o → s ≡ (or_memory o).status → Noted (or_memory o) → IsWithin c bytes → WritesTill First Whole a b o → HasEnded c bytes a b Noted s
     at_item None end k n within h = record {
       whole = λ _ p q r. absurd (r k);
-      too_long = λ long. absurd (omega arith);
+      too_long = λ long. absurd (within_or_not c bytes within long);
       read_fault = λ p. absurd (omega arith);
       write_fault = λ p. absurd (omega arith);
       want_of_memory = λ p. gained_first within h;
     }
     at_item (Some e) end k n within h = record {
       whole = λ _ p q r. ends_with e k n h;
-      too_long = λ long. absurd (omega arith);
+      too_long = λ long. absurd (within_or_not c bytes within long);
       read_fault = λ p. absurd (end.no_read_fault (sym k ∙ p));
       write_fault = λ p. absurd (end.no_write_fault (sym k ∙ p));
       want_of_memory = λ p. absurd (end.no_memory (sym k ∙ p));
@@ -260,7 +262,7 @@ module _ (c : Command) (asked : IsAsked c) (bytes : List ℕ) (a b : Option (Lis
     pub ends-by : (r : Result (Unit {0}) Refused) → s ≡ (ending_from r).status → Noted (ending_from r) → WritesOutput c bytes a b r → HasEnded c bytes a b Noted s
     ends-by (Ok u) k n h = record {
       whole = λ _ p q r. ends_with finished k n h.1;
-      too_long = λ long. let within = h.0 in absurd (omega arith);
+      too_long = λ long. absurd (within_or_not c bytes h.0 long);
       read_fault = λ p. absurd (omega arith);
       write_fault = λ p. absurd (omega arith);
       want_of_memory = λ p. absurd (omega arith);
@@ -275,7 +277,7 @@ module _ (c : Command) (asked : IsAsked c) (bytes : List ℕ) (a b : Option (Lis
     }
     ends-by (Err ending.WriteFault) k n h = record {
       whole = λ within p q r. absurd (q k);
-      too_long = λ long. let within = h.0 in absurd (omega arith);
+      too_long = λ long. absurd (within_or_not c bytes h.0 long);
       read_fault = λ p. absurd (omega arith);
       write_fault = λ p. front_first h.0 h.1;
       want_of_memory = λ p. absurd (omega arith);
@@ -283,7 +285,7 @@ module _ (c : Command) (asked : IsAsked c) (bytes : List ℕ) (a b : Option (Lis
     ends-by (Err ending.WantOfMemory) k n (inl h) = at_memory k h
     ends-by (Err ending.WantOfMemory) k n (inr h) = at_item None tt k n h.0 h.1
     ends-by (Err ending.InputTooLong) k n h = record {
-      whole = λ within p q r. let long = h.0 in absurd (omega arith);
+      whole = λ within p q r. absurd (within_or_not c bytes within h.0);
       too_long = λ long. record { statuses = inl k; noted = λ p. n; nothing = h.1 };
       read_fault = λ p. absurd (omega arith);
       write_fault = λ p. absurd (omega arith);
@@ -295,10 +297,10 @@ module _ (c : Command) (asked : IsAsked c) (bytes : List ℕ) (a b : Option (Lis
 
 -- where no fault and no want of memory ends the run early, each text is right
 module _ (c : Command) (asked : IsAsked c) (bytes : List ℕ) (a b : Option (List ℕ)) (s : ℕ) where
-  right_till : (e : Ending) → s ≡ e.status → length bytes ≤ most_input_bytes → Gained (λ ts. IsOutput c bytes ts e) a b → AnswersRight c bytes a b s
+  right_till : (e : Ending) → s ≡ e.status → IsWithin c bytes → Gained (λ ts. IsOutput c bytes ts e) a b → AnswersRight c bytes a b s
   right_till e k within h = λ _ p q r. (h.texts, e, output-right c bytes (asked bytes within) h.texts e h.are, h.gained, k)
 
-  right_item : (o : Option Ending) → s ≡ (or_memory o).status → length bytes ≤ most_input_bytes → WritesTill (IsFirstOutput c bytes) (IsOutput c bytes) a b o → AnswersRight c bytes a b s
+  right_item : (o : Option Ending) → s ≡ (or_memory o).status → IsWithin c bytes → WritesTill (IsFirstOutput c bytes) (IsOutput c bytes) a b o → AnswersRight c bytes a b s
   right_item None k within h = λ _ p q r. absurd (r k)
   right_item (Some e) k within h = right_till e k within h
 
@@ -308,7 +310,7 @@ module _ (c : Command) (asked : IsAsked c) (bytes : List ℕ) (a b : Option (Lis
   answers-right (Err ending.ReadFault) k h = λ _ p q r. absurd (p k)
   answers-right (Err ending.WriteFault) k h = λ _ p q r. absurd (q k)
   answers-right (Err ending.WantOfMemory) k h = λ _ p q r. absurd (r k)
-  answers-right (Err ending.InputTooLong) k h = λ within p q r. let long = h.0 in absurd (omega arith)
+  answers-right (Err ending.InputTooLong) k h = λ within p q r. absurd (within_or_not c bytes within h.0)
   answers-right (Err (ending.Problem e)) k h = right_item (read_ending e) k h.0 h.1
   answers-right (Err (ending.Answer e)) k h = right_item (text_ending e) k h.0 h.1
   answers-right (Err (ending.Run e)) k h = right_item (run_ending e) k h.0 h.1
@@ -331,7 +333,7 @@ module _ (c : Command) (bytes : List ℕ) (a b : Option (List ℕ)) (s : ℕ) wh
   completes-by (Err ending.ReadFault) k p q h within ts l = absurd (p k)
   completes-by (Err ending.WriteFault) k p q h within ts l = absurd (q k)
   completes-by (Err ending.WantOfMemory) k p q h within ts l = inr k
-  completes-by (Err ending.InputTooLong) k p q h within ts l = let long = h.0 in absurd (omega arith)
+  completes-by (Err ending.InputTooLong) k p q h within ts l = absurd (within_or_not c bytes within h.0)
   completes-by (Err (ending.Problem e)) k p q h within ts l = item_done (read_ending e) (problem_end e) k h.1 ts l
   completes-by (Err (ending.Answer e)) k p q h within ts l = item_done (text_ending e) (answer_end e) k h.1 ts l
   completes-by (Err (ending.Run e)) k p q h within ts l = item_done (run_ending e) (run_end e) k h.1 ts l

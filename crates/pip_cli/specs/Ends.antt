@@ -1,15 +1,15 @@
 -- What the program promises of its status, its sink and its notes.
-use Rattle.std.specs.Prelude.{◌≡◌, ◌≢◌, ◌⊎◌, ℕ, ◌<◌, ◌≤◌, List, length, Option, Some, None}
+use Rattle.std.specs.Prelude.{◌≡◌, ◌≢◌, ◌⊎◌, ℕ, List, Option, Some, None}
 use Rattle.std.specs.List.{concat}
 use Rattle.std.specs.Io.KnownBytes.{Appends, Keeps}
 use Rattle.pip_outside.specs.Bytes.{AppendsFront}
 use Rattle.pip_outside.specs.Faults.{HasRisen}
-use Rattle.pip_model.specs.Limits.{most_input_bytes}
 use Rattle.pip_model.specs.Endings.{Ending, all_done, wrong_words, read_failed, write_failed, memory_refused, past_limit, finished, usage_ending, read_fault_ending, write_fault_ending, memory_ending, input_ending, notes_of}
 use Rattle.pip_model.specs.Commands.{Command}
 use Rattle.pip_model.specs.Output.{IsOutput, IsFirstOutput, IsRightOutput, IsRightFirstOutput}
 use Rattle.pip_items.specs.Endings.{ending_of}
 use Rattle.pip_items.specs.Items.{Gained, GainedFront}
+use Rattle.pip_items.specs.Outputs.{IsWithin, IsTooLong}
 use Rattle.pip_items.specs.declared.ending.Ending.{Ending as Refused}
 
 -- ---- the notes
@@ -56,8 +56,8 @@ pub record EndsAtLimit (before after : Option (List ℕ)) (Noted : Ending → Ty
 
 -- How a command's run over an input ends.
 pub record HasEnded (c : Command) (bytes : List ℕ) (before after : Option (List ℕ)) (Noted : Ending → Type 0) (status : ℕ) : Type 0 where
-  pub whole : length bytes ≤ most_input_bytes → status ≢ read_failed → status ≢ write_failed → status ≢ memory_refused → EndsWith c bytes before after Noted status
-  pub too_long : most_input_bytes < length bytes → EndsAtLimit before after Noted status
+  pub whole : IsWithin c bytes → status ≢ read_failed → status ≢ write_failed → status ≢ memory_refused → EndsWith c bytes before after Noted status
+  pub too_long : IsTooLong c bytes → EndsAtLimit before after Noted status
   pub read_fault : status ≡ read_failed → Keeps before after
   pub write_fault : status ≡ write_failed → GainedFront (AreFirst c bytes) before after
   pub want_of_memory : status ≡ memory_refused → Gained (AreFirst c bytes) before after
@@ -65,10 +65,10 @@ pub record HasEnded (c : Command) (bytes : List ℕ) (before after : Option (Lis
 -- Where no fault and no want of memory ends the run early: each text that the sink gained is right for the item in its place, and so is the end.
 abbrev pub AnswersRight : Command → List ℕ → Option (List ℕ) → Option (List ℕ) → ℕ → Type 0
 AnswersRight c bytes before after status =
-    length bytes ≤ most_input_bytes → status ≢ read_failed → status ≢ write_failed → status ≢ memory_refused →
+    IsWithin c bytes → status ≢ read_failed → status ≢ write_failed → status ≢ memory_refused →
     (ts : List (List ℕ)) × (e : Ending) × IsRightOutput c bytes ts e × Appends before after (concat ts) × (status ≡ e.status)
 
 -- Where no item is refused, all is done, or memory was refused.
 abbrev pub Completes : Command → List ℕ → Option (List ℕ) → Option (List ℕ) → ℕ → Type 0
 Completes c bytes before after status =
-    length bytes ≤ most_input_bytes → (ts : List (List ℕ)) → IsOutput c bytes ts finished → ((status ≡ all_done) × Appends before after (concat ts)) ⊎ (status ≡ memory_refused)
+    IsWithin c bytes → (ts : List (List ℕ)) → IsOutput c bytes ts finished → ((status ≡ all_done) × Appends before after (concat ts)) ⊎ (status ≡ memory_refused)

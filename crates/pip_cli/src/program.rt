@@ -3,7 +3,7 @@ ghost use Rattle.std.specs.Io.KnownBytes.{IsAtEnd};
 ghost use Rattle.pip_outside.specs.Faults.{HasRisen};
 ghost use Rattle.pip_model.specs.Limits.{most_input_bytes};
 ghost use Rattle.pip_model.specs.Endings.{all_done, wrong_words, read_failed, write_failed, memory_refused, past_limit};
-ghost use Rattle.pip_items.specs.Outputs.{WritesOutput, IsRead};
+ghost use Rattle.pip_items.specs.Outputs.{WritesOutput, TakesInput, IsRead};
 ghost use Rattle.pip_cli.specs.Runs.{command_given, IsWordsEnding};
 ghost use Rattle.pip_cli.specs.Ends.{GainsLine, IsNoted, HasEnded, AnswersRight, Completes};
 
@@ -22,7 +22,8 @@ fn run<S: Source, K: Sink>(
     ensures usage { IsErrOf result Ending.Usage → command_given words.now ≡ None }
     ensures refused { command_given words.now ≡ None → IsWordsEnding result }
     ensures untouched { command_given words.now ≡ None → (source.new ≡ source.old) × (sink.new ≡ sink.old) }
-    ensures end { IsRead result → IsAtEnd (S.left source.new) }
+    ensures end { IfSome (command_given words.now) TakesInput → IsRead result → IsAtEnd (S.left source.new) }
+    ensures spared { IfSome (command_given words.now) (λ c. ¬ TakesInput c → source.new ≡ source.old) }
     ensures taken { IfSome (S.left source.old) (λ _. S.taken source.new ≤ S.taken source.old + (most_input_bytes + 1)) }
     ensures read_fault { IsErrOf result Ending.ReadFault → HasRisen (S.faults source.old) (S.faults source.new) }
     ensures write_fault { IsErrOf result Ending.WriteFault → HasRisen (K.faults sink.old) (K.faults sink.new) }
@@ -38,7 +39,7 @@ fn run<S: Source, K: Sink>(
 
 /// Does all that the program does and answers its status.
 ///
-/// The words come first, then the whole input is read, and then each item is read, answered, printed and written, up to the first
+/// The words come first, then the whole input is read, but by the trial, and then each item is read, answered, printed and written, up to the first
 /// refusal. Its line goes to the notes; a write of it that fails changes neither the status nor the sink.
 pub fn pip_main<S: Source, K: Sink, N: Sink>(
     alloc: Global,
@@ -52,8 +53,9 @@ pub fn pip_main<S: Source, K: Sink, N: Sink>(
     ensures refused { command_given words.now ≡ None → (result ≡ wrong_words) ⊎ (result ≡ memory_refused) }
     ensures untouched { command_given words.now ≡ None → (source.new ≡ source.old) × (sink.new ≡ sink.old) }
 
-    // what is read of the source, whatever it tells
-    ensures read_to_end { result ≢ wrong_words → result ≢ read_failed → result ≢ memory_refused → result ≢ past_limit → IsAtEnd (S.left source.new) }
+    // what is read of the source, whatever it tells; the trial reads nothing
+    ensures spared { IfSome (command_given words.now) (λ c. ¬ TakesInput c → source.new ≡ source.old) }
+    ensures read_to_end { IfSome (command_given words.now) TakesInput → result ≢ wrong_words → result ≢ read_failed → result ≢ memory_refused → result ≢ past_limit → IsAtEnd (S.left source.new) }
     ensures taken { IfSome (S.left source.old) (λ _. S.taken source.new ≤ S.taken source.old + (most_input_bytes + 1)) }
 
     // the causes of faults, each of which ends the run

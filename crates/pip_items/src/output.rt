@@ -5,7 +5,7 @@ ghost use Rattle.pip_model.specs.Limits.{most_input_bytes};
 ghost use Rattle.pip_model.specs.Items as model;
 ghost use Rattle.pip_words.specs.Words.{meaning_of};
 ghost use Rattle.pip_items.specs.Items.{WritesItems};
-ghost use Rattle.pip_items.specs.Outputs.{WritesOutput, IsRead};
+ghost use Rattle.pip_items.specs.Outputs.{WritesOver, WritesOutput, TakesInput, IsRead};
 
 use crate::ending::Ending;
 use crate::input::read_input;
@@ -14,15 +14,15 @@ use pip_outside::{Sink, Source};
 use pip_words::Command;
 use std::alloc::Global;
 
-/// Reads the whole input, and then writes the text that a command makes of each item, up to the first refusal.
-pub fn write_output<S: Source, K: Sink>(
+// Reads the whole input, and then writes the text of each item.
+fn write_over_input<C: ItemTexts, S: Source, K: Sink>(
     alloc: Global,
-    command: &Command,
+    command: &C,
     source: &mut S,
     sink: &mut K,
 ) -> Result<(), Ending>
     ensures output { IfSome (S.left source.old) (λ bytes.
-        WritesOutput (meaning_of command.now) bytes (K.written sink.old) (K.written sink.new) result) }
+        WritesOver (C.text_at command.now) bytes (K.written sink.old) (K.written sink.new) result) }
     ensures words { ¬ IsErrOf result Ending.Usage }
     ensures end { IsRead result → IsAtEnd (S.left source.new) }
     ensures taken { IfSome (S.left source.old) (λ _. S.taken source.new ≤ S.taken source.old + (most_input_bytes + 1)) }
@@ -33,8 +33,33 @@ pub fn write_output<S: Source, K: Sink>(
     ensures unread { IsErrOf result Ending.ReadFault → sink.new ≡ sink.old }
 {
     let input = read_input(alloc, source)?;
+    write_items(alloc, command, &input, sink)
+}
+
+/// Writes the text that a command makes of each item, up to the first refusal. The whole input is read first; the trial
+/// reads none.
+pub fn write_output<S: Source, K: Sink>(
+    alloc: Global,
+    command: &Command,
+    source: &mut S,
+    sink: &mut K,
+) -> Result<(), Ending>
+    ensures output { IfSome (S.left source.old) (λ bytes.
+        WritesOutput (meaning_of command.now) bytes (K.written sink.old) (K.written sink.new) result) }
+    ensures words { ¬ IsErrOf result Ending.Usage }
+    ensures end { TakesInput (meaning_of command.now) → IsRead result → IsAtEnd (S.left source.new) }
+    ensures spared { ¬ TakesInput (meaning_of command.now) → source.new ≡ source.old }
+    ensures taken { IfSome (S.left source.old) (λ _. S.taken source.new ≤ S.taken source.old + (most_input_bytes + 1)) }
+    ensures read_fault { IsErrOf result Ending.ReadFault → HasRisen (S.faults source.old) (S.faults source.new) }
+    ensures write_fault { IsErrOf result Ending.WriteFault → HasRisen (K.faults sink.old) (K.faults sink.new) }
+    ensures read_quiet { ¬ IsErrOf result Ending.ReadFault → S.faults source.new ≡ S.faults source.old }
+    ensures write_quiet { ¬ IsErrOf result Ending.WriteFault → K.faults sink.new ≡ K.faults sink.old }
+    ensures unread { IsErrOf result Ending.ReadFault → sink.new ≡ sink.old }
+{
     match command {
-        Command::Solve(options) => write_items(alloc, options, &input, sink),
-        Command::Eval(params) => write_items(alloc, params, &input, sink),
+        Command::Solve(options) => write_over_input(alloc, options, source, sink),
+        Command::Eval(params) => write_over_input(alloc, params, source, sink),
+        Command::Simplify(options) => write_over_input(alloc, options, source, sink),
+        Command::Trial(options) => write_items(alloc, options, b"", sink),
     }
 }

@@ -13,7 +13,7 @@ use affine_rows::{Form, MOST_PARAMETERS, MOST_UNKNOWNS, Overflow};
 /// The most unknowns and parameters together.
 const MOST_PLACES: usize = MOST_UNKNOWNS + MOST_PARAMETERS;
 
-/// The point and then the parameters, in the front of an array.
+// The point and then the parameters, in the front of an array.
 fn joined(point: &[i128], params: &[i128]) -> [i128; MOST_PLACES]
     requires { length point.now + length params.now ≤ most_unknowns + most_params }
     ensures { take (length point.now + length params.now) result ≡ point.now ++ params.now }
@@ -26,14 +26,14 @@ fn joined(point: &[i128], params: &[i128]) -> [i128; MOST_PLACES]
     vector
 }
 
-/// Whether each number is at least 0.
+// Whether each number is at least 0.
 fn is_nonnegative(numbers: &[i128]) -> bool
     ensures { result ≡ list_all is_nonneg numbers.now }
 {
     numbers.iter().all(|number| *number >= 0)
 }
 
-/// Whether each form's value at u is at least 0, up to the first that is not.
+// Whether each form's value at u is at least 0, up to the first that is not.
 fn all_nonneg(forms: &[Form], u: &[i128]) -> Result<bool, Overflow>
     requires widths { All (IsRow (length u.now)) forms.now }
     requires fits { All Fits u.now }
@@ -48,10 +48,11 @@ fn all_nonneg(forms: &[Form], u: &[i128]) -> Result<bool, Overflow>
     Ok(true)
 }
 
-/// Whether the point is feasible at the parameters: no number of it is below 0, and neither is a tableau row's value at the point and the parameters.
+/// Whether the point is feasible at the parameters: no number of it is below 0, and neither is a tableau row's value at
+/// the point and the parameters.
 ///
-/// It overflows exactly where a number of a row's value does not fit, for the rows in order up to the first that is below 0; a point with a number below 0
-/// is not feasible whatever the rows. It takes no memory.
+/// It overflows exactly where a number of a row's value does not fit, for the rows in order up to the first that is
+/// below 0; a point with a number below 0 is not feasible whatever the rows. It takes no memory.
 pub fn is_feasible(p: &Problem, point: &[i128], params: &[i128]) -> Result<bool, Overflow>
     requires point { length point.now ≡ p.now.unknowns }
     requires params { length params.now ≡ p.now.params }

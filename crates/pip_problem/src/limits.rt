@@ -1,6 +1,7 @@
 ghost use Rattle.std.specs.Prelude.{◌≡◌};
 ghost use Rattle.pip_model.specs.Run.{IsBudget, standard_budget};
 
+use affine_rows::MOST_NESTING;
 use std::marker::Model;
 
 /// The budgets of a run: how many pivots, cuts and splits a problem may take, and how deep its tree may be nested.
@@ -23,7 +24,7 @@ impl Model for Limits {
 }
 
 impl Limits {
-    /// At most 1,000,000,000 pivots, 1,000,000 cuts, 1,000,000 splits and a nesting of 200.
+    /// Budgets, each at most the most that it may be.
     pub fn new(pivots: u64, cuts: u64, splits: u64, nesting: u64) -> Limits
         requires { IsBudget (record { pivots = pivots; cuts = cuts; splits = splits; nesting = nesting }) }
         ensures { result ≡ record { pivots = pivots; cuts = cuts; splits = splits; nesting = nesting } }
@@ -36,11 +37,11 @@ impl Limits {
         }
     }
 
-    /// 1,000,000 pivots, 100,000 cuts, 10,000 splits and a nesting of 200.
+    /// The budgets of a run for which none are asked.
     pub fn standard() -> Limits
         ensures { result ≡ standard_budget }
     {
-        Limits::new(1_000_000, 100_000, 10_000, 200)
+        Limits::new(1_000_000, 100_000, 10_000, MOST_NESTING as u64)
     }
 
     pub fn pivots(&self) -> u64

@@ -8,8 +8,8 @@ use std::marker::Model;
 
 /// Unknowns, parameters, a tableau, a context, the mode and a comment, within the limits.
 ///
-/// A tableau row is a form over the unknowns and then the parameters, a context row one over the parameters; each says that its
-/// value is at least 0 (Feautrier, RAIRO 1988; the PIP/PipLib user's guide).
+/// A tableau row is a form over the unknowns and then the parameters, a context row one over the parameters; each says
+/// that its value is at least 0 (Feautrier, RAIRO 1988; the PIP/PipLib user's guide).
 #[derive(Drop)]
 pub struct Problem {
     unknowns: usize,
@@ -42,8 +42,22 @@ impl Problem {
         integer: bool,
         comment: &[u8],
     ) -> Result<Problem, WantOfMemory>
-        requires { IsProblem (record { unknowns = unknowns; params = params; rows = rows.now; context = context.now; integer = integer; comment = comment.now }) }
-        ensures { IfOk result (λ p. p ≡ record { unknowns = unknowns; params = params; rows = rows.now; context = context.now; integer = integer; comment = comment.now }) }
+        requires { IsProblem (record {
+          unknowns = unknowns;
+          params = params;
+          rows = rows.now;
+          context = context.now;
+          integer = integer;
+          comment = comment.now;
+        }) }
+        ensures { IfOk result (λ p. p ≡ record {
+          unknowns = unknowns;
+          params = params;
+          rows = rows.now;
+          context = context.now;
+          integer = integer;
+          comment = comment.now;
+        }) }
     {
         let rows = FormList::try_new(alloc, rows)?;
         let context = FormList::try_new(alloc, context)?;
@@ -67,8 +81,22 @@ impl Problem {
         integer: bool,
         comment: Bytes,
     ) -> Problem
-        requires { IsProblem (record { unknowns = unknowns; params = params; rows = rows.items; context = context.items; integer = integer; comment = comment }) }
-        ensures { result ≡ record { unknowns = unknowns; params = params; rows = rows.items; context = context.items; integer = integer; comment = comment } }
+        requires { IsProblem (record {
+          unknowns = unknowns;
+          params = params;
+          rows = rows.items;
+          context = context.items;
+          integer = integer;
+          comment = comment;
+        }) }
+        ensures { result ≡ record {
+          unknowns = unknowns;
+          params = params;
+          rows = rows.items;
+          context = context.items;
+          integer = integer;
+          comment = comment;
+        } }
     {
         Problem {
             unknowns,
@@ -80,7 +108,7 @@ impl Problem {
         }
     }
 
-    /// The number of unknowns, 1 to 128.
+    /// The number of unknowns, at least 1.
     pub fn unknowns(&self) -> usize
         ensures value { result ≡ self.now.unknowns }
         ensures problem { IsProblem self.now }
@@ -88,7 +116,7 @@ impl Problem {
         self.unknowns
     }
 
-    /// The number of parameters, 0 to 48.
+    /// The number of parameters.
     pub fn params(&self) -> usize
         ensures value { result ≡ self.now.params }
         ensures problem { IsProblem self.now }

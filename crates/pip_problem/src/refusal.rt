@@ -41,22 +41,6 @@ impl From<WantOfMemory> for Refusal {
     }
 }
 
-impl From<AllocError> for Refusal {
-    ghost from_gives = { λ _ e. e ≡ run.WantOfMemory };
-
-    fn from(_: AllocError) -> Refusal {
-        Refusal::WantOfMemory
-    }
-}
-
-impl<T: Drop> From<AllocFailed<T>> for Refusal {
-    ghost from_gives = { λ _ e. e ≡ run.WantOfMemory };
-
-    fn from(_: AllocFailed<T>) -> Refusal {
-        Refusal::WantOfMemory
-    }
-}
-
 /// Why a problem's text is not read: the place of the token that differs, the number read, or the option word.
 #[derive(Clone, Copy, Debug, PartialEq, Eq, Error)]
 pub enum ReadRefusal {

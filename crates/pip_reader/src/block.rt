@@ -33,8 +33,8 @@ fn form_rows(
     Ok((forms, at))
 }
 
-/// So many rows between brackets, the constant of each behind its first coefficients, and the place behind them.
-pub fn form_block(
+// So many rows between brackets, the constant of each behind its first coefficients, and the place behind them.
+pub(crate) fn form_block(
     alloc: Global,
     bytes: &[u8],
     count: usize,

@@ -32,8 +32,8 @@ fn limited(
     within(kind, low, high, number(bytes, place)?)
 }
 
-/// The four numbers of sizes, each in its range, and the place behind them.
-pub fn read_sizes(bytes: &[u8], place: usize) -> Reads<Sizes, ReadRefusal>
+// The four numbers of sizes, each in its range, and the place behind them.
+pub(crate) fn read_sizes(bytes: &[u8], place: usize) -> Reads<Sizes, ReadRefusal>
     requires { place ≤ length bytes.now }
     ensures reads { IsRead (λ s. s) read_fault bytes.now place result (model.sizes bytes.now place) }
     ensures unknowns { IfOk result (λ x. x.0.unknowns ≤ most_unknowns) }
@@ -52,8 +52,8 @@ pub fn read_sizes(bytes: &[u8], place: usize) -> Reads<Sizes, ReadRefusal>
     Ok((sizes, at))
 }
 
-/// No big parameter, then whether whole points are asked for, and the place behind them.
-pub fn read_mode(bytes: &[u8], place: usize) -> Reads<bool, ReadRefusal>
+// No big parameter, then whether whole points are asked for, and the place behind them.
+pub(crate) fn read_mode(bytes: &[u8], place: usize) -> Reads<bool, ReadRefusal>
     requires { place ≤ length bytes.now }
     ensures { IsRead (λ integer. integer) read_fault bytes.now place result (model.mode bytes.now place) }
 {

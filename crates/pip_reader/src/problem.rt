@@ -85,11 +85,13 @@ fn first_problem(
     }
 }
 
-/// The problem that begins with the first `(` at or behind `start`, and the place behind its last `)`; none exactly where there is no `(`.
+/// The problem that begins with the first `(` at or behind `start`, and the place behind its last `)`; none exactly
+/// where there is no `(`.
 ///
-/// The first token that differs from the format decides the refusal, which keeps the place of that token's first byte (the number of bytes at their
-/// end), the count that is out of its range, or the big parameter's column. A number of more than 127 bits where one is expected is `Wide`. It never
-/// answers `OptionWord`. `start` is at most the number of bytes.
+/// The first token that differs from the format decides the refusal, which keeps the place of that token's first byte
+/// (the number of bytes at their end), the count that is out of its range, or the big parameter's column. A number of
+/// more than 127 bits where one is expected is `Wide`. It never answers `OptionWord`. `start` is at most the number of
+/// bytes.
 pub fn read_problem(
     alloc: Global,
     bytes: &[u8],

@@ -29,8 +29,8 @@ fn form_of(mut row: Vec<i128>, coefficients: usize) -> Form
     Form::from_entries(row)
 }
 
-/// A row of so many numbers, the constant among them behind the first coefficients, and the place behind it.
-pub fn form_row(
+// A row of so many numbers, the constant among them behind the first coefficients, and the place behind it.
+pub(crate) fn form_row(
     alloc: Global,
     bytes: &[u8],
     count: usize,

@@ -161,16 +161,16 @@ turned_running rows now path later pending T running turned kept = by T turned
             few_unknowns = omega (arith, node.few_unknowns, unknowns);
             rows = omega (arith, unknowns, some);
             scope = omega (arith, node.scope, still, params, width);
-            context = omega (arith, node.context, kept.context.0, width);
+            context = omega (arith, node.context, kept.context.width, width);
             few_params = omega (arith, node.few_params, params);
             few_quotients = omega (arith, node.few_quotients, still, kept.depth);
             shallow = omega (arith, node.shallow, kept.depth);
-            room = omega (arith, node.room, kept.spare);
+            room = omega (arith, node.room, kept.context.spare);
           };
           depth = kept.depth ∙ running.depth;
           nested = omega (arith, kept.depth, running.nested);
           few = running.few;
-          room = omega (arith, kept.depth, kept.spare, running.room);
+          room = omega (arith, kept.depth, kept.context.spare, running.room);
           waits = subst (λ n. Waits pending.most n later pending.frames) (sym width) waits;
         }
 
@@ -197,17 +197,17 @@ after_same : (rows now : TableauRows) (path later : Path) (most : ℕ) (T : turn
 after_same rows now path later most (code.Closed tree) u h kept = refl
 after_same rows now path later most code.Again u h kept =
     ap (λ (n : ℕ). run_from (record { unknowns = n; params = path.quotients.params; integer = path.integer; class = class }) (node_of now path) u) (sym h.0)
-    ∙ sym (node_same now path later kept.integer kept.depth kept.context.1 kept.quotients u)
+    ∙ sym (node_same now path later kept.integer kept.depth kept.context.forms kept.quotients u)
 after_same rows now path later most (code.Split c) u h kept =
     ap (λ (t : TableauRows). after (setting_of t path) (turn_of now path (code.Split c)) u) (sym h.0)
-    ∙ ap (λ o. go_on o (λ a. node_run now (path_under path (opposite c)) >>= λ b. give (If c a b))) (sym (node_same now (path_under path c) (path_under later c) kept.integer (ap (λ n. n + 1) kept.depth) (ap (λ (fs : List (List ℤ)). fs ++ c ∷ []) kept.context.1) kept.quotients u))
+    ∙ ap (λ o. go_on o (λ a. node_run now (path_under path (opposite c)) >>= λ b. give (If c a b))) (sym (node_same now (path_under path c) (path_under later c) kept.integer (ap (λ n. n + 1) kept.depth) (ap (λ (fs : List (List ℤ)). fs ++ c ∷ []) kept.context.forms) kept.quotients u))
     ∙ same_after (node_run now (path_under later c) u) (λ a. node_run now (path_under path (opposite c)) >>= λ b. give (If c a b)) (λ a. node_run now (path_under later (opposite c)) >>= λ b. give (If c a b)) (λ a v.
-    ap (λ o. go_on o (λ b. give (If c a b))) (sym (node_same now (path_under path (opposite c)) (path_under later (opposite c)) kept.integer (ap (λ n. n + 1) kept.depth) (ap (λ (fs : List (List ℤ)). fs ++ opposite c ∷ []) kept.context.1) kept.quotients v)))
+    ap (λ o. go_on o (λ b. give (If c a b))) (sym (node_same now (path_under path (opposite c)) (path_under later (opposite c)) kept.integer (ap (λ n. n + 1) kept.depth) (ap (λ (fs : List (List ℤ)). fs ++ opposite c ∷ []) kept.context.forms) kept.quotients v)))
 after_same rows now path later most (code.Below i k) u h kept =
     ap (λ (t : TableauRows). after (setting_of t path) (turn_of now path (code.Below i k)) u) (sym h.0)
     ∙ ap (λ (b : Bool). after (record { unknowns = now.unknowns; params = path.quotients.params; integer = b; class = class }) (turn_of now path (code.Below i k)) u) (sym kept.integer)
     ∙ ap (λ (n : ℕ). after (record { unknowns = now.unknowns; params = path.quotients.params; integer = later.integer; class = class }) (turn_of now (record path { depth = n }) (code.Below i k)) u) (sym kept.depth)
-    ∙ ap (λ (fs : List (List ℤ)). after (record { unknowns = now.unknowns; params = path.quotients.params; integer = later.integer; class = class }) (turn_of now (record path { depth = later.depth; context = record path.context { forms = fs } }) (code.Below i k)) u) (sym kept.context.1)
+    ∙ ap (λ (fs : List (List ℤ)). after (record { unknowns = now.unknowns; params = path.quotients.params; integer = later.integer; class = class }) (turn_of now (record path { depth = later.depth; context = record path.context { forms = fs } }) (code.Below i k)) u) (sym kept.context.forms)
     ∙ ap (λ (q : Scope). after (record { unknowns = now.unknowns; params = q.params; integer = later.integer; class = class }) (turn_of now (record later { quotients = q }) (code.Below i k)) u) (sym kept.quotients)
 
 -- the whole run goes on from what a turn leaves

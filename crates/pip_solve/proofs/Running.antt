@@ -134,8 +134,8 @@ waits_grown most w path now (frame.NewParm form den ∷ frames) grown waits = (w
 pub grown_kept : (path now : Path) → IsKept path now → Grown path now
 grown_kept path now kept = record {
   integer = kept.integer;
-  forms = ([], kept.context.1 ∙ sym (append-nil _));
-  room = let e = ap (λ (fs : List (List ℤ)). length fs) kept.context.1 in omega (arith, e, kept.spare);
+  forms = ([], kept.context.forms ∙ sym (append-nil _));
+  room = let e = ap (λ (fs : List (List ℤ)). length fs) kept.context.forms in omega (arith, e, kept.context.spare);
   params = ap (λ (q : Scope). q.params) kept.quotients;
   quotients = ([], ap (λ (q : Scope). q.quotients) kept.quotients ∙ sym (append-nil _));
 }

@@ -4,8 +4,8 @@ use Rattle.std.specs.Prelude.{IfSome}
 use Rattle.std.proofs.lemmas.List.{drop_more}
 use Rattle.pip_model.specs.Rows.{Row, row_at, form_row}
 use Rattle.pip_model.specs.Run.{Work, Outcome, Done, Refused, Refusal, Node, Setting, Class, Plus, Minus, Unknown, Signs, AllPlus, MinusAt, keep, go_on, scan, scan_on, scope, class, turn, turn_by}
-use Rattle.sign_split.specs.declared.sign.Class as Code
-use Rattle.sign_split.specs.declared.sign.Class.TheVariants as code
+use Rattle.sign_split.specs.declared.classes.Class as Code
+use Rattle.sign_split.specs.declared.classes.Class.TheVariants as code
 use Rattle.sign_split.specs.Classes.{class_of}
 use Rattle.pip_solve.specs.Signs.{scanned, keep_class}
 

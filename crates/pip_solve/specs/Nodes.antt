@@ -5,7 +5,7 @@ use Rattle.pip_model.specs.Cuts.{Quotient}
 use Rattle.pip_model.specs.Run.{Node, Setting, class}
 use Rattle.tableau.specs.Tableaus.{TableauRows}
 use Rattle.context.specs.declared.context.ContextMark.{ContextMark}
-use Rattle.context.specs.Scoped.{SameContext}
+use Rattle.context.specs.Scoped.{IsKeptContext}
 use Rattle.new_parameters.specs.Scopes.{size}
 use Rattle.pip_solve.specs.declared.path.Path.{Path}
 
@@ -32,8 +32,7 @@ pub record IsNode (t : TableauRows) (path : Path) : Type 0 where
 pub record IsKept (path now : Path) : Type 0 where
   pub integer : now.integer ≡ path.integer
   pub depth : now.depth ≡ path.depth
-  pub context : SameContext path.context now.context
-  pub spare : path.context.spare ≤ now.context.spare
+  pub context : IsKeptContext path.context now.context
   pub quotients : now.quotients ≡ path.quotients
 
 -- one level down, with more forms in the context, and with more quotients

@@ -4,8 +4,8 @@ use Rattle.pip_model.specs.Rows.{Row}
 use Rattle.pip_model.specs.Run.{Counted, ◌>>=◌, give, scan_on}
 use Rattle.pip_model.specs.Listed.{all_fit, opposite_listed}
 use Rattle.pip_model.specs.Run as run
-use Rattle.sign_split.specs.declared.sign.Class.{Class}
-use Rattle.sign_split.specs.declared.sign.Class.TheVariants as class
+use Rattle.sign_split.specs.declared.classes.Class.{Class}
+use Rattle.sign_split.specs.declared.classes.Class.TheVariants as class
 use Rattle.pip_solve.specs.declared.scan.Signs.{Signs}
 use Rattle.pip_solve.specs.declared.scan.Signs.TheVariants as code
 

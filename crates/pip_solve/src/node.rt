@@ -18,24 +18,34 @@ use crate::pending::{Frame, Pending};
 use crate::turn::{Turn, take_turn};
 use affine_rows::{Form, WantOfMemory};
 use context::Work;
-use gomory_cut::parametric_cut;
+use gomory_cut::parametric_cut_by;
 use new_parameters::Quotient;
 use pip_problem::Refusal;
 use quast::Quast;
 use std::alloc::Global;
 use tableau::Tableau;
 
-// The rows below a new parameter: each is over one place more, and the cut of row i by it is added.
-fn cut_below(t: Tableau, i: usize) -> Result<Tableau, WantOfMemory>
-    requires within { i < length t.rows }
-    requires row { IsRow t.unknowns t.width (row_at t.rows i) }
-    requires width { t.width < 2 ^ 64 - 1 }
-    ensures { IfOk result (λ rows. rows ≡ record { unknowns = t.unknowns; width = t.width + 1; rows = map widened t.rows ++ cuts.parametric_cut (widened (row_at t.rows i)) t.width ∷ [] }) }
+// The rows below a new parameter: each is over one place more, and the cut of row i by it is added. The residue is
+// the row's.
+fn cut_below(above: Tableau, i: usize, residue: &Form) -> Result<Tableau, WantOfMemory>
+    requires within { i < length above.rows }
+    requires row { IsRow above.unknowns above.width (row_at above.rows i) }
+    requires width { above.width < 2 ^ 64 - 1 }
+    requires residue { residue.now ≡ (cuts.residue_of (row_at above.rows i)).form }
+    ensures { IfOk result (λ rows. rows
+        ≡ record {
+          unknowns = above.unknowns;
+          width = above.width + 1;
+          rows = map widened above.rows
+              ++ cuts.parametric_cut (widened (row_at above.rows i)) above.width ∷ [];
+        }) }
 {
-    let mut rows = t;
+    let mut rows = above;
     let place = rows.width();
     rows.widen_params()?;
-    parametric_cut(&mut rows, i, place)?;
+    let mut widened = residue.try_clone(rows.allocator())?;
+    widened.widen(1)?;
+    parametric_cut_by(&mut rows, i, &widened, place)?;
     Ok(rows)
 }
 
@@ -48,7 +58,10 @@ fn add_quotient(alloc: Global, path: &mut Path, key: Quotient) -> Result<(), Wan
     requires room { size path.old.quotients < 2 ^ 64 - 1 }
     requires spare { 2 ≤ path.old.context.spare }
     requires depth { path.old.depth < 2 ^ 64 - 1 }
-    ensures { OnOk result (IsBelow path.old (cuts.lower_bound (size path.old.quotients + 1) (size path.old.quotients) key ∷ cuts.upper_bound (size path.old.quotients + 1) (size path.old.quotients) key ∷ []) (key ∷ []) path.new) }
+    ensures { OnOk result (IsBelow path.old
+        (cuts.lower_bound (size path.old.quotients + 1) (size path.old.quotients) key
+        ∷ cuts.upper_bound (size path.old.quotients + 1) (size path.old.quotients) key ∷ [])
+        (key ∷ []) path.new) }
 {
     let place = path.quotients.add(key)?;
     let (lower, upper) = path.quotients.bounds(alloc, place)?;
@@ -69,7 +82,8 @@ fn split(
     requires running { IsRunning rows path.old pending.old }
     requires nested { path.old.depth + 1 ≤ pending.old.most }
     requires condition { IsCondition rows.width condition }
-    ensures gives { IfOk result (λ next. (w : Counts) → turned_run rows path.old pending.old.frames (turned.Split condition) w ≡ next_run path.new pending.new.frames next w) }
+    ensures gives { IfOk result (λ next. (w : Counts) → turned_run rows path.old pending.old.frames
+        (turned.Split condition) w ≡ next_run path.new pending.new.frames next w) }
     ensures next { IfOk result (IsNext 2 path.old pending.old path.new pending.new) }
 {
     let alloc = rows.allocator();
@@ -96,14 +110,15 @@ fn define_below(
     requires running { IsRunning rows path.old pending.old }
     requires nested { path.old.depth + 1 ≤ pending.old.most }
     requires parameter { IsNewParameter rows path.old.quotients i key }
-    ensures gives { IfOk result (λ next. (w : Counts) → turned_run rows path.old pending.old.frames (turned.Below i key) w ≡ next_run path.new pending.new.frames next w) }
+    ensures gives { IfOk result (λ next. (w : Counts) → turned_run rows path.old pending.old.frames
+        (turned.Below i key) w ≡ next_run path.new pending.new.frames next w) }
     ensures next { IfOk result (IsNext 2 path.old pending.old path.new pending.new) }
 {
     let alloc = rows.allocator();
     let form = key.form.try_clone(alloc)?;
+    let rows = cut_below(rows, i, &key.form)?;
     pending.push(Frame::NewParm { form, den: key.den });
     add_quotient(alloc, path, key)?;
-    let rows = cut_below(rows, i)?;
     Ok(Next::Node(rows))
 }
 
@@ -115,7 +130,8 @@ fn follow(
     pending: &mut Pending,
 ) -> Result<Next, WantOfMemory>
     requires { IsTurned rows path.old pending.old turn }
-    ensures gives { IfOk result (λ next. (w : Counts) → turned_run rows path.old pending.old.frames turn w ≡ next_run path.new pending.new.frames next w) }
+    ensures gives { IfOk result (λ next. (w : Counts) → turned_run rows path.old pending.old.frames turn w
+        ≡ next_run path.new pending.new.frames next w) }
     ensures next { IfOk result (IsNext (weight turn) path.old pending.old path.new pending.new) }
 {
     match turn {
@@ -126,8 +142,8 @@ fn follow(
     }
 }
 
-/// The tree of a node and of the frames that wait for it: the run from it, turn by turn.
-pub fn run(
+// The tree of a node and of the frames that wait for it: the run from it, turn by turn.
+pub(crate) fn run(
     node: Tableau,
     path: &mut Path,
     pending: &mut Pending,
@@ -135,7 +151,8 @@ pub fn run(
 ) -> Result<Quast, Refusal>
     requires running { IsRunning node path.old pending.old }
     requires budget { pending.old.most ≡ work.old.budget.nesting }
-    ensures gives { AgreesCounted tree_in run_fault result work.new (whole_run node path.old pending.old.frames work.old) }
+    ensures gives { AgreesCounted tree_in run_fault result work.new
+        (whole_run node path.old pending.old.frames work.old) }
     ensures width { IfOk result (λ tree. tree.width ≡ path.old.quotients.params) }
 {
     let mut rows = node;

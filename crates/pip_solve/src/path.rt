@@ -6,8 +6,8 @@ use affine_rows::Form;
 use context::{Context, ContextMark};
 use new_parameters::Quotients;
 
-/// Where a run stands: the mode of its problem, how many if and newparm nodes are above, and the context and the
-/// quotients of the path to here.
+// Where a run stands: the mode of its problem, how many if and newparm nodes are above, and the context and the
+// quotients of the path to here.
 #[derive(Drop)]
 pub struct Path {
     pub integer: bool,
@@ -17,8 +17,8 @@ pub struct Path {
 }
 
 impl Path {
-    /// Goes one level down, with one more form in the context.
-    pub fn enter(&mut self, form: Form)
+    // Goes one level down, with one more form in the context.
+    pub(crate) fn enter(&mut self, form: Form)
         requires room { 1 ≤ self.old.context.spare }
         requires narrow { length form ≤ self.old.context.width + 1 }
         requires depth { self.old.depth < 2 ^ 64 - 1 }
@@ -28,8 +28,8 @@ impl Path {
         self.depth += 1;
     }
 
-    /// Goes back to marks of the context and of the quotients. The depth stays.
-    pub fn back_to(&mut self, context: ContextMark, quotients: usize)
+    // Goes back to marks of the context and of the quotients. The depth stays.
+    pub(crate) fn back_to(&mut self, context: ContextMark, quotients: usize)
         requires forms { context.forms ≤ length self.old.context.forms }
         requires narrow { IsContext context.width (take context.forms self.old.context.forms) }
         requires quotients { quotients ≤ length self.old.quotients.quotients }

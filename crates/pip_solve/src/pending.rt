@@ -8,7 +8,8 @@ use std::marker::Model;
 use tableau::Tableau;
 
 /// What waits for a tree: an if whose second tree is due, from these rows and back at these marks, once its first is
-/// made; an if whose first tree is made, and which waits for its second; a new parameter, which waits for the tree below.
+/// made; an if whose first tree is made, and which waits for its second; a new parameter, which waits for the tree
+/// below.
 #[derive(Drop)]
 pub enum Frame {
     SecondDue {

@@ -1,9 +1,10 @@
 ghost use Rattle.std.specs.Prelude.{◌≡◌, ℕ, ◌<◌, ◌≤◌, IfOk, IfSome, length};
-ghost use Rattle.pip_model.specs.Agreement.{AgreesCounted};
 ghost use Rattle.pip_model.specs.Rows.{row_at};
-ghost use Rattle.pip_model.specs.Run.{AllPlus, class as class_by};
+ghost use Rattle.pip_model.specs.Run as model;
+ghost use Rattle.pip_model.specs.Run.{AllPlus};
 ghost use Rattle.pip_problem.specs.Faults.{run_fault};
-ghost use Rattle.context.specs.Scoped.{SameContext};
+ghost use Rattle.context.specs.Counts.{IsCountedRun};
+ghost use Rattle.context.specs.Scoped.{IsKeptContext};
 ghost use Rattle.sign_split.specs.Classes.{class_of};
 ghost use Rattle.pip_solve.specs.Signs.{signs_of, kept_signs, keep_class, scanned, IsCondition, ClassIs, SignsAre};
 
@@ -13,7 +14,8 @@ use pip_problem::Refusal;
 use sign_split::{Class, class_of_entries};
 use tableau::Tableau;
 
-/// The signs of a node's rows: no row is below 0 or of both signs, or the first row below 0, or else the condition of the first row of both signs.
+// The signs of a node's rows: no row is below 0 or of both signs, or the first row below 0, or else the condition of
+// the first row of both signs.
 #[derive(Drop)]
 pub enum Signs {
     AllPlus,
@@ -30,12 +32,10 @@ fn class_of_row(
 ) -> Result<Class, Refusal>
     requires row { i < length rows.now.rows }
     requires scope { context.old.width ≡ rows.now.width }
-    requires room { 1 ≤ context.old.spare }
-    ensures gives { AgreesCounted class_of run_fault result work.new (class_by context.old.forms context.old.width (row_at rows.now.rows i).constant work.old) }
+    ensures gives { IsCountedRun class_of run_fault result work.old work.new
+        (model.class context.old.forms context.old.width (row_at rows.now.rows i).constant) }
     ensures class { IfOk result (ClassIs rows.now.width) }
-    ensures budget { work.new.budget ≡ work.old.budget }
-    ensures same { SameContext context.old context.new }
-    ensures spare { context.old.spare ≤ context.new.spare }
+    ensures kept { IsKeptContext context.old context.new }
 {
     let row = rows.row(i);
     class_of_entries(rows.allocator(), context, row.constant, work)
@@ -52,15 +52,14 @@ fn with_class(kept: Option<Form>, class: Class) -> Option<Form>
     }
 }
 
-/// The rows are classed in order. The scan ends at the first row below 0, and the condition of the first of both signs is kept.
-pub fn scan(rows: &Tableau, context: &mut Context, work: &mut Work) -> Result<Signs, Refusal>
+// The rows are classed in order. The scan ends at the first row below 0, and the condition of the first of both signs
+// is kept.
+pub(crate) fn scan(rows: &Tableau, context: &mut Context, work: &mut Work) -> Result<Signs, Refusal>
     requires scope { context.old.width ≡ rows.now.width }
-    requires room { 1 ≤ context.old.spare }
-    ensures gives { AgreesCounted signs_of run_fault result work.new (scanned context.old.forms context.old.width 0 AllPlus rows.now.rows work.old) }
+    ensures gives { IsCountedRun signs_of run_fault result work.old work.new
+        (scanned context.old.forms context.old.width 0 AllPlus rows.now.rows) }
     ensures signs { IfOk result (SignsAre (length rows.now.rows) rows.now.width) }
-    ensures budget { work.new.budget ≡ work.old.budget }
-    ensures same { SameContext context.old context.new }
-    ensures spare { context.old.spare ≤ context.new.spare }
+    ensures kept { IsKeptContext context.old context.new }
 {
     let mut kept = None;
     for i in 0..rows.rows() {

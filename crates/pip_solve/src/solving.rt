@@ -4,7 +4,8 @@ ghost use Rattle.pip_model.specs.Leaves.{IsReached};
 ghost use Rattle.pip_model.specs.Limits.{most_nesting};
 ghost use Rattle.pip_model.specs.Right.{IsRight};
 ghost use Rattle.pip_model.specs.Rows.{started, start};
-ghost use Rattle.pip_model.specs.Run.{IsBudget, answer as answer_by, answered, first_node, run_from, setting, solve as solve_by};
+ghost use Rattle.pip_model.specs.Run as model;
+ghost use Rattle.pip_model.specs.Run.{IsBudget, answered, first_node, run_from, setting};
 ghost use Rattle.pip_model.specs.Agreement.{Agrees, AgreesCounted};
 ghost use Rattle.pip_model.specs.WellFormed.{IsProblem, IsWellFormedAnswer};
 ghost use Rattle.pip_problem.specs.Faults.{run_fault};
@@ -24,14 +25,14 @@ use std::alloc::Global;
 use tableau::Tableau;
 
 // The context of a problem, with room for two more forms at each of so many levels, and for one form more.
-fn context_of(alloc: Global, p: &Problem, levels: usize) -> Result<Context, WantOfMemory>
+fn context_of(alloc: Global, problem: &Problem, levels: usize) -> Result<Context, WantOfMemory>
     requires { levels ≤ most_nesting }
-    ensures width { IfOk result (λ k. k.width ≡ p.now.params) }
-    ensures forms { IfOk result (λ k. k.forms ≡ p.now.context) }
+    ensures width { IfOk result (λ k. k.width ≡ problem.now.params) }
+    ensures forms { IfOk result (λ k. k.forms ≡ problem.now.context) }
     ensures room { IfOk result (λ k. 2 * levels + 1 ≤ k.spare) }
 {
-    let forms = p.context();
-    let mut context = Context::try_new(alloc, p.params())?;
+    let forms = problem.context();
+    let mut context = Context::try_new(alloc, problem.params())?;
     context.reserve(forms.len() + 2 * levels + 1)?;
     for form in forms {
         let copy = form.try_clone(alloc)?;
@@ -41,14 +42,14 @@ fn context_of(alloc: Global, p: &Problem, levels: usize) -> Result<Context, Want
 }
 
 // The path to a problem's first node, with room for so many levels below it.
-fn path_of(alloc: Global, p: &Problem, levels: usize) -> Result<Path, WantOfMemory>
+fn path_of(alloc: Global, problem: &Problem, levels: usize) -> Result<Path, WantOfMemory>
     requires { levels ≤ most_nesting }
-    ensures { IfOk result (IsFirstPath p.now levels) }
+    ensures { IfOk result (IsFirstPath problem.now levels) }
 {
-    let context = context_of(alloc, p, levels)?;
-    let quotients = Quotients::try_new(alloc, p.params())?;
+    let context = context_of(alloc, problem, levels)?;
+    let quotients = Quotients::try_new(alloc, problem.params())?;
     Ok(Path {
-        integer: p.integer(),
+        integer: problem.integer(),
         depth: 0,
         context,
         quotients,
@@ -69,79 +70,93 @@ fn tightened(alloc: Global, rows: &[Form]) -> Result<Vec<Form>, WantOfMemory>
 }
 
 // The first tableau of a problem; in integer mode its rows are tightened.
-fn rows_of(alloc: Global, p: &Problem) -> Result<Tableau, WantOfMemory>
-    ensures rows { IfOk result (λ t. t ≡ record { unknowns = p.now.unknowns; width = p.now.params; rows = start p.now.unknowns p.now.params (started p.now.integer p.now.rows) }) }
-    ensures problem { IsProblem p.now }
+fn rows_of(alloc: Global, problem: &Problem) -> Result<Tableau, WantOfMemory>
+    ensures rows { IfOk result (λ t. t
+        ≡ record {
+          unknowns = problem.now.unknowns;
+          width = problem.now.params;
+          rows = start problem.now.unknowns problem.now.params
+              (started problem.now.integer problem.now.rows);
+        }) }
+    ensures problem { IsProblem problem.now }
 {
-    if p.integer() {
-        let rows = tightened(alloc, p.rows())?;
-        Tableau::start(alloc, p.unknowns(), p.params(), &rows)
+    if problem.integer() {
+        let rows = tightened(alloc, problem.rows())?;
+        Tableau::start(alloc, problem.unknowns(), problem.params(), &rows)
     } else {
-        Tableau::start(alloc, p.unknowns(), p.params(), p.rows())
+        Tableau::start(alloc, problem.unknowns(), problem.params(), problem.rows())
     }
 }
 
 // The tree of a problem whose context has a point.
 fn tree(
     alloc: Global,
-    p: &Problem,
+    problem: &Problem,
     path: &mut Path,
     pending: &mut Pending,
     work: &mut Work,
 ) -> Result<Quast, Refusal>
-    requires path { IsFirstPath p.now pending.old.most path.old }
+    requires path { IsFirstPath problem.now pending.old.most path.old }
     requires pending { pending.old.frames ≡ [] }
     requires nesting { pending.old.most ≡ work.old.budget.nesting }
     requires few { pending.old.most ≤ most_nesting }
-    ensures gives { AgreesCounted tree_in run_fault result work.new (run_from (setting p.now) (first_node p.now) work.old) }
-    ensures width { IfOk result (λ tree. tree.width ≡ p.now.params) }
+    ensures gives { AgreesCounted tree_in run_fault result work.new
+        (run_from (setting problem.now) (first_node problem.now) work.old) }
+    ensures width { IfOk result (λ tree. tree.width ≡ problem.now.params) }
 {
-    let rows = rows_of(alloc, p)?;
+    let rows = rows_of(alloc, problem)?;
     let tree = run(rows, path, pending, work)?;
     Ok(tree)
 }
 
-// The answer of the run, after what was counted. All that may be pending and join the context has its room from the start.
-fn answer(alloc: Global, p: &Problem, levels: usize, work: &mut Work) -> Result<Answer, Refusal>
+// The answer of the run, after what was counted. All that may be pending and join the context has its room from the
+// start.
+fn answer(
+    alloc: Global,
+    problem: &Problem,
+    levels: usize,
+    work: &mut Work,
+) -> Result<Answer, Refusal>
     requires nesting { levels ≡ work.old.budget.nesting }
     requires few { levels ≤ most_nesting }
-    ensures gives { AgreesCounted answer_of run_fault result work.new (answer_by p.now work.old) }
-    ensures scope { IfOk result (IsOver p.now.params) }
+    ensures gives { AgreesCounted answer_of run_fault result work.new (model.answer problem.now work.old) }
+    ensures scope { IfOk result (IsOver problem.now.params) }
 {
-    let mut path = path_of(alloc, p, levels)?;
+    let mut path = path_of(alloc, problem, levels)?;
     let mut pending = Pending::reserve(alloc, levels)?;
     match path.context.point(alloc, work)? {
         None => Ok(Answer::Void),
         Some(_) => {
-            let tree = tree(alloc, p, &mut path, &mut pending, work)?;
+            let tree = tree(alloc, problem, &mut path, &mut pending, work)?;
             Ok(Answer::Tree(tree))
         }
     }
 }
 
 // The answer of the run from its start.
-fn solved(alloc: Global, p: &Problem, limits: &Limits) -> Result<Answer, Refusal>
-    ensures gives { Agrees answer_of run_fault result (answered (solve_by limits.now p.now)) }
-    ensures scope { IfOk result (IsOver p.now.params) }
-    ensures problem { IsProblem p.now }
+fn solved(alloc: Global, problem: &Problem, limits: &Limits) -> Result<Answer, Refusal>
+    ensures gives { Agrees answer_of run_fault result (answered (model.solve limits.now problem.now)) }
+    ensures scope { IfOk result (IsOver problem.now.params) }
+    ensures problem { IsProblem problem.now }
     ensures budget { IsBudget limits.now }
 {
-    let _ = p.unknowns();
+    let _ = problem.unknowns();
     let mut work = Work::start(limits);
     let levels = limits.nesting() as usize;
-    answer(alloc, p, levels, &mut work)
+    answer(alloc, problem, levels, &mut work)
 }
 
-/// The answer of the written run (P. Feautrier, "Parametric integer programming", RAIRO 1988): `void` exactly where no parameter
-/// vector satisfies the context, else a tree whose value at each of them is the lexicographic minimum, or bottom where no point
-/// is feasible. It is refused exactly as the run is: by the first number that doesn't fit or count that would pass its budget.
-pub fn solve(alloc: Global, p: &Problem, limits: &Limits) -> Result<Answer, Refusal>
-    ensures gives { Agrees answer_of run_fault result (answered (solve_by limits.now p.now)) }
-    ensures right { IfOk result (λ a. IsRight p.now (answer_of a)) }
-    ensures reached { IfOk result (λ a. IsReached p.now (answer_of a)) }
-    ensures well_formed { IfOk result (λ a. IsWellFormedAnswer p.now.params (answer_of a)) }
-    ensures scope { IfOk result (IsOver p.now.params) }
+/// The answer of the written run (P. Feautrier, "Parametric integer programming", RAIRO 1988): `void` exactly where
+/// no parameter vector satisfies the context, else a tree whose value at each of them is the lexicographic minimum,
+/// or bottom where no point is feasible. It is refused exactly as the run is: by the first number that doesn't fit or
+/// count that would pass its budget.
+pub fn solve(alloc: Global, problem: &Problem, limits: &Limits) -> Result<Answer, Refusal>
+    ensures gives { Agrees answer_of run_fault result (answered (model.solve limits.now problem.now)) }
+    ensures right { IfOk result (λ a. IsRight problem.now (answer_of a)) }
+    ensures reached { IfOk result (λ a. IsReached problem.now (answer_of a)) }
+    ensures well_formed { IfOk result (λ a. IsWellFormedAnswer problem.now.params (answer_of a)) }
+    ensures scope { IfOk result (IsOver problem.now.params) }
 {
-    let answer = solved(alloc, p, limits);
+    let answer = solved(alloc, problem, limits);
     answer
 }

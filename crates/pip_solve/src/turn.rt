@@ -1,10 +1,12 @@
-ghost use Rattle.std.specs.Prelude.{◌≡◌, ℕ, ◌+◌, ◌-◌, ◌^◌, ◌≤◌, ◌<◌, Bool, Option, None, map, take, length, All, IfOk, IfSome, OnOk, if◌then◌else◌};
+ghost use Rattle.std.specs.Prelude.{◌≡◌, ℕ, ◌+◌, ◌-◌, ◌^◌, ◌≤◌, ◌<◌, Bool, Option, None, option_map, map, take, length, All, IfOk, IfSome, OnOk, if◌then◌else◌};
 ghost use Rattle.pip_model.specs.Limits.{most_unknowns};
-ghost use Rattle.pip_model.specs.Rows.{row_at, first_fraction as first_fraction_of};
-ghost use Rattle.pip_model.specs.Run.{turn as turn_at, turn_by, MinusAt, AllPlus, row_component};
-ghost use Rattle.pip_model.specs.Tree as model;
-ghost use Rattle.pip_model.specs.Agreement.{AgreesCounted};
+ghost use Rattle.pip_model.specs.Rows.{row_at, first_fraction};
+ghost use Rattle.pip_model.specs.Run as model;
+ghost use Rattle.pip_model.specs.Run.{turn_by, MinusAt, AllPlus, row_component};
+ghost use Rattle.pip_model.specs.Tree.{Leaf};
 ghost use Rattle.pip_problem.specs.Faults.{run_fault};
+ghost use Rattle.context.specs.Counts.{IsCountedRun};
+ghost use Rattle.gomory_cut.specs.Fractions.{IsFractionOf};
 ghost use Rattle.quast.specs.Components.{IsComponent};
 ghost use Rattle.pip_solve.specs.Nodes.{node_of, setting_of, IsNode, IsKept};
 ghost use Rattle.pip_solve.specs.Signs.{signs_of, SignsAre};
@@ -15,14 +17,15 @@ use crate::path::Path;
 use crate::scan::{Signs, scan};
 use affine_rows::{Form, WantOfMemory};
 use context::{Work, enter_and_pivot};
-use gomory_cut::first_fraction;
+use gomory_cut::{Fraction, find_fraction};
 use new_parameters::Quotient;
 use pip_problem::Refusal;
 use quast::{Component, Quast};
 use std::alloc::Global;
 use tableau::Tableau;
 
-/// What a turn makes of a node: its tree, a node to go on from, an if of a condition, or a new parameter by the row at a place.
+// What a turn makes of a node: its tree, a node to go on from, an if of a condition, or a new parameter by the row at
+// a place.
 #[derive(Drop)]
 pub enum Turn {
     Closed(Quast),
@@ -35,9 +38,9 @@ pub enum Turn {
 fn pivot_turn(rows: &mut Tableau, r: usize, work: &mut Work) -> Result<Turn, Refusal>
     requires rows { rows.old.unknowns ≤ length rows.old.rows }
     requires row { r < length rows.old.rows }
-    ensures gives { (path : Path) → AgreesCounted (turn_of rows.new path) run_fault result work.new (turn_by (setting_of rows.old path) (node_of rows.old path) (MinusAt r) work.old) }
+    ensures gives { (path : Path) → IsCountedRun (turn_of rows.new path) run_fault result work.old work.new
+        (turn_by (setting_of rows.old path) (node_of rows.old path) (MinusAt r)) }
     ensures turn { (path : Path) (most : ℕ) → IfOk result (TurnIs rows.old rows.new path most) }
-    ensures budget { work.new.budget ≡ work.old.budget }
 {
     if enter_and_pivot(rows, r, work)? {
         Ok(Turn::Again)
@@ -49,10 +52,9 @@ fn pivot_turn(rows: &mut Tableau, r: usize, work: &mut Work) -> Result<Turn, Ref
 // At a row of both signs: an if of its condition. It is counted first, and then the nesting is raised.
 fn split_turn(condition: Form, depth: u64, work: &mut Work) -> Result<Turn, Refusal>
     requires { depth < 2 ^ 64 - 1 }
-    ensures gives { AgreesCounted (λ turn. tt) run_fault result work.new (counted_split (depth + 1) work.old) }
+    ensures gives { IsCountedRun (λ turn. tt) run_fault result work.old work.new (counted_split (depth + 1)) }
     ensures split { IfOk result (λ turn. turn ≡ Turn.Split condition) }
     ensures room { OnOk result (depth + 1 ≤ work.new.budget.nesting) }
-    ensures budget { work.new.budget ≡ work.old.budget }
 {
     work.count_split()?;
     work.check_nesting(depth + 1)?;
@@ -60,60 +62,62 @@ fn split_turn(condition: Form, depth: u64, work: &mut Work) -> Result<Turn, Refu
 }
 
 // The component of row i: its constant form over the denominator, in lowest terms.
-fn component(alloc: Global, t: &Tableau, i: usize) -> Result<Component, WantOfMemory>
-    requires { i < length t.now.rows }
-    ensures value { IfOk result (λ c. c ≡ row_component (row_at t.now.rows i)) }
-    ensures component { IfOk result (IsComponent t.now.width) }
+fn component(alloc: Global, rows: &Tableau, i: usize) -> Result<Component, WantOfMemory>
+    requires { i < length rows.now.rows }
+    ensures value { IfOk result (λ c. c ≡ row_component (row_at rows.now.rows i)) }
+    ensures component { IfOk result (IsComponent rows.now.width) }
 {
-    let row = t.row(i);
+    let row = rows.row(i);
     let constant = Form::try_new(alloc, row.constant)?;
     Ok(Component::reduced(row.den, constant))
 }
 
 // The components of the unknowns' rows.
-fn components(alloc: Global, t: &Tableau) -> Result<Vec<Component>, WantOfMemory>
-    requires { t.now.unknowns ≤ length t.now.rows }
-    ensures value { IfOk result (λ v. v.items ≡ map row_component (take t.now.unknowns t.now.rows)) }
-    ensures components { IfOk result (λ v. All (IsComponent t.now.width) v.items) }
+fn components(alloc: Global, rows: &Tableau) -> Result<Vec<Component>, WantOfMemory>
+    requires { rows.now.unknowns ≤ length rows.now.rows }
+    ensures value { IfOk result (λ v. v.items ≡ map row_component (take rows.now.unknowns rows.now.rows)) }
+    ensures components { IfOk result (λ v. All (IsComponent rows.now.width) v.items) }
 {
-    let mut made = Vec::with_capacity(alloc, t.unknowns())?;
-    for i in 0..t.unknowns() {
-        let component = component(alloc, t, i)?;
+    let mut made = Vec::with_capacity(alloc, rows.unknowns())?;
+    for i in 0..rows.unknowns() {
+        let component = component(alloc, rows, i)?;
         made.push(component)?;
     }
     Ok(made)
 }
 
 // The list of the unknowns' values.
-fn leaf(alloc: Global, t: &Tableau) -> Result<Quast, WantOfMemory>
-    requires rows { t.now.unknowns ≤ length t.now.rows }
-    requires some { 1 ≤ t.now.unknowns }
-    requires few { t.now.unknowns ≤ most_unknowns }
-    ensures tree { IfOk result (λ tree. tree.tree ≡ model.Leaf (map row_component (take t.now.unknowns t.now.rows))) }
-    ensures width { IfOk result (λ tree. tree.width ≡ t.now.width) }
+fn leaf(alloc: Global, rows: &Tableau) -> Result<Quast, WantOfMemory>
+    requires rows { rows.now.unknowns ≤ length rows.now.rows }
+    requires some { 1 ≤ rows.now.unknowns }
+    requires few { rows.now.unknowns ≤ most_unknowns }
+    ensures tree { IfOk result (λ tree. tree.tree ≡ Leaf (map row_component (take rows.now.unknowns rows.now.rows))) }
+    ensures width { IfOk result (λ tree. tree.width ≡ rows.now.width) }
 {
-    Ok(Quast::list(components(alloc, t)?))
+    Ok(Quast::list(components(alloc, rows)?))
 }
 
-// The first of the unknowns' rows that is not whole. It matters in integer mode alone.
-fn fraction(t: &Tableau, integer: bool) -> Option<usize>
-    requires { t.now.unknowns ≤ length t.now.rows }
-    ensures value { result ≡ (if integer then first_fraction_of t.now.unknowns t.now.rows else None) }
-    ensures bound { IfSome result (λ i. i < length t.now.rows) }
+// The fraction of the first of the unknowns' rows that is not whole. It matters in integer mode alone.
+fn fraction(rows: &Tableau, integer: bool) -> Option<Fraction>
+    requires { rows.now.unknowns ≤ length rows.now.rows }
+    ensures value { option_map (λ f. f.row) result ≡
+        (if integer then first_fraction rows.now.unknowns rows.now.rows else None) }
+    ensures constant { IfSome result (IsFractionOf rows.now.rows) }
+    ensures bound { IfSome result (λ f. f.row < length rows.now.rows) }
 {
-    if integer { first_fraction(t) } else { None }
+    if integer { find_fraction(rows) } else { None }
 }
 
 // Where no row is below 0: a cut where integer mode finds a fraction, else a list.
 fn last_turn(rows: &mut Tableau, path: &mut Path, work: &mut Work) -> Result<Turn, Refusal>
     requires { IsNode rows.old path.old }
-    ensures gives { AgreesCounted (turn_of rows.new path.old) run_fault result work.new (turn_by (setting_of rows.old path.old) (node_of rows.old path.old) AllPlus work.old) }
+    ensures gives { IsCountedRun (turn_of rows.new path.old) run_fault result work.old work.new
+        (turn_by (setting_of rows.old path.old) (node_of rows.old path.old) AllPlus) }
     ensures turn { IfOk result (TurnIs rows.old rows.new path.old work.new.budget.nesting) }
-    ensures budget { work.new.budget ≡ work.old.budget }
     ensures path { IsKept path.old path.new }
 {
     match fraction(rows, path.integer) {
-        Some(i) => cut_turn(rows, i, path, work),
+        Some(fraction) => cut_turn(rows, fraction, path, work),
         None => {
             let leaf = leaf(rows.allocator(), rows)?;
             Ok(Turn::Closed(leaf))
@@ -121,13 +125,14 @@ fn last_turn(rows: &mut Tableau, path: &mut Path, work: &mut Work) -> Result<Tur
     }
 }
 
-// What the signs of the rows ask for: a pivot or bottom at a row below 0, an if at one of both signs, else a cut or a list.
+// What the signs of the rows ask for: a pivot or bottom at a row below 0, an if at one of both signs, else a cut or a
+// list.
 fn act(signs: Signs, rows: &mut Tableau, path: &mut Path, work: &mut Work) -> Result<Turn, Refusal>
     requires node { IsNode rows.old path.old }
     requires signs { SignsAre (length rows.old.rows) rows.old.width signs }
-    ensures gives { AgreesCounted (turn_of rows.new path.old) run_fault result work.new (turn_by (setting_of rows.old path.old) (node_of rows.old path.old) (signs_of signs) work.old) }
+    ensures gives { IsCountedRun (turn_of rows.new path.old) run_fault result work.old work.new
+        (turn_by (setting_of rows.old path.old) (node_of rows.old path.old) (signs_of signs)) }
     ensures turn { IfOk result (TurnIs rows.old rows.new path.old work.new.budget.nesting) }
-    ensures budget { work.new.budget ≡ work.old.budget }
     ensures path { IsKept path.old path.new }
 {
     match signs {
@@ -137,12 +142,16 @@ fn act(signs: Signs, rows: &mut Tableau, path: &mut Path, work: &mut Work) -> Re
     }
 }
 
-/// One turn of a node, by the signs of its rows' constant forms on its context.
-pub fn take_turn(rows: &mut Tableau, path: &mut Path, work: &mut Work) -> Result<Turn, Refusal>
+// One turn of a node, by the signs of its rows' constant forms on its context.
+pub(crate) fn take_turn(
+    rows: &mut Tableau,
+    path: &mut Path,
+    work: &mut Work,
+) -> Result<Turn, Refusal>
     requires { IsNode rows.old path.old }
-    ensures gives { AgreesCounted (turn_of rows.new path.old) run_fault result work.new (turn_at (setting_of rows.old path.old) (node_of rows.old path.old) work.old) }
+    ensures gives { IsCountedRun (turn_of rows.new path.old) run_fault result work.old work.new
+        (model.turn (setting_of rows.old path.old) (node_of rows.old path.old)) }
     ensures turn { IfOk result (TurnIs rows.old rows.new path.old work.new.budget.nesting) }
-    ensures budget { work.new.budget ≡ work.old.budget }
     ensures path { IsKept path.old path.new }
 {
     let signs = scan(rows, &mut path.context, work)?;

@@ -11,3 +11,7 @@ number_of most text =
 -- the value of a parameter: such a number that fits
 abbrev pub parameter_of : List ℕ → Option ℤ
 parameter_of text = option_map (λ n. pos n) (number_of (2 ^ 127 - 1) text)
+
+-- the most problems of a trial
+abbrev pub most_drawn : ℕ
+most_drawn = 10000

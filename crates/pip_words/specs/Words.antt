@@ -1,24 +1,26 @@
 -- The command that the words of the command line give, over clap's definition of a simple command.
-use Rattle.std.specs.Prelude.{ℕ, ℤ, Bool, true, false, List, [], ◌∷◌, Option, Some, None, codes, if◌then◌else◌, nat_le, length, option_map}
+use Rattle.std.specs.Prelude.{ℕ, ◌-◌, ◌^◌, ℤ, Bool, true, false, List, [], ◌∷◌, Option, Some, None, codes, if◌then◌else◌, nat_le, length, option_map}
 use Rattle.std.specs.Option.{option_map_or}
 use Rattle.std.specs.Str.{bytes_eq}
 use Rattle.clap.specs.Words.{Row, Text, Kinds, fault_of, subcommand_of, first_of, all_of}
 use Rattle.pip_model.specs.Limits.{most_params, most_pivots, most_cuts, most_splits, most_nesting}
 use Rattle.pip_model.specs.Run.{standard_budget}
-use Rattle.pip_model.specs.Commands.{SolveOptions, Command, Solve, Eval}
+use Rattle.pip_model.specs.Commands.{SolveOptions, Command, Solve, Eval, Simplify, Trial}
 use Rattle.pip_words.specs.Arguments.{pip_app}
-use Rattle.pip_words.specs.Numbers.{number_of, parameter_of}
+use Rattle.pip_words.specs.Numbers.{number_of, parameter_of, most_drawn}
 use Rattle.pip_words.specs.declared.command.Command.{Command as Given}
 use Rattle.pip_words.specs.declared.command.SolveOptions.{SolveOptions as GivenOptions}
 use Rattle.pip_words.specs.declared.command.Command.TheVariants as given
 
 -- what the code's command is in the model
 abbrev pub options_of : GivenOptions → SolveOptions
-options_of o = record { polylib = o.polylib; simplify = false; certificate = false; budget = o.limits }
+options_of o = record { polylib = o.polylib; simplify = o.simplify; certificate = false; budget = o.limits }
 
 abbrev pub meaning_of : Given → Command
 meaning_of (given.Solve o) = Solve (options_of o)
 meaning_of (given.Eval u) = Eval u
+meaning_of (given.Simplify o) = Simplify o.params
+meaning_of (given.Trial o) = Trial o.seed o.count
 
 infixl 10 ◌>>=◌
 abbrev pub ◌>>=◌ : {A B : Type 0} → Option A → (A → Option B) → Option B
@@ -38,7 +40,7 @@ number_or most default (Some text) = number_of most text
 abbrev pub limit_of : Text → ℕ → ℕ → List Row → Option ℕ
 limit_of name most default rows = number_or most default (first_of name rows)
 
--- solve [--polylib] [--pivots N] [--cuts N] [--splits N] [--nesting N]
+-- solve [--polylib] [--simplify] [--pivots N] [--cuts N] [--splits N] [--nesting N]
 abbrev pub solve_of : List Row → Option Command
 solve_of rows = do
   pivots ← limit_of (codes "pivots") most_pivots standard_budget.pivots rows
@@ -47,7 +49,7 @@ solve_of rows = do
   nesting ← limit_of (codes "nesting") most_nesting standard_budget.nesting rows
   Some (Solve (record {
     polylib = flag_of (codes "polylib") rows;
-    simplify = false;
+    simplify = flag_of (codes "simplify") rows;
     certificate = false;
     budget = record { pivots = pivots; cuts = cuts; splits = splits; nesting = nesting };
   }))
@@ -72,12 +74,31 @@ texts_of (Some texts) = texts
 abbrev pub eval_of : List Row → Option Command
 eval_of rows = option_map Eval (parameters_of (texts_of (all_of (codes "parameter") rows)))
 
+-- the number of a required argument, of at most `most`
+abbrev pub needed_of : Text → ℕ → List Row → Option ℕ
+needed_of name most rows = do
+  text ← first_of name rows
+  number_of most text
+
+-- simplify M
+abbrev pub simplify_of : List Row → Option Command
+simplify_of rows = option_map Simplify (needed_of (codes "parameters") most_params rows)
+
+-- trial SEED COUNT
+abbrev pub trial_of : List Row → Option Command
+trial_of rows = do
+  seed ← needed_of (codes "seed") (2 ^ 64 - 1) rows
+  count ← needed_of (codes "count") most_drawn rows
+  Some (Trial seed count)
+
 -- the command of this name
 abbrev pub command_named : Text → List Row → Option Command
 command_named name rows =
     if bytes_eq name (codes "solve") then solve_of rows
     else (if bytes_eq name (codes "eval") then eval_of rows
-    else None)
+    else (if bytes_eq name (codes "simplify") then simplify_of rows
+    else (if bytes_eq name (codes "trial") then trial_of rows
+    else None)))
 
 abbrev pub command_in : Option (Text × List Row) → Option Command
 command_in None = None

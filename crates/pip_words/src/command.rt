@@ -1,3 +1,6 @@
+ghost use Rattle.std.specs.Prelude.{◌≤◌};
+ghost use Rattle.pip_model.specs.Limits.{most_params};
+
 use crate::parameter_vector::ParameterVector;
 use pip_problem::Limits;
 
@@ -6,6 +9,8 @@ use pip_problem::Limits;
 pub enum Command {
     Solve(SolveOptions),
     Eval(ParameterVector),
+    Simplify(SimplifyOptions),
+    Trial(TrialOptions),
 }
 
 /// How problems are read and solved.
@@ -13,5 +18,23 @@ pub enum Command {
 pub struct SolveOptions {
     /// The input is one problem in PolyLib's matrices.
     pub polylib: bool,
+    /// The answers are simplified.
+    pub simplify: bool,
     pub limits: Limits,
+}
+
+/// Which answers are simplified.
+#[derive(Drop)]
+pub struct SimplifyOptions {
+    /// The number of their parameters, at most 48.
+    pub params: usize,
+    ghost few: { params ≤ most_params },
+}
+
+/// Which problems are drawn.
+#[derive(Drop)]
+pub struct TrialOptions {
+    pub seed: u64,
+    /// How many problems, at most 10,000.
+    pub count: u16,
 }

@@ -10,7 +10,7 @@ mod refusal;
 #[cfg(test)]
 mod tests;
 
-pub use command::{Command, SolveOptions};
+pub use command::{Command, SimplifyOptions, SolveOptions, TrialOptions};
 pub use parameter_vector::ParameterVector;
 pub use reading::read_words;
 pub use refusal::WordsRefusal;

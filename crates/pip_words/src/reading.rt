@@ -1,9 +1,9 @@
 ghost use Rattle.std.specs.Prelude.{◌≡◌, ◌≤◌, IfOk, IfErr, IfSome, Some, None, map, string_bytes};
 ghost use Rattle.clap.specs.Words.{subcommand_rows_of, rows_of, found_of};
-ghost use Rattle.pip_words.specs.Words.{command_of, command_in, solve_of, eval_of, flag_of, limit_of, parameters_of, meaning_of};
+ghost use Rattle.pip_words.specs.Words.{command_of, command_in, solve_of, eval_of, simplify_of, trial_of, flag_of, limit_of, needed_of, parameters_of, meaning_of};
 
 use crate::arguments::pip;
-use crate::command::{Command, SolveOptions};
+use crate::command::{Command, SimplifyOptions, SolveOptions, TrialOptions};
 use crate::number::{parameter, short_number};
 use crate::parameter_vector::ParameterVector;
 use crate::refusal::WordsRefusal;
@@ -19,6 +19,8 @@ const MAX_CUTS: u64 = 1_000_000;
 const MAX_SPLITS: u64 = 1_000_000;
 
 const MAX_NESTING: u64 = 200;
+
+const MAX_DRAWN: u64 = 10_000;
 
 /// The command that the words of the command line give; the first word is the program's name and is not looked at.
 ///
@@ -48,6 +50,10 @@ fn command(alloc: Global, matches: &ArgMatches<'_>) -> Result<Command, WordsRefu
                 solve(matches)
             } else if name == "eval" {
                 eval(alloc, matches)
+            } else if name == "simplify" {
+                simplify(matches)
+            } else if name == "trial" {
+                trial(matches)
             } else {
                 Err(WordsRefusal::Usage)
             }
@@ -61,6 +67,7 @@ fn solve(matches: &ArgMatches<'_>) -> Result<Command, WordsRefusal>
     ensures usage { IfErr result (λ e. e ≡ WordsRefusal.Usage → solve_of (rows_of (found_of matches.now)) ≡ None) }
 {
     let polylib = is_set(matches, "polylib");
+    let simplify = is_set(matches, "simplify");
     let standard = Limits::standard();
     let pivots = limit(matches, "pivots", MAX_PIVOTS, standard.pivots());
     let cuts = limit(matches, "cuts", MAX_CUTS, standard.cuts());
@@ -69,7 +76,11 @@ fn solve(matches: &ArgMatches<'_>) -> Result<Command, WordsRefusal>
     match (pivots, cuts, splits, nesting) {
         (Some(pivots), Some(cuts), Some(splits), Some(nesting)) => {
             let limits = Limits::new(pivots, cuts, splits, nesting);
-            Ok(Command::Solve(SolveOptions { polylib, limits }))
+            Ok(Command::Solve(SolveOptions {
+                polylib,
+                simplify,
+                limits,
+            }))
         }
         _ => Err(WordsRefusal::Usage),
     }
@@ -103,6 +114,44 @@ fn parameters(alloc: Global, texts: &[&str]) -> Result<ParameterVector, WordsRef
         }
     }
     Ok(ParameterVector::from_entries(entries))
+}
+
+fn simplify(matches: &ArgMatches<'_>) -> Result<Command, WordsRefusal>
+    ensures ok { IfOk result (λ command. simplify_of (rows_of (found_of matches.now)) ≡ Some (meaning_of command)) }
+    ensures usage { IfErr result (λ e. e ≡ WordsRefusal.Usage → simplify_of (rows_of (found_of matches.now)) ≡ None) }
+{
+    match needed(matches, "parameters", MOST_PARAMETERS as u64) {
+        Some(count) => Ok(Command::Simplify(SimplifyOptions {
+            params: count as usize,
+        })),
+        None => Err(WordsRefusal::Usage),
+    }
+}
+
+fn trial(matches: &ArgMatches<'_>) -> Result<Command, WordsRefusal>
+    ensures ok { IfOk result (λ command. trial_of (rows_of (found_of matches.now)) ≡ Some (meaning_of command)) }
+    ensures usage { IfErr result (λ e. e ≡ WordsRefusal.Usage → trial_of (rows_of (found_of matches.now)) ≡ None) }
+{
+    let seed = needed(matches, "seed", u64::MAX);
+    let count = needed(matches, "count", MAX_DRAWN);
+    match (seed, count) {
+        (Some(seed), Some(count)) => Ok(Command::Trial(TrialOptions {
+            seed,
+            count: count as u16,
+        })),
+        _ => Err(WordsRefusal::Usage),
+    }
+}
+
+/// The number of a required argument.
+fn needed(matches: &ArgMatches<'_>, name: &str, most: u64) -> Option<u64>
+    ensures value { result ≡ needed_of name.now most (rows_of (found_of matches.now)) }
+    ensures within { IfSome result (λ n. n ≤ most) }
+{
+    match matches.get_str(name) {
+        Some(text) => short_number(text.as_bytes(), most),
+        None => None,
+    }
 }
 
 /// The flag is given.

@@ -12,13 +12,18 @@ fn read(alloc: Global, line: &str) -> Result<String, Fail> {
         Ok(Command::Solve(options)) => {
             let limits = &options.limits;
             format!(in alloc;
-                "solve {} {} {} {} {}",
+                "solve {} {} {} {} {} {}",
                 options.polylib,
+                options.simplify,
                 limits.pivots(),
                 limits.cuts(),
                 limits.splits(),
                 limits.nesting()
             )?
+        }
+        Ok(Command::Simplify(options)) => format!(in alloc; "simplify {}", options.params)?,
+        Ok(Command::Trial(options)) => {
+            format!(in alloc; "trial {} {}", options.seed, options.count)?
         }
         Ok(Command::Eval(vector)) => format!(in alloc; "eval {:?}", vector.as_slice())?,
         Err(WordsRefusal::Usage) => format!(in alloc; "usage")?,
@@ -32,18 +37,18 @@ fn words_of_lines(rt: HostRuntime) -> Result<(), Fail> {
     let alloc = rt.alloc();
     let rows = [
         ("pip", "usage"),
-        ("pip solve", "solve false 1000000 100000 10000 200"),
+        ("pip solve", "solve false false 1000000 100000 10000 200"),
         (
             "pip solve --polylib --cuts 0",
-            "solve true 1000000 0 10000 200",
+            "solve true false 1000000 0 10000 200",
         ),
         (
             "pip solve --pivots=1000000000 --cuts 1000000 --splits 1000000 --nesting 0",
-            "solve false 1000000000 1000000 1000000 0",
+            "solve false false 1000000000 1000000 1000000 0",
         ),
         (
             "pip solve --pivots 0005 --",
-            "solve false 5 100000 10000 200",
+            "solve false false 5 100000 10000 200",
         ),
         ("pip solve --pivots 1000000001", "usage"),
         ("pip solve --cuts 1000001", "usage"),
@@ -55,7 +60,12 @@ fn words_of_lines(rt: HostRuntime) -> Result<(), Fail> {
         ("pip solve --pivots", "usage"),
         ("pip solve --pivot 5", "usage"),
         ("pip solve --polylib --polylib", "usage"),
-        ("pip solve --simplify", "usage"),
+        (
+            "pip solve --simplify --polylib",
+            "solve true true 1000000 100000 10000 200",
+        ),
+        ("pip solve --simplify --simplify", "usage"),
+        ("pip solve --certificate", "usage"),
         ("pip solve extra", "usage"),
         ("pip SOLVE", "usage"),
         ("pip --help", "usage"),
@@ -80,9 +90,24 @@ fn words_of_lines(rt: HostRuntime) -> Result<(), Fail> {
             "pip eval 1 1 1 1 1 1 1 1 1 1 1 1 1 1 1 1 1 1 1 1 1 1 1 1 1 1 1 1 1 1 1 1 1 1 1 1 1 1 1 1 1 1 1 1 1 1 1 1 1",
             "usage",
         ),
-        ("pip simplify 1", "usage"),
+        ("pip simplify 0", "simplify 0"),
+        ("pip simplify 01", "simplify 1"),
+        ("pip simplify 48", "simplify 48"),
+        ("pip simplify 49", "usage"),
+        ("pip simplify -1", "usage"),
+        ("pip simplify x", "usage"),
+        ("pip simplify", "usage"),
+        ("pip simplify 1 1", "usage"),
         ("pip check", "usage"),
-        ("pip trial 7 0", "usage"),
+        ("pip trial 7 0", "trial 7 0"),
+        (
+            "pip trial 18446744073709551615 10000",
+            "trial 18446744073709551615 10000",
+        ),
+        ("pip trial 18446744073709551616 1", "usage"),
+        ("pip trial 7 10001", "usage"),
+        ("pip trial 7", "usage"),
+        ("pip trial 7 1 1", "usage"),
     ];
     for (line, wanted) in rows {
         let text = read(alloc, line)?;

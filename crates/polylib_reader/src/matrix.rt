@@ -23,7 +23,8 @@ pub struct Matrix {
     pub after: usize,
 }
 
-/// The inequalities of so many rows of `width` entries behind the first, at most `most` of them, and the place behind them.
+// The inequalities of so many rows of `width` entries behind the first, at most `most` of them, and the place behind
+// them.
 fn matrix_rows(
     alloc: Global,
     bytes: &[u8],
@@ -52,8 +53,8 @@ fn matrix_rows(
     Ok((forms, at))
 }
 
-/// The context matrix: its rows, its columns, and its entries row by row.
-pub fn context_matrix(alloc: Global, bytes: &[u8]) -> Result<Matrix, ReadRefusal>
+// The context matrix: its rows, its columns, and its entries row by row.
+pub(crate) fn context_matrix(alloc: Global, bytes: &[u8]) -> Result<Matrix, ReadRefusal>
     ensures agrees { Agrees (λ m. ((m.size, m.forms.items), m.after)) read_fault result (context_matrix_of bytes.now) }
     ensures params { IfOk result (λ m. m.size ≤ most_params) }
     ensures order { IfOk result (λ m. m.after ≤ length bytes.now) }
@@ -77,8 +78,8 @@ pub fn context_matrix(alloc: Global, bytes: &[u8]) -> Result<Matrix, ReadRefusal
     })
 }
 
-/// The constraint matrix over so many parameters.
-pub fn constraint_matrix(
+// The constraint matrix over so many parameters.
+pub(crate) fn constraint_matrix(
     alloc: Global,
     bytes: &[u8],
     params: usize,

@@ -13,8 +13,8 @@ use pip_problem::{LimitKind, ReadRefusal, within};
 use std::alloc::Global;
 use text_steps::Reads;
 
-/// The number that a word spells, and the place behind it.
-pub fn number_word(word: &Word<'_>) -> Reads<i128, ReadRefusal>
+// The number that a word spells, and the place behind it.
+pub(crate) fn number_word(word: &Word<'_>) -> Reads<i128, ReadRefusal>
     ensures agrees { Agrees (λ x. x) read_fault result (number_word_of (word_of word.now)) }
     ensures fits { IfOk result (λ x. Fits x.0) }
     ensures place { IfOk result (λ x. x.1 ≡ word.now.after) }
@@ -30,8 +30,8 @@ pub fn number_word(word: &Word<'_>) -> Reads<i128, ReadRefusal>
     }
 }
 
-/// The number that is the next word, and the place behind it.
-pub fn number(bytes: &[u8], place: usize) -> Reads<i128, ReadRefusal>
+// The number that is the next word, and the place behind it.
+pub(crate) fn number(bytes: &[u8], place: usize) -> Reads<i128, ReadRefusal>
     requires { place ≤ length bytes.now }
     ensures reads { IsRead (λ z. z) read_fault bytes.now place result (matrix_number bytes.now place) }
     ensures fits { IfOk result (λ x. Fits x.0) }
@@ -39,8 +39,8 @@ pub fn number(bytes: &[u8], place: usize) -> Reads<i128, ReadRefusal>
     number_word(&next_word(bytes, place))
 }
 
-/// So many numbers, and the place behind them.
-pub fn numbers(
+// So many numbers, and the place behind them.
+pub(crate) fn numbers(
     alloc: Global,
     bytes: &[u8],
     count: usize,
@@ -61,8 +61,8 @@ pub fn numbers(
     Ok((read, at))
 }
 
-/// The number that is the next word, from `low` to `high`, and the place behind it.
-pub fn limited(
+// The number that is the next word, from `low` to `high`, and the place behind it.
+pub(crate) fn limited(
     bytes: &[u8],
     kind: LimitKind,
     low: usize,

@@ -8,7 +8,7 @@ use crate::word::{Word, next_word};
 use pip_problem::{Option_, ReadRefusal};
 use text_steps::same_bytes;
 
-/// The place behind the one option that is taken, `Rational`.
+// The place behind the one option that is taken, `Rational`.
 fn accepted_option(word: &Word<'_>) -> Result<usize, ReadRefusal>
     ensures agrees { Agrees (λ x. x) read_fault result (accepted_option_of (word_of word.now)) }
     ensures place { IfOk result (λ place. place ≡ word.now.after) }
@@ -28,8 +28,8 @@ fn accepted_option(word: &Word<'_>) -> Result<usize, ReadRefusal>
     }
 }
 
-/// Whether whole points are asked for, by the option words to the end.
-pub fn options(bytes: &[u8], place: usize) -> Result<bool, ReadRefusal>
+// Whether whole points are asked for, by the option words to the end.
+pub(crate) fn options(bytes: &[u8], place: usize) -> Result<bool, ReadRefusal>
     requires { place ≤ length bytes.now }
     ensures { Agrees (λ x. x) read_fault result (options_of bytes.now (length bytes.now) true place) }
 {

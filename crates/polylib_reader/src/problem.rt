@@ -11,7 +11,7 @@ use crate::option::options;
 use pip_problem::{Bytes, Problem, ReadRefusal, no_big_parameter};
 use std::alloc::Global;
 
-/// The place behind the big parameter's column, which is to be -1: none.
+// The place behind the big parameter's column, which is to be -1: none.
 fn big_parameter(bytes: &[u8], place: usize) -> Result<usize, ReadRefusal>
     requires { place ≤ length bytes.now }
     ensures agrees { Agrees (λ x. x) read_fault result (big_parameter_of bytes.now place) }
@@ -22,8 +22,9 @@ fn big_parameter(bytes: &[u8], place: usize) -> Result<usize, ReadRefusal>
 
 /// The problem that all the bytes spell, with the comment `()`.
 ///
-/// A row whose first entry is 0 is two inequalities, the given one and then the one with all entries negated; both are counted.
-/// The first word that differs decides the refusal, which keeps the place of that word's first byte, the count or the column.
+/// A row whose first entry is 0 is two inequalities, the given one and then the one with all entries negated; both are
+/// counted. The first word that differs decides the refusal, which keeps the place of that word's first byte, the count
+/// or the column.
 pub fn read_matrices(alloc: Global, bytes: &[u8]) -> Result<Problem, ReadRefusal>
     ensures agrees { Agrees (λ x. x) read_fault result (read_matrices_of bytes.now) }
     ensures group { IfOk result (λ p. IsGroup p.comment) }

@@ -23,7 +23,7 @@ pub struct RowHead {
     pub after: usize,
 }
 
-/// Whether a row is an equality, by its first entry that was read, and the place behind that.
+// Whether a row is an equality, by its first entry that was read, and the place behind that.
 fn is_equality(start: usize, first: (i128, usize)) -> Reads<bool, ReadRefusal>
     ensures agrees { Agrees (λ x. x) read_fault result (is_equality_of start first) }
     ensures place { IfOk result (λ x. x.1 ≡ first.1) }
@@ -35,7 +35,7 @@ fn is_equality(start: usize, first: (i128, usize)) -> Reads<bool, ReadRefusal>
     }
 }
 
-/// So many inequalities, of at most `most`.
+// So many inequalities, of at most `most`.
 fn counted(kind: LimitKind, most: usize, count: usize) -> Result<usize, ReadRefusal>
     ensures agrees { Agrees (λ x. x) read_fault result (counted_of kind most count) }
     ensures within { IfOk result (λ count. count ≤ most) }
@@ -47,8 +47,8 @@ fn counted(kind: LimitKind, most: usize, count: usize) -> Result<usize, ReadRefu
     }
 }
 
-/// The first entry of a row behind so many inequalities.
-pub fn row_head(
+// The first entry of a row behind so many inequalities.
+pub(crate) fn row_head(
     bytes: &[u8],
     kind: LimitKind,
     most: usize,
@@ -73,7 +73,7 @@ pub fn row_head(
     })
 }
 
-/// The opposite of each entry.
+// The opposite of each entry.
 fn negated(alloc: Global, entries: &[i128]) -> Result<Vec<i128>, WantOfMemory>
     requires { All Fits entries.now }
     ensures value { IfOk result (λ negated. negated.items ≡ negate entries.now) }
@@ -84,8 +84,8 @@ fn negated(alloc: Global, entries: &[i128]) -> Result<Vec<i128>, WantOfMemory>
     Ok(negated)
 }
 
-/// Appends a row's inequalities: an equality is two, the second with all entries negated.
-pub fn push_inequalities(
+// Appends a row's inequalities: an equality is two, the second with all entries negated.
+pub(crate) fn push_inequalities(
     alloc: Global,
     forms: &mut Vec<Form>,
     equality: bool,

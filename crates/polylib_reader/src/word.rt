@@ -13,7 +13,7 @@ pub struct Word<'a> {
     pub after: usize,
 }
 
-/// The bytes behind blanks and comments; a comment runs from `#` to the end of its line.
+// The bytes behind blanks and comments; a comment runs from `#` to the end of its line.
 fn skipped(bytes: &[u8]) -> &[u8]
     ensures value { result.now ≡ skipped_of false bytes.now }
     ensures bound { length result.now ≤ length bytes.now }
@@ -35,7 +35,7 @@ fn word_byte(byte: u8) -> bool
     !blank(byte) && byte != b'#'
 }
 
-/// How many of the bytes from the front on belong to a word.
+// How many of the bytes from the front on belong to a word.
 fn word_len(bytes: &[u8]) -> usize
     ensures value { result ≡ prefix_len is_word_byte bytes.now }
     ensures bound { result ≤ length bytes.now }
@@ -43,7 +43,7 @@ fn word_len(bytes: &[u8]) -> usize
     bytes.iter().take_while(|byte| word_byte(**byte)).count()
 }
 
-/// The word at the front.
+// The word at the front.
 fn word_text(bytes: &[u8]) -> &[u8]
     ensures value { result.now ≡ take_while is_word_byte bytes.now }
     ensures bound { length result.now ≤ length bytes.now }
@@ -52,8 +52,8 @@ fn word_text(bytes: &[u8]) -> &[u8]
     text
 }
 
-/// The next word at or behind a place.
-pub fn next_word(bytes: &[u8], place: usize) -> Word<'_>
+// The next word at or behind a place.
+pub(crate) fn next_word(bytes: &[u8], place: usize) -> Word<'_>
     requires { place ≤ length bytes.now }
     ensures value { word_of result ≡ word_at bytes.now place }
     ensures sized { result.after ≡ result.start + length result.text.now }

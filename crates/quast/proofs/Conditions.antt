@@ -1,9 +1,9 @@
 -- Tests that are true, and what they tell.
-use Rattle.std.proofs.Common.{◌≡◌, ◌≤◌, ◌+◌, ℕ, ℤ, pos, negsuc, ◌≤ℤ◌, refl, sym, arith, Bool, true, false, ◌&&◌, ◌==◌, IsTrue, List, [], ◌∷◌, length, eqb-true}
+use Rattle.std.proofs.Common.{◌≡◌, ◌≤◌, ◌+◌, ℕ, ℤ, pos, ◌≤ℤ◌, refl, sym, arith, Bool, true, IsTrue, List, [], ◌∷◌, length, eqb-true}
 use Rattle.std.proofs.lemmas.Int.{ints}
 use Rattle.std.proofs.lemmas.Bool.{and_from}
 use Rattle.std.proofs.lemmas.Bool.Decides.{nat_tests}
-use Rattle.std.proofs.lemmas.List.Elements.{All-cons, All-head, All-tail, All-nil}
+use Rattle.std.proofs.lemmas.List.Elements.{All-head, All-tail}
 use Rattle.std.specs.Prelude.{All, nat_le, int_le}
 use Rattle.std.specs.List.{list_all}
 use Rattle.pip_model.specs.Numbers.{fits}

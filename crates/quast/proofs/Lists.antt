@@ -1,11 +1,11 @@
 -- Components of one list.
-use Rattle.std.proofs.Common.{◌≡◌, ◌<◌, ◌+◌, ◌-◌, ℕ, refl, arith, List, [], ◌∷◌, length, get_or, ap, subst, sym}
+use Rattle.std.proofs.Common.{◌≡◌, ◌<◌, ◌+◌, ℕ, arith, List, [], ◌∷◌, length, get_or, ap, subst, sym}
 use Rattle.std.proofs.lemmas.Bool.{and_parts}
 use Rattle.std.proofs.lemmas.List.Elements.{All-head}
-use Rattle.std.specs.Prelude.{All, int_le, IsTrue, ◌&&◌, pos}
+use Rattle.std.specs.Prelude.{All, int_le, ◌&&◌, pos}
 use Rattle.pip_model.specs.Numbers.{gcd, gcd_of, same_number}
 use Rattle.pip_model.specs.Forms.{width}
-use Rattle.pip_model.specs.Tree.{Component, is_form, is_component}
+use Rattle.pip_model.specs.Tree.{Component, is_form}
 use Rattle.quast.specs.Components.{IsComponent, width_of}
 use Rattle.quast.proofs.Conditions.{form_length}
 

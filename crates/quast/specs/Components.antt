@@ -1,6 +1,6 @@
 -- The components of a list.
-use Rattle.std.specs.Prelude.{◌≡◌, ℕ, ◌+◌, ◌<◌, ℤ, pos, IsTrue, List, [], ◌∷◌, length, map, Option, Some, None}
-use Rattle.pip_model.specs.Forms.{width, entry, value}
+use Rattle.std.specs.Prelude.{◌≡◌, ℕ, ◌<◌, pos, IsTrue, List, [], ◌∷◌}
+use Rattle.pip_model.specs.Forms.{width, entry}
 use Rattle.pip_model.specs.Tree.{Component, is_component}
 use Rattle.pip_model.specs.Printed.{component_fits}
 

@@ -14,7 +14,7 @@ abbrev pub landing_of : Place → Option (List Component × List ℤ)
 landing_of place.Bottom = None
 landing_of (place.At cs ns) = Some (cs.now, ns.now)
 
--- A list has 1 to 128 components, and as many numbers, which fit.
+-- A list has at least one component, at most as many as the limit, and as many numbers, which fit.
 pub record IsPoint (cs : List Component) (ns : List ℤ) : Type 0 where
   pub some : 0 < length cs
   pub few : length cs ≤ most_components

@@ -1,4 +1,5 @@
-//! Selection trees (quasts): the answers to parametric integer programs (Feautrier, RAIRO 1988; the PIP/PipLib user's guide).
+//! Selection trees (quasts): the answers to parametric integer programs (Feautrier, RAIRO 1988; the PIP/PipLib user's
+//! guide).
 #![tactic(auto)]
 
 mod answer;

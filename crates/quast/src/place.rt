@@ -51,7 +51,7 @@ impl Model for Scratch {
 }
 
 impl Scratch {
-    /// Room for any path of a tree over at most 48 parameters.
+    /// Room for any path of a tree over parameters within their limit.
     pub fn reserve(alloc: Global) -> Result<Scratch, WantOfMemory>
         ensures { IfOk result (λ s. s ≡ ([], [])) }
     {
@@ -62,8 +62,9 @@ impl Scratch {
 }
 
 impl Quast {
-    /// Where `params` leads: at a node that chooses to the first tree where its form is at least 0, and past one that defines with the floor of its form's
-    /// value over the divisor as one more parameter. Answers Overflow exactly where a number of a form's value on the path does not fit. Takes no memory.
+    /// Where `params` leads: at a node that chooses to the first tree where its form is at least 0, and past one that
+    /// defines with the floor of its form's value over the divisor as one more parameter. Answers Overflow exactly
+    /// where a number of a form's value on the path does not fit. Takes no memory.
     pub fn value_at<'t>(
         &'t self,
         params: &[i128],
@@ -98,7 +99,8 @@ fn find_leaf<'t>(node: &'t Node, vector: &mut Vec<i128>) -> Result<Option<&'t Co
     requires fits { All Fits vector.old.items }
     requires room { vec_len vector.old + nesting (tree_of node.now) ≤ vec_capacity vector.old }
     ensures listed { IsChecked is_overflow (path_listed (tree_of node.now) vector.old.items) result }
-    ensures leaf { IfOk result (λ o. option_map (λ c. (c.now, vector.new.items)) o ≡ leaf_of (tree_of node.now) vector.old.items) }
+    ensures leaf { IfOk result
+        (λ o. option_map (λ c. (c.now, vector.new.items)) o ≡ leaf_of (tree_of node.now) vector.old.items) }
     ensures some { IfOk result (λ o. IfSome o (λ c. 0 < length c.now)) }
     ensures few { IfOk result (λ o. IfSome o (λ c. length c.now ≤ most_components)) }
     ensures components { IfOk result (λ o. IfSome o (λ c. All (IsComponent (vec_len vector.new)) c.now)) }

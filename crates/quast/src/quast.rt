@@ -7,12 +7,13 @@ ghost use Rattle.quast.specs.Trees.{tree_of, IsQuast};
 
 use crate::component::{Component, Components};
 use crate::node::Node;
-use affine_rows::{Form, MOST_NESTING};
+use affine_rows::{Form, MOST_NESTING, WantOfMemory};
 use std::alloc::Global;
 use std::marker::Model;
 
-/// A selection tree over a number of parameters: each form has the width of its scope, a new parameter adds one to the scope of the tree below it,
-/// each divisor is at least 1, a list has 1 to 128 components, and at most 200 nodes that choose or define stand on one path.
+/// A selection tree over a number of parameters: each form has the width of its scope, a new parameter adds one to the
+/// scope of the tree below it, each divisor is at least 1, and the lists and the nodes that choose or define on a path
+/// are within their limits; a list has at least one component.
 #[derive(Drop)]
 pub struct Quast {
     width: usize,
@@ -41,7 +42,7 @@ pub enum Parts {
     Define(Form, i128, Quast),
 }
 
-/// Why trees are not joined: one of them has 200 nested nodes, or memory was refused.
+/// Why trees are not joined: one of them has the most nested nodes, or memory was refused.
 #[derive(Clone, Copy, Debug, PartialEq, Eq)]
 pub enum BuildRefusal {
     Nesting,
@@ -75,8 +76,8 @@ impl Quast {
         }
     }
 
-    /// The tree that goes on with `a` where `v` is at least 0, and else with `b`. Answers Nesting exactly where one of them has 200 nested nodes;
-    /// a refusal hands the parts back.
+    /// The tree that goes on with `a` where `v` is at least 0, and else with `b`. Answers Nesting exactly where one of
+    /// them has the most nested nodes; a refusal hands the parts back.
     pub fn select(
         alloc: Global,
         v: Form,
@@ -130,8 +131,8 @@ impl Quast {
         })
     }
 
-    /// The tree that defines a new parameter, the floor of `v` over `d`, for `a`. Answers Nesting exactly where `a` has 200 nested nodes;
-    /// a refusal hands the parts back.
+    /// The tree that defines a new parameter, the floor of `v` over `d`, for `a`. Answers Nesting exactly where `a` has
+    /// the most nested nodes; a refusal hands the parts back.
     pub fn define(alloc: Global, v: Form, d: i128, a: Quast) -> Result<Quast, (Parts, BuildRefusal)>
         requires form_width { length v ≡ a.width }
         requires positive { pos 1 ≤ℤ d }
@@ -161,6 +162,36 @@ impl Quast {
                 };
                 Err((Parts::Define(v, d, a), BuildRefusal::WantOfMemory))
             }
+        }
+    }
+
+    /// As `select`, for trees that have room for one more nested node.
+    pub fn select_within(alloc: Global, v: Form, a: Quast, b: Quast) -> Result<Quast, WantOfMemory>
+        requires same_width { a.width ≡ b.width }
+        requires form_width { length v ≡ a.width + 1 }
+        requires first { model.nesting a.tree < most_nesting }
+        requires second { model.nesting b.tree < most_nesting }
+        ensures { IfOk result (λ q. q ≡ record { width = a.width; tree = model.If v a.tree b.tree }) }
+    {
+        match Quast::select(alloc, v, a, b) {
+            Ok(tree) => Ok(tree),
+            Err((_, BuildRefusal::WantOfMemory)) => Err(WantOfMemory),
+            Err((_, BuildRefusal::Nesting)) => unreachable!(),
+        }
+    }
+
+    /// As `define`, for a tree that has room for one more nested node.
+    pub fn define_within(alloc: Global, v: Form, d: i128, a: Quast) -> Result<Quast, WantOfMemory>
+        requires form_width { length v ≡ a.width }
+        requires positive { pos 1 ≤ℤ d }
+        requires fits { Fits d }
+        requires room { model.nesting a.tree < most_nesting }
+        ensures { IfOk result (λ q. (q.tree ≡ model.NewParm v d a.tree) × (q.width + 1 ≡ a.width)) }
+    {
+        match Quast::define(alloc, v, d, a) {
+            Ok(tree) => Ok(tree),
+            Err((_, BuildRefusal::WantOfMemory)) => Err(WantOfMemory),
+            Err((_, BuildRefusal::Nesting)) => unreachable!(),
         }
     }
 

@@ -1,7 +1,7 @@
 ghost use Rattle.std.specs.Prelude.{◌≡◌, pos, negsuc, [], ◌∷◌, IfOk};
 
 use super::*;
-use affine_rows::{Form, Overflow, WantOfMemory};
+use affine_rows::{Form, MOST_NESTING, Overflow, WantOfMemory};
 use std::alloc::Global;
 use std::process::Abort;
 use std::test::Fail;
@@ -66,12 +66,12 @@ fn a_tree_is_built_and_leads_to_its_lists(rt: HostRuntime) -> Result<(), Fail> {
     Ok(())
 }
 
-// A tree of 200 nested choices.
+// A tree of the most nested choices.
 fn deepest(alloc: Global) -> Result<Quast, Fail>
     ensures { IfOk result (λ tree. tree.width ≡ 1) }
 {
     let mut tree = Quast::bottom(1);
-    for _ in 0..200 {
+    for _ in 0..MOST_NESTING {
         tree = match Quast::select(alloc, condition(alloc)?, tree, Quast::bottom(1)) {
             Ok(tree) => tree,
             Err(_) => return Err("select")?,
@@ -88,7 +88,7 @@ fn a_tree_too_deep_is_handed_back(rt: HostRuntime) -> Result<(), Fail> {
         panic!(rt; "select");
     };
     assert_eq!(rt; form.as_slice(), [1, -2].as_slice());
-    assert_eq!(rt; (above.nesting(), below.nesting()), (0, 200));
+    assert_eq!(rt; (above.nesting(), below.nesting()), (0, MOST_NESTING));
     let Err((Parts::Define(form, divisor, below), BuildRefusal::Nesting)) = Quast::define(
         alloc,
         three(alloc)?,
@@ -98,6 +98,6 @@ fn a_tree_too_deep_is_handed_back(rt: HostRuntime) -> Result<(), Fail> {
         panic!(rt; "define");
     };
     assert_eq!(rt; form.as_slice(), [3].as_slice());
-    assert_eq!(rt; (divisor, below.nesting()), (2, 200));
+    assert_eq!(rt; (divisor, below.nesting()), (2, MOST_NESTING));
     Ok(())
 }

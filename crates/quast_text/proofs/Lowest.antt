@@ -1,20 +1,18 @@
 -- Lowest terms: their divisor, and components that are in them.
-use Rattle.std.proofs.Common.{◌≡◌, ◌∙◌, refl, ap, sym, length, ℕ, zero, suc, ◌<◌, ◌≤◌, ℤ, pos, negsuc, ◌≤ℤ◌, ◌*ℤ◌, unsigned_abs, true, false, arith, List}
+use Rattle.std.proofs.Common.{◌≡◌, ◌∙◌, refl, ap, sym, length, ℕ, zero, suc, ◌<◌, ◌≤◌, ℤ, pos, negsuc, ◌≤ℤ◌, ◌*ℤ◌, unsigned_abs, arith, List}
 use Rattle.std.proofs.lemmas.Int.{ints}
 use Rattle.std.proofs.Math.Nat.{le_of_dvd}
-use Rattle.pip_model.specs.Numbers.{floor_div, gcd, gcd_of, is_zero, lcm}
+use Rattle.pip_model.specs.Numbers.{floor_div, gcd, gcd_of, lcm}
 use Rattle.pip_model.proofs.Order.{mul_pp}
-use Rattle.affine_rows.proofs.Divisors.{quotient_positive}
 use Rattle.quast_text.proofs.Spellings.{gcd_positive}
 use Rattle.std.specs.Prelude.{Ok, int_le}
 use Rattle.pip_model.specs.Numbers.{same_number}
 use Rattle.pip_model.specs.Tree.{Component, reduced, is_form}
 use Rattle.pip_model.specs.TreeText.{component}
 use Rattle.pip_model.proofs.Tests.{three, same_number_is}
-use Rattle.affine_rows.proofs.Divisors.{floor_divided_one}
-use Rattle.text_laws.proofs.Gcd.{common-IsGcd}
 use Rattle.text_laws.proofs.ReadPlaces.{Read, ok_value}
 use Rattle.text_laws.proofs.ReadComponents.{IsRead, component-reads}
+use Rattle.pip_model.proofs.Gcd.{common-IsGcd, quotient_positive, floor_divided_one, div_one}
 
 pub gcd_below : (c d : ℤ) → pos 1 ≤ℤ d → gcd c d ≤ℤ d
 gcd_below c (negsuc n) h = absurd (omega (arith, ints))
@@ -22,14 +20,6 @@ gcd_below c (pos n) h =
     let some : 0 < n = omega (arith, ints) in
     let p = le_of_dvd some (common-IsGcd (unsigned_abs c) n).1 in
     omega (arith, ints)
-
-pub zero_yes : (x : ℤ) → x ≡ pos 0 → is_zero x ≡ true
-zero_yes x e = rw e refl
-
-pub zero_no : (x : ℤ) → ¬ (x ≡ pos 0) → is_zero x ≡ false
-zero_no (pos zero) h = absurd (h refl)
-zero_no (pos (suc n)) h = refl
-zero_no (negsuc n) h = refl
 
 pub from_one : (x : ℤ) → pos 0 ≤ℤ x → ¬ (x ≡ pos 0) → pos 1 ≤ℤ x
 from_one (pos zero) h k = absurd (k refl)
@@ -43,10 +33,6 @@ pub lcm_positive : (a b : ℤ) → pos 1 ≤ℤ a → pos 1 ≤ℤ b → pos 1 �
 lcm_positive a b h k = product_positive a (floor_div b (gcd a b)) h (quotient_positive b (gcd a b) (gcd_positive a b k) (gcd_below a b k))
 
 -- ---- a component that is read is in lowest terms already
-
-div_one : (x : ℤ) → floor_div x (pos 1) ≡ x
-div_one (pos n) = omega (arith, ints)
-div_one (negsuc n) = omega (arith, ints)
 
 same_reduced : (c : Component) (g : ℤ) → gcd c.den (gcd_of c.form) ≡ g → g ≡ pos 1 → reduced c.den c.form ≡ c
 same_reduced c g is one =

@@ -1,7 +1,6 @@
 -- Texts of lists, and numbers over a denominator.
 use Rattle.std.proofs.Common.{◌≡◌, ◌∙◌, ◌≤◌, refl, ap, sym, length, take, append_assoc, codes, if◌then◌else◌, ℕ, ℤ, pos, negsuc, ◌≤ℤ◌, ◌<◌, unsigned_abs, Bool, true, false, arith, List, [], ◌∷◌, ◌++◌, flat_map}
 use Rattle.std.proofs.lemmas.Int.{ints}
-use Rattle.std.proofs.lemmas.Bool.Decides.{nat_tests}
 use Rattle.std.proofs.lemmas.List.{append-nil, take_all}
 use Rattle.std.specs.Fmt.{signed_decimal}
 use Rattle.std.proofs.Math.Nat.{pos_of_dvd_of_pos}
@@ -9,8 +8,8 @@ use Rattle.std.specs.Prelude.{Result, Ok, Err, OnOk, is_err}
 use Rattle.pip_model.specs.Numbers.{floor_div, gcd, same_number}
 use Rattle.pip_model.specs.Tree.{Component}
 use Rattle.pip_model.specs.TreeText.{spell_numbers, spell_fraction, spell_fractions, spell_components}
-use Rattle.text_laws.proofs.Gcd.{common-IsGcd}
 use Rattle.quast_text.specs.Printing.{Begins, spell_entry, spell_denominator, spell_term, spell_component}
+use Rattle.pip_model.proofs.Gcd.{common-IsGcd}
 
 pub numbers_flat : (cs : List ℤ) → flat_map spell_entry cs ≡ spell_numbers cs
 numbers_flat [] = refl
@@ -46,18 +45,6 @@ gcd_positive c (pos n) h =
     let some : 0 < n = omega (arith, ints) in
     let p = pos_of_dvd_of_pos (common-IsGcd (unsigned_abs c) n).1 some in
     omega (arith, ints)
-
-pub same_yes : (x y : ℤ) → x ≡ y → same_number x y ≡ true
-same_yes (pos a) (pos b) e = let h : a ≡ b = ap unsigned_abs e in grind (arith, nat_tests)
-same_yes (negsuc a) (negsuc b) e = let h : a ≡ b = omega (arith, ap unsigned_abs e) in grind (arith, nat_tests)
-same_yes (pos a) (negsuc b) e = cc
-same_yes (negsuc a) (pos b) e = cc
-
-pub same_no : (x y : ℤ) → ¬ (x ≡ y) → same_number x y ≡ false
-same_no (pos a) (pos b) h = let k : ¬ (a ≡ b) = λ e. h (ap pos e) in grind (arith, nat_tests)
-same_no (negsuc a) (negsuc b) h = let k : ¬ (a ≡ b) = λ e. h (ap negsuc e) in grind (arith, nat_tests)
-same_no (pos a) (negsuc b) h = refl
-same_no (negsuc a) (pos b) h = refl
 
 -- ---- what is written goes on from what was
 

@@ -1,5 +1,5 @@
 -- Words of the contracts on printing.
-use Rattle.std.specs.Prelude.{◌≡◌, ◌-◌, ℕ, ℤ, List, [], ◌++◌, if◌then◌else◌, length, codes, Some, Ok}
+use Rattle.std.specs.Prelude.{◌≡◌, ◌-◌, ℕ, ℤ, List, [], ◌++◌, if◌then◌else◌, length, codes, Some, Ok, Result, OnOk}
 use Rattle.std.specs.Fmt.{signed_decimal}
 use Rattle.pip_model.specs.Numbers.{floor_div, same_number}
 use Rattle.pip_model.specs.TreeText.{Spoken, read_answer, spell_fraction, spell_fractions}
@@ -20,6 +20,10 @@ spell_term d c = codes " " ++ spell_fraction c d
 -- the line of a component
 abbrev pub spell_component : Component → List ℕ
 spell_component c = codes "#[" ++ spell_fractions c.den c.form ++ codes "]\n"
+
+-- where nothing is refused, the text stands behind the old bytes
+abbrev pub Appends : {X E : Type 0} → List ℕ → List ℕ → List ℕ → Result X E → Type 0
+Appends text old new result = OnOk result (new ≡ old ++ text)
 
 -- the new bytes begin with the old ones
 pub record Begins (old new : List ℕ) : Type 0 where

@@ -1,4 +1,5 @@
 ghost use Rattle.std.specs.Prelude.{◌≡◌, ◌≤◌, ◌<◌, ◌+◌, ◌≤ℤ◌, pos, length, All, IfOk};
+ghost use Rattle.pip_model.specs.Limits.{most_params, most_nesting};
 ghost use Rattle.pip_model.specs.TreeText.{component_of, component as component_at};
 ghost use Rattle.pip_model.specs.Agreement.{Agrees};
 ghost use Rattle.affine_rows.specs.Checks.{Fits};
@@ -14,7 +15,8 @@ use quast::Component;
 use std::alloc::Global;
 use text_steps::{Reads, expect};
 
-// The fractions over their common denominator; Wide, at the place of the component, where that or a numerator does not fit.
+// The fractions over their common denominator; Wide, at the place of the component, where that or a numerator does not
+// fit.
 fn over_one_denominator(
     alloc: Global,
     start: usize,
@@ -36,15 +38,15 @@ fn over_one_denominator(
     }
 }
 
-/// A component over so many places between row brackets, and the place behind it.
-pub fn read_component(
+// A component over so many places between row brackets, and the place behind it.
+pub(crate) fn read_component(
     alloc: Global,
     bytes: &[u8],
     width: usize,
     place: usize,
 ) -> Reads<Component, TextRefusal>
     requires place { place ≤ length bytes.now }
-    requires width { width < 1000 }
+    requires width { width ≤ most_params + most_nesting }
     ensures reads { IsRead (λ c. c) text_fault bytes.now place result (component_at bytes.now width place) }
     ensures component { IfOk result (λ x. IsComponent width x.0) }
 {

@@ -1,4 +1,5 @@
 ghost use Rattle.std.specs.Prelude.{◌≡◌, ◌≤◌, ◌<◌, ◌+◌, ◌≤ℤ◌, pos, length, IfOk};
+ghost use Rattle.pip_model.specs.Limits.{most_params, most_nesting};
 ghost use Rattle.pip_model.specs.TreeText as model;
 ghost use Rattle.affine_rows.specs.Checks.{Fits};
 ghost use Rattle.text_steps.specs.Steps.{IsPassed, IsRead};
@@ -18,7 +19,7 @@ pub struct Quotient {
 }
 
 // The place behind the next token, which is the number of the scope.
-#[tactic(auto, using(crate::proofs::Spellings::same_yes, crate::proofs::Spellings::same_no))]
+#[tactic(auto, using(pip_model::proofs::Tests::same_number_yes, pip_model::proofs::Tests::same_number_no))]
 fn scope_number(bytes: &[u8], width: usize, place: usize) -> Result<usize, TextRefusal>
     requires { place ≤ length bytes.now }
     ensures { IsPassed text_fault bytes.now place result (model.scope_number bytes.now width place) }
@@ -46,15 +47,16 @@ fn divisor(bytes: &[u8], place: usize) -> Reads<i128, TextRefusal>
     }
 }
 
-/// The number of the scope, a form over so many places and its divisor behind the word `newparm`, and the place behind them.
-pub fn read_definition(
+// The number of the scope, a form over so many places and its divisor behind the word `newparm`, and the place behind
+// them.
+pub(crate) fn read_definition(
     alloc: Global,
     bytes: &[u8],
     width: usize,
     place: usize,
 ) -> Reads<Quotient, TextRefusal>
     requires place { place ≤ length bytes.now }
-    requires width { width < 1000 }
+    requires width { width ≤ most_params + most_nesting }
     ensures reads { IsRead (λ q. (q.form, q.divisor)) text_fault bytes.now place result
         (model.definition bytes.now width place) }
     ensures width { IfOk result (λ x. length x.0.form ≡ width + 1) }

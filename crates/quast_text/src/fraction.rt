@@ -60,7 +60,7 @@ impl Fraction {
 }
 
 // n over d in lowest terms, for a token between these places.
-#[tactic(auto, using(crate::proofs::Spellings::gcd_positive, crate::proofs::Lowest::gcd_below, crate::proofs::Lowest::zero_yes, crate::proofs::Lowest::zero_no))]
+#[tactic(auto, using(crate::proofs::Spellings::gcd_positive, crate::proofs::Lowest::gcd_below, pip_model::proofs::Tests::is_zero_yes, pip_model::proofs::Tests::is_zero_no))]
 fn lowest_terms(start: usize, n: i128, d: i128, after: usize) -> Reads<Fraction, TextRefusal>
     requires low { pos 0 ≤ℤ d }
     requires n_fits { Fits n }
@@ -91,8 +91,8 @@ fn read_fraction(bytes: &[u8], place: usize) -> Reads<Fraction, TextRefusal>
     }
 }
 
-/// So many numbers or fractions, and the place behind them.
-pub fn read_fractions(
+// So many numbers or fractions, and the place behind them.
+pub(crate) fn read_fractions(
     alloc: Global,
     bytes: &[u8],
     count: usize,
@@ -126,8 +126,8 @@ fn lcm(a: i128, b: i128) -> Result<i128, Overflow>
     Ok(product)
 }
 
-/// The least common multiple of the denominators.
-pub fn common_denominator(fractions: &[Fraction]) -> Result<i128, Overflow>
+// The least common multiple of the denominators.
+pub(crate) fn common_denominator(fractions: &[Fraction]) -> Result<i128, Overflow>
     ensures listed { IsChecked is_overflow (common_denominators (pos 1) fractions.now) result }
     ensures value { IfOk result (λ d. d ≡ last_of (pos 1) (common_denominators (pos 1) fractions.now)) }
     ensures positive { IfOk result (λ d. pos 1 ≤ℤ d) }
@@ -140,8 +140,8 @@ pub fn common_denominator(fractions: &[Fraction]) -> Result<i128, Overflow>
     Ok(common)
 }
 
-/// The numerators over a common denominator.
-pub fn numerators(
+// The numerators over a common denominator.
+pub(crate) fn numerators(
     alloc: Global,
     fractions: &[Fraction],
     common: i128,

@@ -1,4 +1,5 @@
-//! The text of answers to parametric integer programs: selection trees in the notation of PIP (Feautrier, RAIRO 1988; the PIP/PipLib user's guide).
+//! The text of answers to parametric integer programs: selection trees in the notation of PIP (Feautrier, RAIRO 1988;
+//! the PIP/PipLib user's guide).
 #![tactic(auto)]
 
 mod component;

@@ -1,5 +1,5 @@
 ghost use Rattle.std.specs.Prelude.{◌≡◌, ◌≤◌, ◌<◌, ◌+◌, length, All, IfOk, IfSome};
-ghost use Rattle.pip_model.specs.Limits.{most_components};
+ghost use Rattle.pip_model.specs.Limits.{most_params, most_components, most_nesting};
 ghost use Rattle.pip_model.specs.Tree.{nesting};
 ghost use Rattle.pip_model.specs.Agreement.{Agrees};
 ghost use Rattle.quast.specs.Components.{IsComponent};
@@ -23,7 +23,7 @@ fn next_component(
     place: usize,
 ) -> Result<Option<(Component, usize)>, TextRefusal>
     requires place { place ≤ length bytes.now }
-    requires width { width < 1000 }
+    requires width { width ≤ most_params + most_nesting }
     ensures agrees { Agrees (λ o. o) text_fault result (next_component_of bytes.now width left place) }
     ensures left { IfOk result (λ o. IfSome o (λ x. 0 < left)) }
     ensures component { IfOk result (λ o. IfSome o (λ x. IsComponent width x.0)) }
@@ -49,7 +49,7 @@ fn read_components(
     place: usize,
 ) -> Reads<Vec<Component>, TextRefusal>
     requires place { place ≤ length bytes.now }
-    requires width { width < 1000 }
+    requires width { width ≤ most_params + most_nesting }
     requires first { IsComponent width first }
     ensures reads { AreRead (λ v. v.items) text_fault bytes.now place result
         (components_behind bytes.now width first place) }
@@ -69,16 +69,16 @@ fn read_components(
     Ok((read, token(bytes, at).after))
 }
 
-/// A list over so many places behind its word, and the place behind it.
+// A list over so many places behind its word, and the place behind it.
 #[tactic(auto, unfolding(crate::specs::Trees::list_at))]
-pub fn read_list(
+pub(crate) fn read_list(
     alloc: Global,
     bytes: &[u8],
     width: usize,
     place: usize,
 ) -> Reads<Quast, TextRefusal>
     requires place { place ≤ length bytes.now }
-    requires width { width < 1000 }
+    requires width { width ≤ most_params + most_nesting }
     ensures reads { IsRead (λ q. q.tree) text_fault bytes.now place result (list_at bytes.now width place) }
     ensures width { IfOk result (λ x. x.0.width ≡ width) }
     ensures nested { IfOk result (λ x. nesting x.0.tree ≡ 0) }

@@ -7,7 +7,7 @@ ghost use Rattle.pip_model.specs.Limits.{most_params};
 ghost use Rattle.affine_rows.specs.Checks.{Fits};
 ghost use Rattle.quast.specs.Trees.{tree_of, IsQuast};
 ghost use Rattle.quast.specs.Answers.{answer_of, IsOver};
-ghost use Rattle.quast_text.specs.Printing.{Begins, spell_entry, spell_denominator, spell_term, spell_component, IsReadBack};
+ghost use Rattle.quast_text.specs.Printing.{Appends, Begins, spell_entry, spell_denominator, spell_term, spell_component, IsReadBack};
 
 use affine_rows::{Bytes, Form, WantOfMemory, floor_div, gcd};
 use itoa::Buffer;
@@ -16,7 +16,7 @@ use std::alloc::AllocError;
 
 /// Appends the text of a tree, or leaves `out` as it was.
 pub fn print_tree(tree: &Quast, out: &mut Vec<u8>) -> Result<(), WantOfMemory>
-    ensures ok { OnOk result (out.new.items ≡ out.old.items ++ spell_tree tree.now.tree) }
+    ensures ok { Appends (spell_tree tree.now.tree) out.old.items out.new.items result }
     ensures err { OnErr result (out.new.items ≡ out.old.items) }
 {
     let start = out.len();
@@ -27,12 +27,14 @@ pub fn print_tree(tree: &Quast, out: &mut Vec<u8>) -> Result<(), WantOfMemory>
     Ok(())
 }
 
-/// Appends the text of an answer with its comment, or leaves `out` as it was. Behind a comment that is a group the text is read back as this answer, whatever
-/// stands behind it.
+/// Appends the text of an answer with its comment, or leaves `out` as it was. Behind a comment that is a group the text
+/// is read back as this answer, whatever stands behind it.
 pub fn print_answer(comment: &Bytes, answer: &Answer, out: &mut Vec<u8>) -> Result<(), WantOfMemory>
-    ensures ok { OnOk result (out.new.items ≡ out.old.items ++ spell comment.now (answer_of answer.now)) }
+    ensures ok { Appends (spell comment.now (answer_of answer.now)) out.old.items out.new.items result }
     ensures err { OnErr result (out.new.items ≡ out.old.items) }
-    ensures read_back { OnOk result ((np : ℕ) → np ≤ most_params → IsGroup comment.now → IsOver np answer.now → IsReadBack (spell comment.now (answer_of answer.now)) np (record { comment = comment.now; answer = answer_of answer.now })) }
+    ensures read_back { OnOk result ((np : ℕ) → np ≤ most_params → IsGroup comment.now → IsOver np answer.now
+        → IsReadBack (spell comment.now (answer_of answer.now)) np
+        (record { comment = comment.now; answer = answer_of answer.now })) }
 {
     let start = out.len();
     if put_spoken(out, comment, answer).is_err() {
@@ -43,8 +45,9 @@ pub fn print_answer(comment: &Bytes, answer: &Answer, out: &mut Vec<u8>) -> Resu
 }
 
 fn put_spoken(out: &mut Vec<u8>, comment: &Bytes, answer: &Answer) -> Result<(), AllocError>
-    ensures printable { OnOk result ((np : ℕ) → np ≤ most_params → IsOver np answer.now → IsPrintableAnswer np (answer_of answer.now)) }
-    ensures ok { OnOk result (out.new.items ≡ out.old.items ++ spell comment.now (answer_of answer.now)) }
+    ensures printable { OnOk result ((np : ℕ) → np ≤ most_params → IsOver np answer.now
+        → IsPrintableAnswer np (answer_of answer.now)) }
+    ensures ok { Appends (spell comment.now (answer_of answer.now)) out.old.items out.new.items result }
     ensures kept { Begins out.old.items out.new.items }
 {
     put_comment(out, comment.as_slice())?;
@@ -53,7 +56,7 @@ fn put_spoken(out: &mut Vec<u8>, comment: &Bytes, answer: &Answer) -> Result<(),
 }
 
 fn put_comment(out: &mut Vec<u8>, comment: &[u8]) -> Result<(), AllocError>
-    ensures ok { OnOk result (out.new.items ≡ out.old.items ++ (codes "(" ++ comment.now ++ newline)) }
+    ensures ok { Appends (codes "(" ++ comment.now ++ newline) out.old.items out.new.items result }
     ensures kept { Begins out.old.items out.new.items }
 {
     put(out, b"(")?;
@@ -62,8 +65,9 @@ fn put_comment(out: &mut Vec<u8>, comment: &[u8]) -> Result<(), AllocError>
 }
 
 fn put_solution(out: &mut Vec<u8>, answer: &Answer) -> Result<(), AllocError>
-    ensures printable { OnOk result ((np : ℕ) → np ≤ most_params → IsOver np answer.now → IsPrintableAnswer np (answer_of answer.now)) }
-    ensures ok { OnOk result (out.new.items ≡ out.old.items ++ spell_answer (answer_of answer.now)) }
+    ensures printable { OnOk result ((np : ℕ) → np ≤ most_params → IsOver np answer.now
+        → IsPrintableAnswer np (answer_of answer.now)) }
+    ensures ok { Appends (spell_answer (answer_of answer.now)) out.old.items out.new.items result }
     ensures kept { Begins out.old.items out.new.items }
 {
     match answer {
@@ -73,7 +77,7 @@ fn put_solution(out: &mut Vec<u8>, answer: &Answer) -> Result<(), AllocError>
 }
 
 fn put_node(out: &mut Vec<u8>, node: &Node) -> Result<(), AllocError>
-    ensures ok { OnOk result (out.new.items ≡ out.old.items ++ spell_tree (tree_of node.now)) }
+    ensures ok { Appends (spell_tree (tree_of node.now)) out.old.items out.new.items result }
     ensures kept { Begins out.old.items out.new.items }
 {
     match node {
@@ -93,7 +97,7 @@ fn put_node(out: &mut Vec<u8>, node: &Node) -> Result<(), AllocError>
 }
 
 fn put_condition(out: &mut Vec<u8>, v: &Form) -> Result<(), AllocError>
-    ensures ok { OnOk result (out.new.items ≡ out.old.items ++ (codes "(if " ++ spell_form v.now ++ newline)) }
+    ensures ok { Appends (codes "(if " ++ spell_form v.now ++ newline) out.old.items out.new.items result }
     ensures kept { Begins out.old.items out.new.items }
 {
     put(out, b"(if ")?;
@@ -102,7 +106,10 @@ fn put_condition(out: &mut Vec<u8>, v: &Form) -> Result<(), AllocError>
 }
 
 fn put_definition(out: &mut Vec<u8>, v: &Form, d: i128) -> Result<(), AllocError>
-    ensures ok { OnOk result (out.new.items ≡ out.old.items ++ (codes "(newparm " ++ decimal (width v.now) ++ codes " (div " ++ spell_form v.now ++ codes " " ++ signed_decimal d ++ codes "))\n")) }
+    ensures ok { Appends
+        (codes "(newparm " ++ decimal (width v.now) ++ codes " (div " ++ spell_form v.now ++ codes " "
+        ++ signed_decimal d ++ codes "))\n")
+        out.old.items out.new.items result }
     ensures kept { Begins out.old.items out.new.items }
 {
     put_parameter(out, v.width())?;
@@ -111,7 +118,7 @@ fn put_definition(out: &mut Vec<u8>, v: &Form, d: i128) -> Result<(), AllocError
 }
 
 fn put_parameter(out: &mut Vec<u8>, number: usize) -> Result<(), AllocError>
-    ensures ok { OnOk result (out.new.items ≡ out.old.items ++ (codes "(newparm " ++ decimal number ++ codes " (div ")) }
+    ensures ok { Appends (codes "(newparm " ++ decimal number ++ codes " (div ") out.old.items out.new.items result }
     ensures kept { Begins out.old.items out.new.items }
 {
     put(out, b"(newparm ")?;
@@ -120,7 +127,7 @@ fn put_parameter(out: &mut Vec<u8>, number: usize) -> Result<(), AllocError>
 }
 
 fn put_divisor(out: &mut Vec<u8>, d: i128) -> Result<(), AllocError>
-    ensures ok { OnOk result (out.new.items ≡ out.old.items ++ (codes " " ++ signed_decimal d ++ codes "))\n")) }
+    ensures ok { Appends (codes " " ++ signed_decimal d ++ codes "))\n") out.old.items out.new.items result }
     ensures kept { Begins out.old.items out.new.items }
 {
     put_entry(out, d)?;
@@ -128,7 +135,7 @@ fn put_divisor(out: &mut Vec<u8>, d: i128) -> Result<(), AllocError>
 }
 
 fn put_form(out: &mut Vec<u8>, v: &Form) -> Result<(), AllocError>
-    ensures ok { OnOk result (out.new.items ≡ out.old.items ++ spell_form v.now) }
+    ensures ok { Appends (spell_form v.now) out.old.items out.new.items result }
     ensures kept { Begins out.old.items out.new.items }
 {
     put(out, b"#[")?;
@@ -137,7 +144,7 @@ fn put_form(out: &mut Vec<u8>, v: &Form) -> Result<(), AllocError>
 }
 
 fn put_entries(out: &mut Vec<u8>, entries: &[i128]) -> Result<(), AllocError>
-    ensures ok { OnOk result (out.new.items ≡ out.old.items ++ spell_numbers entries.now) }
+    ensures ok { Appends (spell_numbers entries.now) out.old.items out.new.items result }
     ensures kept { Begins out.old.items out.new.items }
 {
     for entry in entries {
@@ -147,7 +154,8 @@ fn put_entries(out: &mut Vec<u8>, entries: &[i128]) -> Result<(), AllocError>
 }
 
 fn put_list(out: &mut Vec<u8>, components: &[Component]) -> Result<(), AllocError>
-    ensures ok { OnOk result (out.new.items ≡ out.old.items ++ (codes "(list\n" ++ spell_components components.now ++ codes ")\n")) }
+    ensures ok { Appends (codes "(list\n" ++ spell_components components.now ++ codes ")\n")
+        out.old.items out.new.items result }
     ensures kept { Begins out.old.items out.new.items }
 {
     put(out, b"(list\n")?;
@@ -156,7 +164,7 @@ fn put_list(out: &mut Vec<u8>, components: &[Component]) -> Result<(), AllocErro
 }
 
 fn put_components(out: &mut Vec<u8>, components: &[Component]) -> Result<(), AllocError>
-    ensures ok { OnOk result (out.new.items ≡ out.old.items ++ spell_components components.now) }
+    ensures ok { Appends (spell_components components.now) out.old.items out.new.items result }
     ensures kept { Begins out.old.items out.new.items }
 {
     for component in components {
@@ -166,7 +174,7 @@ fn put_components(out: &mut Vec<u8>, components: &[Component]) -> Result<(), All
 }
 
 fn put_component(out: &mut Vec<u8>, component: &Component) -> Result<(), AllocError>
-    ensures ok { OnOk result (out.new.items ≡ out.old.items ++ spell_component component.now) }
+    ensures ok { Appends (spell_component component.now) out.old.items out.new.items result }
     ensures kept { Begins out.old.items out.new.items }
 {
     put(out, b"#[")?;
@@ -175,7 +183,7 @@ fn put_component(out: &mut Vec<u8>, component: &Component) -> Result<(), AllocEr
 }
 
 fn put_fractions(out: &mut Vec<u8>, component: &Component) -> Result<(), AllocError>
-    ensures ok { OnOk result (out.new.items ≡ out.old.items ++ spell_fractions component.now.den component.now.form) }
+    ensures ok { Appends (spell_fractions component.now.den component.now.form) out.old.items out.new.items result }
     ensures kept { Begins out.old.items out.new.items }
 {
     for entry in component.form().as_slice() {
@@ -188,7 +196,7 @@ fn put_term(out: &mut Vec<u8>, c: i128, d: i128) -> Result<(), AllocError>
     requires positive { pos 1 ≤ℤ d }
     requires c_fits { Fits c }
     requires d_fits { Fits d }
-    ensures ok { OnOk result (out.new.items ≡ out.old.items ++ spell_term d c) }
+    ensures ok { Appends (spell_term d c) out.old.items out.new.items result }
     ensures kept { Begins out.old.items out.new.items }
 {
     put(out, b" ")?;
@@ -201,7 +209,7 @@ fn put_fraction(out: &mut Vec<u8>, c: i128, d: i128) -> Result<(), AllocError>
     requires positive { pos 1 ≤ℤ d }
     requires c_fits { Fits c }
     requires d_fits { Fits d }
-    ensures ok { OnOk result (out.new.items ≡ out.old.items ++ spell_fraction c d) }
+    ensures ok { Appends (spell_fraction c d) out.old.items out.new.items result }
     ensures kept { Begins out.old.items out.new.items }
 {
     let divisor = gcd(c, d);
@@ -210,11 +218,11 @@ fn put_fraction(out: &mut Vec<u8>, c: i128, d: i128) -> Result<(), AllocError>
 }
 
 // What stands behind the numerator: nothing where the divisor is d.
-#[tactic(auto, using(crate::proofs::Spellings::same_yes, crate::proofs::Spellings::same_no))]
+#[tactic(auto, using(pip_model::proofs::Tests::same_number_yes, pip_model::proofs::Tests::same_number_no))]
 fn put_denominator(out: &mut Vec<u8>, d: i128, divisor: i128) -> Result<(), AllocError>
     requires positive { pos 1 ≤ℤ divisor }
     requires fits { Fits d }
-    ensures ok { OnOk result (out.new.items ≡ out.old.items ++ spell_denominator d divisor) }
+    ensures ok { Appends (spell_denominator d divisor) out.old.items out.new.items result }
     ensures kept { Begins out.old.items out.new.items }
 {
     if divisor == d {
@@ -225,7 +233,7 @@ fn put_denominator(out: &mut Vec<u8>, d: i128, divisor: i128) -> Result<(), Allo
 }
 
 fn put_entry(out: &mut Vec<u8>, entry: i128) -> Result<(), AllocError>
-    ensures ok { OnOk result (out.new.items ≡ out.old.items ++ spell_entry entry) }
+    ensures ok { Appends (spell_entry entry) out.old.items out.new.items result }
     ensures kept { Begins out.old.items out.new.items }
 {
     put(out, b" ")?;
@@ -233,14 +241,14 @@ fn put_entry(out: &mut Vec<u8>, entry: i128) -> Result<(), AllocError>
 }
 
 fn put_number(out: &mut Vec<u8>, number: i128) -> Result<(), AllocError>
-    ensures ok { OnOk result (out.new.items ≡ out.old.items ++ signed_decimal number) }
+    ensures ok { Appends (signed_decimal number) out.old.items out.new.items result }
     ensures kept { Begins out.old.items out.new.items }
 {
     put(out, Buffer::new().format(number).as_bytes())
 }
 
 fn put(out: &mut Vec<u8>, bytes: &[u8]) -> Result<(), AllocError>
-    ensures ok { OnOk result (out.new.items ≡ out.old.items ++ bytes.now) }
+    ensures ok { Appends bytes.now out.old.items out.new.items result }
     ensures kept { Begins out.old.items out.new.items }
 {
     out.extend_from_slice(bytes)

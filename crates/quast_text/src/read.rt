@@ -72,12 +72,14 @@ fn first_spoken(
     }
 }
 
-/// The answer over `np` parameters, at most 48, that begins with the first `(` at or behind `start`, and the place behind its last `)`; none exactly where
-/// there is no `(`. What is read is well formed, its components are brought to lowest terms, and its numbers fit.
+/// The answer over `np` parameters, within their limit, that begins with the first `(` at or behind `start`, and the
+/// place behind its last `)`; none exactly where there is no `(`. What is read is well formed, its components are
+/// brought to lowest terms, and its numbers fit.
 ///
-/// The first token that differs from the format decides the refusal, which keeps the place of that token's first byte (the number of bytes at their
-/// end). A number of more than 127 bits where one is expected is `Wide`, and so is a component whose common denominator or a numerator over it does not
-/// fit, at its `#[`. A 129th component is `Components(129)`, and a 201st nested node `Nesting`.
+/// The first token that differs from the format decides the refusal, which keeps the place of that token's first byte
+/// (the number of bytes at their end). A number of more than 127 bits where one is expected is `Wide`, and so is a
+/// component whose common denominator or a numerator over it does not fit, at its `#[`. The first component too many is
+/// `Components` with its number, and the first nested node too many `Nesting`.
 pub fn read_answer(
     alloc: Global,
     bytes: &[u8],

@@ -6,8 +6,8 @@ use std::alloc::{AllocError, AllocFailed};
 use text_steps::TextFault;
 use thiserror::Error;
 
-/// Why an answer's text is not read: the place of the token that differs, or of one whose numbers do not fit; more than 200 nested nodes;
-/// the number of components from which on a list has too many.
+/// Why an answer's text is not read: the place of the token that differs, or of one whose numbers do not fit; more
+/// than the most nested nodes; the number of components from which on a list has too many.
 #[derive(Clone, Copy, Debug, PartialEq, Eq, Error)]
 pub enum TextRefusal {
     #[error("syntax at byte {0}")]

@@ -1,5 +1,5 @@
 ghost use Rattle.std.specs.Prelude.{◌≡◌, ◌≤◌, ◌<◌, ◌+◌, ◌≤ℤ◌, pos, max, length, IfOk, IfErr};
-ghost use Rattle.pip_model.specs.Limits.{most_nesting};
+ghost use Rattle.pip_model.specs.Limits.{most_params, most_nesting};
 ghost use Rattle.pip_model.specs.Tree.{If, NewParm, nesting};
 ghost use Rattle.pip_model.specs.TreeText.{head as head_at, tree as tree_at};
 ghost use Rattle.affine_rows.specs.Checks.{Fits};
@@ -7,12 +7,12 @@ ghost use Rattle.text_steps.specs.Steps.{IsRead};
 ghost use Rattle.quast_text.specs.Faults.{text_fault};
 ghost use Rattle.quast_text.specs.Trees.{head_of, opening as opening_of, choice_at, define_at};
 
-use crate::definition::{Quotient, read_definition};
+use crate::definition::read_definition;
 use crate::list::read_list;
 use crate::refusal::TextRefusal;
 use crate::row::read_form;
-use affine_rows::{Form, Kind, token};
-use quast::{BuildRefusal, Quast};
+use affine_rows::{Kind, token};
+use quast::Quast;
 use std::alloc::Global;
 use text_steps::{Reads, expect, same_bracket, spells};
 
@@ -53,41 +53,10 @@ fn opening(bytes: &[u8], place: usize) -> Reads<Head, TextRefusal>
     read_head(bytes, first)
 }
 
-// The tree of a condition, where there is room on its path.
-fn select(alloc: Global, v: Form, a: Quast, b: Quast) -> Result<Quast, TextRefusal>
-    requires same_width { a.width ≡ b.width }
-    requires form_width { length v ≡ a.width + 1 }
-    requires room { max (nesting a.tree) (nesting b.tree) < most_nesting }
-    ensures ok { IfOk result (λ q. q ≡ record { width = a.width; tree = If v a.tree b.tree }) }
-    ensures err { IfErr result (λ e. e ≡ TextRefusal.WantOfMemory) }
-{
-    match Quast::select(alloc, v, a, b) {
-        Ok(tree) => Ok(tree),
-        Err((_, BuildRefusal::WantOfMemory)) => Err(TextRefusal::WantOfMemory),
-        Err((_, BuildRefusal::Nesting)) => unreachable!(),
-    }
-}
-
-// The tree of a new parameter, where there is room on its path.
-fn define(alloc: Global, quotient: Quotient, a: Quast) -> Result<Quast, TextRefusal>
-    requires form_width { length quotient.form ≡ a.width }
-    requires positive { pos 1 ≤ℤ quotient.divisor }
-    requires fits { Fits quotient.divisor }
-    requires room { nesting a.tree < most_nesting }
-    ensures ok { IfOk result (λ q. (q.tree ≡ NewParm quotient.form quotient.divisor a.tree) × (q.width + 1 ≡ a.width)) }
-    ensures err { IfErr result (λ e. e ≡ TextRefusal.WantOfMemory) }
-{
-    match Quast::define(alloc, quotient.form, quotient.divisor, a) {
-        Ok(tree) => Ok(tree),
-        Err((_, BuildRefusal::WantOfMemory)) => Err(TextRefusal::WantOfMemory),
-        Err((_, BuildRefusal::Nesting)) => unreachable!(),
-    }
-}
-
-/// A tree over so many places, on whose paths so many nodes that choose or define may stand, and the place behind it.
+// A tree over so many places, on whose paths so many nodes that choose or define may stand, and the place behind it.
 #[cycle(tree)]
 #[tactic(auto, using(crate::proofs::TreeSteps::tree_steps))]
-pub fn read_tree(
+pub(crate) fn read_tree(
     alloc: Global,
     bytes: &[u8],
     width: usize,
@@ -95,7 +64,7 @@ pub fn read_tree(
     place: usize,
 ) -> Reads<Quast, TextRefusal>
     requires place { place ≤ length bytes.now }
-    requires scope { width + room < 1000 }
+    requires scope { width + room ≤ most_params + most_nesting }
     requires room { room ≤ most_nesting }
     ensures reads { IsRead (λ q. q.tree) text_fault bytes.now place result (tree_at bytes.now room width place) }
     ensures width { IfOk result (λ x. x.0.width ≡ width) }
@@ -131,7 +100,7 @@ fn read_choice(
     place: usize,
 ) -> Reads<Quast, TextRefusal>
     requires place { place ≤ length bytes.now }
-    requires scope { width + room + 1 < 1000 }
+    requires scope { width + room + 1 ≤ most_params + most_nesting }
     requires room { room < most_nesting }
     ensures reads { IsRead (λ q. q.tree) text_fault bytes.now place result (choice_at bytes.now room width place) }
     ensures width { IfOk result (λ x. x.0.width ≡ width) }
@@ -141,7 +110,7 @@ fn read_choice(
     let (a, at) = read_tree(alloc, bytes, width, room, at)?;
     let (b, at) = read_tree(alloc, bytes, width, room, at)?;
     let after = expect(bytes, Kind::RightParen, at)?;
-    let tree = select(alloc, v, a, b)?;
+    let tree = Quast::select_within(alloc, v, a, b)?;
     Ok((tree, after))
 }
 
@@ -156,7 +125,7 @@ fn read_new_parameter(
     place: usize,
 ) -> Reads<Quast, TextRefusal>
     requires place { place ≤ length bytes.now }
-    requires scope { width + room + 1 < 1000 }
+    requires scope { width + room + 1 ≤ most_params + most_nesting }
     requires room { room < most_nesting }
     ensures reads { IsRead (λ q. q.tree) text_fault bytes.now place result (define_at bytes.now room width place) }
     ensures width { IfOk result (λ x. x.0.width ≡ width) }
@@ -164,6 +133,6 @@ fn read_new_parameter(
 {
     let (quotient, at) = read_definition(alloc, bytes, width, place)?;
     let (a, after) = read_tree(alloc, bytes, width + 1, room, at)?;
-    let tree = define(alloc, quotient, a)?;
+    let tree = Quast::define_within(alloc, quotient.form, quotient.divisor, a)?;
     Ok((tree, after))
 }

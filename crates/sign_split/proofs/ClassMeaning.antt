@@ -13,7 +13,7 @@ use Rattle.run_laws.proofs.PointRefusals.{class-refusal}
 use Rattle.run_laws.proofs.Scopes.{length-widen_to}
 use Rattle.sign_split.specs.Classes.{class_of, widened_class}
 use Rattle.sign_split.proofs.Widening.{class_widened}
-use Rattle.sign_split.specs.declared.sign.Class.{Class}
+use Rattle.sign_split.specs.declared.classes.Class.{Class}
 
 module _ (w : ℕ) (K : List (List ℤ)) (t : List ℤ) (before after : Work) (h : IsContext w K) (some : 1 ≤ length t) (narrow : length t ≤ w + 1) where
   wide : length (widen_to w t) ≡ w + 1

@@ -2,11 +2,11 @@
 #![tactic(auto)]
 
 mod classes;
-mod sign;
+mod classify;
 mod signs;
 
-pub use classes::{class, class_of_entries};
-pub use sign::Class;
+pub use classes::Class;
+pub use classify::{class, class_of_entries};
 
 #[cfg(test)]
 mod tests;

@@ -14,7 +14,7 @@ fn negative(z: i128) -> bool
 }
 
 // Whether no entry is below 0, so that the form is at least 0 wherever its places are.
-pub fn is_nowhere_below(entries: &[i128]) -> bool
+pub(crate) fn is_nowhere_below(entries: &[i128]) -> bool
     ensures { result ≡ list_all is_nonneg entries.now }
 {
     entries.iter().all(|entry| nonnegative(*entry))
@@ -27,8 +27,9 @@ fn is_nowhere_above(entries: &[i128]) -> bool
     entries.iter().all(|entry| !positive(*entry))
 }
 
-// Whether no entry is above 0 and the constant is below it, so that the form is below 0 wherever its places are at least 0.
-pub fn is_everywhere_below(entries: &[i128]) -> bool
+// Whether no entry is above 0 and the constant is below it, so that the form is below 0 wherever its places are at
+// least 0.
+pub(crate) fn is_everywhere_below(entries: &[i128]) -> bool
     requires { IsForm entries.now }
     ensures { result ≡ (list_all (λ z. not (is_positive z)) entries.now && is_negative (constant entries.now)) }
 {

@@ -1,6 +1,6 @@
 -- A row with another put in, in place.
-use Rattle.std.proofs.Common.{◌≡◌, refl, ap, sym, ◌∙◌, ℕ, ◌+◌, ◌^◌, ◌<◌, ◌≤◌, ℤ, pos, ◌-ℤ◌, ◌*ℤ◌, ◌&&◌, Bool, true, false, List, [], ◌∷◌, ◌++◌, length, take, drop, get_or, set, append_assoc, arith, unsigned_abs}
-use Rattle.std.specs.Prelude.{IsTrue, slice_set}
+use Rattle.std.proofs.Common.{◌≡◌, refl, ap, sym, subst, ◌∙◌, ℕ, ◌+◌, ◌^◌, ◌<◌, ◌≤◌, ℤ, pos, ◌-ℤ◌, ◌*ℤ◌, ◌&&◌, Bool, true, false, List, [], ◌∷◌, ◌++◌, length, take, drop, get_or, set, append_assoc, arith, unsigned_abs}
+use Rattle.std.specs.Prelude.{IsTrue, All, slice_set}
 use Rattle.std.specs.List.{list_all}
 use Rattle.std.proofs.lemmas.Bool.{ltb-true, lt-ltb}
 use Rattle.std.proofs.lemmas.List.{drop_more, take_more, set_at, get_or_at, length-take, take_all, drop_all}
@@ -14,7 +14,7 @@ use Rattle.affine_rows.proofs.Combined.{listed_at}
 use Rattle.tableau.specs.Short.{is_short}
 use Rattle.tableau.proofs.Places.{length_combine, listed_but, remove_parts, set_combine}
 
-short_bound : (z : ℤ) → IsTrue (is_short z) → unsigned_abs z < 2 ^ 63
+pub short_bound : (z : ℤ) → IsTrue (is_short z) → unsigned_abs z < 2 ^ 63
 short_bound z e = ltb-true (unsigned_abs z) (2 ^ 63) e
 
 difference_bound : (x y : ℤ) → unsigned_abs x < 2 ^ 126 → unsigned_abs y < 2 ^ 126 → unsigned_abs (x -ℤ y) < 2 ^ 127
@@ -66,6 +66,10 @@ module _ (a b : ℤ) (r s : List ℤ) (same : length r ≡ length s) (i : ℕ) (
 
   combined_read : get_or (combined a r b s i) i (pos 0) ≡ get_or r i (pos 0)
   combined_read = rw (drop_more r i (pos 0) h) (get_or_at (combine a (take i r) b (take i s)) (get_or r i (pos 0)) (drop (i + 1) r) (pos 0) i front_length)
+
+  -- a fact of the entry that is still as it was
+  pub kept_at : (P : ℤ → Type 0) (now : List ℤ) → now ≡ combined a r b s i → All P r → P (get_or now i (pos 0))
+  kept_at P now e all = subst P (sym (ap (λ (xs : List ℤ). get_or xs i (pos 0)) e ∙ combined_read)) (all i (pos 0) h)
 
   combine_more : combine a (take (i + 1) r) b (take (i + 1) s) ≡ combine a (take i r) b (take i s) ++ (a *ℤ get_or r i (pos 0) -ℤ b *ℤ get_or s i (pos 0)) ∷ []
   combine_more =

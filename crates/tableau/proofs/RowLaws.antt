@@ -1,15 +1,16 @@
 -- Laws of rows.
-use Rattle.std.proofs.Common.{◌≡◌, append_assoc, sym, take, get_or, ℕ, zero, suc, ◌+◌, ◌<◌, ℤ, pos, List, [], ◌∷◌, ◌++◌, map, replicate, length, refl, ap, ◌∙◌, arith, length-append}
+use Rattle.std.proofs.Common.{◌≡◌, append_assoc, sym, take, get_or, ℕ, zero, suc, ◌+◌, ◌<◌, ℤ, pos, negsuc, List, [], ◌∷◌, ◌++◌, map, replicate, length, refl, ap, ◌∙◌, arith, length-append}
 use Rattle.std.specs.Prelude.{All}
 use Rattle.std.proofs.lemmas.List.{length-take, length-replicate, map-append, take_all, take_more}
 use Rattle.std.proofs.lemmas.List.Elements.{All-append, All-take, All-replicate, All-cons, All-nil, All-map}
 use Rattle.pip_model.specs.Numbers.{gcd, gcd_of, floor_div}
 use Rattle.pip_model.specs.Forms.{floor_divided, width, coefficients, constant}
 use Rattle.pip_model.specs.Rows.{Row, divided, widened, count_from}
-use Rattle.affine_rows.proofs.Divisors.{gcd_assoc}
+use Rattle.std.proofs.lemmas.Int.{ints}
+use Rattle.affine_rows.proofs.Divisors.{gcd_assoc, floor_divided_one}
 use Rattle.affine_rows.specs.Checks.{Fits}
 use Rattle.tableau.specs.Tableaus.{IsRow, IsReduced, content, row_from}
-use Rattle.tableau.proofs.Contents.{gcd_of-widened}
+use Rattle.tableau.proofs.Contents.{content-one, gcd_of-widened}
 
 -- ---- division
 
@@ -22,6 +23,18 @@ pub divided_row : (den : ℤ) (coefs constant : List ℤ) (g den_now : ℤ) (coe
     → row_from den_now coefs_now constant_now ≡ divided (row_from den coefs constant)
 divided_row den coefs constant g den_now coefs_now constant_now e p q r =
     rw (p, q, r, e, gcd_assoc den (gcd_of coefs) (gcd_of constant)) refl
+
+div_one : (z : ℤ) → z ≡ floor_div z (pos 1)
+div_one (pos n) = omega (arith, ints)
+div_one (negsuc n) = omega (arith, ints)
+
+-- a row that is divided by 1
+pub divided_one : (den : ℤ) (coefs constant : List ℤ) → pos 1 ≡ divisor_of den coefs constant → row_from den coefs constant ≡ divided (row_from den coefs constant)
+divided_one den coefs constant e = divided_row den coefs constant (pos 1) den coefs constant e (div_one den) (sym (floor_divided_one coefs)) (sym (floor_divided_one constant))
+
+pub divided_whole : (den : ℤ) (coefs constant : List ℤ) → den ≡ pos 1 → row_from den coefs constant ≡ divided (row_from den coefs constant)
+divided_whole den coefs constant e =
+    divided_one den coefs constant (sym (gcd_assoc den (gcd_of coefs) (gcd_of constant) ∙ content-one (row_from den coefs constant) e))
 
 -- ---- the columns' own rows
 

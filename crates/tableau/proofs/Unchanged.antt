@@ -1,7 +1,8 @@
 -- A row whose entry in the pivot's column is 0, and whose numbers have no common divisor, stays as it is in a pivot. The pivot's listed
 -- numbers of the row are its own numbers times the pivot, and zeros.
 use Rattle.std.proofs.Common.{◌≡◌, ◌∙◌, refl, ap, sym, subst, ℕ, zero, suc, ◌+◌, ◌*◌, ◌/◌, ◌%◌, ◌<◌, ℤ, pos, ◌-ℤ◌, ◌*ℤ◌, unsigned_abs, arith, List, [], ◌∷◌, ◌++◌, length, Bool, true, false, ◌&&◌}
-use Rattle.std.specs.Prelude.{slice_set}
+use Rattle.std.specs.Prelude.{slice_set, IsTrue, All}
+use Rattle.std.proofs.lemmas.List.Sums.{list_all-from_AllPass}
 use Rattle.std.proofs.lemmas.Int.{ints, unsigned_abs-mul}
 use Rattle.std.proofs.lemmas.Nat.Gcd.{IsGcd-from_zero, IsGcd-from_mod, same_from_IsGcd}
 use Rattle.std.proofs.Math.Nat.{div-add-mod, mod-lt, mul-add-mod_self_left, mod-eq_of_lt, mul-lt-mul_of_pos_left}
@@ -169,3 +170,25 @@ eliminated_listed-none p c i b e f =
     (all_fit-append (combine_listed a (remove c i.coefs) (pos 0) (remove c p.coefs)) (combine_listed a i.constant (pos 0) p.constant)
     ∙ ap (λ (t : Bool). t && all_fit (combine_listed a i.constant (pos 0) p.constant)) first
     ∙ ap (λ (t : Bool). all_fit (scale a i.coefs) && t) (combine_listed-none a i.constant p.constant f)))
+
+-- ---- where the pivot is 1 too, they are its own numbers
+
+once : (z : ℤ) → pos 1 *ℤ z ≡ z
+once z = omega (arith, ints)
+
+by_one : (z : ℤ) → z *ℤ pos 1 ≡ z
+by_one z = omega (arith, ints)
+
+scale-one : (xs : List ℤ) → scale (pos 1) xs ≡ xs
+scale-one [] = refl
+scale-one (x ∷ xs) = rw (once x, scale-one xs) refl
+
+each_fits : (xs : List ℤ) → All (λ z. IsTrue (fits z)) xs → all_fit xs ≡ true
+each_fits xs h = list_all-from_AllPass fits xs h
+
+pub eliminated_listed_one : (p : Row) (c : ℕ) (i : Row) → entry p.coefs c ≡ pos 1 → entry i.coefs c ≡ pos 0
+    → length i.coefs ≡ length p.coefs → length i.constant ≡ length p.constant
+    → IsTrue (fits i.den) → All (λ z. IsTrue (fits z)) i.coefs → All (λ z. IsTrue (fits z)) i.constant → IsTrue (all_fit (eliminated_listed p c i))
+eliminated_listed_one p c i a b e f den coefs constant =
+    eliminated_listed-none p c i b e f
+    ∙ rw (a, by_one i.den, scale-one i.coefs, scale-one i.constant, den, each_fits i.coefs coefs, each_fits i.constant constant) refl

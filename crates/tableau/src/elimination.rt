@@ -1,30 +1,18 @@
 ghost use Rattle.std.specs.Prelude.{◌≡◌, ◌+◌, ◌-◌, ◌<◌, pos, ◌≤ℤ◌, ◌*ℤ◌, ◌-ℤ◌, [], ◌∷◌, ◌++◌, length, take, drop, slice_set, All, IsTrue};
-ghost use Rattle.std.specs.List.{list_all};
 ghost use Rattle.pip_model.specs.Forms.{combine, entry, remove};
 ghost use Rattle.pip_model.specs.Listed.{all_fit, combine_listed};
 ghost use Rattle.pip_model.specs.Rows as model;
 ghost use Rattle.pip_model.specs.Agreement.{IsChecked};
 ghost use Rattle.affine_rows.specs.Checks.{Fits, is_overflow};
-ghost use Rattle.tableau.specs.Short.{is_short as is_short_number};
+ghost use Rattle.tableau.specs.Short.{IsShortRow};
 ghost use Rattle.tableau.specs.Tableaus.{IsRow, IsOwnRow, IsReduced, row_from};
 ghost use Rattle.tableau.specs.Views.{row_of};
 
+use crate::short::{
+    all_short, both, combine_short, is_short, is_short_row, short_product, with_entry,
+};
 use crate::view::RowView;
 use affine_rows::{Overflow, difference, divide_all, floor_div, gcd_with, times};
-
-// Whether the number lies from -(2^63 - 1) to 2^63 - 1.
-fn is_short(z: i128) -> bool
-    ensures { result ≡ is_short_number z }
-{
-    z.unsigned_abs() < 9223372036854775808
-}
-
-// Whether all of them do.
-fn all_short(entries: &[i128]) -> bool
-    ensures { result ≡ list_all is_short_number entries.now }
-{
-    entries.iter().all(|entry| is_short(*entry))
-}
 
 // Checks `a*r - b*s`, entry by entry.
 fn check_each(a: i128, r: &[i128], b: i128, s: &[i128]) -> Result<(), Overflow>
@@ -54,7 +42,8 @@ fn check_combined(a: i128, r: &[i128], b: i128, s: &[i128]) -> Result<(), Overfl
 fn check_but(a: i128, r: &[i128], b: i128, s: &[i128], c: usize) -> Result<(), Overflow>
     requires lengths { length r.now ≡ length s.now }
     requires place { c < length r.now }
-    ensures { IsChecked is_overflow (combine_listed a (take c r.now ++ drop (c + 1) r.now) b (take c s.now ++ drop (c + 1) s.now)) result }
+    ensures { IsChecked is_overflow (combine_listed a (take c r.now ++ drop (c + 1) r.now) b
+        (take c s.now ++ drop (c + 1) s.now)) result }
 {
     let (r_front, r_rest) = r.split_at(c);
     let (s_front, s_rest) = s.split_at(c);
@@ -137,21 +126,35 @@ fn combine_but(a: i128, r: &mut [i128], b: i128, s: &[i128], c: usize, entry: i1
     at[0] = entry;
 }
 
-// Divides a row by the greatest common divisor of its numbers; the new denominator.
-pub fn divide_parts(den: i128, coefs: &mut [i128], constant: &mut [i128]) -> i128
-    requires { IsOwnRow (row_from den coefs.old constant.old) }
-    ensures value { row_from result coefs.new constant.new ≡ model.divided (row_from den coefs.old constant.old) }
-    ensures row { IsRow (length coefs.old) (length constant.old - 1) (row_from result coefs.new constant.new) }
-    ensures reduced { IsReduced (row_from result coefs.new constant.new) }
+// Divides a row by the greatest common divisor of its numbers; the new denominator, and whether the numbers are known
+// to be short, as before where nothing is divided.
+pub fn divide_parts(
+    den: i128,
+    coefs: &mut [i128],
+    constant: &mut [i128],
+    short: bool,
+) -> (i128, bool)
+    requires row { IsOwnRow (row_from den coefs.old constant.old) }
+    requires short { IsTrue short → IsShortRow (row_from den coefs.old constant.old) }
+    ensures value { row_from result.0 coefs.new constant.new ≡ model.divided (row_from den coefs.old constant.old) }
+    ensures row { IsRow (length coefs.old) (length constant.old - 1) (row_from result.0 coefs.new constant.new) }
+    ensures short { IsTrue result.1 → IsShortRow (row_from result.0 coefs.new constant.new) }
 {
+    if den == 1 {
+        return (1, short);
+    }
     let divisor = gcd_with(gcd_with(den, coefs), constant);
+    if divisor == 1 {
+        return (den, short);
+    }
     divide_all(coefs, divisor);
     divide_all(constant, divisor);
-    floor_div(den, divisor)
+    let den = floor_div(den, divisor);
+    (den, is_short_row(den, coefs, constant))
 }
 
 // Puts row p, solved for column c, into a row; the new denominator.
-fn substitute_parts(
+fn substitute_long(
     p: &RowView<'_>,
     c: usize,
     den: i128,
@@ -162,8 +165,10 @@ fn substitute_parts(
     requires row { IsOwnRow (row_from den coefs.old constant.old) }
     requires column { c < length coefs.old }
     requires positive { pos 1 ≤ℤ entry p.now.coefs.now c }
-    requires listed { IsTrue (all_fit (model.eliminated_listed (row_of p.now) c (row_from den coefs.old constant.old))) }
-    ensures value { row_from result coefs.new constant.new ≡ model.substituted (row_of p.now) c (row_from den coefs.old constant.old) }
+    requires listed { IsTrue (all_fit
+        (model.eliminated_listed (row_of p.now) c (row_from den coefs.old constant.old))) }
+    ensures value { row_from result coefs.new constant.new ≡ model.substituted (row_of p.now) c
+        (row_from den coefs.old constant.old) }
     ensures row { IsRow (length coefs.old) (length constant.old - 1) (row_from result coefs.new constant.new) }
 {
     let a = p.coefs[c];
@@ -174,28 +179,79 @@ fn substitute_parts(
     exact_product(den, a)
 }
 
-// Makes of a row what it is after the pivot on row p and column c; the new denominator. A row that is 0 in the
-// column stays, since its numbers have no common divisor.
-pub fn eliminate_parts(
+// The same for rows whose numbers are short; also whether those made are.
+fn substitute_short(
     p: &RowView<'_>,
     c: usize,
     den: i128,
     coefs: &mut [i128],
     constant: &mut [i128],
-) -> i128
+) -> (i128, bool)
     requires p { IsRow (length coefs.old) (length constant.old - 1) (row_of p.now) }
     requires row { IsOwnRow (row_from den coefs.old constant.old) }
-    requires reduced { IsReduced (row_from den coefs.old constant.old) }
     requires column { c < length coefs.old }
     requires positive { pos 1 ≤ℤ entry p.now.coefs.now c }
-    requires listed { IsTrue (all_fit (model.eliminated_listed (row_of p.now) c (row_from den coefs.old constant.old))) }
-    ensures value { row_from result coefs.new constant.new ≡ model.eliminated (row_of p.now) c (row_from den coefs.old constant.old) }
-    ensures row { IsRow (length coefs.old) (length constant.old - 1) (row_from result coefs.new constant.new) }
-    ensures reduced { IsReduced (row_from result coefs.new constant.new) }
+    requires p_short { IsShortRow (row_of p.now) }
+    requires row_short { IsShortRow (row_from den coefs.old constant.old) }
+    ensures value { row_from result.0 coefs.new constant.new ≡ model.substituted (row_of p.now) c
+        (row_from den coefs.old constant.old) }
+    ensures row { IsRow (length coefs.old) (length constant.old - 1) (row_from result.0 coefs.new constant.new) }
+    ensures short { IsTrue result.1 → IsShortRow (row_from result.0 coefs.new constant.new) }
 {
-    if coefs[c] == 0 {
-        return den;
-    }
-    let den = substitute_parts(p, c, den, coefs, constant);
-    divide_parts(den, coefs, constant)
+    let a = p.coefs[c];
+    let b = coefs[c];
+    let den = short_product(den, a);
+    let entry = short_product(b, p.den);
+    let coefs_short = with_entry(combine_short(a, coefs, b, p.coefs), entry);
+    coefs[c] = entry;
+    let constant_short = with_entry(combine_short(a, constant, b, p.constant), den);
+    (den, both(coefs_short, constant_short))
+}
+
+// Makes of a row what it is after the pivot on row p and column c; the new denominator, and whether the numbers are
+// short.
+pub fn eliminate_long_parts(
+    p: &RowView<'_>,
+    c: usize,
+    den: i128,
+    coefs: &mut [i128],
+    constant: &mut [i128],
+) -> (i128, bool)
+    requires p { IsRow (length coefs.old) (length constant.old - 1) (row_of p.now) }
+    requires row { IsOwnRow (row_from den coefs.old constant.old) }
+    requires column { c < length coefs.old }
+    requires positive { pos 1 ≤ℤ entry p.now.coefs.now c }
+    requires listed { IsTrue (all_fit
+        (model.eliminated_listed (row_of p.now) c (row_from den coefs.old constant.old))) }
+    ensures value { row_from result.0 coefs.new constant.new ≡ model.eliminated (row_of p.now) c
+        (row_from den coefs.old constant.old) }
+    ensures row { IsRow (length coefs.old) (length constant.old - 1) (row_from result.0 coefs.new constant.new) }
+    ensures short { IsTrue result.1 → IsShortRow (row_from result.0 coefs.new constant.new) }
+{
+    let den = substitute_long(p, c, den, coefs, constant);
+    let short = is_short_row(den, coefs, constant);
+    divide_parts(den, coefs, constant, short)
+}
+
+// The same for rows whose numbers are short.
+pub fn eliminate_short_parts(
+    p: &RowView<'_>,
+    c: usize,
+    den: i128,
+    coefs: &mut [i128],
+    constant: &mut [i128],
+) -> (i128, bool)
+    requires p { IsRow (length coefs.old) (length constant.old - 1) (row_of p.now) }
+    requires row { IsOwnRow (row_from den coefs.old constant.old) }
+    requires column { c < length coefs.old }
+    requires positive { pos 1 ≤ℤ entry p.now.coefs.now c }
+    requires p_short { IsShortRow (row_of p.now) }
+    requires row_short { IsShortRow (row_from den coefs.old constant.old) }
+    ensures value { row_from result.0 coefs.new constant.new ≡ model.eliminated (row_of p.now) c
+        (row_from den coefs.old constant.old) }
+    ensures row { IsRow (length coefs.old) (length constant.old - 1) (row_from result.0 coefs.new constant.new) }
+    ensures short { IsTrue result.1 → IsShortRow (row_from result.0 coefs.new constant.new) }
+{
+    let (den, short) = substitute_short(p, c, den, coefs, constant);
+    divide_parts(den, coefs, constant, short)
 }

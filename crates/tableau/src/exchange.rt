@@ -4,10 +4,11 @@ ghost use Rattle.pip_model.specs.Listed.{all_fit};
 ghost use Rattle.pip_model.specs.Rows as model;
 ghost use Rattle.pip_model.specs.Agreement.{IsChecked};
 ghost use Rattle.affine_rows.specs.Checks.{is_overflow};
+ghost use Rattle.tableau.specs.Short.{IsShortRow};
 ghost use Rattle.tableau.specs.Tableaus.{IsRow, IsOwnRow, IsReduced, row_from};
 ghost use Rattle.tableau.specs.Views.{row_of};
 
-use crate::elimination::{check_eliminated, eliminate_parts};
+use crate::elimination::{check_eliminated, eliminate_long_parts, eliminate_short_parts};
 use crate::row::Row;
 use crate::view::RowView;
 use affine_rows::Overflow;
@@ -20,10 +21,43 @@ pub fn view(row: &Row) -> RowView<'_>
         den: row.den,
         coefs: &row.coefs,
         constant: &row.constant,
+        short: row.short,
     }
 }
 
 // Makes of a row what it is after the pivot on row p and column c.
+fn eliminate_long(p: &RowView<'_>, c: usize, row: &mut Row)
+    requires p { IsRow (length row.old.coefs) (length row.old.constant - 1) (row_of p.now) }
+    requires row { IsOwnRow row.old }
+    requires column { c < length row.old.coefs }
+    requires positive { pos 1 ≤ℤ entry p.now.coefs.now c }
+    requires listed { IsTrue (all_fit (model.eliminated_listed (row_of p.now) c row.old)) }
+    ensures value { row.new ≡ model.eliminated (row_of p.now) c row.old }
+    ensures row { IsRow (length row.old.coefs) (length row.old.constant - 1) row.new }
+{
+    let (den, short) = eliminate_long_parts(p, c, row.den, &mut row.coefs, &mut row.constant);
+    row.den = den;
+    row.short = short;
+}
+
+// The same for rows whose numbers are short.
+fn eliminate_short(p: &RowView<'_>, c: usize, row: &mut Row)
+    requires p { IsRow (length row.old.coefs) (length row.old.constant - 1) (row_of p.now) }
+    requires row { IsOwnRow row.old }
+    requires column { c < length row.old.coefs }
+    requires positive { pos 1 ≤ℤ entry p.now.coefs.now c }
+    requires p_short { IsShortRow (row_of p.now) }
+    requires row_short { IsShortRow row.old }
+    ensures value { row.new ≡ model.eliminated (row_of p.now) c row.old }
+    ensures row { IsRow (length row.old.coefs) (length row.old.constant - 1) row.new }
+{
+    let (den, short) = eliminate_short_parts(p, c, row.den, &mut row.coefs, &mut row.constant);
+    row.den = den;
+    row.short = short;
+}
+
+// Makes of a row what it is after the pivot on row p and column c. A row that is 0 in the column stays, since its
+// numbers have no common divisor.
 fn eliminate(p: &RowView<'_>, c: usize, row: &mut Row)
     requires p { IsRow (length row.old.coefs) (length row.old.constant - 1) (row_of p.now) }
     requires row { IsOwnRow row.old }
@@ -35,8 +69,31 @@ fn eliminate(p: &RowView<'_>, c: usize, row: &mut Row)
     ensures row { IsRow (length row.old.coefs) (length row.old.constant - 1) row.new }
     ensures reduced { IsReduced row.new }
 {
-    let den = eliminate_parts(p, c, row.den, &mut row.coefs, &mut row.constant);
-    row.den = den;
+    if row.coefs[c] == 0 {
+        return;
+    }
+    if p.short && row.short {
+        eliminate_short(p, c, row);
+    } else {
+        eliminate_long(p, c, row);
+    }
+}
+
+// Checks the numbers of a row with row p, solved for column c, put in. They fit where both rows are short, and where
+// the row stays as it is under an entry of 1.
+fn check_row(p: &RowView<'_>, c: usize, row: &RowView<'_>) -> Result<(), Overflow>
+    requires row { IsRow (length p.now.coefs.now) (length p.now.constant.now - 1) (row_of row.now) }
+    requires p { IsOwnRow (row_of p.now) }
+    requires column { c < length p.now.coefs.now }
+    ensures { IsChecked is_overflow (model.eliminated_listed (row_of p.now) c (row_of row.now)) result }
+{
+    if p.short && row.short {
+        return Ok(());
+    }
+    if p.coefs[c] == 1 && row.coefs[c] == 0 {
+        return Ok(());
+    }
+    check_eliminated(p, c, row)
 }
 
 // Checks the numbers of the rows with row p, solved for column c, put in.
@@ -47,7 +104,7 @@ fn check_rows(p: &RowView<'_>, c: usize, rows: &[Row]) -> Result<(), Overflow>
     ensures { IsChecked is_overflow (flat_map (model.eliminated_listed (row_of p.now) c) rows.now) result }
 {
     for i in 0..rows.len() {
-        check_eliminated(p, c, &view(&rows[i]))?;
+        check_row(p, c, &view(&rows[i]))?;
     }
     Ok(())
 }
@@ -67,6 +124,24 @@ fn eliminate_rows(p: &RowView<'_>, c: usize, rows: &mut [Row])
     for i in 0..rows.len() {
         eliminate(p, c, &mut rows[i]);
     }
+}
+
+// Puts row p, solved for column c, into the rows; a refusal leaves them as they were.
+pub fn eliminate_each(p: &RowView<'_>, c: usize, rows: &mut [Row]) -> Result<(), Overflow>
+    requires rows { All (IsRow (length p.now.coefs.now) (length p.now.constant.now - 1)) rows.old }
+    requires reduced { All IsReduced rows.old }
+    requires p { IsOwnRow (row_of p.now) }
+    requires column { c < length p.now.coefs.now }
+    requires positive { pos 1 ≤ℤ entry p.now.coefs.now c }
+    ensures listed { IsChecked is_overflow (flat_map (model.eliminated_listed (row_of p.now) c) rows.old) result }
+    ensures ok { OnOk result (rows.new ≡ map (model.eliminated (row_of p.now) c) rows.old) }
+    ensures rows { All (IsRow (length p.now.coefs.now) (length p.now.constant.now - 1)) rows.new }
+    ensures reduced { All IsReduced rows.new }
+    ensures err { OnErr result (rows.new ≡ rows.old) }
+{
+    check_rows(p, c, rows)?;
+    eliminate_rows(p, c, rows);
+    Ok(())
 }
 
 // Makes all entries 0.
@@ -98,11 +173,13 @@ fn make_unit(row: &mut Row, c: usize)
     make_unit_coefs(&mut row.coefs, c);
     clear(&mut row.constant);
     row.den = 1;
+    row.short = true;
 }
 
 // Checks the numbers of all rows but row r with that row, solved for column c, put in.
 pub fn check_exchange(rows: &[Row], r: usize, c: usize) -> Result<(), Overflow>
-    requires rows { All (IsRow (length (model.row_at rows.now r).coefs) (length (model.row_at rows.now r).constant - 1)) rows.now }
+    requires rows { All (IsRow (length (model.row_at rows.now r).coefs)
+        (length (model.row_at rows.now r).constant - 1)) rows.now }
     requires row { r < length rows.now }
     requires column { c < length (model.row_at rows.now r).coefs }
     ensures { IsChecked is_overflow (model.pivot_listed rows.now r c) result }
@@ -144,14 +221,16 @@ fn exchange_parts(front: &mut [Row], row: &mut Row, back: &mut [Row], c: usize)
 
 // Makes the rows those after the pivot on row r and column c.
 pub fn exchange_rows(rows: &mut [Row], r: usize, c: usize)
-    requires rows { All (IsRow (length (model.row_at rows.old r).coefs) (length (model.row_at rows.old r).constant - 1)) rows.old }
+    requires rows { All (IsRow (length (model.row_at rows.old r).coefs)
+        (length (model.row_at rows.old r).constant - 1)) rows.old }
     requires reduced { All IsReduced rows.old }
     requires row { r < length rows.old }
     requires column { c < length (model.row_at rows.old r).coefs }
     requires positive { pos 1 ≤ℤ entry (model.row_at rows.old r).coefs c }
     requires listed { IsTrue (all_fit (model.pivot_listed rows.old r c)) }
     ensures value { rows.new ≡ model.pivot rows.old r c }
-    ensures rows { All (IsRow (length (model.row_at rows.old r).coefs) (length (model.row_at rows.old r).constant - 1)) rows.new }
+    ensures rows { All (IsRow (length (model.row_at rows.old r).coefs)
+        (length (model.row_at rows.old r).constant - 1)) rows.new }
     ensures reduced { All IsReduced rows.new }
 {
     let (front, rest) = rows.split_at_mut(r);

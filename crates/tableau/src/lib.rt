@@ -6,6 +6,7 @@ mod elimination;
 mod exchange;
 mod refusal;
 mod row;
+mod short;
 mod tableau;
 mod view;
 

@@ -5,24 +5,45 @@ ghost use Rattle.pip_model.specs.Agreement.{IsChecked};
 ghost use Rattle.affine_rows.specs.Checks.{Fits, is_overflow};
 ghost use Rattle.tableau.specs.Tableaus.{IsRow, IsOwnRow, IsReduced, row_from};
 
+use crate::short::is_short_row;
 use affine_rows::{Overflow, WantOfMemory, divide_all, divided, floor_div, gcd_with, round_form};
 use std::alloc::Global;
 use std::marker::Model;
 
-// A denominator, one coefficient for each column, and the entries of the constant form.
+// A denominator, one coefficient for each column, the entries of the constant form, and whether all these numbers are
+// known to lie from -(2^63 - 1) to 2^63 - 1.
 #[derive(Drop)]
 pub struct Row {
     pub den: i128,
     pub coefs: Vec<i128>,
     pub constant: Vec<i128>,
+    pub short: bool,
 }
 
 impl Model for Row {
+    ghost use Rattle.std.specs.Prelude.{IsTrue};
     ghost use Rattle.pip_model.specs.Rows as model;
+    ghost use Rattle.tableau.specs.Short.{IsShortRow};
 
     ghost Value = { model.Row };
 
     ghost view = { λ r. record { den = r.den; coefs = r.coefs.items; constant = r.constant.items } };
+
+    ghost invariant = { λ r.
+        IsTrue r.short → IsShortRow (record { den = r.den; coefs = r.coefs.items; constant = r.constant.items }) };
+}
+
+// The row of these parts.
+fn row_of_parts(den: i128, coefs: Vec<i128>, constant: Vec<i128>) -> Row
+    ensures { result ≡ row_from den coefs.items constant.items }
+{
+    let short = is_short_row(den, &coefs, &constant);
+    Row {
+        den,
+        coefs,
+        constant,
+        short,
+    }
 }
 
 // The row divided by the greatest common divisor of its numbers.
@@ -40,11 +61,7 @@ pub fn reduced(
     let divisor = gcd_with(gcd_with(den, coefs), constant);
     let coefs = divided(alloc, divisor, coefs)?;
     let constant = divided(alloc, divisor, constant)?;
-    Ok(Row {
-        den: floor_div(den, divisor),
-        coefs,
-        constant,
-    })
+    Ok(row_of_parts(floor_div(den, divisor), coefs, constant))
 }
 
 // The row of column c, among so many columns and over so many places.
@@ -54,14 +71,17 @@ pub fn unit(alloc: Global, unknowns: usize, width: usize, c: usize) -> Result<Ro
     ensures row { IfOk result (IsRow unknowns width) }
     ensures reduced { IfOk result IsReduced }
 {
+    let Some(places) = width.checked_add(1) else {
+        return Err(WantOfMemory);
+    };
     let mut coefs = vec![in alloc; 0; unknowns]?;
     coefs[c] = 1;
-    let mut constant = vec![in alloc; 0; width]?;
-    constant.push(0)?;
+    let constant = vec![in alloc; 0; places]?;
     Ok(Row {
         den: 1,
         coefs,
         constant,
+        short: true,
     })
 }
 
@@ -74,10 +94,22 @@ pub fn of_form(alloc: Global, unknowns: usize, form: &[i128]) -> Result<Row, Wan
     ensures reduced { IfOk result IsReduced }
 {
     let (coefs, constant) = form.split_at(unknowns);
+    let coefs = Vec::from_slice(alloc, coefs)?;
+    let constant = Vec::from_slice(alloc, constant)?;
+    Ok(row_of_parts(1, coefs, constant))
+}
+
+// The same row.
+pub fn copy(alloc: Global, row: &Row) -> Result<Row, WantOfMemory>
+    ensures { IfOk result (λ r. r ≡ row.now) }
+{
+    let coefs = Vec::from_slice(alloc, &row.coefs)?;
+    let constant = Vec::from_slice(alloc, &row.constant)?;
     Ok(Row {
-        den: 1,
-        coefs: Vec::from_slice(alloc, coefs)?,
-        constant: Vec::from_slice(alloc, constant)?,
+        den: row.den,
+        coefs,
+        constant,
+        short: row.short,
     })
 }
 
@@ -87,13 +119,7 @@ pub fn copied(alloc: Global, rows: &[Row]) -> Result<Vec<Row>, WantOfMemory>
 {
     let mut made = Vec::with_capacity(alloc, rows.len())?;
     for row in rows {
-        let coefs = Vec::from_slice(alloc, &row.coefs)?;
-        let constant = Vec::from_slice(alloc, &row.constant)?;
-        made.push(Row {
-            den: row.den,
-            coefs,
-            constant,
-        })?;
+        made.push(copy(alloc, row)?)?;
     }
     Ok(made)
 }
@@ -112,6 +138,7 @@ fn widened_row(alloc: Global, row: &Row) -> Result<Row, WantOfMemory>
         den: row.den,
         coefs: Vec::from_slice(alloc, &row.coefs)?,
         constant,
+        short: row.short,
     })
 }
 
@@ -137,8 +164,10 @@ fn round_parts(
     requires row { IsOwnRow (row_from den coefs.old constant.old) }
     requires place { q + 1 < length constant.old }
     ensures listed { IsChecked is_overflow (rounded_listed (row_from den coefs.old constant.old) q) result }
-    ensures ok { IfOk result (λ d. row_from d coefs.new constant.new ≡ rounded (row_from den coefs.old constant.old) q) }
-    ensures row { IfOk result (λ d. IsRow (length coefs.old) (length constant.old - 1) (row_from d coefs.new constant.new)) }
+    ensures ok { IfOk result (λ d. row_from d coefs.new constant.new ≡ rounded
+        (row_from den coefs.old constant.old) q) }
+    ensures row { IfOk result (λ d. IsRow (length coefs.old) (length constant.old - 1)
+        (row_from d coefs.new constant.new)) }
     ensures reduced { IfOk result (λ d. IsReduced (row_from d coefs.new constant.new)) }
     ensures err { OnErr result ((coefs.new ≡ coefs.old) × (constant.new ≡ constant.old)) }
 {
@@ -161,5 +190,6 @@ pub fn round(row: &mut Row, q: usize) -> Result<(), Overflow>
 {
     let den = round_parts(row.den, &mut row.coefs, &mut row.constant, q)?;
     row.den = den;
+    row.short = is_short_row(den, &row.coefs, &row.constant);
     Ok(())
 }

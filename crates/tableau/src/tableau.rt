@@ -1,4 +1,4 @@
-ghost use Rattle.std.specs.Prelude.{◌≡◌, ◌+◌, ◌-◌, ◌^◌, ◌<◌, pos, ◌≤ℤ◌, All, map, [], length, IfOk, OnOk, OnErr};
+ghost use Rattle.std.specs.Prelude.{◌≡◌, ◌+◌, ◌-◌, ◌^◌, ◌<◌, pos, ◌≤ℤ◌, All, map, flat_map, [], length, IfOk, OnOk, OnErr};
 ghost use Rattle.pip_model.specs.Forms.{entry};
 ghost use Rattle.pip_model.specs.Rows as model;
 ghost use Rattle.pip_model.specs.Cuts.{rounded_listed};
@@ -7,8 +7,8 @@ ghost use Rattle.affine_rows.specs.Checks.{is_overflow};
 ghost use Rattle.tableau.specs.Tableaus.{IsRow, row_from, with_row, with_rounded};
 ghost use Rattle.tableau.specs.Views.{row_of};
 
-use crate::exchange::{check_exchange, exchange_rows};
-use crate::row::{Row, copied, of_form, reduced, round, unit, widened};
+use crate::exchange::{check_exchange, eliminate_each, exchange_rows, view};
+use crate::row::{Row, copied, copy, of_form, reduced, round, unit, widened};
 use crate::view::RowView;
 use affine_rows::{Form, Overflow, WantOfMemory};
 use std::alloc::Global;
@@ -49,7 +49,7 @@ impl Tableau {
         let mut t = Tableau {
             unknowns,
             width,
-            rows: Vec::new(alloc),
+            rows: Vec::with_capacity(alloc, unknowns.saturating_add(rows.len()))?,
         };
         for c in 0..unknowns {
             t.push_unit(c)?;
@@ -87,12 +87,7 @@ impl Tableau {
         ensures value { row_of result ≡ model.row_at self.now.rows i }
         ensures row { IsRow self.now.unknowns self.now.width (row_of result) }
     {
-        let row = &self.rows[i];
-        RowView {
-            den: row.den,
-            coefs: &row.coefs,
-            constant: &row.constant,
-        }
+        view(&self.rows[i])
     }
 
     /// The allocator that the tableau keeps.
@@ -135,6 +130,19 @@ impl Tableau {
         ensures err { OnErr result (self.new ≡ self.old) }
     {
         let row = reduced(*self.rows.allocator(), den, coefs, constant)?;
+        self.rows.push(row)?;
+        Ok(())
+    }
+
+    /// Adds row i of a tableau over the same columns and places.
+    pub fn push_copy(&mut self, t: &Tableau, i: usize) -> Result<(), WantOfMemory>
+        requires unknowns { t.now.unknowns ≡ self.old.unknowns }
+        requires width { t.now.width ≡ self.old.width }
+        requires row { i < length t.now.rows }
+        ensures ok { OnOk result (self.new ≡ with_row self.old (model.row_at t.now.rows i)) }
+        ensures err { OnErr result (self.new ≡ self.old) }
+    {
+        let row = copy(*self.rows.allocator(), &t.rows[i])?;
         self.rows.push(row)?;
         Ok(())
     }
@@ -186,6 +194,21 @@ impl Tableau {
     {
         check_exchange(&self.rows, r, c)?;
         exchange_rows(&mut self.rows, r, c);
+        Ok(())
+    }
+
+    /// Puts row p, solved for the quantity of column c, into each row, in place. It takes no memory.
+    pub fn eliminate(&mut self, p: &RowView<'_>, c: usize) -> Result<(), Overflow>
+        requires p { IsRow self.old.unknowns self.old.width (row_of p.now) }
+        requires column { c < self.old.unknowns }
+        requires positive { pos 1 ≤ℤ entry (row_of p.now).coefs c }
+        ensures listed { IsChecked is_overflow (flat_map
+            (model.eliminated_listed (row_of p.now) c) self.old.rows) result }
+        ensures ok { OnOk result (self.new
+            ≡ record self.old { rows = map (model.eliminated (row_of p.now) c) self.old.rows }) }
+        ensures err { OnErr result (self.new ≡ self.old) }
+    {
+        eliminate_each(p, c, &mut self.rows)?;
         Ok(())
     }
 

@@ -23,5 +23,13 @@ fn what_takes_memory_answers(rt: HostRuntime) -> Result<(), Fail> {
     has(&rt, copy.row(1), 1, &[2], &[-1, 0, 0]);
     has(&rt, copy.row(2), 2, &[1], &[-3, 0, 4]);
     has(&rt, copy.row(3), 1, &[1], &[0, 0, 0]);
+    let mut further = copy.empty_like();
+    further.push_copy(&copy, 2)?;
+    let p = copy.row(1);
+    assert!(rt; p.coefs[0] > 0);
+    further.eliminate(&p, 0)?;
+    assert_eq!(rt; further.rows(), 1);
+    has(&rt, further.row(0), 4, &[1], &[-5, 0, 8]);
+    assert_eq!(rt; copy.row(1).product(0, &copy.row(3), 0)?, 2);
     Ok(())
 }

@@ -7,7 +7,8 @@ use std::alloc::{AllocError, AllocFailed};
 /// What is read and the place behind it, or why it is not read.
 pub type Reads<T, E> = Result<(T, usize), E>;
 
-/// Why a step reads nothing: the place of the token that differs (the number of bytes at their end), or of a number that is too wide.
+/// Why a step reads nothing: the place of the token that differs (the number of bytes at their end), or of a number
+/// that is too wide.
 #[derive(Clone, Copy, Debug, PartialEq, Eq)]
 pub enum TextFault {
     Syntax(usize),

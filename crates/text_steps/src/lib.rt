@@ -1,5 +1,5 @@
-//! The steps by which texts are read. A step goes from a place to what it reads and the place behind that, or to the fault of the first token that
-//! differs.
+//! The steps by which texts are read. A step goes from a place to what it reads and the place behind that, or to the
+//! fault of the first token that differs.
 #![tactic(auto)]
 
 mod fault;

@@ -2,6 +2,10 @@
 #![tactic(auto)]
 
 #[cfg(test)]
+mod drawing;
+#[cfg(test)]
+mod examples;
+#[cfg(test)]
 mod faults;
 #[cfg(test)]
 mod library;
@@ -13,6 +17,8 @@ mod points;
 mod refusing;
 #[cfg(test)]
 mod row;
+#[cfg(test)]
+mod simplifying;
 #[cfg(test)]
 mod solving;
 #[cfg(test)]

@@ -43,6 +43,15 @@ fn limits_are_kept(rt: HostRuntime) -> Result<(), Fail> {
         status: 0,
     };
     check_on(&rt, alloc, &most, nested(alloc, 200)?)?;
+    let simplified = Row {
+        name: "200 nested nodes that choose nothing",
+        words: "pip simplify 0",
+        input: "",
+        output: "((n)\n()\n)\n",
+        notes: "",
+        status: 0,
+    };
+    check_on(&rt, alloc, &simplified, nested(alloc, 200)?)?;
     let deeper = Row {
         name: "201 nested nodes",
         words: "pip eval",

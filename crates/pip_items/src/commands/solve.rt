@@ -1,8 +1,11 @@
-ghost use Rattle.std.specs.Prelude.{◌≡◌, ◌<◌, ◌≤◌, [], length, false, IfOk, IfSome, if◌then◌else◌};
+ghost use Rattle.std.specs.Prelude.{◌≡◌, ◌<◌, ◌≤◌, [], length, IfOk, IfSome, if◌then◌else◌};
 ghost use Rattle.pip_model.specs.Agreement.{Agrees};
 ghost use Rattle.pip_model.specs.Commands.{Solve, item_text};
 ghost use Rattle.pip_model.specs.ItemKinds.{problem_item, matrix_item};
 ghost use Rattle.pip_model.specs.ItemTexts.{solved_text};
+ghost use Rattle.pip_model.specs.Simplified.{simplified};
+ghost use Rattle.pip_model.specs.Values.{simplified_by};
+ghost use Rattle.quast.specs.Answers.{answer_of};
 ghost use Rattle.pip_words.specs.Words.{options_of};
 ghost use Rattle.pip_items.specs.Items.{IsTextOfItem};
 ghost use Rattle.pip_items.specs.Endings.{read_ending};
@@ -14,8 +17,21 @@ use pip_reader::read_problem;
 use pip_solve::solve;
 use pip_words::SolveOptions;
 use polylib_reader::read_matrices;
+use quast::Answer;
+use quast_simplify::simplify_answer;
 use quast_text::print_answer;
 use std::alloc::Global;
+
+// The answer, simplified where that is asked for.
+fn simplified_if(simplify: bool, answer: Answer) -> Answer
+    ensures { answer_of result ≡ (if simplify then simplified_by simplified (answer_of answer) else answer_of answer) }
+{
+    if simplify {
+        simplify_answer(answer)
+    } else {
+        answer
+    }
+}
 
 // Puts the text of a problem's answer into `text`.
 fn write_solution(
@@ -25,9 +41,10 @@ fn write_solution(
     text: &mut Vec<u8>,
 ) -> Result<(), Ending>
     requires { text.old.items ≡ [] }
-    ensures { IsTextOfItem (solved_text false options.now.limits problem.now) result text.new.items }
+    ensures { IsTextOfItem (solved_text options.now.simplify options.now.limits problem.now) result text.new.items }
 {
     let answer = solve(alloc, problem, &options.limits)?;
+    let answer = simplified_if(options.simplify, answer);
     print_answer(problem.comment(), &answer, text)?;
     Ok(())
 }

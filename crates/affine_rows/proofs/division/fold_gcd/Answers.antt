@@ -1,8 +1,9 @@
 use Rattle.std.proofs.Common.{arith}
 use Rattle.std.proofs.lemmas.Int.{to_z-of_z}
 use Rattle.std.proofs.lemmas.Grind.{common_steps}
-use Rattle.affine_rows.proofs.Divisors.{gcd_one, gcd_step}
+use Rattle.affine_rows.proofs.Divisors.{gcd_step}
 use Rattle.affine_rows.proofs.division.fold_gcd.Goals as goal
+use Rattle.pip_model.proofs.Gcd.{gcd_one}
 
 pub returns-then-found-eq1-clause-value : goal.returns-then-found-eq1-clause-value
 returns-then-found-eq1-clause-value c = grind (arith, common_steps, to_z-of_z, gcd_one)

@@ -1,14 +1,20 @@
-use Rattle.pip_model.specs.Commands.{Solve, Eval}
+use Rattle.pip_model.specs.Commands.{Solve, Eval, Simplify}
 use Rattle.pip_words.specs.Words.{options_of}
-use Rattle.pip_items.proofs.Outputs.{output-written}
+use Rattle.pip_items.proofs.Outputs.{output-taken, output-trial}
 use Rattle.pip_items.proofs.output.write_output.Goals as goal
 
 pub returns-in-Solve-clause-output : goal.returns-in-Solve-clause-output
 returns-in-Solve-clause-output g c =
-    rw c.in-Solve.is (output-written (Solve (options_of c.in-Solve.options)) (g.S.Source.left c.args.source.now) c.in_ok-input.input (g.K.Sink.written c.args.sink.now) _ c.write_items.result
-    c.in_ok-input.ensures.bytes c.write_items.ensures.own (rw c.deref.ensures.value at c.write_items.ensures.output))
+    rw c.in-Solve.is (output-taken (Solve (options_of c.in-Solve.options)) tt (g.S.Source.left c.args.source.now) (g.K.Sink.written c.args.sink.now) _ c.write_over_input.result c.write_over_input.ensures.output)
 
-pub returns-clause-output : goal.returns-clause-output
-returns-clause-output g c =
-    rw c.in-Eval.is (output-written (Eval c.in-Eval.params) (g.S.Source.left c.args.source.now) c.in_ok-input.input (g.K.Sink.written c.args.sink.now) _ c.write_items-in-Eval.result
-    c.in_ok-input.ensures.bytes c.write_items-in-Eval.ensures.own (rw c.deref-in-Eval.ensures.value at c.write_items-in-Eval.ensures.output))
+pub returns-in-Eval-clause-output : goal.returns-in-Eval-clause-output
+returns-in-Eval-clause-output g c =
+    rw c.in-Eval.is (output-taken (Eval c.in-Eval.params) tt (g.S.Source.left c.args.source.now) (g.K.Sink.written c.args.sink.now) _ c.write_over_input-in-Eval.result c.write_over_input-in-Eval.ensures.output)
+
+pub returns-in-Simplify-clause-output : goal.returns-in-Simplify-clause-output
+returns-in-Simplify-clause-output g c =
+    rw c.in-Simplify.is (output-taken (Simplify c.in-Simplify.options.params) tt (g.S.Source.left c.args.source.now) (g.K.Sink.written c.args.sink.now) _ c.write_over_input-in-Simplify.result c.write_over_input-in-Simplify.ensures.output)
+
+pub returns-in-Trial-clause-output : goal.returns-in-Trial-clause-output
+returns-in-Trial-clause-output g c =
+    rw c.in-Trial.is (output-trial c.in-Trial.options.seed c.in-Trial.options.count (g.S.Source.left c.args.source.now) (g.K.Sink.written c.args.sink.now) _ c.write_items.result c.write_items.ensures.own c.write_items.ensures.output)

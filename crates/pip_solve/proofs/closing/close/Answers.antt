@@ -40,4 +40,4 @@ loop-frame-preserved c =
     let h = popped c.args.tree c.args.path.now c.args.pending.now c.loop-frame.tree c.loop-frame.path c.loop-frame.pending c.pop.new.self parm c.loop-frame.invariant e in
     let deep : c.loop-frame.path.depth - 1 + 1 ≡ c.loop-frame.path.depth = omega (arith, h.closing.depth) in
     let made : c.in_ok-tree-in-NewParm.tree.tree ≡ NewParm c.in-NewParm.form c.in-NewParm.den c.loop-frame.tree.tree = grind (arith, common_steps, to_z-of_z, c.in_ok-tree-in-NewParm.ensures) in
-    defined c.args.tree c.args.path.now c.args.pending.now c.loop-frame.tree c.loop-frame.path c.pop.new.self (c.loop-frame.path.depth - 1) c.in-NewParm.form c.in-NewParm.den h c.in_ok-tree-in-NewParm.tree c.in_ok-tree-in-NewParm.ensures.0 made deep
+    defined c.args.tree c.args.path.now c.args.pending.now c.loop-frame.tree c.loop-frame.path c.pop.new.self (c.loop-frame.path.depth - 1) c.in-NewParm.form c.in-NewParm.den h c.in_ok-tree-in-NewParm.tree c.in_ok-tree-in-NewParm.ensures.1 made deep

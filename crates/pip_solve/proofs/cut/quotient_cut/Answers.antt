@@ -25,7 +25,10 @@ returns-in_ok-class-in-Some-clause-gives c =
     let here : class path.context.forms (size path.quotients) (cuts.rounding (size path.quotients) c.in-Some.place (cuts.residue_of R)) c.args.work.now ≡ Done (class_of c.in_ok-class-in-Some.class) c.class_by_quotient.new.work = cc in
     let by = known_by S N c.args.i R c.in-Some.place c.args.work.now c.class_by_quotient.new.work (class_of c.in_ok-class-in-Some.class) here in
     let cut = subst (AgreesCounted (turn_of c.cut_by.new.rows path) run_fault c.cut_by.result c.class_by_quotient.new.work) (sym by) (c.cut_by.ensures.gives path c.class_by_quotient.new.work) in
-    subst (λ o. AgreesCounted (turn_of c.cut_by.new.rows path) run_fault c.cut_by.result c.class_by_quotient.new.work (quotient_cut S N c.args.i R o c.args.work.now)) (sym found) cut
+    record {
+      agrees = subst (λ o. AgreesCounted (turn_of c.cut_by.new.rows path) run_fault c.cut_by.result c.class_by_quotient.new.work (quotient_cut S N c.args.i R o c.args.work.now)) (sym found) cut;
+      counted = c.class_by_quotient.ensures.gives.counted;
+    }
 
 pub returns-in_ok-class-in-Some-clause-turn : goal.returns-in_ok-class-in-Some-clause-turn
 returns-in_ok-class-in-Some-clause-turn c = c.cut_by.ensures.turn c.args.path.now _

@@ -13,20 +13,20 @@ loop-rows-init c = record {
 }
 
 pub follow-requires : goal.follow-requires
-follow-requires c = follows c.args.node c.args.path.now c.args.pending.now c.args.work.now c.loop-rows.rows c.loop-rows.path c.loop-rows.pending c.loop-rows.work c.loop-rows.invariant c.take_turn.new.rows c.take_turn.new.path c.in_ok-turn.turn c.take_turn.new.work c.in_ok-turn.ensures.gives c.in_ok-turn.ensures.turn c.take_turn.ensures.path c.take_turn.ensures.budget
+follow-requires c = follows c.args.node c.args.path.now c.args.pending.now c.args.work.now c.loop-rows.rows c.loop-rows.path c.loop-rows.pending c.loop-rows.work c.loop-rows.invariant c.take_turn.new.rows c.take_turn.new.path c.in_ok-turn.turn c.take_turn.new.work c.in_ok-turn.ensures.gives.agrees c.in_ok-turn.ensures.turn c.take_turn.ensures.path c.take_turn.ensures.gives.counted.budget
 
 pub loop-rows-smaller : goal.loop-rows-smaller
 loop-rows-smaller c =
     let n : IsNextNode (weight c.in_ok-turn.turn) c.take_turn.new.path c.loop-rows.pending c.in-Node.next c.follow.new.path c.follow.new.pending = search rules in
-    smaller c.args.node c.args.path.now c.args.pending.now c.args.work.now c.loop-rows.rows c.loop-rows.path c.loop-rows.pending c.loop-rows.work c.loop-rows.invariant c.take_turn.new.rows c.take_turn.new.path c.in_ok-turn.turn c.take_turn.new.work c.in_ok-turn.ensures.gives c.in_ok-turn.ensures.turn c.take_turn.ensures.path c.take_turn.ensures.budget c.in-Node.next c.follow.new.path c.follow.new.pending n
+    smaller c.args.node c.args.path.now c.args.pending.now c.args.work.now c.loop-rows.rows c.loop-rows.path c.loop-rows.pending c.loop-rows.work c.loop-rows.invariant c.take_turn.new.rows c.take_turn.new.path c.in_ok-turn.turn c.take_turn.new.work c.in_ok-turn.ensures.gives.agrees c.in_ok-turn.ensures.turn c.take_turn.ensures.path c.take_turn.ensures.gives.counted.budget c.in-Node.next c.follow.new.path c.follow.new.pending n
 
 pub loop-rows-preserved : goal.loop-rows-preserved
 loop-rows-preserved c =
     let n : IsNextNode (weight c.in_ok-turn.turn) c.take_turn.new.path c.loop-rows.pending c.in-Node.next c.follow.new.path c.follow.new.pending = search rules in
     let same : (x : Work) → turned_run c.take_turn.new.rows c.take_turn.new.path c.loop-rows.pending.frames c.in_ok-turn.turn x ≡ whole_run c.in-Node.next c.follow.new.path c.follow.new.pending.frames x = search rules in
-    goes_on c.args.node c.args.path.now c.args.pending.now c.args.work.now c.loop-rows.rows c.loop-rows.path c.loop-rows.pending c.loop-rows.work c.loop-rows.invariant c.take_turn.new.rows c.take_turn.new.path c.in_ok-turn.turn c.take_turn.new.work c.in_ok-turn.ensures.gives c.in_ok-turn.ensures.turn c.take_turn.ensures.path c.take_turn.ensures.budget c.in-Node.next c.follow.new.path c.follow.new.pending n same
+    goes_on c.args.node c.args.path.now c.args.pending.now c.args.work.now c.loop-rows.rows c.loop-rows.path c.loop-rows.pending c.loop-rows.work c.loop-rows.invariant c.take_turn.new.rows c.take_turn.new.path c.in_ok-turn.turn c.take_turn.new.work c.in_ok-turn.ensures.gives.agrees c.in_ok-turn.ensures.turn c.take_turn.ensures.path c.take_turn.ensures.gives.counted.budget c.in-Node.next c.follow.new.path c.follow.new.pending n same
 
 pub returns-in-Tree-clause-gives : goal.returns-in-Tree-clause-gives
 returns-in-Tree-clause-gives c =
     let same : (x : Work) → turned_run c.take_turn.new.rows c.take_turn.new.path c.loop-rows.pending.frames c.in_ok-turn.turn x ≡ give c.in-Tree.tree.tree x = search rules in
-    ends c.args.node c.args.path.now c.args.pending.now c.args.work.now c.loop-rows.rows c.loop-rows.path c.loop-rows.pending c.loop-rows.work c.loop-rows.invariant c.take_turn.new.rows c.take_turn.new.path c.in_ok-turn.turn c.take_turn.new.work c.in_ok-turn.ensures.gives c.in_ok-turn.ensures.turn c.take_turn.ensures.path c.take_turn.ensures.budget c.in-Tree.tree.tree same
+    ends c.args.node c.args.path.now c.args.pending.now c.args.work.now c.loop-rows.rows c.loop-rows.path c.loop-rows.pending c.loop-rows.work c.loop-rows.invariant c.take_turn.new.rows c.take_turn.new.path c.in_ok-turn.turn c.take_turn.new.work c.in_ok-turn.ensures.gives.agrees c.in_ok-turn.ensures.turn c.take_turn.ensures.path c.take_turn.ensures.gives.counted.budget c.in-Tree.tree.tree same

@@ -8,7 +8,7 @@ use Rattle.pip_solve.proofs.turn.components.Goals as goal
 
 pub loop-i-preserved : goal.loop-i-preserved
 loop-i-preserved c =
-    let more = map_more row_component c.args.t.now.rows c.loop-i.i (form_row 0 []) (search rules) in (
+    let more = map_more row_component c.args.rows.now.rows c.loop-i.i (form_row 0 []) (search rules) in (
       search (rules, more),
-      rw c.in_ok-push.ensures.items (All-push (IsComponent c.args.t.now.width) c.loop-i.made.items c.in_ok-component.component c.loop-i.invariant.1 (search rules)),
+      rw c.in_ok-push.ensures.items (All-push (IsComponent c.args.rows.now.width) c.loop-i.made.items c.in_ok-component.component c.loop-i.invariant.1 (search rules)),
     )

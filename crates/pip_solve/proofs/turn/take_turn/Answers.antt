@@ -4,6 +4,7 @@ use Rattle.std.proofs.lemmas.Grind.{common_steps}
 use Rattle.pip_model.specs.Run.{AllPlus, Done, Refused, turn_by}
 use Rattle.pip_model.specs.Agreement.{AgreesCounted}
 use Rattle.pip_problem.specs.Faults.{run_fault}
+use Rattle.context.proofs.Counting.{counted_on}
 use Rattle.new_parameters.specs.Scopes.{size}
 use Rattle.pip_solve.specs.Nodes.{node_of, setting_of}
 use Rattle.pip_solve.specs.Signs.{signs_of, scanned}
@@ -18,9 +19,9 @@ returns-in_err-signs-clause-gives c =
     let S = setting_of c.args.rows.now path in
     let N = node_of c.args.rows.now path in
     let wide : path.context.width ≡ size path.quotients = c.requires.context ∙ c.requires.scope in
-    let told = subst (λ n. IfSome (run_fault c.in_err-signs.field-0.0) (λ f. scanned path.context.forms n 0 AllPlus c.args.rows.now.rows c.args.work.now ≡ Refused f c.scan.new.work)) wide c.in_err-signs.ensures.gives in
+    let told = subst (λ n. IfSome (run_fault c.in_err-signs.field-0.0) (λ f. scanned path.context.forms n 0 AllPlus c.args.rows.now.rows c.args.work.now ≡ Refused f c.scan.new.work)) wide c.in_err-signs.ensures.gives.agrees in
     let fault = turn_refused S N refl c.args.work.now c.scan.new.work (run_fault c.in_err-signs.field-0.0) told in
-    grind (arith, common_steps, fault)
+    record { agrees = grind (arith, common_steps, fault); counted = c.scan.ensures.gives.counted }
 
 pub returns-clause-gives : goal.returns-clause-gives
 returns-clause-gives c =
@@ -30,8 +31,11 @@ returns-clause-gives c =
     let N = node_of c.args.rows.now path in
     let signs = signs_of c.in_ok-signs.signs in
     let wide : path.context.width ≡ size path.quotients = c.requires.context ∙ c.requires.scope in
-    let told = subst (λ n. scanned path.context.forms n 0 AllPlus c.args.rows.now.rows c.args.work.now ≡ Done signs c.scan.new.work) wide c.in_ok-signs.ensures.gives in
+    let told = subst (λ n. scanned path.context.forms n 0 AllPlus c.args.rows.now.rows c.args.work.now ≡ Done signs c.scan.new.work) wide c.in_ok-signs.ensures.gives.agrees in
     let on = turn_on S N refl c.args.work.now c.scan.new.work signs told in
-    let same = ap (λ (fs : List (List ℤ)). turn_by S (record N { context = fs }) signs c.scan.new.work) c.scan.ensures.same.1 in
-    let acted = subst (AgreesCounted (turn_of c.act.new.rows there) run_fault c.act.result c.act.new.work) (same ∙ sym on) c.act.ensures.gives in
-    agrees_same (turn_of c.act.new.rows there) (turn_of c.act.new.rows path) (in_context c.act.new.rows path c.scan.new.context c.scan.ensures.same.1) run_fault c.act.result c.act.new.work _ acted
+    let same = ap (λ (fs : List (List ℤ)). turn_by S (record N { context = fs }) signs c.scan.new.work) c.scan.ensures.kept.forms in
+    let acted = subst (AgreesCounted (turn_of c.act.new.rows there) run_fault c.act.result c.act.new.work) (same ∙ sym on) c.act.ensures.gives.agrees in
+    record {
+      agrees = agrees_same (turn_of c.act.new.rows there) (turn_of c.act.new.rows path) (in_context c.act.new.rows path c.scan.new.context c.scan.ensures.kept.forms) run_fault c.act.result c.act.new.work _ acted;
+      counted = counted_on c.args.work.now c.scan.new.work c.act.new.work c.scan.ensures.gives.counted c.act.ensures.gives.counted;
+    }

@@ -1,6 +1,5 @@
 use Rattle.std.proofs.Common.{◌≡◌, ◌++◌, ◌∷◌, [], rules}
 use Rattle.std.proofs.lemmas.List.Elements.{All-push}
-use Rattle.pip_model.specs.Numbers.{floor_div}
 use Rattle.affine_rows.specs.Checks.{Fits}
 use Rattle.quast.proofs.place.append_floor.Goals as goal
 

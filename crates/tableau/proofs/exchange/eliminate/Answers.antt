@@ -1,26 +1,16 @@
-use Rattle.std.proofs.Common.{rules, arith, ap, ◌∙◌, subst, ◌≡◌, ◌-◌, to_z, of_z, length}
-use Rattle.std.specs.Int.{w128}
-use Rattle.pip_model.specs.Rows.{Row, eliminated}
-use Rattle.tableau.specs.Tableaus.{IsRow, content, row_from}
+use Rattle.std.proofs.Common.{rules, ap, ◌∙◌}
+use Rattle.tableau.specs.Tableaus.{content}
 use Rattle.tableau.specs.Views.{row_of}
-use Rattle.tableau.proofs.Substituting.{row_parts, lent, eliminated_reduced}
+use Rattle.tableau.proofs.Substituting.{eliminated_none, eliminated_reduced}
 use Rattle.tableau.proofs.exchange.eliminate.Goals as goal
 
-pub returns-clause-value : goal.returns-clause-value
-returns-clause-value c =
-    let same : row_from (to_z w128 (of_z w128 c.row.inside.den)) c.deref_mut.result.now c.deref_mut-2.result.now ≡ c.args.row.now = search rules in
-    let made = subst (λ (r : Row). row_from c.eliminate_parts-den.result c.eliminate_parts-den.new.coefs c.eliminate_parts-den.new.constant ≡ eliminated (row_of c.args.p.now) c.args.c r) same c.eliminate_parts-den.ensures.value in
-    row_parts (λ x. x ≡ eliminated (row_of c.args.p.now) c.args.c c.args.row.now) _ c.eliminate_parts-den.result _ c.eliminate_parts-den.new.coefs _ c.eliminate_parts-den.new.constant
-    (search rules) (lent c.row.inside.coefs.len c.eliminate_parts-den.new.coefs _ (omega (arith, c.deref_mut.ensures.len, c.deref_mut.ensures.value, c.eliminate_parts-den.auto.coefs)))
-    (lent c.row.inside.constant.len c.eliminate_parts-den.new.constant _ (omega (arith, c.deref_mut-2.ensures.len, c.deref_mut-2.ensures.value, c.eliminate_parts-den.auto.constant))) made
+pub returns-then-index-eq0-clause-value : goal.returns-then-index-eq0-clause-value
+returns-then-index-eq0-clause-value c =
+    let stays = eliminated_none _ _ (row_of c.args.p.now) c.args.c c.args.row.now c.requires.p c.requires.row c.requires.positive (search rules) c.requires.reduced in
+    search (rules, stays)
 
-pub returns-clause-row : goal.returns-clause-row
-returns-clause-row c =
-    let same : row_from (to_z w128 (of_z w128 c.row.inside.den)) c.deref_mut.result.now c.deref_mut-2.result.now ≡ c.args.row.now = search rules in
-    let made = subst (λ (r : Row). IsRow (length r.coefs) (length r.constant - 1) (row_from c.eliminate_parts-den.result c.eliminate_parts-den.new.coefs c.eliminate_parts-den.new.constant)) same c.eliminate_parts-den.ensures.row in
-    row_parts (λ x. IsRow (length c.args.row.now.coefs) (length c.args.row.now.constant - 1) x) _ c.eliminate_parts-den.result _ c.eliminate_parts-den.new.coefs _ c.eliminate_parts-den.new.constant
-    (search rules) (lent c.row.inside.coefs.len c.eliminate_parts-den.new.coefs _ (omega (arith, c.deref_mut.ensures.len, c.deref_mut.ensures.value, c.eliminate_parts-den.auto.coefs)))
-    (lent c.row.inside.constant.len c.eliminate_parts-den.new.constant _ (omega (arith, c.deref_mut-2.ensures.len, c.deref_mut-2.ensures.value, c.eliminate_parts-den.auto.constant))) made
+pub returns-then-row-clause-reduced : goal.returns-then-row-clause-reduced
+returns-then-row-clause-reduced c = ap content c.eliminate_short.ensures.value ∙ eliminated_reduced _ _ c.args.c (row_of c.args.p.now) c.args.row.now c.requires.row c.requires.positive
 
-pub returns-clause-reduced : goal.returns-clause-reduced
-returns-clause-reduced c = ap content (returns-clause-value c) ∙ eliminated_reduced _ _ c.args.c (row_of c.args.p.now) c.args.row.now c.requires.row c.requires.positive
+pub returns-else-p-clause-reduced : goal.returns-else-p-clause-reduced
+returns-else-p-clause-reduced c = ap content c.eliminate_long.ensures.value ∙ eliminated_reduced _ _ c.args.c (row_of c.args.p.now) c.args.row.now c.requires.row c.requires.positive

@@ -1,6 +1,5 @@
-use Rattle.std.proofs.Common.{◌≡◌, ℕ, pos, ◌≤ℤ◌, subst, sym, ap, arith, refl, rules, to_z, of_z}
+use Rattle.std.proofs.Common.{◌≡◌, pos, ◌≤ℤ◌, subst, sym, arith, rules, to_z, of_z}
 use Rattle.std.specs.Int.{w128}
-use Rattle.std.proofs.lemmas.Int.{to_z-of_z}
 use Rattle.pip_model.specs.Forms.{width}
 use Rattle.pip_model.specs.Tree.{Component, reduced}
 use Rattle.affine_rows.specs.Checks.{Fits}

@@ -1,4 +1,3 @@
-use Rattle.std.proofs.Common.{ap, rules, arith}
 use Rattle.quast.proofs.Lowest.{component-removed}
 use Rattle.quast.proofs.component.Component.remove.Goals as goal
 

@@ -1,7 +1,5 @@
-use Rattle.std.proofs.Common.{◌≡◌, ◌+◌, ◌≤ℤ◌, ℤ, pos, ap, subst, sym, arith, rules}
-use Rattle.std.proofs.lemmas.Int.{to_z-of_z}
-use Rattle.affine_rows.specs.Checks.{Fits}
-use Rattle.quast.specs.Trees.{ScopedTree, IsQuast}
+use Rattle.std.proofs.Common.{◌≡◌, ◌+◌, ap, arith, rules}
+use Rattle.quast.specs.Trees.{ScopedTree}
 use Rattle.quast.proofs.Scopes.{newparm-quast}
 use Rattle.quast.proofs.quast.Quast.define.Goals as goal
 

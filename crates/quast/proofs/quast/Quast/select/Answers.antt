@@ -1,5 +1,5 @@
-use Rattle.std.proofs.Common.{◌≡◌, ap, subst, sym, arith, rules}
-use Rattle.quast.specs.Trees.{ScopedTree, IsQuast}
+use Rattle.std.proofs.Common.{◌≡◌, ap, arith}
+use Rattle.quast.specs.Trees.{ScopedTree}
 use Rattle.quast.proofs.Scopes.{if-quast}
 use Rattle.quast.proofs.quast.Quast.select.Goals as goal
 

@@ -2,7 +2,7 @@ use Rattle.std.proofs.Common.{◌≡◌, refl, rules, true, Some, None}
 use Rattle.std.proofs.lemmas.Result.{err_from_is_err_and}
 use Rattle.pip_model.specs.Listed.{all_fit}
 use Rattle.pip_model.specs.Tree.{leaf_of}
-use Rattle.quast.specs.Places.{path_listed, list_listed}
+use Rattle.quast.specs.Places.{path_listed}
 use Rattle.quast.proofs.Paths.{path-refused, list-refused, all-listed}
 use Rattle.quast.proofs.quast.Quast.value_at.Goals as goal
 

@@ -1,0 +1,62 @@
+-- What a run with one row more behind its first rows tells of a context with one form more.
+use Rattle.std.proofs.Common.{◌≡◌, ◌∙◌, refl, ap, sym, subst, ℕ, zero, suc, ℤ, Bool, List, [], ◌∷◌, ◌++◌, map, is_some}
+use Rattle.std.specs.Prelude.{Result}
+use Rattle.std.proofs.lemmas.List.{map-append}
+use Rattle.pip_model.specs.Forms.{widen_to}
+use Rattle.pip_model.specs.Tree.{Tree}
+use Rattle.pip_model.specs.Rows.{Row, form_row, unit_row, count_from}
+use Rattle.pip_model.specs.Run.{Work, Outcome, Done, Refused, go_on, give, run_from, numbers_of, point, point_run, point_setting}
+use Rattle.pip_model.specs.Agreement.{AgreesCounted}
+use Rattle.pip_problem.specs.Faults.{run_fault}
+use Rattle.pip_problem.specs.declared.refusal.Refusal as code
+use Rattle.context.specs.Turns.{node_of}
+use Rattle.context.specs.Remembered.{has_point, finds_point, replayed, asked, first_rows, IsReplay, IsRemembered}
+use Rattle.context.specs.declared.remembered.Remembered.{Remembered}
+use Rattle.context.proofs.FurtherRows.{append-assoc}
+
+-- the remembered pivots, and then the run from their end
+asked_is : (m : Remembered) (first rows : List Row) (w : Work) → IsReplay first m.run → finds_point m.run.end.unknowns (first ++ rows) w ≡ asked m rows w
+asked_is m first rows w is =
+    ap (λ o. go_on o (λ t. give (is_some (numbers_of t)))) (is.run rows w)
+    ∙ each (replayed m.run.pivots.rows m.run.columns.items rows w)
+  where
+    each : (o : Outcome (List Row)) → go_on (go_on o (λ now. run_from (point_setting m.run.end.unknowns) (node_of (m.run.end.rows ++ now)))) (λ t. give (is_some (numbers_of t)))
+        ≡ go_on o (λ now. finds_point m.run.end.unknowns (m.run.end.rows ++ now))
+    each (Done x v) = refl
+    each (Refused f v) = refl
+
+first_more : (n : ℕ) (K : List (List ℤ)) (c : List ℤ) → first_rows n (K ++ c ∷ []) ≡ first_rows n K ++ form_row n (widen_to n c) ∷ []
+first_more n K c =
+    let units : List Row = map (unit_row n 0) (count_from 0 n) in
+    ap (λ (forms : List (List ℤ)). units ++ map (form_row n) forms) (map-append (widen_to n) K (c ∷ []))
+    ∙ ap (λ (rows : List Row). units ++ rows) (map-append (form_row n) (map (widen_to n) K) (widen_to n c ∷ []))
+    ∙ sym (append-assoc units (map (form_row n) (map (widen_to n) K)) (form_row n (widen_to n c) ∷ []))
+
+point_some : (n : ℕ) (K : List (List ℤ)) (c : List ℤ) → point n (K ++ c ∷ []) ≡ point_run n (K ++ c ∷ [])
+point_some zero [] c = refl
+point_some zero (d ∷ K) c = refl
+point_some (suc n) [] c = refl
+point_some (suc n) (d ∷ K) c = refl
+
+has_point_is : (n : ℕ) (K : List (List ℤ)) (c : List ℤ) (w : Work) → has_point n (K ++ c ∷ []) w ≡ finds_point n (first_rows n K ++ form_row n (widen_to n c) ∷ []) w
+has_point_is n K c w =
+    ap (λ part. go_on (part w) (λ p. give (is_some p))) (point_some n K c)
+    ∙ each (run_from (point_setting n) (node_of (first_rows n (K ++ c ∷ []))) w)
+    ∙ ap (λ (rows : List Row). finds_point n rows w) (first_more n K c)
+  where
+    each : (o : Outcome Tree) → go_on (go_on o (λ t. give (numbers_of t))) (λ p. give (is_some p)) ≡ go_on o (λ t. give (is_some (numbers_of t)))
+    each (Done x v) = refl
+    each (Refused f v) = refl
+
+module _ (n : ℕ) (K : List (List ℤ)) (c : List ℤ) (before after : Work) (r : Result Bool code.Refusal) where
+  pub plainly_tells : AgreesCounted (λ b. b) run_fault r after (finds_point n (first_rows n K ++ form_row n (widen_to n c) ∷ []) before) → AgreesCounted (λ b. b) run_fault r after (has_point n (K ++ c ∷ []) before)
+  plainly_tells gives = subst (λ (o : Outcome Bool). AgreesCounted (λ b. b) run_fault r after o) (sym (has_point_is n K c before)) gives
+
+  pub remembered_tells : (m : Remembered) → IsRemembered n K m
+      → AgreesCounted (λ b. b) run_fault r after (asked m (form_row m.run.end.unknowns (widen_to m.run.end.unknowns c) ∷ []) before) → AgreesCounted (λ b. b) run_fault r after (has_point n (K ++ c ∷ []) before)
+  remembered_tells m is gives =
+      let u = m.run.end.unknowns in
+      let row : List Row = form_row u (widen_to u c) ∷ [] in
+      let found : AgreesCounted (λ b. b) run_fault r after (finds_point u (first_rows n K ++ row) before)
+      = subst (λ (o : Outcome Bool). AgreesCounted (λ b. b) run_fault r after o) (sym (asked_is m (first_rows n K) row before is.replay)) gives in
+      plainly_tells (subst (λ (k : ℕ). AgreesCounted (λ b. b) run_fault r after (finds_point k (first_rows n K ++ form_row k (widen_to k c) ∷ []) before)) is.unknowns found)

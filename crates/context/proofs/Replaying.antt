@@ -1,0 +1,70 @@
+-- A run remembered: from one pivot to the next.
+use Rattle.std.proofs.Common.{◌≡◌, ◌∙◌, refl, ap, sym, ℕ, zero, suc, ◌+◌, ◌<◌, ◌≤◌, arith, Option, Some, None, List, [], ◌∷◌, ◌++◌, length, get_or, drop}
+use Rattle.std.specs.Prelude.{IfSome}
+use Rattle.std.proofs.lemmas.List.{drop_more, drop_all}
+use Rattle.pip_model.specs.Rows.{Row, row_at, form_row, pivot}
+use Rattle.pip_model.specs.Run.{Work, Outcome, Done, Refused, Refusal, Counted, go_on, give, run_from, point_setting}
+use Rattle.context.specs.Turns.{node_of}
+use Rattle.context.specs.Remembered.{turned, replayed, IsPivot}
+use Rattle.context.proofs.FurtherRows.{IsStep, step-front}
+
+-- the two parts of a replay
+replayed-append : (ps qs : List Row) (cs ds : List ℕ) (F : List Row) (w : Work) → length ps ≡ length cs
+    → replayed (ps ++ qs) (cs ++ ds) F w ≡ go_on (replayed ps cs F w) (λ now. replayed qs ds now)
+replayed-append [] qs [] ds F w e = refl
+replayed-append [] qs (c ∷ cs) ds F w e = absurd (omega arith)
+replayed-append (p ∷ ps) qs [] ds F w e = absurd (omega arith)
+replayed-append (p ∷ ps) qs (c ∷ cs) ds F w e = each (turned p c F w) (λ x v. replayed-append ps qs cs ds x v (omega (arith, e)))
+  where
+    each : (o : Outcome (List Row)) → ((x : List Row) (v : Work) → replayed (ps ++ qs) (cs ++ ds) x v ≡ go_on (replayed ps cs x v) (λ now. replayed qs ds now))
+        → go_on o (λ now. replayed (ps ++ qs) (cs ++ ds) now) ≡ go_on (go_on o (λ now. replayed ps cs now)) (λ now. replayed qs ds now)
+    each (Done x v) later = later x v
+    each (Refused f v) later = refl
+
+given : {B : Type 0} (o : Outcome (List Row)) (k : List Row → Counted B) → go_on (go_on o (λ now. give now)) k ≡ go_on o k
+given (Done x v) k = refl
+given (Refused f v) k = refl
+
+-- the rows E are reached from the first ones by these pivots, whatever stands behind them
+abbrev pub Reaches : ℕ → List Row → List Row → List ℕ → List Row → Type 0
+Reaches n first ps cs E = (rows : List Row) (w : Work) → run_from (point_setting n) (node_of (first ++ rows)) w
+    ≡ go_on (replayed ps cs rows w) (λ now. run_from (point_setting n) (node_of (E ++ now)))
+
+pub reaches_more : (n : ℕ) (first : List Row) (ps : List Row) (cs : List ℕ) (E : List Row) (r c : ℕ) → length ps ≡ length cs → Reaches n first ps cs E → IsStep E r c
+    → Reaches n first (ps ++ row_at E r ∷ []) (cs ++ c ∷ []) (pivot E r c)
+reaches_more n first ps cs E r c e run is rows w =
+    run rows w
+    ∙ each (replayed ps cs rows w)
+    ∙ ap (λ o. go_on o (λ now. run_from (point_setting n) (node_of (pivot E r c ++ now)))) (sym (replayed-append ps (row_at E r ∷ []) cs (c ∷ []) rows w e))
+  where
+    each : (o : Outcome (List Row)) → go_on o (λ now. run_from (point_setting n) (node_of (E ++ now)))
+        ≡ go_on (go_on o (λ now. replayed (row_at E r ∷ []) (c ∷ []) now)) (λ now. run_from (point_setting n) (node_of (pivot E r c ++ now)))
+    each (Done F v) = step-front n E F r c v is ∙ sym (given (turned (row_at E r) c F v) (λ now. run_from (point_setting n) (node_of (pivot E r c ++ now))))
+    each (Refused f v) = refl
+
+pub each_more : (n : ℕ) (ps : List Row) (cs : List ℕ) (p : Row) (c : ℕ) → length ps ≡ length cs → ((i : ℕ) → i < length cs → IsPivot n (row_at ps i) (get_or cs i 0)) → IsPivot n p c
+    → (i : ℕ) → i < length (cs ++ c ∷ []) → IsPivot n (row_at (ps ++ p ∷ []) i) (get_or (cs ++ c ∷ []) i 0)
+each_more n [] [] p c e all is zero h = is
+each_more n [] [] p c e all is (suc i) h = absurd (omega arith)
+each_more n [] (d ∷ cs) p c e all is i h = absurd (omega arith)
+each_more n (q ∷ ps) [] p c e all is i h = absurd (omega arith)
+each_more n (q ∷ ps) (d ∷ cs) p c e all is zero h = all 0 (omega arith)
+each_more n (q ∷ ps) (d ∷ cs) p c e all is (suc i) h = each_more n ps cs p c (omega (arith, e)) (λ j k. all (suc j) (omega (arith, k))) is i (omega (arith, h))
+
+-- one more of the pivots
+pub replayed-at : (ps : List Row) (cs : List ℕ) (i : ℕ) (F : List Row) (w : Work) → length ps ≡ length cs → i < length cs
+    → replayed (drop i ps) (drop i cs) F w ≡ go_on (turned (row_at ps i) (get_or cs i 0) F w) (λ now. replayed (drop (i + 1) ps) (drop (i + 1) cs) now)
+replayed-at ps cs i F w e h = rw (drop_more ps i (form_row 0 []) (omega (arith, e, h)), drop_more cs i 0 h) refl
+
+-- no more of them
+pub replayed-end : (ps : List Row) (cs : List ℕ) (i : ℕ) (F : List Row) (w : Work) → length ps ≡ length cs → length cs ≤ i → replayed (drop i ps) (drop i cs) F w ≡ Done F w
+replayed-end ps cs i F w e h = rw (drop_all i ps (omega (arith, e, h))) refl
+
+-- one more of them, made or refused
+module _ (ps : List Row) (cs : List ℕ) (i : ℕ) (F : List Row) (w : Work) (e : length ps ≡ length cs) (h : i < length cs) where
+  pub replayed-on : (G : List Row) (v : Work) → turned (row_at ps i) (get_or cs i 0) F w ≡ Done G v → replayed (drop i ps) (drop i cs) F w ≡ replayed (drop (i + 1) ps) (drop (i + 1) cs) G v
+  replayed-on G v t = replayed-at ps cs i F w e h ∙ ap (λ o. go_on o (λ now. replayed (drop (i + 1) ps) (drop (i + 1) cs) now)) t
+
+  pub replayed-refused : (o : Option Refusal) (v : Work) → IfSome o (λ f. turned (row_at ps i) (get_or cs i 0) F w ≡ Refused f v) → IfSome o (λ f. replayed (drop i ps) (drop i cs) F w ≡ Refused f v)
+  replayed-refused None v t = t
+  replayed-refused (Some f) v t = replayed-at ps cs i F w e h ∙ ap (λ o. go_on o (λ now. replayed (drop (i + 1) ps) (drop (i + 1) cs) now)) t

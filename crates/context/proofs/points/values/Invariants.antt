@@ -1,8 +1,0 @@
-use Rattle.std.proofs.Common.{◌≡◌, map, take}
-use Rattle.pip_model.specs.Forms.{constant}
-use Rattle.pip_model.specs.Tree.{Component}
-use Rattle.pip_model.specs.Run.{row_component}
-use Rattle.context.proofs.points.values.Given as goal
-
-abbrev pub invariant-loop-i : goal.invariant-loop-i
-invariant-loop-i l = l.values.items ≡ map (λ (c : Component). constant c.form) (map row_component (take l.i l.t.rows))

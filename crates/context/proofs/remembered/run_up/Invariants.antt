@@ -1,0 +1,11 @@
+use Rattle.std.proofs.Common.{◌≡◌, List}
+use Rattle.pip_model.specs.Rows.{Row}
+use Rattle.context.specs.Remembered.{IsFormed, IsReplay}
+use Rattle.context.proofs.remembered.run_up.Given as goal
+
+abbrev pub invariant-loop : goal.invariant-loop
+invariant-loop l = record {
+  formed : IsFormed l.m;
+  unknowns : l.m.end.unknowns ≡ l.fn.m.end.unknowns;
+  replay : (first : List Row) → IsReplay first l.fn.m → IsReplay first l.m;
+}

@@ -1,0 +1,91 @@
+-- The run without parameters of some rows, remembered, and what it makes of further rows behind them.
+use Rattle.std.specs.Prelude.{◌≡◌, ℕ, ◌<◌, ◌≤◌, ℤ, pos, ◌≤ℤ◌, Bool, true, false, ◌&&◌, Option, is_none, is_some, IfSome, List, [], ◌∷◌, ◌++◌, length, map, flat_map, get_or}
+use Rattle.pip_model.specs.Contexts.{IsContext}
+use Rattle.pip_model.specs.Forms.{entry, widen_to}
+use Rattle.pip_model.specs.Tree.{Tree, Bottom}
+use Rattle.pip_model.specs.Rows.{Row, row_at, start, eliminated, eliminated_listed, first_fraction}
+use Rattle.pip_model.specs.Run.{Work, Counted, ◌>>=◌, ◌>>◌, go_on, give, listed, count_pivot, leaf, run_from, numbers_of, point, point_setting}
+use Rattle.context.specs.Turns.{negative_from, node_of}
+use Rattle.context.specs.declared.remembered.Replay.{Replay}
+use Rattle.context.specs.declared.remembered.Remembered.{Remembered}
+
+-- whether a context has a point
+abbrev pub has_point : ℕ → List (List ℤ) → Counted Bool
+has_point w K = do
+  p ← point w K
+  give (is_some p)
+
+-- whether the run without parameters of these rows finds a point
+abbrev pub finds_point : ℕ → List Row → Counted Bool
+finds_point n rows = do
+  t ← run_from (point_setting n) (node_of rows)
+  give (is_some (numbers_of t))
+
+-- the tree of a run that ended at these rows, with a point or without one
+abbrev pub ended : ℕ → List Row → Bool → Tree
+ended n rows true = leaf (point_setting n) (node_of rows)
+ended n rows false = Bottom
+
+-- a pivot on a row that stands in front of these is counted, and turns them
+abbrev pub turned : Row → ℕ → List Row → Counted (List Row)
+turned p c rows = do
+  count_pivot
+  listed (flat_map (eliminated_listed p c) rows)
+  give (map (eliminated p c) rows)
+
+-- the same of pivots in order, by their rows and columns
+abbrev pub replayed : List Row → List ℕ → List Row → Counted (List Row)
+replayed [] cs rows = give rows
+replayed (p ∷ ps) [] rows = give rows
+replayed (p ∷ ps) (c ∷ cs) rows = do
+  now ← turned p c rows
+  replayed ps cs now
+
+-- row p may be solved for the quantity of column c, one of n
+pub record IsPivot (n : ℕ) (p : Row) (c : ℕ) : Type 0 where
+  pub column : c < n
+  pub positive : pos 1 ≤ℤ entry p.coefs c
+
+-- a row and a column for each pivot, and the rows of a run without parameters
+pub record IsFormed (m : Replay) : Type 0 where
+  pub unknowns : m.pivots.unknowns ≡ m.end.unknowns
+  pub pivots_width : m.pivots.width ≡ 0
+  pub width : m.end.width ≡ 0
+  pub rows : m.end.unknowns ≤ length m.end.rows
+  pub lengths : length m.pivots.rows ≡ length m.columns.items
+  pub each : (i : ℕ) → i < length m.columns.items → IsPivot m.end.unknowns (row_at m.pivots.rows i) (get_or m.columns.items i 0)
+
+-- with further rows behind them the first rows make these pivots, and go on from the last rows
+pub record IsReplay (first : List Row) (m : Replay) : Type 0 where
+  pub run : (rows : List Row) (w : Work) → run_from (point_setting m.end.unknowns) (node_of (first ++ rows)) w
+      ≡ go_on (replayed m.pivots.rows m.columns.items rows w) (λ now. run_from (point_setting m.end.unknowns) (node_of (m.end.rows ++ now)))
+
+-- the run of these rows ends at them with a point: no row is below 0, and those of the unknowns are whole
+abbrev pub is_end : ℕ → List Row → Bool
+is_end n rows = is_none (negative_from 0 rows) && is_none (first_fraction n rows)
+
+-- it is known whether the last rows are an end
+pub record IsStopped (m : Remembered) : Type 0 where
+  pub formed : IsFormed m.run
+  pub at_end : m.at_end ≡ is_end m.run.end.unknowns m.run.end.rows
+
+-- a remembered run with further rows behind it: whether it finds a point
+abbrev pub asked : Remembered → List Row → Counted Bool
+asked m rows = do
+  now ← replayed m.run.pivots.rows m.run.columns.items rows
+  finds_point m.run.end.unknowns (m.run.end.rows ++ now)
+
+-- the first rows of a point's run
+abbrev pub first_rows : ℕ → List (List ℤ) → List Row
+first_rows n K = start n 0 (map (widen_to n) K)
+
+-- the run of a context's forms, or the beginning of it
+pub record IsRemembered (n : ℕ) (K : List (List ℤ)) (m : Remembered) : Type 0 where
+  pub unknowns : m.run.end.unknowns ≡ n
+  pub stopped : IsStopped m
+  pub replay : IsReplay (first_rows n K) m.run
+
+-- narrow forms, and nothing remembered but their run
+pub record IsKnown (n : ℕ) (K : List (List ℤ)) (kept : Option Remembered) : Type 0 where
+  pub context : IsContext n K
+  pub known : IfSome kept (IsRemembered n K)

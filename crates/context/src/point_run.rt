@@ -1,0 +1,68 @@
+ghost use Rattle.std.specs.Prelude.{◌≡◌, ◌≤◌, length};
+ghost use Rattle.pip_model.specs.Contexts.{IsContext};
+ghost use Rattle.pip_model.specs.Run as model;
+ghost use Rattle.pip_model.specs.Run.{point_setting, run_from};
+ghost use Rattle.pip_problem.specs.Faults.{run_fault};
+ghost use Rattle.context.specs.Counts.{IsCountedRun};
+ghost use Rattle.context.specs.Turns.{node_of, HasSameScope};
+ghost use Rattle.context.specs.Remembered.{ended};
+
+use crate::point::{Point, values};
+use crate::point_turn::{Turn, take_turn};
+use crate::rows::start_rows;
+use crate::work::Work;
+use affine_rows::Form;
+use pip_problem::Refusal;
+use std::alloc::Global;
+use tableau::Tableau;
+
+// The run without parameters to its end: whether it found a point, which the rows then show.
+pub(crate) fn run_on(rows: &mut Tableau, work: &mut Work) -> Result<bool, Refusal>
+    requires width { rows.old.width ≡ 0 }
+    requires rows { rows.old.unknowns ≤ length rows.old.rows }
+    ensures gives { IsCountedRun (ended rows.old.unknowns rows.new.rows) run_fault result work.old work.new
+        (run_from (point_setting rows.old.unknowns) (node_of rows.old.rows)) }
+    ensures scope { HasSameScope rows.old rows.new }
+{
+    loop {
+        match take_turn(rows, work)? {
+            Turn::Bottom => return Ok(false),
+            Turn::List => return Ok(true),
+            Turn::Again => {}
+        }
+    }
+}
+
+// The run without parameters, over the forms as rows.
+fn run(
+    alloc: Global,
+    places: usize,
+    forms: &[Form],
+    work: &mut Work,
+) -> Result<Option<Point>, Refusal>
+    requires { IsContext places forms.now }
+    ensures gives { IsCountedRun (λ o. o) run_fault result work.old work.new (model.point_run places forms.now) }
+{
+    let mut rows = start_rows(alloc, places, forms)?;
+    if !run_on(&mut rows, work)? {
+        return Ok(None);
+    }
+    Ok(Some(values(alloc, &rows)?))
+}
+
+// A whole vector from 0 on at which no form is below 0, none where there is none.
+#[tactic(auto, using(crate::proofs::Pointing::point_by_run))]
+pub(crate) fn find_point(
+    alloc: Global,
+    places: usize,
+    forms: &[Form],
+    work: &mut Work,
+) -> Result<Option<Point>, Refusal>
+    requires { IsContext places forms.now }
+    ensures gives { IsCountedRun (λ o. o) run_fault result work.old work.new (model.point places forms.now) }
+{
+    if places == 0 && forms.is_empty() {
+        return Ok(Some(Point::empty(alloc)));
+    }
+    run(alloc, places, forms, work)
+}

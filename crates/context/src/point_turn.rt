@@ -1,0 +1,92 @@
+ghost use Rattle.std.specs.Prelude.{◌≡◌, ◌<◌, ◌≤◌, not, length, IfSome};
+ghost use Rattle.pip_model.specs.Forms.{constant};
+ghost use Rattle.pip_model.specs.Numbers.{is_nonneg};
+ghost use Rattle.pip_model.specs.Rows.{row_at};
+ghost use Rattle.pip_model.specs.Run as model;
+ghost use Rattle.pip_model.specs.Run.{turn_by, MinusAt, AllPlus, point_setting};
+ghost use Rattle.pip_problem.specs.Faults.{run_fault};
+ghost use Rattle.context.specs.Counts.{IsCountedRun};
+ghost use Rattle.context.specs.Turns.{negative_from, node_of, made, HasSameScope};
+
+use crate::steps::{count_and_cut, enter_and_pivot};
+use crate::work::Work;
+use affine_rows::nonnegative;
+use gomory_cut::first_fraction;
+use pip_problem::Refusal;
+use tableau::Tableau;
+
+// What a turn of the run made of the tableau: it has no point, it shows the point, or the run goes on.
+pub enum Turn {
+    Bottom,
+    List,
+    Again,
+}
+
+// Whether the constant of row i is below 0.
+fn is_below(rows: &Tableau, i: usize) -> bool
+    requires width { rows.now.width ≡ 0 }
+    requires row { i < length rows.now.rows }
+    ensures { result ≡ not (is_nonneg (constant (row_at rows.now.rows i).constant)) }
+{
+    !nonnegative(rows.row(i).constant[0])
+}
+
+// The first row whose constant is below 0.
+pub(crate) fn first_negative(rows: &Tableau) -> Option<usize>
+    requires { rows.now.width ≡ 0 }
+    ensures value { result ≡ negative_from 0 rows.now.rows }
+    ensures bound { IfSome result (λ r. r < length rows.now.rows) }
+{
+    for i in 0..rows.rows() {
+        if is_below(rows, i) {
+            return Some(i);
+        }
+    }
+    None
+}
+
+// At a row below 0: no point where no column enters, else a pivot.
+fn pivot_turn(rows: &mut Tableau, work: &mut Work, r: usize) -> Result<Turn, Refusal>
+    requires width { rows.old.width ≡ 0 }
+    requires rows { rows.old.unknowns ≤ length rows.old.rows }
+    requires row { r < length rows.old.rows }
+    ensures gives { IsCountedRun (made rows.old.unknowns rows.new.rows) run_fault result work.old work.new
+        (turn_by (point_setting rows.old.unknowns) (node_of rows.old.rows) (MinusAt r)) }
+    ensures scope { HasSameScope rows.old rows.new }
+{
+    if enter_and_pivot(rows, r, work)? {
+        Ok(Turn::Again)
+    } else {
+        Ok(Turn::Bottom)
+    }
+}
+
+// A cut at the first fraction, where there is one.
+fn last_turn(rows: &mut Tableau, work: &mut Work) -> Result<Turn, Refusal>
+    requires width { rows.old.width ≡ 0 }
+    requires rows { rows.old.unknowns ≤ length rows.old.rows }
+    ensures gives { IsCountedRun (made rows.old.unknowns rows.new.rows) run_fault result work.old work.new
+        (turn_by (point_setting rows.old.unknowns) (node_of rows.old.rows) AllPlus) }
+    ensures scope { HasSameScope rows.old rows.new }
+{
+    let Some(i) = first_fraction(rows) else {
+        return Ok(Turn::List);
+    };
+    count_and_cut(rows, i, work)?;
+    Ok(Turn::Again)
+}
+
+// One turn: a pivot at a row below 0, else a cut at a fraction.
+#[tactic(auto, using(crate::proofs::Turning::turn_is))]
+pub(crate) fn take_turn(rows: &mut Tableau, work: &mut Work) -> Result<Turn, Refusal>
+    requires width { rows.old.width ≡ 0 }
+    requires rows { rows.old.unknowns ≤ length rows.old.rows }
+    ensures gives { IsCountedRun (made rows.old.unknowns rows.new.rows) run_fault result work.old work.new
+        (model.turn (point_setting rows.old.unknowns) (node_of rows.old.rows)) }
+    ensures scope { HasSameScope rows.old rows.new }
+{
+    match first_negative(rows) {
+        Some(r) => pivot_turn(rows, work, r),
+        None => last_turn(rows, work),
+    }
+}

@@ -1,0 +1,16 @@
+-- All is whole over the denominator 1.
+use Rattle.std.proofs.Common.{◌≡◌, refl, ap, ◌∙◌, ℤ, pos, negsuc, true, arith, List, [], ◌∷◌}
+use Rattle.std.proofs.lemmas.Int.{ints}
+use Rattle.pip_model.specs.Numbers.{floor_mod}
+use Rattle.pip_model.specs.Rows.{is_whole}
+
+mod_one : (z : ℤ) → floor_mod z (pos 1) ≡ pos 0
+mod_one (pos n) = omega (arith, ints)
+mod_one (negsuc n) = omega (arith, ints)
+
+all_whole : (xs : List ℤ) → is_whole (pos 1) xs ≡ true
+all_whole [] = refl
+all_whole (x ∷ xs) = rw (mod_one x, all_whole xs) refl
+
+pub whole_one : (d : ℤ) (xs : List ℤ) → d ≡ pos 1 → is_whole d xs ≡ true
+whole_one d xs e = ap (λ z. is_whole z xs) e ∙ all_whole xs

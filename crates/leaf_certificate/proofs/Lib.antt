@@ -1,0 +1,5 @@
+pub mod Spellings
+pub mod Fitting
+pub mod Sequences
+pub mod Certificates
+pub mod Found

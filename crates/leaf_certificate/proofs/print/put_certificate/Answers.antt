@@ -1,0 +1,11 @@
+use Rattle.std.proofs.Common.{rules, codes}
+use Rattle.pip_model.specs.Certificate.{spell_leaves}
+use Rattle.leaf_certificate.specs.Printing.{spell_head}
+use Rattle.leaf_certificate.proofs.Spellings.{joined}
+use Rattle.leaf_certificate.proofs.print.put_certificate.Goals as goal
+
+pub returns-clause-ok : goal.returns-clause-ok
+returns-clause-ok c =
+    let certificate = c.args.c.now in
+    joined c.put.result c.args.out.now.items (spell_head certificate.shares certificate.vector) (spell_leaves certificate.shares certificate.leaves) (codes ")\n") _ _ _
+    c.in_ok-put_head.ensures.ok (search rules) c.put.ensures.ok

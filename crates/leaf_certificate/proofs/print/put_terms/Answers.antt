@@ -1,0 +1,7 @@
+use Rattle.std.proofs.Common.{◌++◌, ◌∙◌, ap, arith}
+use Rattle.leaf_certificate.proofs.Spellings.{written, terms_flat}
+use Rattle.leaf_certificate.specs.Printing.{spell_term}
+use Rattle.leaf_certificate.proofs.print.put_terms.Goals as goal
+
+pub returns-clause-ok : goal.returns-clause-ok
+returns-clause-ok c = c.loop-term.invariant ∙ ap (λ t. c.args.out.now.items ++ t) (written spell_term c.args.terms.now c.loop-term.term-index _ (omega arith) (terms_flat c.args.terms.now))

@@ -1,0 +1,15 @@
+use Rattle.std.proofs.Common.{◌≡◌, ◌-◌, length}
+use Rattle.pip_model.specs.declared.Kind.TheVariants.{RightParen}
+use Rattle.pip_model.specs.Certificate.{leaf_proofs}
+use Rattle.leaf_certificate.proofs.Sequences.{Reaches}
+use Rattle.leaf_certificate.proofs.read_leaf.read_leaves.Given as goal
+
+abbrev pub invariant-loop-alloc : goal.invariant-loop-alloc
+invariant-loop-alloc l = record {
+  reaches : Reaches l.bytes RightParen (leaf_proofs l.bytes l.fn.start.shares) l.place l.read.leaves l.at;
+  shares : l.read.shares ≡ l.fn.start.shares;
+  vector : l.read.vector ≡ l.fn.start.vector;
+}
+
+abbrev pub decreases-loop-alloc : goal.decreases-loop-alloc
+decreases-loop-alloc l = length l.bytes - l.at

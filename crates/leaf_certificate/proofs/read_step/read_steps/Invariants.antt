@@ -1,0 +1,11 @@
+use Rattle.std.proofs.Common.{◌-◌, length}
+use Rattle.pip_model.specs.declared.Kind.TheVariants.{RightParen}
+use Rattle.pip_model.specs.Certificate.{step}
+use Rattle.leaf_certificate.proofs.Sequences.{Reaches}
+use Rattle.leaf_certificate.proofs.read_step.read_steps.Given as goal
+
+abbrev pub invariant-loop-alloc : goal.invariant-loop-alloc
+invariant-loop-alloc l = Reaches l.bytes RightParen (step l.bytes) l.place l.read l.at
+
+abbrev pub decreases-loop-alloc : goal.decreases-loop-alloc
+decreases-loop-alloc l = length l.bytes - l.at

@@ -1,0 +1,5 @@
+pub mod Fitting
+pub mod Vectors
+pub mod Printing
+pub mod Faults
+pub mod Sequences

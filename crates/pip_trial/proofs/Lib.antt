@@ -1,0 +1,4 @@
+pub mod Draws
+pub mod Rooms
+pub mod Steps
+pub mod Counting

@@ -1,0 +1,15 @@
+use Rattle.std.proofs.Common.{rules, arith}
+use Rattle.context.proofs.Counting.{counted_none}
+use Rattle.sign_split.proofs.TightSigns.{class_plus, class_minus, class_points}
+use Rattle.sign_split.proofs.classify.class_at.Goals as goal
+
+pub returns-then-is_nowhere_below-clause-gives : goal.returns-then-is_nowhere_below-clause-gives
+returns-then-is_nowhere_below-clause-gives c = record { agrees = class_plus c.args.context.now.forms c.args.context.now.width c.args.entries.now c.args.work.now (search rules); counted = counted_none c.args.work.now }
+
+pub returns-then-is_everywhere_below-clause-gives : goal.returns-then-is_everywhere_below-clause-gives
+returns-then-is_everywhere_below-clause-gives c = record { agrees = class_minus c.args.context.now.forms c.args.context.now.width c.args.entries.now c.args.work.now (omega (arith, c.requires.form.some)) (search rules) (search rules); counted = counted_none c.args.work.now }
+
+pub returns-clause-gives : goal.returns-clause-gives
+returns-clause-gives c =
+    let points = class_points c.args.context.now.forms c.args.context.now.width c.args.entries.now c.args.work.now (omega (arith, c.requires.form.some)) (search rules) (search rules) in
+    record { agrees = rw points (search rules); counted = c.class_by_points.ensures.gives.counted }

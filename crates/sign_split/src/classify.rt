@@ -1,0 +1,109 @@
+ghost use Rattle.std.specs.Prelude.{◌≡◌, ◌+◌, ◌≤◌, length, IfOk, IfErr, IfSome};
+ghost use Rattle.pip_model.specs.Contexts.{ClassTells, IsPointRefusal};
+ghost use Rattle.pip_model.specs.Forms.{widen_to};
+ghost use Rattle.pip_model.specs.Run as model;
+ghost use Rattle.affine_rows.specs.Forms.{IsForm};
+ghost use Rattle.pip_problem.specs.Faults.{run_fault};
+ghost use Rattle.context.specs.Counts.{IsCountedRun};
+ghost use Rattle.context.specs.Scoped.{IsKeptContext};
+ghost use Rattle.sign_split.specs.Classes.{class_of, widened_class, ConditionIs};
+
+use crate::classes::Class;
+use crate::signs::{is_everywhere_below, is_nowhere_below};
+use affine_rows::Form;
+use context::{Context, Work};
+use pip_problem::Refusal;
+use std::alloc::Global;
+
+// The class of a tightened form by points: with its opposite, and with itself.
+fn class_by_points(
+    alloc: Global,
+    context: &mut Context,
+    form: Form,
+    work: &mut Work,
+) -> Result<Class, Refusal>
+    requires narrow { length form ≤ context.old.width + 1 }
+    ensures gives { IsCountedRun class_of run_fault result work.old work.new
+        (model.class_by_points context.old.width context.old.forms form) }
+    ensures kept { IsKeptContext context.old context.new }
+    ensures condition { IfOk result (ConditionIs (length form)) }
+{
+    let mut below = form.try_clone(alloc)?;
+    below.opposite()?;
+    if !context.point_with(alloc, &below, work)? {
+        return Ok(Class::Plus);
+    }
+    if !context.point_with(alloc, &form, work)? {
+        return Ok(Class::Minus);
+    }
+    Ok(Class::Unknown(form))
+}
+
+// The class of the form with these entries: by their signs where they tell it, else by points.
+fn class_at(
+    alloc: Global,
+    context: &mut Context,
+    entries: &[i128],
+    work: &mut Work,
+) -> Result<Class, Refusal>
+    requires form { IsForm entries.now }
+    requires narrow { length entries.now ≤ context.old.width + 1 }
+    ensures gives { IsCountedRun class_of run_fault result work.old work.new
+        (model.class context.old.forms context.old.width entries.now) }
+    ensures kept { IsKeptContext context.old context.new }
+    ensures condition { IfOk result (ConditionIs (length entries.now)) }
+{
+    if is_nowhere_below(entries) {
+        return Ok(Class::Plus);
+    }
+    if is_everywhere_below(entries) {
+        return Ok(Class::Minus);
+    }
+    let mut form = Form::try_new(alloc, entries)?;
+    form.tighten();
+    class_by_points(alloc, context, form, work)
+}
+
+/// The class of a form on a context: by the signs of its entries where they tell it, else by two points: one of the
+/// context at which the tightened form is below 0, one at which it is at least 0. The form is no wider than the
+/// context, which is as it was after each answer. It overflows where the constant of the tightened form's opposite
+/// `-c - 1` does not fit, or in a point's run; its budgets are those of pivots and cuts. The counts stay at what was
+/// counted.
+pub fn class(
+    alloc: Global,
+    context: &mut Context,
+    form: &Form,
+    work: &mut Work,
+) -> Result<Class, Refusal>
+    requires narrow { length form.now ≤ context.old.width + 1 }
+    ensures gives { IsCountedRun class_of run_fault result work.old work.new
+        (model.class context.old.forms context.old.width form.now) }
+    ensures kept { IsKeptContext context.old context.new }
+    ensures condition { IfOk result (ConditionIs (length form.now)) }
+    ensures tells { IfOk result (λ c. ClassTells context.old.width context.old.forms
+        (widen_to context.old.width form.now) (widened_class context.old.width (class_of c))) }
+    ensures refusal { IfErr result (λ e. IfSome (run_fault e) IsPointRefusal) }
+{
+    class_of_entries(alloc, context, form.as_slice(), work)
+}
+
+/// The class of the form with these entries, as `class` gives it: coefficients, and then the constant.
+pub fn class_of_entries(
+    alloc: Global,
+    context: &mut Context,
+    entries: &[i128],
+    work: &mut Work,
+) -> Result<Class, Refusal>
+    requires form { IsForm entries.now }
+    requires narrow { length entries.now ≤ context.old.width + 1 }
+    ensures gives { IsCountedRun class_of run_fault result work.old work.new
+        (model.class context.old.forms context.old.width entries.now) }
+    ensures kept { IsKeptContext context.old context.new }
+    ensures condition { IfOk result (ConditionIs (length entries.now)) }
+    ensures tells { IfOk result (λ c. ClassTells context.old.width context.old.forms
+        (widen_to context.old.width entries.now) (widened_class context.old.width (class_of c))) }
+    ensures refusal { IfErr result (λ e. IfSome (run_fault e) IsPointRefusal) }
+{
+    let _ = context.mark();
+    class_at(alloc, context, entries, work)
+}
