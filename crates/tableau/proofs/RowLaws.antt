@@ -1,15 +1,14 @@
 -- Laws of rows.
 use Rattle.std.proofs.Common.{◌≡◌, append_assoc, sym, take, get_or, ℕ, zero, suc, ◌+◌, ◌<◌, ℤ, pos, negsuc, List, [], ◌∷◌, ◌++◌, map, replicate, length, refl, ap, ◌∙◌, arith, length-append}
-use Rattle.std.specs.Prelude.{All}
 use Rattle.std.proofs.lemmas.List.{length-take, length-replicate, map-append, take_all, take_more}
-use Rattle.std.proofs.lemmas.List.Elements.{All-append, All-take, All-replicate, All-cons, All-nil, All-map}
+use Rattle.std.proofs.lemmas.List.Elements.{All-append, All-take, All-replicate, All-cons, All-nil}
 use Rattle.pip_model.specs.Numbers.{gcd, gcd_of, floor_div}
 use Rattle.pip_model.specs.Forms.{floor_divided, width, coefficients, constant}
 use Rattle.pip_model.specs.Rows.{Row, divided, widened, count_from}
 use Rattle.std.proofs.lemmas.Int.{ints}
 use Rattle.affine_rows.proofs.Divisors.{gcd_assoc, floor_divided_one}
 use Rattle.affine_rows.specs.Checks.{Fits}
-use Rattle.tableau.specs.Tableaus.{IsRow, IsReduced, content, row_from}
+use Rattle.tableau.specs.Tableaus.{IsRow, content, row_from}
 use Rattle.tableau.proofs.Contents.{content-one, gcd_of-widened}
 
 -- ---- division
@@ -66,21 +65,15 @@ widened_is_row n w r h =
       constant_fit = All-append Fits (coefficients r.constant ++ replicate 1 (pos 0)) (constant r.constant ∷ []) front end;
     }
 
-pub All-widened : (n w : ℕ) (rows : List Row) → All (IsRow n w) rows → All (IsRow n (w + 1)) (map widened rows)
-All-widened n w rows h = All-map (IsRow n (w + 1)) widened rows (λ k d lt. widened_is_row n w _ (h k d lt))
-
 -- the constant form as its coefficients and its constant
 ends : (xs : List ℤ) (w : ℕ) → length xs ≡ w + 1 → xs ≡ take w xs ++ get_or xs w (pos 0) ∷ []
 ends xs w e =
     let all : xs ≡ take (w + 1) xs = sym (take_all (w + 1) xs (omega arith)) in
     all ∙ take_more xs w (pos 0) (omega arith)
 
-widened_content : (n w : ℕ) (r : Row) → IsRow n w r → content (widened r) ≡ content r
+pub widened_content : (n w : ℕ) (r : Row) → IsRow n w r → content (widened r) ≡ content r
 widened_content n w r h =
     let width_is : width r.constant ≡ w = omega (arith, h.constant) in
     let same : gcd_of (widened r).constant ≡ gcd_of r.constant
     = rw width_is (ap gcd_of (append_assoc (take w r.constant) (pos 0 ∷ []) (get_or r.constant w (pos 0) ∷ [])) ∙ gcd_of-widened (take w r.constant) (get_or r.constant w (pos 0)) ∙ sym (ap gcd_of (ends r.constant w h.constant))) in
     ap (λ g. gcd r.den (gcd (gcd_of r.coefs) g)) same
-
-pub All-widened_reduced : (n w : ℕ) (rows : List Row) → All (IsRow n w) rows → All IsReduced rows → All IsReduced (map widened rows)
-All-widened_reduced n w rows h k = All-map IsReduced widened rows (λ i d lt. widened_content n w _ (h i d lt) ∙ k i d lt)

@@ -1,15 +1,15 @@
 -- Rows whose numbers are short.
-use Rattle.std.proofs.Common.{◌≡◌, refl, ℕ, ◌+◌, ◌-◌, ◌^◌, ◌<◌, ℤ, pos, ◌*ℤ◌, arith, unsigned_abs, List, ◌++◌, length, take, drop, get_or}
+use Rattle.std.proofs.Common.{◌≡◌, refl, ℕ, ◌+◌, ◌-◌, ◌^◌, ◌<◌, ℤ, pos, ◌*ℤ◌, arith, unsigned_abs, List, [], ◌∷◌, ◌++◌, replicate, length, take, drop, get_or}
 use Rattle.std.specs.Prelude.{IsTrue, All}
 use Rattle.std.specs.List.{list_all}
 use Rattle.std.proofs.lemmas.Bool.{ltb-true, lt-ltb}
 use Rattle.std.proofs.lemmas.Int.{unsigned_abs-mul}
 use Rattle.std.proofs.lemmas.Nat.{mul-le}
 use Rattle.std.proofs.lemmas.List.Sums.{AllPass-from_list_all, list_all-from_AllPass}
-use Rattle.std.proofs.lemmas.List.Elements.{All-append, All-take, All-drop}
-use Rattle.pip_model.specs.Forms.{entry}
+use Rattle.std.proofs.lemmas.List.Elements.{All-append, All-take, All-drop, All-replicate, All-cons, All-nil}
+use Rattle.pip_model.specs.Forms.{entry, width, coefficients, constant}
 use Rattle.pip_model.specs.Listed.{all_fit, combine_listed}
-use Rattle.pip_model.specs.Rows.{Row, eliminated_listed}
+use Rattle.pip_model.specs.Rows.{Row, widened, eliminated_listed}
 use Rattle.affine_rows.specs.Checks.{Fits}
 use Rattle.affine_rows.proofs.Short.{product_fits, short_fits}
 use Rattle.tableau.specs.Short.{is_short, IsShort, IsShortRow}
@@ -33,6 +33,18 @@ short_fit z h = lt-ltb (unsigned_abs z) (2 ^ 127) (omega (arith, h))
 
 pub fits_short : (xs : List ℤ) → All IsShort xs → All Fits xs
 fits_short xs h k d lt = short_fit (get_or xs k d) (h k d lt)
+
+-- ---- one more place
+
+pub widened_short : (r : Row) → 0 < length r.constant → IsShortRow r → IsShortRow (widened r)
+widened_short r some h =
+    let front = All-append IsShort (coefficients r.constant) (replicate 1 (pos 0)) (All-take IsShort (width r.constant) r.constant h.constant) (All-replicate IsShort 1 (pos 0) (omega arith)) in
+    let end = All-cons IsShort (constant r.constant) [] (h.constant (width r.constant) (pos 0) (omega (arith, some))) (All-nil IsShort) in
+    record {
+      den = h.den;
+      coefs = h.coefs;
+      constant = All-append IsShort (coefficients r.constant ++ replicate 1 (pos 0)) (constant r.constant ∷ []) front end;
+    }
 
 -- ---- the numbers of a row with another put in
 

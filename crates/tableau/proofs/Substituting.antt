@@ -1,22 +1,17 @@
 -- A row with another put in: its listed numbers and its parts.
-use Rattle.std.proofs.Common.{◌≡◌, [], ◌∷◌, ◌++◌, get_or, map, flat_map, take, drop, replicate, append-nil, refl, ap, sym, ◌∙◌, ℕ, zero, suc, ◌+◌, ◌<◌, ◌≤◌, ℤ, pos, negsuc, ◌*ℤ◌, ◌≤ℤ◌, Bool, true, false, ◌&&◌, List, length, length-set, arith, subst}
-use Rattle.std.specs.Prelude.{IsTrue, All, slice_set}
-use Rattle.std.proofs.lemmas.List.{take_all, drop_all, drop_more, take-map, drop-map, length-map}
-use Rattle.std.proofs.lemmas.List.Elements.{All-cons, All-nil}
+use Rattle.std.proofs.Common.{◌≡◌, ◌++◌, flat_map, take, drop, refl, ap, sym, ◌∙◌, ℕ, zero, suc, ◌+◌, ℤ, pos, negsuc, ◌*ℤ◌, ◌≤ℤ◌, Bool, true, false, ◌&&◌, List, length-set, arith, subst}
+use Rattle.std.specs.Prelude.{IsTrue, All}
 use Rattle.std.proofs.lemmas.Grind.{flat_map-append}
-use Rattle.affine_rows.proofs.Mapped.{mapped}
-use Rattle.std.proofs.Math.Seq.{take-append_seam}
 use Rattle.std.proofs.lemmas.Int.{ints}
 use Rattle.std.proofs.lemmas.List.Folds.{list_all-append}
 use Rattle.pip_model.specs.Numbers.{fits}
 use Rattle.pip_model.specs.Forms.{entry, remove}
 use Rattle.pip_model.specs.Listed.{all_fit, combine_listed}
-use Rattle.pip_model.specs.Rows.{Row, substituted, eliminated, eliminated_listed, pivot, pivot_listed, unit_row, row_at, form_row}
+use Rattle.pip_model.specs.Rows.{Row, substituted, eliminated, eliminated_listed, pivot_listed, row_at}
 use Rattle.affine_rows.specs.Checks.{Fits}
-use Rattle.pip_model.specs.Forms.{width}
 use Rattle.tableau.specs.Tableaus.{IsRow, IsReduced, row_from}
 use Rattle.tableau.proofs.Contents.{content-divided}
-use Rattle.tableau.proofs.Places.{length_combine, set_parts}
+use Rattle.tableau.proofs.Places.{length_combine}
 use Rattle.tableau.proofs.Unchanged.{eliminated-none}
 
 -- the listed numbers of a row, part by part
@@ -80,24 +75,6 @@ eliminated_reduced n w c p r hr h = content-divided (substituted p c r) (some_pr
 all_fit-append : (xs ys : List ℤ) → all_fit (xs ++ ys) ≡ (all_fit xs && all_fit ys)
 all_fit-append xs ys = list_all-append fits xs ys
 
-two : (a b : Bool) → IsTrue (a && b) → IsTrue a × IsTrue b
-two true b e = (refl, e)
-two false b e = absurd cc
-
--- the listed numbers of each row fit
-pub all_listed : (g : Row → List ℤ) (rows : List Row) → IsTrue (all_fit (flat_map g rows)) → All (λ r. IsTrue (all_fit (g r))) rows
-all_listed g [] e = All-nil (λ r. IsTrue (all_fit (g r)))
-all_listed g (r ∷ rows) e =
-    let parts = two (all_fit (g r)) (all_fit (flat_map g rows)) (rw (all_fit-append (g r) (flat_map g rows)) at e) in
-    All-cons (λ r. IsTrue (all_fit (g r))) r rows parts.0 (all_listed g rows parts.1)
-
-pub cleared : (xs : List ℤ) (i : ℕ) → length xs ≤ i → mapped (λ x. pos 0) i xs ≡ replicate (length xs) (pos 0)
-cleared xs i h = rw (take_all i xs h, drop_all i xs h) (append-nil (map (λ x. pos 0) xs) ∙ zeros xs)
-  where
-    zeros : (xs : List ℤ) → map (λ x. pos 0) xs ≡ replicate (length xs) (pos 0)
-    zeros [] = refl
-    zeros (x ∷ xs) = ap (λ (ys : List ℤ). pos 0 ∷ ys) (zeros xs)
-
 -- the numbers of the rows in front and behind
 pivot_listed_sides : (rows : List Row) (r c : ℕ) → all_fit (pivot_listed rows r c)
     ≡ (all_fit (flat_map (eliminated_listed (row_at rows r) c) (take r rows)) && all_fit (flat_map (eliminated_listed (row_at rows r) c) (drop (r + 1) rows)))
@@ -112,44 +89,6 @@ checked_sides rows front back p r c f g same =
     ∙ subst (λ (q : Row). all_fit (flat_map (eliminated_listed (row_at rows r) c) (take r rows)) && all_fit (flat_map (eliminated_listed (row_at rows r) c) (drop (r + 1) rows)) ≡ (all_fit (flat_map (eliminated_listed q c) front) && all_fit (flat_map (eliminated_listed q c) back))) (sym same)
     (rw (f, g) refl)
 
--- a fact of the only row
-pub all_one : (P : Row → Type 0) (at : List Row) (x : Row) → length at ≡ 1 → P x → All P (slice_set at 0 x)
-all_one P [] x one h = absurd (omega arith)
-all_one P (y ∷ []) x one h = All-cons P x [] h (All-nil P)
-all_one P (y ∷ z ∷ at) x one h = absurd (omega arith)
-
--- the row at a place, lent from the rows from there on
-pub lent_row : (rows at : List Row) (r : ℕ) (d : Row) → r < length rows → at ≡ take 1 (drop r rows) → get_or at 0 d ≡ row_at rows r
-lent_row rows at r d h e = rw (e, drop_more rows r (form_row 0 []) h) refl
-
--- the rows in front, the row of column c, and the rows behind
-pub pivot_made : (rows front at back : List Row) (p unit : Row) (r c : ℕ) → r < length rows → length at ≡ 1 → p ≡ row_at rows r
-    → front ≡ map (eliminated p c) (take r rows) → back ≡ map (eliminated p c) (drop (r + 1) rows) → unit ≡ unit_row (length p.coefs) (width p.constant) c
-    → front ++ (slice_set at 0 unit ++ back) ≡ pivot rows r c
-pivot_made rows front [] back p unit r c h one same f g u = absurd (omega arith)
-pivot_made rows front (x ∷ y ∷ at) back p unit r c h one same f g u = absurd (omega arith)
-pivot_made rows front (x ∷ []) back p unit r c h one same f g u =
-    let q = row_at rows r in
-    let k : r < length (map (eliminated q c) rows) = simp length-map h in
-    rw (f, g, u, same, sym (take-map (eliminated q c) r rows), sym (drop-map (eliminated q c) (r + 1) rows))
-    (sym (set_parts (map (eliminated q c) rows) r (unit_row (length q.coefs) (width q.constant) c) k))
-
-pub sides_listed : (rows : List Row) (p : Row) (r c : ℕ) → p ≡ row_at rows r → IsTrue (all_fit (pivot_listed rows r c))
-    → All (λ row. IsTrue (all_fit (eliminated_listed p c row))) (take r rows) × All (λ row. IsTrue (all_fit (eliminated_listed p c row))) (drop (r + 1) rows)
-sides_listed rows p r c same e =
-    let g = eliminated_listed (row_at rows r) c in
-    let sides = two (all_fit (flat_map g (take r rows))) (all_fit (flat_map g (drop (r + 1) rows))) (rw (pivot_listed_sides rows r c) at e) in
-    let both : All (λ row. IsTrue (all_fit (eliminated_listed (row_at rows r) c row))) (take r rows) × All (λ row. IsTrue (all_fit (eliminated_listed (row_at rows r) c row))) (drop (r + 1) rows)
-    = (all_listed g (take r rows) sides.0, all_listed g (drop (r + 1) rows) sides.1) in
-    subst (λ (q : Row). All (λ row. IsTrue (all_fit (eliminated_listed q c row))) (take r rows) × All (λ row. IsTrue (all_fit (eliminated_listed q c row))) (drop (r + 1) rows)) (sym same) both
-
--- the numbers that a Vec has after its slice was written
-pub lent : (len : ℕ) (xs ys : List ℤ) → len ≡ length xs → take len (xs ++ ys) ≡ xs
-lent len xs ys e = rw e (take-append_seam xs ys)
-
 -- a fact of a row whose parts are known
 pub row_parts : (P : Row → Type 0) (den d : ℤ) (coefs cs constant ts : List ℤ) → den ≡ d → coefs ≡ cs → constant ≡ ts → P (row_from d cs ts) → P (row_from den coefs constant)
 row_parts P den d coefs cs constant ts e f g h = rw (e, f, g) h
-
-pub behind : (rows : List Row) (r : ℕ) → r < length rows → drop 1 (drop r rows) ≡ drop (r + 1) rows
-behind rows r h = rw (drop_more rows r (form_row 0 []) h) refl

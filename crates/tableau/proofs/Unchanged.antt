@@ -86,7 +86,7 @@ set-same [] c z e = refl
 set-same (x ∷ xs) zero z e = rw (sym e) refl
 set-same (x ∷ xs) (suc c) z e = rw (set-same xs c z e) refl
 
-any_zero : (a : ℤ) → a *ℤ pos 0 ≡ pos 0
+pub any_zero : (a : ℤ) → a *ℤ pos 0 ≡ pos 0
 any_zero a = omega (arith, ints)
 
 entry-scale : (g : ℤ) (xs : List ℤ) (k : ℕ) → entry (scale g xs) k ≡ g *ℤ entry xs k
@@ -140,7 +140,7 @@ regroup : (a b c : Bool) → (a && (b && c)) ≡ ((a && b) && c)
 regroup true b c = refl
 regroup false b c = refl
 
-all_fit-append : (xs ys : List ℤ) → all_fit (xs ++ ys) ≡ (all_fit xs && all_fit ys)
+pub all_fit-append : (xs ys : List ℤ) → all_fit (xs ++ ys) ≡ (all_fit xs && all_fit ys)
 all_fit-append [] ys = refl
 all_fit-append (x ∷ xs) ys = ap (λ (b : Bool). fits x && b) (all_fit-append xs ys) ∙ regroup (fits x) (all_fit xs) (all_fit ys)
 
@@ -176,7 +176,7 @@ eliminated_listed-none p c i b e f =
 once : (z : ℤ) → pos 1 *ℤ z ≡ z
 once z = omega (arith, ints)
 
-by_one : (z : ℤ) → z *ℤ pos 1 ≡ z
+pub by_one : (z : ℤ) → z *ℤ pos 1 ≡ z
 by_one z = omega (arith, ints)
 
 scale-one : (xs : List ℤ) → scale (pos 1) xs ≡ xs

@@ -1,3 +1,5 @@
+pub mod Flat
+pub mod KeptRows
 pub mod Refusals
 pub mod Short
 pub mod Tableaus

@@ -28,10 +28,6 @@ content r = gcd r.den (gcd (gcd_of r.coefs) (gcd_of r.constant))
 abbrev pub IsReduced : Row → Type 0
 IsReduced r = content r ≡ pos 1
 
-pub record IsTableau (t : TableauRows) : Type 0 where
-  pub rows : All (IsRow t.unknowns t.width) t.rows
-  pub reduced : All IsReduced t.rows
-
 -- the row of a denominator, coefficients and a constant form
 abbrev pub row_from : ℤ → List ℤ → List ℤ → Row
 row_from den coefs constant = record { den = den; coefs = coefs; constant = constant }

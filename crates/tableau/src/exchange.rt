@@ -1,83 +1,17 @@
-ghost use Rattle.std.specs.Prelude.{◌≡◌, ◌+◌, ◌-◌, ◌<◌, pos, ◌≤ℤ◌, length, map, flat_map, replicate, slice_set, All, IsTrue, OnErr, OnOk};
-ghost use Rattle.pip_model.specs.Forms.{entry, width};
-ghost use Rattle.pip_model.specs.Listed.{all_fit};
+ghost use Rattle.std.specs.Prelude.{◌≡◌, ◌+◌, ◌-◌, ◌<◌, ◌≤◌, pos, ◌≤ℤ◌, [], length, map, flat_map, All, OnErr, OnOk};
+ghost use Rattle.pip_model.specs.Forms.{entry};
 ghost use Rattle.pip_model.specs.Rows as model;
 ghost use Rattle.pip_model.specs.Agreement.{IsChecked};
 ghost use Rattle.affine_rows.specs.Checks.{is_overflow};
-ghost use Rattle.tableau.specs.Short.{IsShortRow};
-ghost use Rattle.tableau.specs.Tableaus.{IsRow, IsOwnRow, IsReduced, row_from};
+ghost use Rattle.tableau.specs.KeptRows.{IsFlat, IsPlace, IsKnownLent, SameShape, lent_row, lent_rows, with_more, with_rows, unit_run};
+ghost use Rattle.tableau.specs.Tableaus.{IsRow, IsOwnRow, IsReduced};
 ghost use Rattle.tableau.specs.Views.{row_of};
 
-use crate::elimination::{check_eliminated, eliminate_long_parts, eliminate_short_parts};
-use crate::row::Row;
+use crate::elimination::check_eliminated;
+use crate::flat_rows::FlatRows;
+use crate::kept::{Kept, Lent};
 use crate::view::RowView;
 use affine_rows::Overflow;
-
-// The numbers of a row, lent.
-pub fn view(row: &Row) -> RowView<'_>
-    ensures { row_of result ≡ row.now }
-{
-    RowView {
-        den: row.den,
-        coefs: &row.coefs,
-        constant: &row.constant,
-        short: row.short,
-    }
-}
-
-// Makes of a row what it is after the pivot on row p and column c.
-fn eliminate_long(p: &RowView<'_>, c: usize, row: &mut Row)
-    requires p { IsRow (length row.old.coefs) (length row.old.constant - 1) (row_of p.now) }
-    requires row { IsOwnRow row.old }
-    requires column { c < length row.old.coefs }
-    requires positive { pos 1 ≤ℤ entry p.now.coefs.now c }
-    requires listed { IsTrue (all_fit (model.eliminated_listed (row_of p.now) c row.old)) }
-    ensures value { row.new ≡ model.eliminated (row_of p.now) c row.old }
-    ensures row { IsRow (length row.old.coefs) (length row.old.constant - 1) row.new }
-{
-    let (den, short) = eliminate_long_parts(p, c, row.den, &mut row.coefs, &mut row.constant);
-    row.den = den;
-    row.short = short;
-}
-
-// The same for rows whose numbers are short.
-fn eliminate_short(p: &RowView<'_>, c: usize, row: &mut Row)
-    requires p { IsRow (length row.old.coefs) (length row.old.constant - 1) (row_of p.now) }
-    requires row { IsOwnRow row.old }
-    requires column { c < length row.old.coefs }
-    requires positive { pos 1 ≤ℤ entry p.now.coefs.now c }
-    requires p_short { IsShortRow (row_of p.now) }
-    requires row_short { IsShortRow row.old }
-    ensures value { row.new ≡ model.eliminated (row_of p.now) c row.old }
-    ensures row { IsRow (length row.old.coefs) (length row.old.constant - 1) row.new }
-{
-    let (den, short) = eliminate_short_parts(p, c, row.den, &mut row.coefs, &mut row.constant);
-    row.den = den;
-    row.short = short;
-}
-
-// Makes of a row what it is after the pivot on row p and column c. A row that is 0 in the column stays, since its
-// numbers have no common divisor.
-fn eliminate(p: &RowView<'_>, c: usize, row: &mut Row)
-    requires p { IsRow (length row.old.coefs) (length row.old.constant - 1) (row_of p.now) }
-    requires row { IsOwnRow row.old }
-    requires reduced { IsReduced row.old }
-    requires column { c < length row.old.coefs }
-    requires positive { pos 1 ≤ℤ entry p.now.coefs.now c }
-    requires listed { IsTrue (all_fit (model.eliminated_listed (row_of p.now) c row.old)) }
-    ensures value { row.new ≡ model.eliminated (row_of p.now) c row.old }
-    ensures row { IsRow (length row.old.coefs) (length row.old.constant - 1) row.new }
-    ensures reduced { IsReduced row.new }
-{
-    if row.coefs[c] == 0 {
-        return;
-    }
-    if p.short && row.short {
-        eliminate_short(p, c, row);
-    } else {
-        eliminate_long(p, c, row);
-    }
-}
 
 // Checks the numbers of a row with row p, solved for column c, put in. They fit where both rows are short, and where
 // the row stays as it is under an entry of 1.
@@ -96,144 +30,192 @@ fn check_row(p: &RowView<'_>, c: usize, row: &RowView<'_>) -> Result<(), Overflo
     check_eliminated(p, c, row)
 }
 
-// Checks the numbers of the rows with row p, solved for column c, put in.
-fn check_rows(p: &RowView<'_>, c: usize, rows: &[Row]) -> Result<(), Overflow>
-    requires rows { All (IsRow (length p.now.coefs.now) (length p.now.constant.now - 1)) rows.now }
-    requires p { IsOwnRow (row_of p.now) }
-    requires column { c < length p.now.coefs.now }
-    ensures { IsChecked is_overflow (flat_map (model.eliminated_listed (row_of p.now) c) rows.now) result }
-{
-    for i in 0..rows.len() {
-        check_row(p, c, &view(&rows[i]))?;
-    }
-    Ok(())
-}
-
-// Makes of the rows what they are after the pivot on row p and column c.
-fn eliminate_rows(p: &RowView<'_>, c: usize, rows: &mut [Row])
-    requires rows { All (IsRow (length p.now.coefs.now) (length p.now.constant.now - 1)) rows.old }
-    requires reduced { All IsReduced rows.old }
-    requires p { IsOwnRow (row_of p.now) }
-    requires column { c < length p.now.coefs.now }
+// Adds what a row is after the pivot on row p and column c. A row that is 0 in the column stays, since its numbers have
+// no common divisor.
+fn turn_row(
+    next: &mut FlatRows,
+    p: &RowView<'_>,
+    c: usize,
+    row: &RowView<'_>,
+) -> Result<(), Overflow>
+    requires room { length next.old.rows < next.old.most }
+    requires p { IsRow next.old.unknowns next.old.width (row_of p.now) }
+    requires row { IsRow next.old.unknowns next.old.width (row_of row.now) }
+    requires reduced { IsReduced (row_of row.now) }
+    requires column { c < next.old.unknowns }
     requires positive { pos 1 ≤ℤ entry p.now.coefs.now c }
-    requires listed { All (λ row. IsTrue (all_fit (model.eliminated_listed (row_of p.now) c row))) rows.old }
-    ensures value { rows.new ≡ map (model.eliminated (row_of p.now) c) rows.old }
-    ensures rows { All (IsRow (length p.now.coefs.now) (length p.now.constant.now - 1)) rows.new }
-    ensures reduced { All IsReduced rows.new }
+    ensures listed { IsChecked is_overflow (model.eliminated_listed (row_of p.now) c (row_of row.now)) result }
+    ensures ok { OnOk result (next.new ≡ with_more next.old (model.eliminated (row_of p.now) c (row_of row.now))) }
+    ensures err { OnErr result (next.new ≡ next.old) }
 {
-    for i in 0..rows.len() {
-        eliminate(p, c, &mut rows[i]);
+    check_row(p, c, row)?;
+    if row.coefs[c] == 0 {
+        next.push_row(row);
+    } else {
+        next.push_eliminated(p, c, row);
     }
+    Ok(())
 }
 
-// Puts row p, solved for column c, into the rows; a refusal leaves them as they were.
-pub fn eliminate_each(p: &RowView<'_>, c: usize, rows: &mut [Row]) -> Result<(), Overflow>
-    requires rows { All (IsRow (length p.now.coefs.now) (length p.now.constant.now - 1)) rows.old }
-    requires reduced { All IsReduced rows.old }
-    requires p { IsOwnRow (row_of p.now) }
-    requires column { c < length p.now.coefs.now }
+// Adds what a kept row is after the pivot on row p and column c: the row of another column stays.
+fn turn_kept(
+    next: &mut FlatRows,
+    p: &RowView<'_>,
+    c: usize,
+    lent: &Lent<'_>,
+    one: Kept,
+) -> Result<(), Overflow>
+    requires room { length next.old.rows < next.old.most }
+    requires unknowns { next.old.unknowns ≡ lent.now.unknowns }
+    requires width { next.old.width ≡ lent.now.width }
+    requires units { lent.now.units.now ≡ unit_run lent.now.unknowns lent.now.width }
+    requires place { IsPlace lent.now.unknowns lent.now.width (length lent.now.numbers.now) one }
+    requires p { IsRow lent.now.unknowns lent.now.width (row_of p.now) }
+    requires row { IsRow lent.now.unknowns lent.now.width (lent_row lent.now one) }
+    requires reduced { IsReduced (lent_row lent.now one) }
+    requires short { IsKnownLent lent.now one }
+    requires column { c < lent.now.unknowns }
     requires positive { pos 1 ≤ℤ entry p.now.coefs.now c }
-    ensures listed { IsChecked is_overflow (flat_map (model.eliminated_listed (row_of p.now) c) rows.old) result }
-    ensures ok { OnOk result (rows.new ≡ map (model.eliminated (row_of p.now) c) rows.old) }
-    ensures rows { All (IsRow (length p.now.coefs.now) (length p.now.constant.now - 1)) rows.new }
-    ensures reduced { All IsReduced rows.new }
-    ensures err { OnErr result (rows.new ≡ rows.old) }
+    ensures listed { IsChecked is_overflow (model.eliminated_listed (row_of p.now) c (lent_row lent.now one)) result }
+    ensures ok { OnOk result
+        (next.new ≡ with_more next.old (model.eliminated (row_of p.now) c (lent_row lent.now one))) }
+    ensures err { OnErr result (next.new ≡ next.old) }
 {
-    check_rows(p, c, rows)?;
-    eliminate_rows(p, c, rows);
-    Ok(())
-}
-
-// Makes all entries 0.
-fn clear(entries: &mut [i128])
-    ensures { entries.new ≡ replicate (length entries.old) (pos 0) }
-{
-    for entry in entries.iter_mut() {
-        *entry = 0;
+    if let Kept::Unit(k) = one {
+        if k != c {
+            next.push_unit(k);
+            return Ok(());
+        }
     }
+    turn_row(next, p, c, &lent.row(one))
 }
 
-// Makes all coefficients 0 but the one of column c, which is 1.
-fn make_unit_coefs(coefs: &mut [i128], c: usize)
-    requires { c < length coefs.old }
-    ensures { coefs.new ≡ slice_set (replicate (length coefs.old) (pos 0)) c (pos 1) }
+// Adds what the kept rows are after the pivot on row p and column c.
+fn turn_rows(
+    next: &mut FlatRows,
+    p: &RowView<'_>,
+    c: usize,
+    lent: &Lent<'_>,
+    kept: &[Kept],
+) -> Result<(), Overflow>
+    requires room { length next.old.rows + length kept.now ≤ next.old.most }
+    requires unknowns { next.old.unknowns ≡ lent.now.unknowns }
+    requires width { next.old.width ≡ lent.now.width }
+    requires units { lent.now.units.now ≡ unit_run lent.now.unknowns lent.now.width }
+    requires places { All (IsPlace lent.now.unknowns lent.now.width (length lent.now.numbers.now)) kept.now }
+    requires rows { All (λ one. IsRow lent.now.unknowns lent.now.width (lent_row lent.now one)) kept.now }
+    requires reduced { All (λ one. IsReduced (lent_row lent.now one)) kept.now }
+    requires short { All (IsKnownLent lent.now) kept.now }
+    requires p { IsRow lent.now.unknowns lent.now.width (row_of p.now) }
+    requires column { c < lent.now.unknowns }
+    requires positive { pos 1 ≤ℤ entry p.now.coefs.now c }
+    ensures listed { IsChecked is_overflow
+        (flat_map (λ one. model.eliminated_listed (row_of p.now) c (lent_row lent.now one)) kept.now) result }
+    ensures ok { OnOk result (next.new ≡ with_rows next.old
+        (map (λ one. model.eliminated (row_of p.now) c (lent_row lent.now one)) kept.now)) }
+    ensures shape { SameShape next.new next.old }
 {
-    clear(coefs);
-    coefs[c] = 1;
-}
-
-// Makes a row that of column c.
-fn make_unit(row: &mut Row, c: usize)
-    requires column { c < length row.old.coefs }
-    requires constant { 0 < length row.old.constant }
-    ensures value { row.new ≡ model.unit_row (length row.old.coefs) (width row.old.constant) c }
-    ensures row { IsRow (length row.old.coefs) (length row.old.constant - 1) row.new }
-    ensures reduced { IsReduced row.new }
-{
-    make_unit_coefs(&mut row.coefs, c);
-    clear(&mut row.constant);
-    row.den = 1;
-    row.short = true;
-}
-
-// Checks the numbers of all rows but row r with that row, solved for column c, put in.
-pub fn check_exchange(rows: &[Row], r: usize, c: usize) -> Result<(), Overflow>
-    requires rows { All (IsRow (length (model.row_at rows.now r).coefs)
-        (length (model.row_at rows.now r).constant - 1)) rows.now }
-    requires row { r < length rows.now }
-    requires column { c < length (model.row_at rows.now r).coefs }
-    ensures { IsChecked is_overflow (model.pivot_listed rows.now r c) result }
-{
-    let (front, rest) = rows.split_at(r);
-    let (at, back) = rest.split_at(1);
-    let p = view(&at[0]);
-    check_rows(&p, c, front)?;
-    check_rows(&p, c, back)?;
+    for one in kept {
+        turn_kept(next, p, c, lent, *one)?;
+    }
     Ok(())
 }
 
-// Makes of the rows in front of a row, of it and of those behind it what they are after the pivot on it and column c.
-fn exchange_parts(front: &mut [Row], row: &mut Row, back: &mut [Row], c: usize)
-    requires row { IsOwnRow row.old }
-    requires front { All (IsRow (length row.old.coefs) (length row.old.constant - 1)) front.old }
-    requires back { All (IsRow (length row.old.coefs) (length row.old.constant - 1)) back.old }
-    requires front_reduced { All IsReduced front.old }
-    requires back_reduced { All IsReduced back.old }
-    requires column { c < length row.old.coefs }
-    requires positive { pos 1 ≤ℤ entry row.old.coefs c }
-    requires front_listed { All (λ other. IsTrue (all_fit (model.eliminated_listed row.old c other))) front.old }
-    requires back_listed { All (λ other. IsTrue (all_fit (model.eliminated_listed row.old c other))) back.old }
-    ensures front { front.new ≡ map (model.eliminated row.old c) front.old }
-    ensures back { back.new ≡ map (model.eliminated row.old c) back.old }
-    ensures row { row.new ≡ model.unit_row (length row.old.coefs) (width row.old.constant) c }
-    ensures front_rows { All (IsRow (length row.old.coefs) (length row.old.constant - 1)) front.new }
-    ensures back_rows { All (IsRow (length row.old.coefs) (length row.old.constant - 1)) back.new }
-    ensures row_row { IsRow (length row.old.coefs) (length row.old.constant - 1) row.new }
-    ensures front_reduced { All IsReduced front.new }
-    ensures back_reduced { All IsReduced back.new }
-    ensures row_reduced { IsReduced row.new }
+// Makes of no rows the kept rows after the pivot on row r and column c.
+fn turn_all(
+    next: &mut FlatRows,
+    lent: &Lent<'_>,
+    kept: &[Kept],
+    r: usize,
+    c: usize,
+) -> Result<(), Overflow>
+    requires empty { next.old.rows ≡ [] }
+    requires room { length kept.now ≤ next.old.most }
+    requires unknowns { next.old.unknowns ≡ lent.now.unknowns }
+    requires width { next.old.width ≡ lent.now.width }
+    requires units { lent.now.units.now ≡ unit_run lent.now.unknowns lent.now.width }
+    requires flat { IsFlat lent.now.unknowns lent.now.width lent.now.numbers.now kept.now }
+    requires row { r < length kept.now }
+    requires column { c < lent.now.unknowns }
+    requires positive { pos 1 ≤ℤ entry (model.row_at (lent_rows lent.now kept.now) r).coefs c }
+    ensures listed { IsChecked is_overflow
+        (model.pivot_listed (lent_rows lent.now kept.now) r c) result }
+    ensures ok { OnOk result (next.new
+        ≡ with_rows next.old (model.pivot (lent_rows lent.now kept.now) r c)) }
+    ensures shape { SameShape next.new next.old }
 {
-    let p = view(row);
-    eliminate_rows(&p, c, front);
-    eliminate_rows(&p, c, back);
-    make_unit(row, c);
+    let (front, _) = kept.split_at(r);
+    let (_, back) = kept.split_at(r + 1);
+    let p = lent.row(kept[r]);
+    turn_rows(next, &p, c, lent, front)?;
+    next.push_unit(c);
+    turn_rows(next, &p, c, lent, back)?;
+    Ok(())
 }
 
-// Makes the rows those after the pivot on row r and column c.
-pub fn exchange_rows(rows: &mut [Row], r: usize, c: usize)
-    requires rows { All (IsRow (length (model.row_at rows.old r).coefs)
-        (length (model.row_at rows.old r).constant - 1)) rows.old }
-    requires reduced { All IsReduced rows.old }
-    requires row { r < length rows.old }
-    requires column { c < length (model.row_at rows.old r).coefs }
-    requires positive { pos 1 ≤ℤ entry (model.row_at rows.old r).coefs c }
-    requires listed { IsTrue (all_fit (model.pivot_listed rows.old r c)) }
-    ensures value { rows.new ≡ model.pivot rows.old r c }
-    ensures rows { All (IsRow (length (model.row_at rows.old r).coefs)
-        (length (model.row_at rows.old r).constant - 1)) rows.new }
-    ensures reduced { All IsReduced rows.new }
-{
-    let (front, rest) = rows.split_at_mut(r);
-    let (at, back) = rest.split_at_mut(1);
-    exchange_parts(front, &mut at[0], back, c);
+impl FlatRows {
+    // Makes of the next rows these after the pivot on row r and column c.
+    pub fn turn(
+        &self,
+        units: &[i128],
+        r: usize,
+        c: usize,
+        next: &mut FlatRows,
+    ) -> Result<(), Overflow>
+        requires units { units.now ≡ unit_run self.now.unknowns self.now.width }
+        requires row { r < length self.now.rows }
+        requires column { c < self.now.unknowns }
+        requires positive { pos 1 ≤ℤ entry (model.row_at self.now.rows r).coefs c }
+        requires unknowns { next.old.unknowns ≡ self.now.unknowns }
+        requires width { next.old.width ≡ self.now.width }
+        requires room { length self.now.rows ≤ next.old.most }
+        ensures listed { IsChecked is_overflow (model.pivot_listed self.now.rows r c) result }
+        ensures ok { OnOk result (next.new ≡ record next.old { rows = model.pivot self.now.rows r c }) }
+        ensures shape { SameShape next.new next.old }
+        ensures few { length self.now.rows ≤ self.now.most }
+    {
+        let lent = Lent {
+            unknowns: self.unknowns,
+            width: self.width,
+            numbers: self.numbers.as_slice(),
+            units,
+        };
+        next.clear();
+        turn_all(next, &lent, self.kept.as_slice(), r, c)
+    }
+
+    // Makes of the next rows these with row p, solved for the quantity of column c, put into each.
+    pub fn put_in(
+        &self,
+        units: &[i128],
+        p: &RowView<'_>,
+        c: usize,
+        next: &mut FlatRows,
+    ) -> Result<(), Overflow>
+        requires units { 0 < length self.now.rows → units.now ≡ unit_run self.now.unknowns self.now.width }
+        requires p { IsRow self.now.unknowns self.now.width (row_of p.now) }
+        requires column { c < self.now.unknowns }
+        requires positive { pos 1 ≤ℤ entry p.now.coefs.now c }
+        requires unknowns { next.old.unknowns ≡ self.now.unknowns }
+        requires width { next.old.width ≡ self.now.width }
+        requires room { length self.now.rows ≤ next.old.most }
+        ensures listed { IsChecked is_overflow (flat_map
+            (model.eliminated_listed (row_of p.now) c) self.now.rows) result }
+        ensures ok { OnOk result (next.new
+            ≡ record next.old { rows = map (model.eliminated (row_of p.now) c) self.now.rows }) }
+        ensures shape { SameShape next.new next.old }
+        ensures few { length self.now.rows ≤ self.now.most }
+    {
+        next.clear();
+        if self.kept.is_empty() {
+            return Ok(());
+        }
+        let lent = Lent {
+            unknowns: self.unknowns,
+            width: self.width,
+            numbers: self.numbers.as_slice(),
+            units,
+        };
+        turn_rows(next, p, c, &lent, self.kept.as_slice())
+    }
 }

@@ -2,13 +2,21 @@
 //! over the parameters (P. Feautrier, "Parametric integer programming", RAIRO 1988).
 #![tactic(auto)]
 
+mod append;
+mod copying;
 mod elimination;
 mod exchange;
+mod flat_rows;
+mod kept;
+mod pushing;
 mod refusal;
 mod row;
+mod row_rounding;
 mod short;
 mod tableau;
+mod unit_run;
 mod view;
+mod widening;
 
 pub use refusal::StepRefusal;
 pub use tableau::Tableau;

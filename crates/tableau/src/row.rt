@@ -1,160 +1,156 @@
-ghost use Rattle.std.specs.Prelude.{◌≡◌, ℕ, ◌+◌, ◌-◌, ◌<◌, length, map, All, IfOk, OnErr, OnOk};
+ghost use Rattle.std.specs.Prelude.{◌≡◌, ℕ, ◌+◌, ◌-◌, ◌<◌, pos, ◌≤ℤ◌, ◌++◌, ◌&&◌, false, length, take, drop, All, IsTrue, IfOk, IfSome, IfNone, OnErr, OnOk, MatchOption, replicate, slice_set};
+ghost use Rattle.std.specs.List.{list_all};
+ghost use Rattle.pip_model.specs.Numbers.{is_zero, same_number};
+ghost use Rattle.pip_model.specs.Forms.{entry};
+ghost use Rattle.pip_model.specs.Listed.{all_fit};
 ghost use Rattle.pip_model.specs.Rows as model;
 ghost use Rattle.pip_model.specs.Cuts.{rounded, rounded_listed};
 ghost use Rattle.pip_model.specs.Agreement.{IsChecked};
-ghost use Rattle.affine_rows.specs.Checks.{Fits, is_overflow};
+ghost use Rattle.affine_rows.specs.Checks.{is_overflow};
+ghost use Rattle.tableau.specs.Flat.{numbers_of, row_of_numbers, is_unit, is_unit_row};
+ghost use Rattle.tableau.specs.Short.{IsShortRow};
 ghost use Rattle.tableau.specs.Tableaus.{IsRow, IsOwnRow, IsReduced, row_from};
+ghost use Rattle.tableau.specs.Views.{row_of};
 
+use crate::elimination::{divide_parts, eliminate_long_parts, eliminate_short_parts};
 use crate::short::is_short_row;
-use affine_rows::{Overflow, WantOfMemory, divide_all, divided, floor_div, gcd_with, round_form};
-use std::alloc::Global;
-use std::marker::Model;
+use crate::view::RowView;
+use affine_rows::{Overflow, divide_all, floor_div, gcd_with, round_form};
 
-// A denominator, one coefficient for each column, the entries of the constant form, and whether all these numbers are
-// known to lie from -(2^63 - 1) to 2^63 - 1.
-#[derive(Drop)]
-pub struct Row {
-    pub den: i128,
-    pub coefs: Vec<i128>,
-    pub constant: Vec<i128>,
-    pub short: bool,
-}
-
-impl Model for Row {
-    ghost use Rattle.std.specs.Prelude.{IsTrue};
-    ghost use Rattle.pip_model.specs.Rows as model;
-    ghost use Rattle.tableau.specs.Short.{IsShortRow};
-
-    ghost Value = { model.Row };
-
-    ghost view = { λ r. record { den = r.den; coefs = r.coefs.items; constant = r.constant.items } };
-
-    ghost invariant = { λ r.
-        IsTrue r.short → IsShortRow (record { den = r.den; coefs = r.coefs.items; constant = r.constant.items }) };
-}
-
-// The row of these parts.
-fn row_of_parts(den: i128, coefs: Vec<i128>, constant: Vec<i128>) -> Row
-    ensures { result ≡ row_from den coefs.items constant.items }
+// The row of these numbers.
+pub fn view_of(numbers: &[i128], unknowns: usize, short: bool) -> RowView<'_>
+    requires length { unknowns < length numbers.now }
+    requires short { IsTrue short → IsShortRow (row_of_numbers unknowns numbers.now) }
+    ensures { row_of result ≡ row_of_numbers unknowns numbers.now }
 {
-    let short = is_short_row(den, &coefs, &constant);
-    Row {
-        den,
+    let (den, parts) = numbers.split_at(1);
+    let (coefs, constant) = parts.split_at(unknowns);
+    RowView {
+        den: den[0],
         coefs,
         constant,
         short,
     }
 }
 
-// The row divided by the greatest common divisor of its numbers.
-pub fn reduced(
-    alloc: Global,
-    den: i128,
-    coefs: &[i128],
-    constant: &[i128],
-) -> Result<Row, WantOfMemory>
-    requires { IsOwnRow (row_from den coefs.now constant.now) }
-    ensures value { IfOk result (λ r. r ≡ model.divided (row_from den coefs.now constant.now)) }
-    ensures row { IfOk result (λ r. (n w : ℕ) → IsRow n w (row_from den coefs.now constant.now) → IsRow n w r) }
-    ensures reduced { IfOk result IsReduced }
+// Whether all entries are 0.
+fn all_zero(entries: &[i128]) -> bool
+    ensures { result ≡ list_all is_zero entries.now }
 {
-    let divisor = gcd_with(gcd_with(den, coefs), constant);
-    let coefs = divided(alloc, divisor, coefs)?;
-    let constant = divided(alloc, divisor, constant)?;
-    Ok(row_of_parts(floor_div(den, divisor), coefs, constant))
+    entries.iter().all(|entry| *entry == 0)
 }
 
-// The row of column c, among so many columns and over so many places.
-pub fn unit(alloc: Global, unknowns: usize, width: usize, c: usize) -> Result<Row, WantOfMemory>
-    requires { c < unknowns }
-    ensures value { IfOk result (λ r. r ≡ model.unit_row unknowns width c) }
-    ensures row { IfOk result (IsRow unknowns width) }
-    ensures reduced { IfOk result IsReduced }
+// Whether the first entry is 1, and all behind it are 0.
+fn is_one(entries: &[i128]) -> bool
+    requires { 0 < length entries.now }
+    ensures { result ≡ (same_number (entry entries.now 0) (pos 1) && list_all is_zero (drop 1 entries.now)) }
 {
-    let Some(places) = width.checked_add(1) else {
-        return Err(WantOfMemory);
-    };
-    let mut coefs = vec![in alloc; 0; unknowns]?;
-    coefs[c] = 1;
-    let constant = vec![in alloc; 0; places]?;
-    Ok(Row {
-        den: 1,
-        coefs,
-        constant,
-        short: true,
-    })
+    let (first, rest) = entries.split_at(1);
+    first[0] == 1 && all_zero(rest)
 }
 
-// The row of a form over so many columns, and then the places.
-pub fn of_form(alloc: Global, unknowns: usize, form: &[i128]) -> Result<Row, WantOfMemory>
-    requires length { unknowns < length form.now }
-    requires fits { All Fits form.now }
-    ensures value { IfOk result (λ r. r ≡ model.form_row unknowns form.now) }
-    ensures row { IfOk result (IsRow unknowns (length form.now - 1 - unknowns)) }
-    ensures reduced { IfOk result IsReduced }
+// The column whose coefficients these are.
+fn unit_of(coefs: &[i128]) -> Option<usize>
+    ensures some { IfSome result (λ c. c < length coefs.now) }
+    ensures value { IfSome result (λ c. coefs.now ≡ slice_set (replicate (length coefs.now) (pos 0)) c (pos 1)) }
+    ensures none { IfNone result (is_unit coefs.now ≡ false) }
 {
-    let (coefs, constant) = form.split_at(unknowns);
-    let coefs = Vec::from_slice(alloc, coefs)?;
-    let constant = Vec::from_slice(alloc, constant)?;
-    Ok(row_of_parts(1, coefs, constant))
-}
-
-// The same row.
-pub fn copy(alloc: Global, row: &Row) -> Result<Row, WantOfMemory>
-    ensures { IfOk result (λ r. r ≡ row.now) }
-{
-    let coefs = Vec::from_slice(alloc, &row.coefs)?;
-    let constant = Vec::from_slice(alloc, &row.constant)?;
-    Ok(Row {
-        den: row.den,
-        coefs,
-        constant,
-        short: row.short,
-    })
-}
-
-// The same rows.
-pub fn copied(alloc: Global, rows: &[Row]) -> Result<Vec<Row>, WantOfMemory>
-    ensures { IfOk result (λ v. v.items ≡ rows.now) }
-{
-    let mut made = Vec::with_capacity(alloc, rows.len())?;
-    for row in rows {
-        made.push(copy(alloc, row)?)?;
+    for i in 0..coefs.len() {
+        if coefs[i] != 0 {
+            let (_, rest) = coefs.split_at(i);
+            return if is_one(rest) { Some(i) } else { None };
+        }
     }
-    Ok(made)
+    None
 }
 
-// The row with a 0 before the constant of its constant form.
-fn widened_row(alloc: Global, row: &Row) -> Result<Row, WantOfMemory>
-    requires { 0 < length row.now.constant }
-    ensures { IfOk result (λ r. r ≡ model.widened row.now) }
+// The column whose row this is.
+pub fn unit_column(row: &RowView<'_>) -> Option<usize>
+    requires { 0 < length row.now.constant.now }
+    ensures some { IfSome result (λ c. c < length row.now.coefs.now) }
+    ensures value { IfSome result (λ c.
+        row_of row.now ≡ model.unit_row (length row.now.coefs.now) (length row.now.constant.now - 1) c) }
+    ensures none { IfNone result (is_unit_row (row_of row.now) ≡ false) }
 {
-    let (coefficients, last) = row.constant.split_at(row.constant.len() - 1);
-    let mut constant = Vec::with_capacity(alloc, row.constant.len() + 1)?;
-    constant.extend_from_slice(coefficients)?;
-    constant.push(0)?;
-    constant.extend_from_slice(last)?;
-    Ok(Row {
-        den: row.den,
-        coefs: Vec::from_slice(alloc, &row.coefs)?,
-        constant,
-        short: row.short,
-    })
-}
-
-// Each row with a 0 before the constant of its constant form.
-pub fn widened(alloc: Global, rows: &[Row]) -> Result<Vec<Row>, WantOfMemory>
-    requires { All (λ row. 0 < length row.constant) rows.now }
-    ensures { IfOk result (λ v. v.items ≡ map model.widened rows.now) }
-{
-    let mut made = Vec::with_capacity(alloc, rows.len())?;
-    for row in rows {
-        made.push(widened_row(alloc, row)?)?;
+    if row.den != 1 {
+        return None;
     }
-    Ok(made)
+    if all_zero(row.constant) {
+        unit_of(row.coefs)
+    } else {
+        None
+    }
 }
 
-// The parts of the row rounded by the quotient at place q, and its new denominator; a refusal leaves the parts as they were.
+// Makes of a row's numbers those of the row divided by their greatest common divisor; whether they are known to be
+// short, as before where nothing is divided.
+pub fn divide(numbers: &mut [i128], unknowns: usize, short: bool) -> bool
+    requires length { unknowns < length numbers.old }
+    requires row { IsOwnRow (row_of_numbers unknowns numbers.old) }
+    requires short { IsTrue short → IsShortRow (row_of_numbers unknowns numbers.old) }
+    ensures value { numbers.new ≡ numbers_of (model.divided (row_of_numbers unknowns numbers.old)) }
+    ensures row { (n w : ℕ) → IsRow n w (row_of_numbers unknowns numbers.old)
+        → IsRow n w (model.divided (row_of_numbers unknowns numbers.old)) }
+    ensures reduced { IsReduced (model.divided (row_of_numbers unknowns numbers.old)) }
+    ensures short { IsTrue result → IsShortRow (model.divided (row_of_numbers unknowns numbers.old)) }
+{
+    let (den, parts) = numbers.split_at_mut(1);
+    let (coefs, constant) = parts.split_at_mut(unknowns);
+    let (made, made_short) = divide_parts(den[0], coefs, constant, short);
+    den[0] = made;
+    made_short
+}
+
+// Makes of a row's numbers those of what the row is after the pivot on row p and column c; whether they are short.
+pub fn eliminate_long(numbers: &mut [i128], p: &RowView<'_>, c: usize) -> bool
+    requires length { length p.now.coefs.now < length numbers.old }
+    requires p { IsOwnRow (row_of p.now) }
+    requires row { IsRow (length p.now.coefs.now) (length p.now.constant.now - 1)
+        (row_of_numbers (length p.now.coefs.now) numbers.old) }
+    requires column { c < length p.now.coefs.now }
+    requires positive { pos 1 ≤ℤ entry p.now.coefs.now c }
+    requires listed { IsTrue (all_fit
+        (model.eliminated_listed (row_of p.now) c (row_of_numbers (length p.now.coefs.now) numbers.old))) }
+    ensures value { numbers.new
+        ≡ numbers_of (model.eliminated (row_of p.now) c (row_of_numbers (length p.now.coefs.now) numbers.old)) }
+    ensures row { IsRow (length p.now.coefs.now) (length p.now.constant.now - 1)
+        (model.eliminated (row_of p.now) c (row_of_numbers (length p.now.coefs.now) numbers.old)) }
+    ensures short { IsTrue result → IsShortRow
+        (model.eliminated (row_of p.now) c (row_of_numbers (length p.now.coefs.now) numbers.old)) }
+{
+    let (den, parts) = numbers.split_at_mut(1);
+    let (coefs, constant) = parts.split_at_mut(p.coefs.len());
+    let (made, short) = eliminate_long_parts(p, c, den[0], coefs, constant);
+    den[0] = made;
+    short
+}
+
+// The same for rows whose numbers are short.
+pub fn eliminate_short(numbers: &mut [i128], p: &RowView<'_>, c: usize) -> bool
+    requires length { length p.now.coefs.now < length numbers.old }
+    requires p { IsOwnRow (row_of p.now) }
+    requires row { IsRow (length p.now.coefs.now) (length p.now.constant.now - 1)
+        (row_of_numbers (length p.now.coefs.now) numbers.old) }
+    requires column { c < length p.now.coefs.now }
+    requires positive { pos 1 ≤ℤ entry p.now.coefs.now c }
+    requires p_short { IsShortRow (row_of p.now) }
+    requires row_short { IsShortRow (row_of_numbers (length p.now.coefs.now) numbers.old) }
+    ensures value { numbers.new
+        ≡ numbers_of (model.eliminated (row_of p.now) c (row_of_numbers (length p.now.coefs.now) numbers.old)) }
+    ensures row { IsRow (length p.now.coefs.now) (length p.now.constant.now - 1)
+        (model.eliminated (row_of p.now) c (row_of_numbers (length p.now.coefs.now) numbers.old)) }
+    ensures short { IsTrue result → IsShortRow
+        (model.eliminated (row_of p.now) c (row_of_numbers (length p.now.coefs.now) numbers.old)) }
+{
+    let (den, parts) = numbers.split_at_mut(1);
+    let (coefs, constant) = parts.split_at_mut(p.coefs.len());
+    let (made, short) = eliminate_short_parts(p, c, den[0], coefs, constant);
+    den[0] = made;
+    short
+}
+
+// The parts of the row rounded by the quotient at place q, and its new denominator; a refusal leaves the parts as they
+// were.
 fn round_parts(
     den: i128,
     coefs: &mut [i128],
@@ -164,10 +160,10 @@ fn round_parts(
     requires row { IsOwnRow (row_from den coefs.old constant.old) }
     requires place { q + 1 < length constant.old }
     ensures listed { IsChecked is_overflow (rounded_listed (row_from den coefs.old constant.old) q) result }
-    ensures ok { IfOk result (λ d. row_from d coefs.new constant.new ≡ rounded
-        (row_from den coefs.old constant.old) q) }
-    ensures row { IfOk result (λ d. IsRow (length coefs.old) (length constant.old - 1)
-        (row_from d coefs.new constant.new)) }
+    ensures ok { IfOk result (λ d.
+        row_from d coefs.new constant.new ≡ rounded (row_from den coefs.old constant.old) q) }
+    ensures row { IfOk result (λ d.
+        IsRow (length coefs.old) (length constant.old - 1) (row_from d coefs.new constant.new)) }
     ensures reduced { IfOk result (λ d. IsReduced (row_from d coefs.new constant.new)) }
     ensures err { OnErr result ((coefs.new ≡ coefs.old) × (constant.new ≡ constant.old)) }
 {
@@ -178,18 +174,23 @@ fn round_parts(
     Ok(floor_div(den, divisor))
 }
 
-// The row rounded by the quotient at place q; a refusal leaves it as it was.
-pub fn round(row: &mut Row, q: usize) -> Result<(), Overflow>
-    requires row { IsOwnRow row.old }
-    requires place { q + 1 < length row.old.constant }
-    ensures listed { IsChecked is_overflow (rounded_listed row.old q) result }
-    ensures ok { OnOk result (row.new ≡ rounded row.old q) }
-    ensures row { OnOk result (IsRow (length row.old.coefs) (length row.old.constant - 1) row.new) }
-    ensures reduced { OnOk result (IsReduced row.new) }
-    ensures err { OnErr result (row.new ≡ row.old) }
+// Makes of a row's numbers those of the row rounded by the quotient at place q, and says whether they are short; a
+// refusal leaves them as they were.
+pub fn round(numbers: &mut [i128], unknowns: usize, q: usize) -> Result<bool, Overflow>
+    requires length { unknowns < length numbers.old }
+    requires row { IsOwnRow (row_of_numbers unknowns numbers.old) }
+    requires place { q + unknowns + 2 < length numbers.old }
+    ensures listed { IsChecked is_overflow (rounded_listed (row_of_numbers unknowns numbers.old) q) result }
+    ensures ok { OnOk result (numbers.new ≡ numbers_of (rounded (row_of_numbers unknowns numbers.old) q)) }
+    ensures row { OnOk result ((n w : ℕ) → IsRow n w (row_of_numbers unknowns numbers.old)
+        → IsRow n w (rounded (row_of_numbers unknowns numbers.old) q)) }
+    ensures reduced { OnOk result (IsReduced (rounded (row_of_numbers unknowns numbers.old) q)) }
+    ensures short { IfOk result (λ s. IsTrue s → IsShortRow (rounded (row_of_numbers unknowns numbers.old) q)) }
+    ensures err { OnErr result (numbers.new ≡ numbers.old) }
 {
-    let den = round_parts(row.den, &mut row.coefs, &mut row.constant, q)?;
-    row.den = den;
-    row.short = is_short_row(den, &row.coefs, &row.constant);
-    Ok(())
+    let (den, parts) = numbers.split_at_mut(1);
+    let (coefs, constant) = parts.split_at_mut(unknowns);
+    let made = round_parts(den[0], coefs, constant, q)?;
+    den[0] = made;
+    Ok(is_short_row(made, coefs, constant))
 }

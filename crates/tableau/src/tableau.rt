@@ -1,36 +1,64 @@
-ghost use Rattle.std.specs.Prelude.{◌≡◌, ◌+◌, ◌-◌, ◌^◌, ◌<◌, pos, ◌≤ℤ◌, All, map, flat_map, [], length, IfOk, OnOk, OnErr};
+ghost use Rattle.std.specs.Prelude.{◌≡◌, ◌+◌, ◌-◌, ◌^◌, ◌<◌, ◌≤◌, pos, ◌≤ℤ◌, All, map, not, filter, flat_map, [], length, IfOk, OnOk, OnErr};
 ghost use Rattle.pip_model.specs.Forms.{entry};
 ghost use Rattle.pip_model.specs.Rows as model;
 ghost use Rattle.pip_model.specs.Cuts.{rounded_listed};
 ghost use Rattle.pip_model.specs.Agreement.{IsChecked};
 ghost use Rattle.affine_rows.specs.Checks.{is_overflow};
+ghost use Rattle.tableau.specs.Flat.{numbers_of, is_unit_row};
+ghost use Rattle.tableau.specs.KeptRows.{IsSpare, unit_run};
 ghost use Rattle.tableau.specs.Tableaus.{IsRow, row_from, with_row, with_rounded};
 ghost use Rattle.tableau.specs.Views.{row_of};
 
-use crate::exchange::{check_exchange, eliminate_each, exchange_rows, view};
-use crate::row::{Row, copied, copy, of_form, reduced, round, unit, widened};
+use crate::flat_rows::FlatRows;
+use crate::short::is_short_row;
+use crate::unit_run::make_run;
 use crate::view::RowView;
 use affine_rows::{Form, Overflow, WantOfMemory};
 use std::alloc::Global;
 use std::marker::Model;
+use std::mem::swap;
 
 /// Rows over the same columns, one for each unknown, whose constant forms stand over the same places: the
 /// parameters, and then the quotients of a path. Each number of a row fits, and each denominator is at least 1.
+// A step makes the next rows, which then change places with the rows; the rows of columns are lent from the units.
 #[derive(Drop)]
 pub struct Tableau {
-    unknowns: usize,
-    width: usize,
-    rows: Vec<Row>,
+    rows: FlatRows,
+    next: FlatRows,
+    units: Vec<i128>,
 }
 
 impl Model for Tableau {
-    ghost use Rattle.tableau.specs.Tableaus.{TableauRows, IsTableau};
+    ghost use Rattle.tableau.specs.Tableaus.{TableauRows};
+    ghost use Rattle.tableau.specs.KeptRows.{IsSpare};
 
     ghost Value = { TableauRows };
 
-    ghost view = { λ t. record { unknowns = t.unknowns; width = t.width; rows = t.rows.items } };
+    ghost view = { λ t. record { unknowns = t.rows.unknowns; width = t.rows.width; rows = t.rows.rows } };
 
-    ghost invariant = { λ t. IsTableau (record { unknowns = t.unknowns; width = t.width; rows = t.rows.items }) };
+    ghost invariant = { λ t. IsSpare t.rows t.next t.units.items };
+}
+
+// Makes room for one more row, and the run.
+fn make_room(
+    rows: &mut FlatRows,
+    next: &mut FlatRows,
+    units: &mut Vec<i128>,
+) -> Result<(), WantOfMemory>
+    requires spare { IsSpare rows.old next.old units.old.items }
+    ensures spare { IsSpare rows.new next.new units.new.items }
+    ensures unknowns { rows.new.unknowns ≡ rows.old.unknowns }
+    ensures width { rows.new.width ≡ rows.old.width }
+    ensures rows { rows.new.rows ≡ rows.old.rows }
+    ensures room { OnOk result (length rows.new.rows < rows.new.most) }
+    ensures next_room { OnOk result (length rows.new.rows < next.new.most) }
+    ensures units { OnOk result (units.new.items ≡ unit_run rows.new.unknowns rows.new.width) }
+{
+    make_run(units, rows.unknowns(), rows.width())?;
+    let most = rows.len() + 1;
+    rows.reserve(most)?;
+    next.reserve(most)?;
+    Ok(())
 }
 
 impl Tableau {
@@ -47,10 +75,11 @@ impl Tableau {
             t ≡ record { unknowns = unknowns; width = width; rows = model.start unknowns width rows.now }) }
     {
         let mut t = Tableau {
-            unknowns,
-            width,
-            rows: Vec::with_capacity(alloc, unknowns.saturating_add(rows.len()))?,
+            rows: FlatRows::new(alloc, unknowns, width),
+            next: FlatRows::new(alloc, unknowns, width),
+            units: Vec::new(alloc),
         };
+        t.reserve(unknowns.checked_add(rows.len()).ok_or(WantOfMemory)?)?;
         for c in 0..unknowns {
             t.push_unit(c)?;
         }
@@ -58,6 +87,14 @@ impl Tableau {
             t.push_form(form)?;
         }
         Ok(t)
+    }
+
+    // Makes room for so many rows.
+    fn reserve(&mut self, most: usize) -> Result<(), WantOfMemory>
+        ensures { self.new ≡ self.old }
+    {
+        self.rows.reserve(most)?;
+        self.next.reserve(most)
     }
 
     /// The number of rows.
@@ -71,14 +108,14 @@ impl Tableau {
     pub fn unknowns(&self) -> usize
         ensures { result ≡ self.now.unknowns }
     {
-        self.unknowns
+        self.rows.unknowns()
     }
 
     /// The number of places of a constant form.
     pub fn width(&self) -> usize
         ensures { result ≡ self.now.width }
     {
-        self.width
+        self.rows.width()
     }
 
     /// Row i.
@@ -87,22 +124,31 @@ impl Tableau {
         ensures value { row_of result ≡ model.row_at self.now.rows i }
         ensures row { IsRow self.now.unknowns self.now.width (row_of result) }
     {
-        view(&self.rows[i])
+        self.rows.row(self.units.as_slice(), i)
+    }
+
+    /// The kept numbers of the rows that are no unit rows, row after row in order: each D, its coefficients, the
+    /// entries of its constant form. It takes no memory.
+    pub fn flat(&self) -> &[i128]
+        ensures { result.now ≡ flat_map numbers_of (filter (λ row. not (is_unit_row row)) self.now.rows) }
+    {
+        self.rows.numbers()
     }
 
     /// The allocator that the tableau keeps.
     pub fn allocator(&self) -> Global {
-        *self.rows.allocator()
+        self.rows.allocator()
     }
 
     /// The same columns and places, and no rows. It takes no memory.
     pub fn empty_like(&self) -> Tableau
         ensures { result ≡ record self.now { rows = [] } }
     {
+        let alloc = self.rows.allocator();
         Tableau {
-            unknowns: self.unknowns,
-            width: self.width,
-            rows: Vec::new(*self.rows.allocator()),
+            rows: FlatRows::new(alloc, self.rows.unknowns(), self.rows.width()),
+            next: FlatRows::new(alloc, self.rows.unknowns(), self.rows.width()),
+            units: Vec::new(alloc),
         }
     }
 
@@ -110,12 +156,10 @@ impl Tableau {
     pub fn try_clone(&self, alloc: Global) -> Result<Tableau, WantOfMemory>
         ensures { IfOk result (λ t. t ≡ self.now) }
     {
-        let rows = copied(alloc, &self.rows)?;
-        Ok(Tableau {
-            unknowns: self.unknowns,
-            width: self.width,
-            rows,
-        })
+        let rows = self.rows.try_clone(alloc)?;
+        let next = FlatRows::with_room(alloc, rows.unknowns(), rows.width(), rows.len())?;
+        let units = Vec::from_slice(alloc, self.units.as_slice())?;
+        Ok(Tableau { rows, next, units })
     }
 
     /// Adds a row, divided by the greatest common divisor of all its numbers.
@@ -129,8 +173,13 @@ impl Tableau {
         ensures ok { OnOk result (self.new ≡ with_row self.old (model.divided (row_from den coefs.now constant.now))) }
         ensures err { OnErr result (self.new ≡ self.old) }
     {
-        let row = reduced(*self.rows.allocator(), den, coefs, constant)?;
-        self.rows.push(row)?;
+        make_room(&mut self.rows, &mut self.next, &mut self.units)?;
+        self.rows.push_divided(&RowView {
+            den,
+            coefs,
+            constant,
+            short: is_short_row(den, coefs, constant),
+        });
         Ok(())
     }
 
@@ -142,8 +191,8 @@ impl Tableau {
         ensures ok { OnOk result (self.new ≡ with_row self.old (model.row_at t.now.rows i)) }
         ensures err { OnErr result (self.new ≡ self.old) }
     {
-        let row = copy(*self.rows.allocator(), &t.rows[i])?;
-        self.rows.push(row)?;
+        make_room(&mut self.rows, &mut self.next, &mut self.units)?;
+        self.rows.push_row(&t.rows.row(t.units.as_slice(), i));
         Ok(())
     }
 
@@ -153,8 +202,8 @@ impl Tableau {
         ensures ok { OnOk result (self.new ≡ with_row self.old (model.unit_row self.old.unknowns self.old.width c)) }
         ensures err { OnErr result (self.new ≡ self.old) }
     {
-        let row = unit(*self.rows.allocator(), self.unknowns, self.width, c)?;
-        self.rows.push(row)?;
+        make_room(&mut self.rows, &mut self.next, &mut self.units)?;
+        self.rows.push_unit(c);
         Ok(())
     }
 
@@ -164,8 +213,14 @@ impl Tableau {
         ensures ok { OnOk result (self.new ≡ with_row self.old (model.form_row self.old.unknowns form.now)) }
         ensures err { OnErr result (self.new ≡ self.old) }
     {
-        let row = of_form(*self.rows.allocator(), self.unknowns, form.as_slice())?;
-        self.rows.push(row)?;
+        make_room(&mut self.rows, &mut self.next, &mut self.units)?;
+        let (coefs, constant) = form.as_slice().split_at(self.rows.unknowns());
+        self.rows.push_row(&RowView {
+            den: 1,
+            coefs,
+            constant,
+            short: is_short_row(1, coefs, constant),
+        });
         Ok(())
     }
 
@@ -176,14 +231,22 @@ impl Tableau {
             (self.new ≡ record self.old { width = self.old.width + 1; rows = map model.widened self.old.rows }) }
         ensures err { OnErr result (self.new ≡ self.old) }
     {
-        let rows = widened(*self.rows.allocator(), &self.rows)?;
+        let alloc = self.rows.allocator();
+        let unknowns = self.rows.unknowns();
+        let width = self.rows.width() + 1;
+        let mut rows = FlatRows::with_room(alloc, unknowns, width, self.rows.len())?;
+        let next = FlatRows::with_room(alloc, unknowns, width, self.rows.len())?;
+        let mut units = Vec::new(alloc);
+        make_run(&mut units, unknowns, width)?;
+        self.rows.widen(self.units.as_slice(), &mut rows);
         self.rows = rows;
-        self.width += 1;
+        self.next = next;
+        self.units = units;
         Ok(())
     }
 
-    /// The pivot on row r and column c, in place: the row, solved for the column's quantity, is put into each other
-    /// row, and row r becomes the row of the column. It takes no memory.
+    /// The pivot on row r and column c: the row, solved for the column's quantity, is put into each other row, and
+    /// row r becomes the row of the column. It takes no memory.
     pub fn exchange(&mut self, r: usize, c: usize) -> Result<(), Overflow>
         requires row { r < length self.old.rows }
         requires column { c < self.old.unknowns }
@@ -192,12 +255,12 @@ impl Tableau {
         ensures ok { OnOk result (self.new ≡ record self.old { rows = model.pivot self.old.rows r c }) }
         ensures err { OnErr result (self.new ≡ self.old) }
     {
-        check_exchange(&self.rows, r, c)?;
-        exchange_rows(&mut self.rows, r, c);
+        self.rows.turn(self.units.as_slice(), r, c, &mut self.next)?;
+        swap(&mut self.rows, &mut self.next);
         Ok(())
     }
 
-    /// Puts row p, solved for the quantity of column c, into each row, in place. It takes no memory.
+    /// Puts row p, solved for the quantity of column c, into each row. It takes no memory.
     pub fn eliminate(&mut self, p: &RowView<'_>, c: usize) -> Result<(), Overflow>
         requires p { IsRow self.old.unknowns self.old.width (row_of p.now) }
         requires column { c < self.old.unknowns }
@@ -208,7 +271,9 @@ impl Tableau {
             ≡ record self.old { rows = map (model.eliminated (row_of p.now) c) self.old.rows }) }
         ensures err { OnErr result (self.new ≡ self.old) }
     {
-        eliminate_each(p, c, &mut self.rows)?;
+        self.rows
+            .put_in(self.units.as_slice(), p, c, &mut self.next)?;
+        swap(&mut self.rows, &mut self.next);
         Ok(())
     }
 
@@ -221,7 +286,9 @@ impl Tableau {
         ensures ok { OnOk result (self.new ≡ with_rounded self.old row q) }
         ensures err { OnErr result (self.new ≡ self.old) }
     {
-        round(&mut self.rows[row], q)?;
+        self.rows
+            .round(self.units.as_slice(), row, q, &mut self.next)?;
+        swap(&mut self.rows, &mut self.next);
         Ok(())
     }
 }

@@ -1,0 +1,20 @@
+use Rattle.std.proofs.Common.{rules, arith, refl, ap, ◌≡◌, ◌∙◌, ◌++◌, List, [], ◌∷◌, length}
+use Rattle.pip_model.specs.Rows.{Row, row_at}
+use Rattle.tableau.specs.Tableaus.{TableauRows}
+use Rattle.context.proofs.asking.go_on.Goals as goal
+
+only : (rows : List Row) → length rows ≡ 1 → row_at rows 0 ∷ [] ≡ rows
+only [] h = absurd (omega arith)
+only (r ∷ []) h = refl
+only (r ∷ s ∷ rows) h = absurd (omega arith)
+
+pub returns : goal.returns
+returns c =
+    let t = c.push_copy.new.self in
+    let n : t.unknowns ≡ c.args.m.now.end.unknowns = search rules in
+    let rows : t.rows ≡ c.args.m.now.end.rows ++ c.args.row.now.rows
+    = ap (λ (s : TableauRows). s.rows) c.in_ok-push_copy.ensures.ok
+    ∙ ap (λ (s : TableauRows). s.rows ++ row_at c.args.row.now.rows 0 ∷ []) c.in_ok-t.ensures
+    ∙ ap (λ (rs : List Row). c.args.m.now.end.rows ++ rs) (only c.args.row.now.rows c.requires.number) in
+    let told = c.run_on.ensures.gives in
+    record { gives = rw (← n, ← rows) (search (rules, told)) }

@@ -1,0 +1,126 @@
+-- The rows of a tableau in a pivot, as they are kept.
+use Rattle.std.proofs.Common.{◌≡◌, refl, ap, sym, ◌∙◌, subst, ℕ, zero, suc, ◌+◌, ◌-◌, ◌<◌, ◌≤◌, ◌≢◌, ℤ, pos, ◌≤ℤ◌, ◌*ℤ◌, true, ◌&&◌, List, [], ◌∷◌, ◌++◌, length, map, flat_map, take, drop, replicate, arith, append_assoc, get_or, get_or-set_other}
+use Rattle.std.specs.Prelude.{IsTrue, All, slice_set}
+use Rattle.std.proofs.lemmas.List.{map-append, get_or-replicate, length-set, length-map, take-map, drop-map, get_or-map}
+use Rattle.std.proofs.lemmas.List.Elements.{All-same, All-take, All-drop}
+use Rattle.std.proofs.lemmas.Int.{ints}
+use Rattle.pip_model.specs.Numbers.{fits}
+use Rattle.pip_model.specs.Forms.{entry, scale, width}
+use Rattle.pip_model.specs.Listed.{all_fit}
+use Rattle.pip_model.specs.Rows.{Row, row_at, form_row, unit_row, eliminated, eliminated_listed, pivot, pivot_listed}
+use Rattle.tableau.specs.KeptRows.{KeptRows, IsSpare, SameShape, with_more, with_rows}
+use Rattle.tableau.specs.Tableaus.{IsRow}
+use Rattle.tableau.proofs.Contents.{content-one}
+use Rattle.tableau.proofs.Flat.{unit_fits}
+use Rattle.tableau.proofs.Substituting.{eliminated_none, checked_sides}
+use Rattle.tableau.proofs.Places.{set_parts}
+use Rattle.tableau.proofs.Unchanged.{eliminated_listed-none, all_fit-append, any_zero, by_one}
+use Rattle.tableau.proofs.UnitRows.{unit_parts}
+
+-- ---- the row of another column
+
+zeros_fit : (a : ℤ) (n : ℕ) → all_fit (scale a (replicate n (pos 0))) ≡ true
+zeros_fit a zero = refl
+zeros_fit a (suc n) = rw (any_zero a, zeros_fit a n) refl
+
+unit_entries_fit : (a : ℤ) (n k : ℕ) → k < n → fits a ≡ true → all_fit (scale a (slice_set (replicate n (pos 0)) k (pos 1))) ≡ true
+unit_entries_fit a n k h e =
+    ap (λ (xs : List ℤ). all_fit (scale a xs)) (unit_parts n k h)
+    ∙ ap all_fit (map-append (λ x. a *ℤ x) (replicate k (pos 0)) (pos 1 ∷ replicate (n - (k + 1)) (pos 0)))
+    ∙ all_fit-append (scale a (replicate k (pos 0))) (scale a (pos 1 ∷ replicate (n - (k + 1)) (pos 0)))
+    ∙ rw (zeros_fit a k, by_one a, e, zeros_fit a (n - (k + 1))) refl
+
+other_entry : (n w k c : ℕ) → c < n → c ≢ k → entry (unit_row n w k).coefs c ≡ pos 0
+other_entry n w k c h other = get_or-set_other (replicate n (pos 0)) k c (pos 1) (pos 0) other ∙ get_or-replicate n c (pos 0) (pos 0) h
+
+one_times : (a : ℤ) → pos 1 *ℤ a ≡ a
+one_times a = omega (arith, ints)
+
+pub unit_listed : (n w k c : ℕ) (p : Row) → k < n → c < n → c ≢ k → IsRow n w p → IsTrue (all_fit (eliminated_listed p c (unit_row n w k)))
+unit_listed n w k c p h column other hp =
+    let u = unit_fits n w k h in
+    let at : fits (entry p.coefs c) ≡ true = hp.coefs_fit c (pos 0) (omega (arith, hp.coefs)) in
+    eliminated_listed-none p c (unit_row n w k) (other_entry n w k c column other) (u.coefs ∙ sym hp.coefs) (u.constant ∙ sym hp.constant)
+    ∙ rw (one_times (entry p.coefs c), at, unit_entries_fit (entry p.coefs c) n k h at, zeros_fit (entry p.coefs c) (w + 1)) refl
+
+pub unit_turned : (n w k c : ℕ) (p : Row) → k < n → c < n → c ≢ k → IsRow n w p → pos 1 ≤ℤ entry p.coefs c → unit_row n w k ≡ eliminated p c (unit_row n w k)
+unit_turned n w k c p h column other hp positive =
+    eliminated_none n w p c (unit_row n w k) hp (unit_fits n w k h) positive (other_entry n w k c column other) (content-one (unit_row n w k) refl)
+
+-- ---- the rows in front and behind
+
+pub flat_map-map : {X Y A : Type 0} (g : Y → List A) (f : X → Y) (xs : List X) → flat_map g (map f xs) ≡ flat_map (λ x. g (f x)) xs
+flat_map-map g f [] = refl
+flat_map-map g f (x ∷ xs) = ap (λ ys. g (f x) ++ ys) (flat_map-map g f xs)
+
+pub map_twice : {X Y Z : Type 0} (g : Y → Z) (f : X → Y) (xs : List X) → map g (map f xs) ≡ map (λ x. g (f x)) xs
+map_twice g f [] = refl
+map_twice g f (x ∷ xs) = ap (λ ys. g (f x) ∷ ys) (map_twice g f xs)
+
+pub turned_sides : {X : Type 0} (f : X → Row) (xs front back : List X) (p : Row) (r c : ℕ) → front ≡ take r xs → back ≡ drop (r + 1) xs → p ≡ row_at (map f xs) r
+    → all_fit (pivot_listed (map f xs) r c) ≡ (all_fit (flat_map (λ x. eliminated_listed p c (f x)) front) && all_fit (flat_map (λ x. eliminated_listed p c (f x)) back))
+turned_sides f xs front back p r c e g same =
+    checked_sides (map f xs) (map f front) (map f back) p r c (ap (map f) e ∙ sym (take-map f r xs)) (ap (map f) g ∙ sym (drop-map f (r + 1) xs)) same
+    ∙ rw (flat_map-map (eliminated_listed p c) f front, flat_map-map (eliminated_listed p c) f back) refl
+
+pub turned_pivot : {X : Type 0} (f : X → Row) (xs front back : List X) (p : Row) (r c n w : ℕ) → r < length xs → front ≡ take r xs → back ≡ drop (r + 1) xs → p ≡ row_at (map f xs) r → IsRow n w p
+    → map (λ x. eliminated p c (f x)) front ++ unit_row n w c ∷ map (λ x. eliminated p c (f x)) back ≡ pivot (map f xs) r c
+turned_pivot f xs front back p r c n w h e g same hp =
+    let q = row_at (map f xs) r in
+    let unit : unit_row n w c ≡ unit_row (length q.coefs) (width q.constant) c
+    = ap_two (λ i j. unit_row i j c) (sym hp.coefs) (omega (arith, hp.constant)) ∙ ap (λ (s : Row). unit_row (length s.coefs) (width s.constant) c) same in
+    let k : r < length (map (eliminated q c) (map f xs)) = simp length-map h in
+    ap (λ (s : Row). map (λ x. eliminated s c (f x)) front ++ unit_row n w c ∷ map (λ x. eliminated s c (f x)) back) same
+    ∙ rw (unit, e, g, ← map_twice (eliminated q c) f (take r xs), ← map_twice (eliminated q c) f (drop (r + 1) xs), ← take-map f r xs, ← drop-map f (r + 1) xs, ← take-map (eliminated q c) r (map f xs), ← drop-map (eliminated q c) (r + 1) (map f xs))
+    (sym (set_parts (map (eliminated q c) (map f xs)) r (unit_row (length q.coefs) (width q.constant) c) k))
+  where
+    ap_two : (f : ℕ → ℕ → Row) {x y u v : ℕ} → x ≡ y → u ≡ v → f x u ≡ f y v
+    ap_two f {x} {y} {u} {v} e k = ap (λ t. f t u) e ∙ ap (λ t. f y t) k
+
+-- a fact of each row, at the rows in front and behind
+pub all_kept : {X : Type 0} (P : Row → Type 0) (f : X → Row) (xs : List X) → All P (map f xs) → All (λ x. P (f x)) xs
+all_kept P f xs h = λ k d lt. subst P (get_or-map f xs k d (f d) lt) (h k (f d) (simp length-map lt))
+
+pub front_all : {X : Type 0} (P : Row → Type 0) (f : X → Row) (xs front : List X) (r : ℕ) → front ≡ take r xs → All P (map f xs) → All (λ x. P (f x)) front
+front_all P f xs front r e h = All-same (λ x. P (f x)) front (take r xs) e (All-take (λ x. P (f x)) r xs (all_kept P f xs h))
+
+pub back_all : {X : Type 0} (P : Row → Type 0) (f : X → Row) (xs back : List X) (r : ℕ) → back ≡ drop r xs → All P (map f xs) → All (λ x. P (f x)) back
+back_all P f xs back r e h = All-same (λ x. P (f x)) back (drop r xs) e (All-drop (λ x. P (f x)) r xs (all_kept P f xs h))
+
+pub row_is : {X : Type 0} (f : X → Row) (xs : List X) (r : ℕ) (d : X) → r < length xs → f (get_or xs r d) ≡ row_at (map f xs) r
+row_is f xs r d h = sym (get_or-map f xs r d (form_row 0 []) h)
+
+pub row_formed : (n w : ℕ) (rows : List Row) (p : Row) (r : ℕ) → p ≡ row_at rows r → r < length rows → All (IsRow n w) rows → IsRow n w p
+row_formed n w rows p r e h all = subst (IsRow n w) (sym e) (all r (form_row 0 []) h)
+
+-- the rows with another in place of row r
+pub replaced_row : {X : Type 0} (f : X → Row) (xs front back : List X) (r : ℕ) (made : Row) → r < length xs → front ≡ take r xs → back ≡ drop (r + 1) xs
+    → map f front ++ made ∷ map f back ≡ slice_set (map f xs) r made
+replaced_row f xs front back r made h e g =
+    let k : r < length (map f xs) = simp length-map h in
+    rw (e, g, ← take-map f r xs, ← drop-map f (r + 1) xs) (sym (set_parts (map f xs) r made k))
+
+-- rows with the rows in front, another, and the rows behind
+pub joined_rows : (t : KeptRows) (front back all : List Row) (r : Row) → front ++ r ∷ back ≡ all → with_rows (with_more (with_rows t front) r) back ≡ with_rows t all
+joined_rows t front back all r e =
+    ap (λ (rs : List Row). record t { rows = rs })
+    (append_assoc (t.rows ++ front) (r ∷ []) back ∙ append_assoc t.rows front (r ∷ back) ∙ ap (λ (rs : List Row). t.rows ++ rs) e)
+
+pub length_pivot : (rows : List Row) (r c : ℕ) → length (pivot rows r c) ≡ length rows
+length_pivot rows r c =
+    let p = row_at rows r in
+    length-set (map (eliminated p c) rows) r (unit_row (length p.coefs) (width p.constant) c) ∙ length-map rows (eliminated p c)
+
+-- rows that were made in the next ones change places with them
+pub swapped : (rows next made : KeptRows) (units : List ℤ) → IsSpare rows next units → SameShape made next → length made.rows ≡ length rows.rows → length rows.rows ≤ rows.most
+    → IsSpare made rows units
+swapped rows next made units h same long few =
+    let n : made.unknowns ≡ rows.unknowns = same.unknowns ∙ h.unknowns in
+    let w : made.width ≡ rows.width = same.width ∙ h.width in
+    record {
+      unknowns = sym n;
+      width = sym w;
+      room = omega arith;
+      begun = λ some. h.begun (omega arith);
+      run = λ some. rw (n, w) (h.run some);
+    }

@@ -1,0 +1,31 @@
+use Rattle.std.proofs.Common.{rules, arith, ap, ◌≡◌, ◌∙◌, ◌+◌, ◌-◌, ◌<◌, subst, sym, List}
+use Rattle.pip_model.specs.Rows.{Row, widened}
+use Rattle.tableau.specs.Tableaus.{IsRow}
+use Rattle.tableau.specs.KeptRows.{KeptRows, rows_kept, with_more}
+use Rattle.tableau.specs.Views.{row_of}
+use Rattle.tableau.proofs.Flat.{unsealed, more_rows}
+use Rattle.tableau.proofs.RowLaws.{widened_is_row, widened_content}
+use Rattle.tableau.proofs.ShortRows.{widened_short}
+use Rattle.tableau.proofs.flat_rows.FlatRows.push_widened.Goals as goal
+
+pub seal-requires-clause-unsealed : goal.seal-requires-clause-unsealed
+seal-requires-clause-unsealed c =
+    let s = c.self.inside in
+    let r = row_of c.args.row.now in
+    let given = subst (λ (t : KeptRows). IsRow t.unknowns (t.width - 1) r) (sym c.self.view_is) c.requires.row in
+    let some = subst (λ (t : KeptRows). 0 < t.width) (sym c.self.view_is) c.requires.width in
+    let back : s.width - 1 + 1 ≡ s.width = omega (arith, some) in
+    unsealed s.unknowns s.width _ s.numbers.items c.append_widened.new.numbers.items s.kept.items (widened r) c.append_widened.ensures.items (search rules) c.self.invariant.0
+    (subst (λ k. IsRow s.unknowns k (widened r)) back (widened_is_row s.unknowns (s.width - 1) r given))
+    (widened_content s.unknowns (s.width - 1) r given ∙ c.requires.reduced)
+    (λ short. widened_short r (omega (arith, given.constant)) (search rules))
+
+pub returns : goal.returns
+returns c =
+    let s = c.self.inside in
+    let r = row_of c.args.row.now in
+    let given = subst (λ (t : KeptRows). IsRow t.unknowns (t.width - 1) r) (sym c.self.view_is) c.requires.row in
+    subst (λ (t : KeptRows). record { unknowns = s.unknowns; width = s.width; most = s.most; rows = rows_kept s.unknowns s.width c.seal.new.numbers.items c.seal.new.kept.items } ≡ with_more t (widened r)) c.self.view_is
+    (ap (λ (rs : List Row). record { unknowns = s.unknowns; width = s.width; most = s.most; rows = rs })
+    (more_rows s.unknowns s.width c.len-first.result s.numbers.items c.append_widened.new.numbers.items c.seal.new.numbers.items s.kept.items c.seal.new.kept.items (widened r) c.append_widened.ensures.items (search rules) given.coefs
+    c.seal.ensures.rows))

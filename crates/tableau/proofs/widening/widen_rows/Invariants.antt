@@ -1,0 +1,7 @@
+use Rattle.std.proofs.Common.{◌≡◌, map, take}
+use Rattle.pip_model.specs.Rows.{widened}
+use Rattle.tableau.specs.KeptRows.{row_kept, with_rows}
+use Rattle.tableau.proofs.widening.widen_rows.Given as goal
+
+abbrev pub invariant-loop-one : goal.invariant-loop-one
+invariant-loop-one l = l.next ≡ with_rows l.fn.next (map (λ one. widened (row_kept l.lent.unknowns l.lent.width l.lent.numbers.now one)) (take l.one-index l.kept))

@@ -1,0 +1,104 @@
+-- Rows as they are kept: the row of a column by the column, any other by the place of its numbers.
+use Rattle.std.specs.Prelude.{◌≡◌, ℕ, ◌+◌, ◌*◌, ◌<◌, ◌≤◌, ℤ, pos, Bool, true, IsTrue, List, [], ◌∷◌, ◌++◌, length, take, drop, map, max, replicate, All}
+use Rattle.pip_model.specs.Rows.{Row, unit_row}
+use Rattle.tableau.specs.Short.{IsShortRow}
+use Rattle.tableau.specs.Tableaus.{IsRow, IsReduced}
+use Rattle.tableau.specs.Flat.{row_of_numbers, flat_numbers}
+use Rattle.tableau.specs.declared.kept.Lent.{Lent}
+use Rattle.tableau.specs.declared.kept.Kept.{Kept}
+use Rattle.tableau.specs.declared.kept.Kept.TheVariants as kept
+use Rattle.tableau.specs.declared.kept.Place.{Place}
+
+-- rows over so many columns and places, and the number of rows that there is room for
+pub record KeptRows : Type 0 where
+  pub unknowns : ℕ
+  pub width : ℕ
+  pub most : ℕ
+  pub rows : List Row
+
+-- the numbers of a row over n columns and w places
+abbrev pub row_length : ℕ → ℕ → ℕ
+row_length n w = n + w + 2
+
+-- the row at a place of the numbers
+abbrev pub row_from_place : ℕ → ℕ → List ℤ → ℕ → Row
+row_from_place n w numbers p = row_of_numbers n (take (row_length n w) (drop p numbers))
+
+abbrev pub row_kept : ℕ → ℕ → List ℤ → Kept → Row
+row_kept n w numbers (kept.Unit c) = unit_row n w c
+row_kept n w numbers (kept.At p) = row_from_place n w numbers p.first
+
+abbrev pub rows_kept : ℕ → ℕ → List ℤ → List Kept → List Row
+rows_kept n w numbers ks = map (row_kept n w numbers) ks
+
+abbrev pub lent_row : Lent → Kept → Row
+lent_row v k = row_kept v.unknowns v.width v.numbers.now k
+
+abbrev pub lent_rows : Lent → List Kept → List Row
+lent_rows v ks = rows_kept v.unknowns v.width v.numbers.now ks
+
+-- there is such a column, and so many numbers from the place on
+abbrev pub IsPlace : ℕ → ℕ → ℕ → Kept → Type 0
+IsPlace n w len (kept.Unit c) = c < n
+IsPlace n w len (kept.At p) = p.first + row_length n w ≤ len
+
+-- whether all numbers of the row are known to be short
+abbrev pub kept_short : Kept → Bool
+kept_short (kept.Unit c) = true
+kept_short (kept.At p) = p.short
+
+-- where they are known to be, they are
+abbrev pub IsKnown : ℕ → ℕ → List ℤ → Kept → Type 0
+IsKnown n w numbers k = IsTrue (kept_short k) → IsShortRow (row_kept n w numbers k)
+
+abbrev pub IsKnownLent : Lent → Kept → Type 0
+IsKnownLent v k = IsKnown v.unknowns v.width v.numbers.now k
+
+-- the numbers are those of the rows that are not kept as columns
+pub record IsFlat (n w : ℕ) (numbers : List ℤ) (ks : List Kept) : Type 0 where
+  pub places : All (IsPlace n w (length numbers)) ks
+  pub rows : All (IsRow n w) (rows_kept n w numbers ks)
+  pub reduced : All IsReduced (rows_kept n w numbers ks)
+  pub short : All (IsKnown n w numbers) ks
+  pub flat : numbers ≡ flat_numbers (rows_kept n w numbers ks)
+  pub few : length numbers ≤ length ks * row_length n w
+
+-- the capacities are enough for the rows
+pub record HasRoom (n w most count kept_capacity numbers_capacity : ℕ) : Type 0 where
+  pub few : count ≤ most
+  pub kept : most ≤ kept_capacity
+  pub numbers : most * row_length n w ≤ numbers_capacity
+
+-- zeros, a 1, and zeros: each column's coefficients begin in it, and a constant form of zeros stands behind the 1
+abbrev pub unit_run : ℕ → ℕ → List ℤ
+unit_run n w = replicate n (pos 0) ++ pos 1 ∷ replicate (max n (w + 1)) (pos 0)
+
+-- the numbers from the place on are those of one more row
+pub record IsUnsealed (n w : ℕ) (last : Place) (numbers : List ℤ) (ks : List Kept) : Type 0 where
+  pub flat : IsFlat n w (take last.first numbers) ks
+  pub row : IsRow n w (row_of_numbers n (drop last.first numbers))
+  pub reduced : IsReduced (row_of_numbers n (drop last.first numbers))
+  pub short : IsTrue last.short → IsShortRow (row_of_numbers n (drop last.first numbers))
+  pub begun : last.first + row_length n w ≡ length numbers
+
+-- the rows with one more
+abbrev pub with_more : KeptRows → Row → KeptRows
+with_more t r = record t { rows = t.rows ++ r ∷ [] }
+
+-- the rows with these behind them
+abbrev pub with_rows : KeptRows → List Row → KeptRows
+with_rows t rs = record t { rows = t.rows ++ rs }
+
+-- over the same columns and places, and with the same room
+pub record SameShape (s t : KeptRows) : Type 0 where
+  pub unknowns : s.unknowns ≡ t.unknowns
+  pub width : s.width ≡ t.width
+  pub most : s.most ≡ t.most
+
+-- the next rows have room for as many rows, and the run is there where there is a row
+pub record IsSpare (rows next : KeptRows) (units : List ℤ) : Type 0 where
+  pub unknowns : next.unknowns ≡ rows.unknowns
+  pub width : next.width ≡ rows.width
+  pub room : length rows.rows ≤ next.most
+  pub begun : 0 < length rows.rows → 0 < length units
+  pub run : 0 < length units → units ≡ unit_run rows.unknowns rows.width

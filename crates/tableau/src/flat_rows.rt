@@ -1,0 +1,159 @@
+ghost use Rattle.std.specs.Prelude.{◌≡◌, ◌*◌, ◌^◌, ◌<◌, ◌≤◌, [], length, IfOk, OnOk};
+ghost use Rattle.pip_model.specs.Rows as model;
+ghost use Rattle.tableau.specs.Flat.{flat_numbers};
+ghost use Rattle.tableau.specs.KeptRows.{row_length, unit_run};
+ghost use Rattle.tableau.specs.Tableaus.{IsRow, IsReduced};
+ghost use Rattle.tableau.specs.Views.{row_of};
+
+use crate::kept::{Kept, Lent};
+use crate::view::RowView;
+use affine_rows::WantOfMemory;
+use std::alloc::Global;
+use std::marker::Model;
+
+// Rows: those of columns by the columns, the others by their numbers, one row after the other. There is room for
+// `most` rows.
+#[derive(Drop)]
+pub struct FlatRows {
+    pub(crate) unknowns: usize,
+    pub(crate) width: usize,
+    pub(crate) most: usize,
+    pub(crate) kept: Vec<Kept>,
+    pub(crate) numbers: Vec<i128>,
+}
+
+impl Model for FlatRows {
+    ghost use Rattle.std.specs.Prelude.{length, vec_capacity};
+    ghost use Rattle.tableau.specs.KeptRows.{KeptRows, IsFlat, HasRoom, rows_kept};
+
+    ghost Value = { KeptRows };
+
+    ghost view = { λ s. record {
+      unknowns = s.unknowns;
+      width = s.width;
+      most = s.most;
+      rows = rows_kept s.unknowns s.width s.numbers.items s.kept.items;
+    } };
+
+    ghost invariant = { λ s.
+        IsFlat s.unknowns s.width s.numbers.items s.kept.items
+        × HasRoom s.unknowns s.width s.most (length s.kept.items) (vec_capacity s.kept) (vec_capacity s.numbers) };
+}
+
+// The numbers of so many rows over so many columns and places.
+fn count_numbers(unknowns: usize, width: usize, rows: usize) -> Result<usize, WantOfMemory>
+    ensures { IfOk result (λ k. k ≡ rows * row_length unknowns width) }
+{
+    let parts = unknowns.checked_add(width).ok_or(WantOfMemory)?;
+    let all = parts.checked_add(2).ok_or(WantOfMemory)?;
+    rows.checked_mul(all).ok_or(WantOfMemory)
+}
+
+impl FlatRows {
+    // No rows, and no room for any. It takes no memory.
+    pub fn new(alloc: Global, unknowns: usize, width: usize) -> FlatRows
+        ensures { result ≡ record { unknowns = unknowns; width = width; most = 0; rows = [] } }
+    {
+        FlatRows {
+            unknowns,
+            width,
+            most: 0,
+            kept: Vec::new(alloc),
+            numbers: Vec::new(alloc),
+        }
+    }
+
+    // The number of columns.
+    pub fn unknowns(&self) -> usize
+        ensures { result ≡ self.now.unknowns }
+    {
+        self.unknowns
+    }
+
+    // The number of places of a constant form.
+    pub fn width(&self) -> usize
+        ensures { result ≡ self.now.width }
+    {
+        self.width
+    }
+
+    // The number of rows.
+    pub fn len(&self) -> usize
+        ensures value { result ≡ length self.now.rows }
+        ensures bound { result < 2 ^ 63 }
+    {
+        self.kept.len()
+    }
+
+    // The allocator that the rows keep.
+    pub fn allocator(&self) -> Global {
+        *self.kept.allocator()
+    }
+
+    // The numbers of the rows that are not those of columns.
+    pub fn numbers(&self) -> &[i128]
+        ensures { result.now ≡ flat_numbers self.now.rows }
+    {
+        self.numbers.as_slice()
+    }
+
+    // Row i, lent from the run of the columns' rows.
+    pub fn row<'t>(&'t self, units: &'t [i128], i: usize) -> RowView<'t>
+        requires place { i < length self.now.rows }
+        requires units { units.now ≡ unit_run self.now.unknowns self.now.width }
+        ensures value { row_of result ≡ model.row_at self.now.rows i }
+        ensures row { IsRow self.now.unknowns self.now.width (row_of result) }
+        ensures reduced { IsReduced (row_of result) }
+    {
+        let lent = Lent {
+            unknowns: self.unknowns,
+            width: self.width,
+            numbers: self.numbers.as_slice(),
+            units,
+        };
+        lent.row(self.kept[i])
+    }
+
+    // Makes room for so many rows.
+    pub fn reserve(&mut self, most: usize) -> Result<(), WantOfMemory>
+        ensures unknowns { self.new.unknowns ≡ self.old.unknowns }
+        ensures width { self.new.width ≡ self.old.width }
+        ensures rows { self.new.rows ≡ self.old.rows }
+        ensures ok { OnOk result (most ≤ self.new.most) }
+        ensures room { self.old.most ≤ self.new.most }
+    {
+        if most <= self.most {
+            return Ok(());
+        }
+        let numbers = count_numbers(self.unknowns, self.width, most)?;
+        self.kept.reserve(most - self.kept.len())?;
+        self.numbers.reserve(numbers - self.numbers.len())?;
+        self.most = most;
+        Ok(())
+    }
+
+    // No rows, and room for so many.
+    pub fn with_room(
+        alloc: Global,
+        unknowns: usize,
+        width: usize,
+        most: usize,
+    ) -> Result<FlatRows, WantOfMemory>
+        ensures unknowns { IfOk result (λ t. t.unknowns ≡ unknowns) }
+        ensures width { IfOk result (λ t. t.width ≡ width) }
+        ensures rows { IfOk result (λ t. t.rows ≡ []) }
+        ensures room { IfOk result (λ t. most ≤ t.most) }
+    {
+        let mut made = FlatRows::new(alloc, unknowns, width);
+        made.reserve(most)?;
+        Ok(made)
+    }
+
+    // Drops all rows; the room stays.
+    pub fn clear(&mut self)
+        ensures { self.new ≡ record self.old { rows = [] } }
+    {
+        self.kept.clear();
+        self.numbers.clear();
+    }
+}

@@ -1,0 +1,77 @@
+ghost use Rattle.std.specs.Prelude.{◌≡◌, ◌+◌, ◌<◌, ◌≤◌, length, IsTrue};
+ghost use Rattle.pip_model.specs.Rows.{unit_row};
+ghost use Rattle.tableau.specs.KeptRows.{IsPlace, IsKnownLent, row_length, row_from_place, row_kept, unit_run};
+ghost use Rattle.tableau.specs.Short.{IsShortRow};
+ghost use Rattle.tableau.specs.Views.{row_of};
+
+use crate::row::view_of;
+use crate::view::RowView;
+
+// The place of a row's first number, and whether all numbers of the row are known to lie from -(2^63 - 1) to 2^63 - 1.
+#[derive(Clone, Copy)]
+pub struct Place {
+    pub first: usize,
+    pub short: bool,
+}
+
+// How a row is kept: that of a column by the column, any other by its place.
+#[derive(Clone, Copy)]
+pub enum Kept {
+    Unit(usize),
+    At(Place),
+}
+
+// What rows are lent from: the numbers of the rows, and one run of zeros with a 1 for the rows of columns.
+#[derive(Clone, Copy)]
+pub struct Lent<'t> {
+    pub unknowns: usize,
+    pub width: usize,
+    pub numbers: &'t [i128],
+    pub units: &'t [i128],
+}
+
+impl<'t> Lent<'t> {
+    // The row of column c.
+    #[tactic(auto, using(crate::proofs::UnitRows::lent_unit))]
+    fn unit(&self, c: usize) -> RowView<'t>
+        requires column { c < self.now.unknowns }
+        requires units { self.now.units.now ≡ unit_run self.now.unknowns self.now.width }
+        ensures { row_of result ≡ unit_row self.now.unknowns self.now.width c }
+    {
+        let (_, behind) = self.units.split_at(self.unknowns - c);
+        let (coefs, _) = behind.split_at(self.unknowns);
+        let (_, behind) = self.units.split_at(self.unknowns + 1);
+        let (constant, _) = behind.split_at(self.width + 1);
+        RowView {
+            den: 1,
+            coefs,
+            constant,
+            short: true,
+        }
+    }
+
+    // The row at a place.
+    fn plain(&self, at: Place) -> RowView<'t>
+        requires place { at.first + row_length self.now.unknowns self.now.width ≤ length self.now.numbers.now }
+        requires short { IsTrue at.short
+            → IsShortRow (row_from_place self.now.unknowns self.now.width self.now.numbers.now at.first) }
+        ensures { row_of result ≡ row_from_place self.now.unknowns self.now.width self.now.numbers.now at.first }
+    {
+        let (_, numbers) = self.numbers.split_at(at.first);
+        let (numbers, _) = numbers.split_at(self.unknowns + self.width + 2);
+        view_of(numbers, self.unknowns, at.short)
+    }
+
+    // A row.
+    pub fn row(&self, kept: Kept) -> RowView<'t>
+        requires place { IsPlace self.now.unknowns self.now.width (length self.now.numbers.now) kept }
+        requires short { IsKnownLent self.now kept }
+        requires units { self.now.units.now ≡ unit_run self.now.unknowns self.now.width }
+        ensures { row_of result ≡ row_kept self.now.unknowns self.now.width self.now.numbers.now kept }
+    {
+        match kept {
+            Kept::Unit(c) => self.unit(c),
+            Kept::At(at) => self.plain(at),
+        }
+    }
+}

@@ -1,0 +1,173 @@
+ghost use Rattle.std.specs.Prelude.{◌≡◌, ◌+◌, ◌-◌, ◌<◌, ◌≤◌, pos, ◌≤ℤ◌, [], ◌∷◌, ◌++◌, length, take, drop, IsTrue, OnErr, OnOk, vec_len, vec_capacity};
+ghost use Rattle.pip_model.specs.Forms.{entry};
+ghost use Rattle.pip_model.specs.Listed.{all_fit};
+ghost use Rattle.pip_model.specs.Rows as model;
+ghost use Rattle.pip_model.specs.Cuts.{rounded, rounded_listed};
+ghost use Rattle.pip_model.specs.Agreement.{IsChecked};
+ghost use Rattle.affine_rows.specs.Checks.{is_overflow};
+ghost use Rattle.tableau.specs.Flat.{row_of_numbers};
+ghost use Rattle.tableau.specs.KeptRows.{IsFlat, IsUnsealed, rows_kept, with_more};
+ghost use Rattle.tableau.specs.Tableaus.{IsRow, IsReduced};
+ghost use Rattle.tableau.specs.Views.{row_of};
+
+use crate::append::{
+    append_divided, append_eliminated, append_rounded, append_row, append_widened,
+};
+use crate::flat_rows::FlatRows;
+use crate::kept::{Kept, Place};
+use crate::row::{unit_column, view_of};
+use crate::view::RowView;
+use affine_rows::Overflow;
+
+// Appends the kept row, for which there is room.
+fn append_kept(kept: &mut Vec<Kept>, one: Kept)
+    requires room { vec_len kept.old < vec_capacity kept.old }
+    ensures items { kept.new.items ≡ kept.old.items ++ one ∷ [] }
+    ensures count { length kept.new.items ≡ length kept.old.items + 1 }
+    ensures room { vec_capacity kept.old ≤ vec_capacity kept.new }
+{
+    match kept.push(one) {
+        Ok(()) => {}
+        Err(_) => unreachable!(),
+    }
+}
+
+// Keeps the row whose numbers stand last, from the place on: the row of a column as the column.
+fn seal(kept: &mut Vec<Kept>, numbers: &mut Vec<i128>, last: Place, unknowns: usize, width: usize)
+    requires unsealed { IsUnsealed unknowns width last numbers.old.items kept.old.items }
+    requires room { vec_len kept.old < vec_capacity kept.old }
+    ensures flat { IsFlat unknowns width numbers.new.items kept.new.items }
+    ensures rows { rows_kept unknowns width numbers.new.items kept.new.items
+        ≡ rows_kept unknowns width (take last.first numbers.old.items) kept.old.items
+        ++ row_of_numbers unknowns (drop last.first numbers.old.items) ∷ [] }
+    ensures count { length kept.new.items ≡ length kept.old.items + 1 }
+    ensures kept_room { vec_capacity kept.old ≤ vec_capacity kept.new }
+    ensures numbers_room { vec_capacity numbers.new ≡ vec_capacity numbers.old }
+{
+    let (_, row) = numbers.as_slice().split_at(last.first);
+    match unit_column(&view_of(row, unknowns, last.short)) {
+        Some(c) => {
+            numbers.truncate(last.first);
+            append_kept(kept, Kept::Unit(c));
+        }
+        None => append_kept(kept, Kept::At(last)),
+    }
+}
+
+impl FlatRows {
+    // Adds the row of column c.
+    pub fn push_unit(&mut self, c: usize)
+        requires room { length self.old.rows < self.old.most }
+        requires column { c < self.old.unknowns }
+        ensures { self.new ≡ with_more self.old (model.unit_row self.old.unknowns self.old.width c) }
+    {
+        append_kept(&mut self.kept, Kept::Unit(c));
+    }
+
+    // Adds a row.
+    pub fn push_row(&mut self, row: &RowView<'_>)
+        requires room { length self.old.rows < self.old.most }
+        requires row { IsRow self.old.unknowns self.old.width (row_of row.now) }
+        requires reduced { IsReduced (row_of row.now) }
+        ensures { self.new ≡ with_more self.old (row_of row.now) }
+    {
+        let first = self.numbers.len();
+        append_row(&mut self.numbers, row);
+        let last = Place {
+            first,
+            short: row.short,
+        };
+        seal(
+            &mut self.kept,
+            &mut self.numbers,
+            last,
+            self.unknowns,
+            self.width,
+        );
+    }
+
+    // Adds a row, divided by the greatest common divisor of all its numbers.
+    pub fn push_divided(&mut self, row: &RowView<'_>)
+        requires room { length self.old.rows < self.old.most }
+        requires row { IsRow self.old.unknowns self.old.width (row_of row.now) }
+        ensures { self.new ≡ with_more self.old (model.divided (row_of row.now)) }
+    {
+        let first = self.numbers.len();
+        let short = append_divided(&mut self.numbers, row);
+        let last = Place { first, short };
+        seal(
+            &mut self.kept,
+            &mut self.numbers,
+            last,
+            self.unknowns,
+            self.width,
+        );
+    }
+
+    // Adds what the row is after the pivot on row p and column c.
+    pub fn push_eliminated(&mut self, p: &RowView<'_>, c: usize, row: &RowView<'_>)
+        requires room { length self.old.rows < self.old.most }
+        requires p { IsRow self.old.unknowns self.old.width (row_of p.now) }
+        requires row { IsRow self.old.unknowns self.old.width (row_of row.now) }
+        requires column { c < self.old.unknowns }
+        requires positive { pos 1 ≤ℤ entry p.now.coefs.now c }
+        requires listed { IsTrue (all_fit (model.eliminated_listed (row_of p.now) c (row_of row.now))) }
+        ensures { self.new ≡ with_more self.old (model.eliminated (row_of p.now) c (row_of row.now)) }
+    {
+        let first = self.numbers.len();
+        let short = append_eliminated(&mut self.numbers, p, c, row);
+        let last = Place { first, short };
+        seal(
+            &mut self.kept,
+            &mut self.numbers,
+            last,
+            self.unknowns,
+            self.width,
+        );
+    }
+
+    // Adds the row rounded by the quotient at place q; a refusal leaves all as it was.
+    pub fn push_rounded(&mut self, row: &RowView<'_>, q: usize) -> Result<(), Overflow>
+        requires room { length self.old.rows < self.old.most }
+        requires row { IsRow self.old.unknowns self.old.width (row_of row.now) }
+        requires place { q < self.old.width }
+        ensures listed { IsChecked is_overflow (rounded_listed (row_of row.now) q) result }
+        ensures ok { OnOk result (self.new ≡ with_more self.old (rounded (row_of row.now) q)) }
+        ensures err { OnErr result (self.new ≡ self.old) }
+    {
+        let first = self.numbers.len();
+        let short = append_rounded(&mut self.numbers, row, q)?;
+        let last = Place { first, short };
+        seal(
+            &mut self.kept,
+            &mut self.numbers,
+            last,
+            self.unknowns,
+            self.width,
+        );
+        Ok(())
+    }
+
+    // Adds the row, of one place less, with a 0 before the constant of its constant form.
+    pub fn push_widened(&mut self, row: &RowView<'_>)
+        requires room { length self.old.rows < self.old.most }
+        requires width { 0 < self.old.width }
+        requires row { IsRow self.old.unknowns (self.old.width - 1) (row_of row.now) }
+        requires reduced { IsReduced (row_of row.now) }
+        ensures { self.new ≡ with_more self.old (model.widened (row_of row.now)) }
+    {
+        let first = self.numbers.len();
+        append_widened(&mut self.numbers, row);
+        let last = Place {
+            first,
+            short: row.short,
+        };
+        seal(
+            &mut self.kept,
+            &mut self.numbers,
+            last,
+            self.unknowns,
+            self.width,
+        );
+    }
+}

@@ -1,0 +1,64 @@
+ghost use Rattle.std.specs.Prelude.{◌≡◌, ◌+◌, ◌<◌, ◌≤◌, length, map, All};
+ghost use Rattle.pip_model.specs.Rows as model;
+ghost use Rattle.tableau.specs.KeptRows.{IsPlace, IsKnownLent, lent_row, with_more, with_rows, unit_run};
+ghost use Rattle.tableau.specs.Tableaus.{IsRow, IsReduced};
+
+use crate::flat_rows::FlatRows;
+use crate::kept::{Kept, Lent};
+
+// Adds a kept row with a 0 before the constant of its constant form.
+fn widen_kept(next: &mut FlatRows, lent: &Lent<'_>, one: Kept)
+    requires room { length next.old.rows < next.old.most }
+    requires unknowns { next.old.unknowns ≡ lent.now.unknowns }
+    requires width { next.old.width ≡ lent.now.width + 1 }
+    requires units { lent.now.units.now ≡ unit_run lent.now.unknowns lent.now.width }
+    requires place { IsPlace lent.now.unknowns lent.now.width (length lent.now.numbers.now) one }
+    requires row { IsRow lent.now.unknowns lent.now.width (lent_row lent.now one) }
+    requires reduced { IsReduced (lent_row lent.now one) }
+    requires short { IsKnownLent lent.now one }
+    ensures { next.new ≡ with_more next.old (model.widened (lent_row lent.now one)) }
+{
+    match one {
+        Kept::Unit(c) => next.push_unit(c),
+        Kept::At(_) => next.push_widened(&lent.row(one)),
+    }
+}
+
+// Adds the kept rows, each with a 0 before the constant of its constant form.
+fn widen_rows(next: &mut FlatRows, lent: &Lent<'_>, kept: &[Kept])
+    requires room { length next.old.rows + length kept.now ≤ next.old.most }
+    requires unknowns { next.old.unknowns ≡ lent.now.unknowns }
+    requires width { next.old.width ≡ lent.now.width + 1 }
+    requires units { lent.now.units.now ≡ unit_run lent.now.unknowns lent.now.width }
+    requires places { All (IsPlace lent.now.unknowns lent.now.width (length lent.now.numbers.now)) kept.now }
+    requires rows { All (λ one. IsRow lent.now.unknowns lent.now.width (lent_row lent.now one)) kept.now }
+    requires reduced { All (λ one. IsReduced (lent_row lent.now one)) kept.now }
+    requires short { All (IsKnownLent lent.now) kept.now }
+    ensures { next.new ≡ with_rows next.old (map (λ one. model.widened (lent_row lent.now one)) kept.now) }
+{
+    for one in kept {
+        widen_kept(next, lent, *one);
+    }
+}
+
+impl FlatRows {
+    // Adds to rows of one place more these, each with a 0 before the constant of its constant form.
+    pub fn widen(&self, units: &[i128], next: &mut FlatRows)
+        requires units { 0 < length self.now.rows → units.now ≡ unit_run self.now.unknowns self.now.width }
+        requires unknowns { next.old.unknowns ≡ self.now.unknowns }
+        requires width { next.old.width ≡ self.now.width + 1 }
+        requires room { length next.old.rows + length self.now.rows ≤ next.old.most }
+        ensures { next.new ≡ with_rows next.old (map model.widened self.now.rows) }
+    {
+        if self.kept.is_empty() {
+            return;
+        }
+        let lent = Lent {
+            unknowns: self.unknowns,
+            width: self.width,
+            numbers: self.numbers.as_slice(),
+            units,
+        };
+        widen_rows(next, &lent, self.kept.as_slice());
+    }
+}
