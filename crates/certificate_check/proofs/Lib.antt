@@ -1,0 +1,9 @@
+pub mod Sums
+pub mod Steps
+pub mod Making
+pub mod Smaller
+pub mod Wide
+pub mod Owned
+pub mod Refuted
+pub mod Numbers
+pub mod ContextRows

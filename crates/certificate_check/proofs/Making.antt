@@ -1,0 +1,61 @@
+-- Forms that are made for a leaf, and lists of them.
+use Rattle.std.proofs.Common.{◌≡◌, refl, ap, ap₂, sym, ◌∙◌, ℕ, zero, suc, ◌+◌, ◌-◌, ◌<◌, ◌≤◌, ℤ, pos, List, [], ◌∷◌, ◌++◌, length, take, drop, set, replicate, append_assoc, arith}
+use Rattle.std.proofs.lemmas.List.{length-append, length-replicate, set_split, take-replicate, drop-replicate, take_at, take_all, drop_at, get_or_at, length-drop}
+use Rattle.pip_model.specs.Forms.{width, coefficients, constant, unit_form, widen_to}
+use Rattle.pip_model.specs.Check.{places_from, row_form}
+use Rattle.pip_model.proofs.Division.{form-parts}
+use Rattle.pip_model.proofs.Forms.{length-coefficients}
+
+pub unit_made : (w i : ℕ) (z : ℤ) → i < w → set (replicate (w + 1) (pos 0)) i z ≡ unit_form w i z
+unit_made w i z h =
+    let rest : w + 1 - suc i ≡ w - i = omega arith in
+    set_split (replicate (w + 1) (pos 0)) i z (rw length-replicate (omega arith))
+    ∙ ap₂ (λ (xs ys : List ℤ). xs ++ z ∷ ys) (take-replicate i (w + 1) (pos 0) (omega arith)) (drop-replicate (suc i) (w + 1) (pos 0) ∙ ap (λ (n : ℕ). replicate n (pos 0)) rest)
+
+pub length-unit : (w i : ℕ) (z : ℤ) → i < w → length (unit_form w i z) ≡ w + 1
+length-unit w i z h = simp (length-append, length-replicate) (omega arith)
+
+pub places_more : (w first n : ℕ) → places_from w first (n + 1) ≡ places_from w first n ++ unit_form w (first + n) (pos 1) ∷ []
+places_more w first zero =
+    let e : first + 0 ≡ first = omega arith in
+    rw e refl
+places_more w first (suc n) =
+    let e : first + 1 + n ≡ first + suc n = omega arith in
+    let m : suc n + 1 ≡ suc (n + 1) = omega arith in
+    ap (places_from w first) m
+    ∙ ap (λ (rest : List (List ℤ)). unit_form w first (pos 1) ∷ rest) (places_more w (first + 1) n ∙ ap (λ (k : ℕ). places_from w (first + 1) n ++ unit_form w k (pos 1) ∷ []) e)
+
+pub places_step : (old now : List (List ℤ)) (w first n : ℕ) (form : List ℤ) → now ≡ (old ++ places_from w first n) ++ form ∷ [] → form ≡ unit_form w (first + n) (pos 1) → now ≡ old ++ places_from w first (n + 1)
+places_step old now w first n form e same = rw (e, same) (append_assoc old (places_from w first n) (unit_form w (first + n) (pos 1) ∷ []) ∙ ap (λ (zs : List (List ℤ)). old ++ zs) (sym (places_more w first n)))
+
+-- the parts of a row that is turned: the other places, and zeros up to the scope; the unknowns; the constant
+module _ (n w : ℕ) (row : List ℤ) (some : n < length row) (within : length row ≤ n + w + 1) where
+  abbrev rest : List ℤ
+  rest = drop n row
+
+  abbrev places : List ℤ
+  places = coefficients rest ++ replicate (w - width rest) (pos 0)
+
+  long : length rest ≡ width rest + 1
+  long = let e : length rest ≡ length row - n = length-drop n row in omega arith
+
+  front : length (coefficients rest) ≡ width rest
+  front = length-coefficients rest
+
+  length-places : length places ≡ w
+  length-places = let e : length rest ≡ length row - n = length-drop n row in simp (length-append, length-replicate, front) (omega arith)
+
+  last : drop (length rest - 1) rest ≡ constant rest ∷ []
+  last = ap (drop (length rest - 1)) (form-parts (width rest) rest (omega (arith, long))).0 ∙ drop_at (coefficients rest) (constant rest ∷ []) (length rest - 1) (front)
+
+  turned : row_form n w row ≡ (places ++ take n row) ++ constant rest ∷ []
+  turned =
+      let wide : length (widen_to w rest) ≡ w + 1 = length-append places (constant rest ∷ []) ∙ ap (λ (k : ℕ). k + 1) length-places in
+      ap₂ (λ (xs : List ℤ) (z : ℤ). (xs ++ take n row) ++ z ∷ [])
+      (take_at places (constant rest ∷ []) w length-places)
+      (get_or_at places (constant rest) [] (pos 0) (width (widen_to w rest)) (omega (arith, length-places, wide)))
+
+  pub row_made : (made : List ℤ) → made ≡ ((take w (coefficients rest) ++ replicate (w - length (coefficients rest)) (pos 0)) ++ take n row) ++ drop (length rest - 1) rest → made ≡ row_form n w row
+  row_made made e =
+      let whole : take w (coefficients rest) ≡ coefficients rest = take_all w (coefficients rest) (omega (arith, front, length-places, length-append (coefficients rest) (replicate (w - width rest) (pos 0)))) in
+      e ∙ rw (whole, front, last) refl ∙ sym turned

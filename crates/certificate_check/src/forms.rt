@@ -1,0 +1,112 @@
+ghost use Rattle.std.specs.Prelude.{◌≡◌, ◌+◌, ◌-◌, ◌≤◌, ◌<◌, ◌++◌, [], ◌∷◌, pos, length, map, All, IfOk, OnOk};
+ghost use Rattle.pip_model.specs.Forms.{unit_form, widen_to};
+ghost use Rattle.pip_model.specs.Check as model;
+ghost use Rattle.affine_rows.specs.Checks.{Fits};
+ghost use Rattle.affine_rows.specs.Forms.{IsForm};
+
+use crate::known::Known;
+use crate::sum::zeros;
+use affine_rows::{Form, WantOfMemory};
+use std::alloc::Global;
+
+// A form over so many places that is a number at one of them.
+fn unit(alloc: Global, width: usize, place: usize) -> Result<Form, WantOfMemory>
+    requires { place < width }
+    ensures { IfOk result (λ form. form ≡ unit_form width place (pos 1)) }
+{
+    let mut made = zeros(alloc, width)?;
+    made[place] = 1;
+    Ok(Form::from_entries(made))
+}
+
+// The form read over so many places.
+pub(crate) fn widened(alloc: Global, width: usize, form: &Form) -> Result<Form, WantOfMemory>
+    requires { length form.now ≤ width + 1 }
+    ensures value { IfOk result (λ made. made ≡ widen_to width form.now) }
+    ensures long { IfOk result (λ made. length made ≡ width + 1) }
+{
+    let mut made = form.try_clone(alloc)?;
+    made.widen(width - form.width())?;
+    Ok(made)
+}
+
+// A tableau row over the parameters and quotients in scope, and then the unknowns.
+fn turned_row(
+    alloc: Global,
+    unknowns: usize,
+    scope: usize,
+    row: &Form,
+) -> Result<Form, WantOfMemory>
+    requires some { unknowns < length row.now }
+    requires within { length row.now ≤ unknowns + scope + 1 }
+    ensures value { IfOk result (λ made. made ≡ model.row_form unknowns scope row.now) }
+    ensures long { IfOk result (λ made. length made ≡ scope + unknowns + 1) }
+{
+    let (front, rest) = row.as_slice().split_at(unknowns);
+    let (coefficients, constant) = rest.split_at(rest.len() - 1);
+    let mut made = Vec::new(alloc);
+    made.extend_from_slice(coefficients)?;
+    made.resize(scope, 0)?;
+    made.extend_from_slice(front)?;
+    made.extend_from_slice(constant)?;
+    Ok(Form::from_entries(made))
+}
+
+impl Known {
+    // Puts the places from one on behind the forms: each says that its place is at least 0.
+    pub(crate) fn push_places(
+        &mut self,
+        alloc: Global,
+        first: usize,
+        n: usize,
+    ) -> Result<(), WantOfMemory>
+        requires { first + n ≤ self.old.width }
+        ensures ok { OnOk result (self.new ≡ record self.old {
+          forms = self.old.forms ++ model.places_from self.old.width first n;
+        }) }
+    {
+        let width = self.width();
+        for i in 0..n {
+            let form = unit(alloc, width, first + i)?;
+            self.push(form)?;
+        }
+        Ok(())
+    }
+
+    // Puts these forms, read over all places, behind the others.
+    pub(crate) fn push_widened(&mut self, alloc: Global, forms: &[Form]) -> Result<(), WantOfMemory>
+        requires { All (λ c. length c ≤ self.old.width + 1) forms.now }
+        ensures ok { OnOk result (self.new ≡ record self.old {
+          forms = self.old.forms ++ map (widen_to self.old.width) forms.now;
+        }) }
+    {
+        let width = self.width();
+        for form in forms {
+            let form = widened(alloc, width, form)?;
+            self.push(form)?;
+        }
+        Ok(())
+    }
+
+    // Puts the tableau's rows, whose unknowns stand behind the other places, behind the forms.
+    pub(crate) fn push_rows(
+        &mut self,
+        alloc: Global,
+        unknowns: usize,
+        scope: usize,
+        rows: &[Form],
+    ) -> Result<(), WantOfMemory>
+        requires places { self.old.width ≡ scope + unknowns }
+        requires some { All (λ row. unknowns < length row) rows.now }
+        requires within { All (λ row. length row ≤ unknowns + scope + 1) rows.now }
+        ensures ok { OnOk result (self.new ≡ record self.old {
+          forms = self.old.forms ++ map (model.row_form unknowns scope) rows.now;
+        }) }
+    {
+        for row in rows {
+            let form = turned_row(alloc, unknowns, scope, row)?;
+            self.push(form)?;
+        }
+        Ok(())
+    }
+}

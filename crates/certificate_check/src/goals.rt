@@ -1,0 +1,203 @@
+ghost use Rattle.std.specs.Prelude.{◌≡◌, ◌+◌, ◌-◌, ◌≤◌, ◌<◌, ◌++◌, [], ◌∷◌, pos, negsuc, slice_index_or, length, map, take, drop, All, IfOk, OnOk};
+ghost use Rattle.pip_model.specs.Forms.{widen_to, opposite, constant, plus as plus_of};
+ghost use Rattle.pip_model.specs.Cuts.{rounding as rounding_of};
+ghost use Rattle.pip_model.specs.Listed.{opposite_listed};
+ghost use Rattle.pip_model.specs.Tree.{Component};
+ghost use Rattle.pip_model.specs.Agreement.{IsChecked};
+ghost use Rattle.pip_model.specs.Check as model;
+ghost use Rattle.affine_rows.specs.Checks.{Fits, is_overflow, is_form_overflow};
+ghost use Rattle.affine_rows.specs.Forms.{IsForm};
+ghost use Rattle.quast.specs.Components.{IsComponent};
+
+use crate::forms::widened;
+use crate::known::Known;
+use crate::sum::add_multiple;
+use affine_rows::{Form, FormRefusal, Overflow, WantOfMemory, lower_bound, rounding};
+use quast::Component;
+use std::alloc::Global;
+
+// Adds a multiple of a component's form to the sum.
+fn add_component(sum: &mut [i128], a: i128, component: &Component) -> Result<(), Overflow>
+    requires width { length component.now.form ≡ length sum.old }
+    requires fits { All Fits sum.old }
+    ensures listed { IsChecked is_overflow (model.plus_term_listed sum.old a component.now.form) result }
+    ensures ok { OnOk result (sum.new ≡ model.plus_term sum.old a component.now.form) }
+    ensures fits { All Fits sum.new }
+{
+    add_multiple(sum, a, component.form().as_slice())
+}
+
+// Adds each unknown's coefficient times its component to the sum.
+fn put_in(sum: &mut [i128], row: &[i128], components: &[Component]) -> Result<(), Overflow>
+    requires widths { All (λ (c : Component). length c.form ≡ length sum.old) components.now }
+    requires row { length components.now ≤ length row.now }
+    requires fits { All Fits sum.old }
+    ensures listed { IsChecked is_overflow (model.put_in_listed sum.old row.now components.now) result }
+    ensures ok { OnOk result (sum.new ≡ model.put_in sum.old row.now components.now) }
+    ensures fits { All Fits sum.new }
+{
+    for i in 0..components.len() {
+        add_component(sum, row[i], &components[i])?;
+    }
+    Ok(())
+}
+
+// The opposite of the form, over so many places.
+fn opposite_over(alloc: Global, width: usize, form: Form) -> Result<Form, FormRefusal>
+    requires { length form ≤ width + 1 }
+    ensures listed { IsChecked is_form_overflow (opposite_listed form) result }
+    ensures value { IfOk result (λ made. made ≡ widen_to width (opposite form)) }
+    ensures long { IfOk result (λ made. length made ≡ width + 1) }
+{
+    let mut form = form;
+    form.opposite()?;
+    let made = widened(alloc, width, &form)?;
+    Ok(made)
+}
+
+// The row over the scope, with the components put for the unknowns.
+fn row_at(
+    alloc: Global,
+    unknowns: usize,
+    scope: usize,
+    row: &Form,
+    components: &[Component],
+) -> Result<Form, FormRefusal>
+    requires some { unknowns < length row.now }
+    requires within { length row.now ≤ unknowns + scope + 1 }
+    requires count { length components.now ≤ unknowns }
+    requires widths { All (λ (c : Component). length c.form ≡ scope + 1) components.now }
+    ensures listed { IsChecked is_form_overflow
+        (model.put_in_listed (widen_to scope (drop unknowns row.now)) row.now components.now) result }
+    ensures value { IfOk result (λ r. r ≡ model.put_in (widen_to scope (drop unknowns row.now)) row.now components.now) }
+    ensures long { IfOk result (λ r. length r ≡ scope + 1) }
+{
+    let (_, rest) = row.as_slice().split_at(unknowns);
+    let first = widened(alloc, scope, &Form::try_new(alloc, rest)?)?;
+    let mut sum = Vec::from_slice(alloc, first.as_slice())?;
+    put_in(&mut sum, row.as_slice(), components)?;
+    Ok(Form::from_entries(sum))
+}
+
+// The goal of the refutation of a tableau row, over the scope and then the unknowns: the row with the components put for
+// the unknowns is below 0.
+pub(crate) fn row_goal(
+    alloc: Global,
+    unknowns: usize,
+    scope: usize,
+    row: &Form,
+    components: &[Component],
+) -> Result<Form, FormRefusal>
+    requires some { unknowns < length row.now }
+    requires within { length row.now ≤ unknowns + scope + 1 }
+    requires count { length components.now ≤ unknowns }
+    requires widths { All (λ (c : Component). length c.form ≡ scope + 1) components.now }
+    ensures listed { let first = widen_to scope (drop unknowns row.now) in IsChecked is_form_overflow
+        (model.put_in_listed first row.now components.now ++ opposite_listed (model.put_in first row.now components.now)) result }
+    ensures value { IfOk result (λ made. made ≡ widen_to (scope + unknowns) (opposite
+        (model.put_in (widen_to scope (drop unknowns row.now)) row.now components.now))) }
+    ensures long { IfOk result (λ made. length made ≡ scope + unknowns + 1) }
+{
+    let width = match scope.checked_add(unknowns) {
+        Some(width) => width,
+        None => return Err(FormRefusal::WantOfMemory),
+    };
+    let r = row_at(alloc, unknowns, scope, row, components)?;
+    opposite_over(alloc, width, r)
+}
+
+// The goal of the refutation of a component's sign: it is below 0.
+pub(crate) fn sign_goal(
+    alloc: Global,
+    width: usize,
+    component: &Component,
+) -> Result<Form, FormRefusal>
+    requires { length component.now.form ≤ width + 1 }
+    ensures listed { IsChecked is_form_overflow (opposite_listed component.now.form) result }
+    ensures value { IfOk result (λ made. made ≡ widen_to width (opposite component.now.form)) }
+    ensures long { IfOk result (λ made. length made ≡ width + 1) }
+{
+    let form = component.form().try_clone(alloc)?;
+    opposite_over(alloc, width, form)
+}
+
+// That the unknown at a place is not above a component.
+fn not_above(
+    alloc: Global,
+    width: usize,
+    place: usize,
+    component: &Component,
+) -> Result<Form, WantOfMemory>
+    requires place { place < width }
+    requires within { length component.now.form ≤ place + 1 }
+    ensures value { IfOk result (λ form. form ≡ model.not_above width place component.now) }
+    ensures long { IfOk result (λ form. length form ≡ width + 1) }
+{
+    lower_bound(alloc, width, place, component.form().as_slice(), 1)
+}
+
+// The opposite of `q - g`, where q stands at a place that g has not.
+fn opposite_difference(
+    alloc: Global,
+    width: usize,
+    place: usize,
+    g: &[i128],
+) -> Result<Form, FormRefusal>
+    requires form { IsForm g.now }
+    requires place { place < width }
+    requires within { length g.now ≤ place + 1 }
+    ensures listed { IsChecked is_form_overflow
+        (opposite_listed (rounding_of width place (record { form = g.now; den = pos 1 }))) result }
+    ensures value { IfOk result (λ form. form ≡ opposite (rounding_of width place (record { form = g.now; den = pos 1 }))) }
+{
+    let mut form = rounding(alloc, width, place, g, 1)?;
+    form.opposite()?;
+    Ok(form)
+}
+
+// That the unknown at a place is below a component.
+fn below(
+    alloc: Global,
+    width: usize,
+    place: usize,
+    component: &Component,
+) -> Result<Form, FormRefusal>
+    requires place { place < width }
+    requires within { length component.now.form ≤ place + 1 }
+    ensures listed { IsChecked is_form_overflow
+        (constant (plus_of (model.not_above width place component.now) (negsuc 0)) ∷ []) result }
+    ensures value { IfOk result (λ form. form ≡ plus_of (model.not_above width place component.now) (negsuc 0)) }
+    ensures long { IfOk result (λ form. length form ≡ width + 1) }
+{
+    opposite_difference(alloc, width, place, component.form().as_slice())
+}
+
+impl Known {
+    // Puts behind the forms that the unknowns from a place on agree with the components but for the last, which is
+    // smaller.
+    pub(crate) fn push_smaller(
+        &mut self,
+        alloc: Global,
+        scope: usize,
+        front: &[Component],
+    ) -> Result<(), FormRefusal>
+        requires some { 0 < length front.now }
+        requires places { scope + length front.now ≤ self.old.width }
+        requires widths { All (λ (c : Component). length c.form ≡ scope + 1) front.now }
+        ensures listed { let goal = model.smaller_from self.old.width scope front.now in
+            IsChecked is_form_overflow (constant (slice_index_or goal (length goal - 1) []) ∷ []) result }
+        ensures ok { OnOk result (self.new ≡ record self.old {
+          forms = self.old.forms ++ model.smaller_from self.old.width scope front.now;
+        }) }
+    {
+        let width = self.width();
+        let last = front.len() - 1;
+        for i in 0..last {
+            let form = not_above(alloc, width, scope + i, &front[i])?;
+            self.push(form)?;
+        }
+        let form = below(alloc, width, scope + last, &front[last])?;
+        self.push(form)?;
+        Ok(())
+    }
+}
