@@ -15,6 +15,7 @@ use Rattle.pip_model.specs.Run.{Work, Refusal, Overflow, Outcome, Done, Refused,
 use Rattle.pip_model.specs.Refuting.{indices, refute}
 use Rattle.pip_model.specs.Made.{PathQuotient, quotient_steps, narrow_to, steps_or_none, made_refutation}
 use Rattle.pip_model.proofs.Tests.{every-append}
+use Rattle.run_laws.proofs.ContextRight.{context_of}
 use Rattle.run_laws.proofs.Ensured.{OnDone, Ensures}
 use Rattle.run_laws.proofs.PointRefusals.{point-refusal}
 use Rattle.run_laws.proofs.Making.{OnMade, Makes, makes-bind, makes-then, makes-give}
@@ -59,10 +60,6 @@ narrow_context w W [] l h = tt
 narrow_context w W (c ∷ known) l h =
     let e = length_narrow w W c l h.0.0 in
     (omega (arith, e), omega (arith, e), narrow_context w W known l h.1)
-
-context_of : (w : ℕ) (K : List (List ℤ)) → Narrow w K → IsContext w K
-context_of w [] h = tt
-context_of w (c ∷ K) h = (record { some = h.0; most = omega (arith, h.1) }, context_of w K h.2)
 
 listed_made : (zs : List ℤ) → Makes (λ (u : Unit {0}). Unit {0}) (listed zs)
 listed_made zs = record { makes = λ w. go w (all_fit zs) }

@@ -8,7 +8,7 @@ use Rattle.pip_model.specs.Numbers.{is_zero, same_number}
 use Rattle.pip_model.specs.Forms.{same_form}
 use Rattle.pip_model.specs.Tree.{Component}
 use Rattle.pip_model.specs.Simplified.{same_components}
-use Rattle.pip_model.proofs.Tests.{is_zero_is, same_number_is}
+use Rattle.pip_model.proofs.Tests.{is_zero_is, is_zero_yes, same_number_is, same_number-itself}
 
 -- two tests that pass in the same cases
 same_test : (b c : Bool) → (b ≡ true → c ≡ true) → (c ≡ true → b ≡ true) → b ≡ c
@@ -16,20 +16,13 @@ same_test true c f g = sym (f refl)
 same_test false true f g = g refl
 same_test false false f g = refl
 
-zero_yes : (x : ℤ) → x ≡ pos 0 → is_zero x ≡ true
-zero_yes x e = rw e refl
-
-number_yes : (x : ℤ) → same_number x x ≡ true
-number_yes (pos n) = grind arith
-number_yes (negsuc n) = grind arith
-
 pub is_zero_test : (x : ℤ) → int_eq x (pos 0) ≡ is_zero x
 is_zero_test x =
-    same_test (int_eq x (pos 0)) (is_zero x) (λ e. zero_yes x ((Decides-int_eq x (pos 0)).0 e)) (λ e. (Decides-int_eq x (pos 0)).1 (is_zero_is x e))
+    same_test (int_eq x (pos 0)) (is_zero x) (λ e. is_zero_yes x ((Decides-int_eq x (pos 0)).0 e)) (λ e. (Decides-int_eq x (pos 0)).1 (is_zero_is x e))
 
 pub same_number_test : (x y : ℤ) → int_eq x y ≡ same_number x y
 same_number_test x y =
-    same_test (int_eq x y) (same_number x y) (λ e. rw ((Decides-int_eq x y).0 e) (number_yes y)) (λ e. (Decides-int_eq x y).1 (same_number_is x y e))
+    same_test (int_eq x y) (same_number x y) (λ e. rw ((Decides-int_eq x y).0 e) (same_number-itself y)) (λ e. (Decides-int_eq x y).1 (same_number_is x y e))
 
 pub zeros_test : (xs : List ℤ) → list_all (λ x. int_eq x (pos 0)) xs ≡ list_all is_zero xs
 zeros_test [] = refl
