@@ -8,6 +8,7 @@ pub mod Opposites
 pub mod Places
 pub mod Raising
 pub mod Short
+pub mod ShortNumbers
 pub mod Tightening
 pub mod Units
 pub mod Values

@@ -1,5 +1,5 @@
 -- Affine forms as lists of numbers, the last of them the constant.
-use Rattle.std.specs.Prelude.{◌<◌, ℤ, pos, ◌+ℤ◌, ◌≤ℤ◌, ◌<ℤ◌, neg_ℤ, List, length, All}
+use Rattle.std.specs.Prelude.{◌≡◌, ◌+◌, ◌<◌, ℕ, ℤ, pos, ◌+ℤ◌, ◌≤ℤ◌, ◌<ℤ◌, neg_ℤ, List, length, All}
 use Rattle.pip_model.specs.Numbers.{floor_mod}
 use Rattle.affine_rows.specs.Checks.{Fits}
 
@@ -16,3 +16,12 @@ raised d x = x +ℤ floor_mod (neg_ℤ x) d
 pub record IsResidue (d x : ℤ) : Type 0 where
   pub low : pos 0 ≤ℤ x
   pub high : x <ℤ d
+
+-- each form has so many coefficients and a constant
+abbrev pub HaveWidth : ℕ → List (List ℤ) → Type 0
+HaveWidth w forms = All (λ c. length c ≡ w + 1) forms
+
+-- a width and forms, as they are seen
+pub record FormsOfWidth : Type 0 where
+  pub width : ℕ
+  pub forms : List (List ℤ)

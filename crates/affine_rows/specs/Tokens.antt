@@ -1,5 +1,5 @@
 -- Words of the contracts on tokens.
-use Rattle.std.specs.Prelude.{◌≡◌, ◌<◌, ℕ, ℤ, Option, Some, None, if◌then◌else◌, ⊤}
+use Rattle.std.specs.Prelude.{◌≡◌, ◌<◌, ◌==◌, ℕ, ℤ, pos, neg_ℤ, List, slice_index, Option, Some, None, if◌then◌else◌, ⊤}
 use Rattle.pip_model.specs.declared.Kind.{Kind}
 use Rattle.pip_model.specs.declared.Kind.TheVariants.{Number, Fraction, Finish}
 use Rattle.pip_model.specs.Numbers.{fits}
@@ -8,6 +8,10 @@ use Rattle.affine_rows.specs.Checks.{Fits}
 -- z where it fits
 abbrev pub fitting : ℤ → Option ℤ
 fitting z = if fits z then Some z else None
+
+-- n, or its opposite behind a `-`
+abbrev pub signed_as : List ℕ → ℕ → ℤ
+signed_as bytes n = if slice_index bytes 0 == 45 then neg_ℤ (pos n) else pos n
 
 -- the numbers of a token fit
 abbrev pub IsFittingKind : Kind → Type 0

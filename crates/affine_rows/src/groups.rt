@@ -16,8 +16,8 @@ pub fn next_open(bytes: &[u8], start: usize) -> Option<usize>
     None
 }
 
-// How many brackets are open behind one more byte.
-fn open_after(depth: usize, byte: u8) -> usize
+/// How many brackets are open behind one more byte, where so many were before it.
+pub fn open_after(depth: usize, byte: u8) -> usize
     requires { depth + 1 < 2 ^ 64 }
     ensures value { result ≡ open_after_of depth byte }
     ensures bound { result ≤ depth + 1 }

@@ -8,6 +8,7 @@ mod division;
 mod entries;
 mod evaluation;
 mod form;
+mod forms;
 mod groups;
 mod limits;
 mod memory;
@@ -21,7 +22,8 @@ pub use combination::{add_combined, difference};
 pub use division::{divide_all, divided, gcd_with, is_whole, remainders, residues};
 pub use entries::negate_all;
 pub use form::Form;
-pub use groups::{group_end, next_open};
+pub use forms::Forms;
+pub use groups::{group_end, next_open, open_after};
 pub use limits::{
     MOST_COMPONENTS, MOST_CONTEXT_ROWS, MOST_NESTING, MOST_PARAMETERS, MOST_ROWS, MOST_UNKNOWNS,
 };
@@ -30,7 +32,7 @@ pub use multiples::round_form;
 pub use numbers::{
     Overflow, divides, floor_div, floor_mod, gcd, minus, nonnegative, plus, positive, times,
 };
-pub use tokens::{Kind, Lexeme, blank, digits, integer, token, unsigned_part};
+pub use tokens::{Kind, Lexeme, blank, digits, integer, plain_number, token, unsigned_part};
 
 #[cfg(test)]
 mod tests;

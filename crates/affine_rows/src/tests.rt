@@ -48,6 +48,13 @@ fn what_takes_memory_answers(rt: HostRuntime) -> Result<(), Fail> {
     );
     form.widen(2)?;
     has(&rt, "widen", form.as_slice(), &[4, -6, 0, 0, 7]);
+    let mut forms = Forms::new(alloc, 2);
+    forms.push(sample(alloc)?)?;
+    assert_eq!(rt; forms.width(), 2);
+    for form in forms.as_slice() {
+        has(&rt, "push", form.as_slice(), &[4, -6, 7]);
+    }
+    assert_eq!(rt; forms.as_slice().len(), 1);
     assert_eq!(rt; Bytes::try_new(alloc, b"()")?.as_slice(), b"()".as_slice());
     Ok(())
 }

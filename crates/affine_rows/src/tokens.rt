@@ -1,9 +1,10 @@
-ghost use Rattle.std.specs.Prelude.{◌≡◌, ◌+◌, ◌<◌, ◌≤◌, ◌^◌, ◌-◌, pos, min, length, take, drop, slice_index, IfSome};
+ghost use Rattle.std.specs.Prelude.{◌≡◌, ℕ, ◌+◌, ◌<◌, ◌≤◌, ◌^◌, ◌-◌, pos, min, length, take, drop, slice_index, IfSome};
 ghost use Rattle.std.specs.List.{prefix_len, take_while};
 ghost use Rattle.pip_model.specs.Numbers.{fits};
+ghost use Rattle.pip_model.specs.declared.Kind.TheVariants.{Number};
 ghost use Rattle.pip_model.specs.Tokens.{is_blank, is_digit, is_letter, is_sign, natural_of, unsigned_part as unsigned_part_of, digits_at, integer_of, number_kind as number_kind_of, fraction_kind as fraction_kind_of, lexeme as lexeme_of, behind_stroke as behind_stroke_of, numeral_at, token_here as token_here_of, token as token_of};
 ghost use Rattle.affine_rows.specs.Checks.{Fits};
-ghost use Rattle.affine_rows.specs.Tokens.{fitting, IsFittingKind, TakesBytes};
+ghost use Rattle.affine_rows.specs.Tokens.{fitting, signed_as, IsFittingKind, TakesBytes};
 
 pub use pip_model::{Kind, Lexeme};
 
@@ -11,7 +12,7 @@ pub use pip_model::{Kind, Lexeme};
 pub fn blank(byte: u8) -> bool
     ensures { result ≡ is_blank byte }
 {
-    matches!(byte, b'\t' | b'\n' | 12 | b'\r' | b' ')
+    byte <= b' ' && matches!(byte, b'\t' | b'\n' | 12 | b'\r' | b' ')
 }
 
 fn digit(byte: u8) -> bool
@@ -48,6 +49,24 @@ fn digit_count(bytes: &[u8]) -> usize
     ensures bound { result ≤ length bytes.now }
 {
     bytes.iter().take_while(|byte| digit(**byte)).count()
+}
+
+// How many digits stand at the front, and the number that they spell, or the greatest `u64` where it is greater.
+fn leading(bytes: &[u8]) -> (usize, u64)
+    ensures len { result.0 ≡ length (digits_at bytes.now) }
+    ensures bound { result.0 ≤ length bytes.now }
+    ensures value { result.1 ≡ min (natural_of (digits_at bytes.now)) (2 ^ 64 - 1) }
+{
+    let mut value: u64 = 0;
+    for (i, byte) in bytes.iter().enumerate() {
+        if !digit(*byte) {
+            return (i, value);
+        }
+        value = value
+            .saturating_mul(10)
+            .saturating_add(u64::from(byte.saturating_sub(b'0')));
+    }
+    (bytes.len(), value)
 }
 
 /// The digits at the front.
@@ -170,6 +189,35 @@ fn numeral(place: usize, bytes: &[u8]) -> Lexeme
     }
 }
 
+// The number, with the sign that stands at the front.
+fn signed(bytes: &[u8], number: u64) -> i128
+    ensures value { result ≡ signed_as bytes.now number }
+    ensures fits { Fits result }
+{
+    match bytes {
+        [b'-', ..] => -(number as i128),
+        _ => number as i128,
+    }
+}
+
+// The number at the front and how many bytes spell it; none where it is a fraction's, or its digits spell no less than
+// the greatest `u64`.
+fn short_number(bytes: &[u8]) -> Option<(i128, usize)>
+    ensures value { IfSome result
+        (λ x. (place : ℕ) → token_here_of place bytes.now ≡ lexeme_of place (Number x.0) x.1) }
+    ensures fits { IfSome result (λ x. Fits x.0) }
+    ensures order { IfSome result (λ x. (0 < x.1) × (x.1 ≤ length bytes.now)) }
+{
+    let rest = unsigned_part(bytes);
+    let (digit_len, value) = leading(rest);
+    let len = bytes.len() - rest.len() + digit_len;
+    let (_, behind) = bytes.split_at(len);
+    if digit_len == 0 || value == u64::MAX || digits(behind_stroke(behind)).len() != 0 {
+        return None;
+    }
+    Some((signed(bytes, value), len))
+}
+
 // The token whose first byte is the first of these.
 fn token_here(place: usize, bytes: &[u8]) -> Lexeme
     requires { place + length bytes.now < 2 ^ 64 }
@@ -189,6 +237,31 @@ fn token_here(place: usize, bytes: &[u8]) -> Lexeme
     }
 }
 
+// The place of the first byte at or behind `start` that is no blank, or the number of bytes.
+fn skip_blanks(bytes: &[u8], start: usize) -> usize
+    requires { start ≤ length bytes.now }
+    ensures value { result ≡ start + length (take_while is_blank (drop start bytes.now)) }
+    ensures order { (start ≤ result) × (result ≤ length bytes.now) }
+{
+    let (_, rest) = bytes.split_at(start);
+    start + blanks(rest)
+}
+
+/// The number that is the next token at or behind `start`, which is at most the number of bytes, and the place behind
+/// it; none where `token` has to be asked.
+pub fn plain_number(bytes: &[u8], start: usize) -> Option<(i128, usize)>
+    requires { start ≤ length bytes.now }
+    ensures value { IfSome result (λ x. ((token_of bytes.now start).kind ≡ Number x.0)
+        × ((token_of bytes.now start).after ≡ x.1)) }
+    ensures fits { IfSome result (λ x. Fits x.0) }
+    ensures order { IfSome result (λ x. (start < x.1) × (x.1 ≤ length bytes.now)) }
+{
+    let place = skip_blanks(bytes, start);
+    let (_, rest) = bytes.split_at(place);
+    let (number, len) = short_number(rest)?;
+    Some((number, place + len))
+}
+
 /// The next token at or behind `start`, which is at most the number of bytes: blanks are skipped, and the token is the
 /// longest that begins there. Behind the last one comes `Finish`.
 pub fn token(bytes: &[u8], start: usize) -> Lexeme
@@ -198,8 +271,7 @@ pub fn token(bytes: &[u8], start: usize) -> Lexeme
     ensures takes { TakesBytes result.kind result.start result.after }
     ensures order { (start ≤ result.start) × (result.start ≤ result.after) × (result.after ≤ length bytes.now) }
 {
-    let (_, rest) = bytes.split_at(start);
-    let blank_len = blanks(rest);
-    let (_, rest) = rest.split_at(blank_len);
-    token_here(start + blank_len, rest)
+    let place = skip_blanks(bytes, start);
+    let (_, rest) = bytes.split_at(place);
+    token_here(place, rest)
 }

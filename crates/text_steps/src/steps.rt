@@ -6,7 +6,7 @@ ghost use Rattle.affine_rows.specs.Checks.{Fits};
 ghost use Rattle.text_steps.specs.Steps.{fault_of, IsPassed, IsRead};
 
 use crate::fault::{Reads, TextFault};
-use affine_rows::{Kind, Lexeme, token};
+use affine_rows::{Kind, Lexeme, plain_number, token};
 
 /// Whether the kind is the wanted bracket.
 pub fn same_bracket(kind: Kind, wanted: Kind) -> bool
@@ -70,6 +70,9 @@ pub fn number(bytes: &[u8], place: usize) -> Reads<i128, TextFault>
     ensures reads { IsRead (λ z. z) fault_of bytes.now place result (model.number bytes.now place) }
     ensures fits { IfOk result (λ x. Fits x.0) }
 {
+    if let Some(read) = plain_number(bytes, place) {
+        return Ok(read);
+    }
     let token = token(bytes, place);
     match token.kind {
         Kind::Number(number) => Ok((number, token.after)),
