@@ -2,3 +2,4 @@ pub mod Faults
 pub mod Bytes
 pub mod Plans
 pub mod Views
+pub mod Windows

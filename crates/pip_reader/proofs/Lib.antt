@@ -1,3 +1,6 @@
 pub mod Constants
 pub mod Stepwise
 pub mod NoOptions
+pub mod RowSteps
+pub mod FoundContexts
+pub mod Scanning

@@ -1,11 +1,16 @@
-//! Reads native problem texts, `( (comment) Nn Np Nl Nm Bg Nq ( tableau ) ( context ) )` (the PIP/PipLib user's guide).
+//! Reads native problem texts, `( (comment) Nn Np Nl Nm Bg Nq ( tableau ) ( context ) )` (the PIP/PipLib user's
+//! guide), and contexts that stand alone.
 #![tactic(auto)]
 
 mod block;
+mod context;
 mod header;
 mod problem;
 mod row;
+mod scan;
 #[cfg(test)]
 mod tests;
 
+pub use context::read_context;
 pub use problem::read_problem;
+pub use scan::GroupScan;

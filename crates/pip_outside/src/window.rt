@@ -1,0 +1,142 @@
+ghost use Rattle.std.specs.Prelude.{◌≡◌, ◌+◌, ◌<◌, ◌≤◌, ◌^◌, [], length, drop, IfOk, IfErr, IfSome, OnErr};
+ghost use Rattle.pip_outside.specs.Bytes.{count_of};
+ghost use Rattle.pip_outside.specs.Windows.{FillsFrom, IsFilled, IsWant};
+
+use crate::failed::Failed;
+use crate::source::Source;
+use std::alloc::{AllocError, Global};
+use std::marker::Model;
+
+/// The most bytes that one call asks a source for.
+const PIECE: usize = 4096;
+
+/// Why no bytes come into a window: the source failed, or memory was refused.
+#[derive(Clone, Copy, Debug, PartialEq, Eq)]
+pub enum FillRefusal {
+    Failed,
+    WantOfMemory,
+}
+
+impl From<Failed> for FillRefusal {
+    ghost use Rattle.std.specs.Prelude.{◌≡◌};
+    ghost use Rattle.pip_outside.specs.declared.window.FillRefusal.TheVariants as refusal;
+
+    ghost from_gives = { λ _ e. e ≡ refusal.Failed };
+
+    fn from(_: Failed) -> FillRefusal {
+        FillRefusal::Failed
+    }
+}
+
+impl From<AllocError> for FillRefusal {
+    ghost use Rattle.std.specs.Prelude.{◌≡◌};
+    ghost use Rattle.pip_outside.specs.declared.window.FillRefusal.TheVariants as refusal;
+
+    ghost from_gives = { λ _ e. e ≡ refusal.WantOfMemory };
+
+    fn from(_: AllocError) -> FillRefusal {
+        FillRefusal::WantOfMemory
+    }
+}
+
+/// The bytes of an input that are held: those that came behind the ones that were dropped.
+///
+/// Contracts see the held bytes, how many were dropped before them, and the most that were held at once since the last
+/// `restart`.
+#[derive(Drop)]
+pub struct Window {
+    // the held bytes stand behind the first `start` of these
+    bytes: Vec<u8>,
+    start: usize,
+    base: usize,
+    peak: usize,
+}
+
+impl Model for Window {
+    ghost use Rattle.std.specs.Prelude.{◌≤◌, ◌+◌, drop, vec_len};
+    ghost use Rattle.pip_outside.specs.Windows.{HeldBytes};
+
+    ghost Value = { HeldBytes };
+
+    ghost view = { λ w. record { held = drop w.start w.bytes.items; base = w.base; peak = w.peak } };
+
+    ghost invariant = { λ w. (w.start ≤ vec_len w.bytes) × (vec_len w.bytes ≤ w.peak + w.start) };
+}
+
+impl Window {
+    /// A window that holds nothing. It never answers Failed.
+    pub fn try_new(alloc: Global) -> Result<Window, FillRefusal>
+        ensures ok { IfOk result (λ w. w ≡ record { held = []; base = 0; peak = 0 }) }
+        ensures err { IfErr result IsWant }
+    {
+        let bytes = Vec::with_capacity(alloc, PIECE)?;
+        Ok(Window {
+            bytes,
+            start: 0,
+            base: 0,
+            peak: 0,
+        })
+    }
+
+    /// The held bytes.
+    pub fn held(&self) -> &[u8]
+        ensures value { result.now ≡ self.now.held }
+        ensures peak { length result.now ≤ self.now.peak }
+    {
+        let (_, held) = self.bytes.split_at(self.start);
+        held
+    }
+
+    /// How many bytes were dropped before the held ones.
+    pub fn base(&self) -> usize
+        ensures { result ≡ self.now.base }
+    {
+        self.base
+    }
+
+    /// Drops the first n of the held bytes. Those that stay are moved to the front once no more of them stay than were
+    /// dropped, so a byte that is dropped pays for moving one.
+    pub fn drop_front(&mut self, n: usize)
+        requires held { n ≤ length self.old.held }
+        requires counted { self.old.base + n < 2 ^ 64 }
+        ensures { self.new ≡ record self.old { held = drop n self.old.held; base = self.old.base + n } }
+    {
+        self.base += n;
+        self.start += n;
+        let left = self.bytes.len() - self.start;
+        if left <= self.start {
+            self.bytes.rotate_left(self.start);
+            self.bytes.truncate(left);
+            self.start = 0;
+        }
+    }
+
+    /// Forgets how many bytes were held before.
+    pub fn restart(&mut self)
+        ensures { self.new ≡ record self.old { peak = length self.old.held } }
+    {
+        self.peak = self.bytes.len() - self.start;
+    }
+
+    /// Asks the source for at most `most` bytes, and for no more than 4,096, and appends those that come; `Ok(0)` is
+    /// the end of the input. Want of memory comes before the source is asked; either refusal leaves the window as it
+    /// was.
+    pub fn fill<S: Source>(&mut self, source: &mut S, most: usize) -> Result<usize, FillRefusal>
+        requires { 1 ≤ most }
+        ensures bound { IfOk result (λ n. (n ≤ most) × (n ≤ 4096)) }
+        ensures bytes { FillsFrom (S.left source.old) (S.left source.new) result self.old self.new }
+        ensures err { OnErr result (self.new ≡ self.old) }
+
+        // the source
+        ensures counted { IfSome (S.left source.old) (λ _. S.taken source.new ≡ S.taken source.old + count_of result) }
+        ensures cause { IsFilled (S.faults source.old) (S.faults source.new) result }
+    {
+        self.bytes.reserve(PIECE)?;
+        let mut piece = [0; PIECE];
+        let (buf, _) = piece.split_at_mut(most.min(PIECE));
+        let count = source.read(buf)?;
+        self.bytes.extend_from_slice(&buf[..count])?;
+        self.peak = self.peak.max(self.bytes.len() - self.start);
+        Ok(count)
+    }
+}

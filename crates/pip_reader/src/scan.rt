@@ -1,0 +1,64 @@
+ghost use Rattle.std.specs.Prelude.{◌≡◌, ◌+◌, ◌<◌, ◌≤◌, ◌^◌, ◌++◌, ℕ, List, [], length, fold, IfNone, IfSome};
+ghost use Rattle.pip_model.specs.Reading.{open_after as open_after_of};
+ghost use Rattle.pip_reader.specs.Groups.{IsScanned, first_group_end, group_end_from, place_behind};
+
+use affine_rows::open_after;
+use std::marker::Model;
+
+/// A search for the end of a text's first group, piece by piece.
+///
+/// Contracts see how many brackets are open behind the bytes that were scanned.
+#[derive(Drop)]
+pub struct GroupScan {
+    depth: usize,
+}
+
+impl Model for GroupScan {
+    ghost use Rattle.std.specs.Prelude.{ℕ};
+
+    ghost Value = { ℕ };
+
+    ghost view = { λ s. s.depth };
+}
+
+impl GroupScan {
+    /// Before the first byte.
+    pub fn start() -> GroupScan
+        ensures { IsScanned [] result }
+    {
+        GroupScan { depth: 0 }
+    }
+
+    // The place behind the `)` that balances the first `(`, where so many brackets are open before these bytes.
+    fn find(&mut self, bytes: &[u8]) -> Option<usize>
+        requires { self.old + length bytes.now < 2 ^ 64 }
+        ensures found { result ≡ group_end_from self.old 0 bytes.now }
+        ensures open { IfNone result (self.new ≡ fold open_after_of self.old bytes.now) }
+        ensures bound { IfSome result (λ after. after ≤ length bytes.now) }
+        ensures few { self.new ≤ self.old + length bytes.now }
+    {
+        for (i, byte) in bytes.iter().enumerate() {
+            let before = self.depth;
+            self.depth = open_after(before, *byte);
+            if before > 0 && self.depth == 0 {
+                return Some(i + 1);
+            }
+        }
+        None
+    }
+
+    /// Scans the next bytes: the place among these behind the `)` that balances the first `(` of all bytes scanned so
+    /// far; none exactly where there is no such place yet. It counts `(` and `)` alone, and takes no memory. Once a
+    /// place was found nothing is said of further bytes.
+    pub fn scan(&mut self, bytes: &[u8]) -> Option<usize>
+        requires { self.old + length bytes.now < 2 ^ 64 }
+        ensures found { (seen : List ℕ) → IsScanned seen self.old
+            → place_behind (length seen) result ≡ first_group_end (seen ++ bytes.now) }
+        ensures open { (seen : List ℕ) → IsScanned seen self.old
+            → IfNone result (IsScanned (seen ++ bytes.now) self.new) }
+        ensures bound { IfSome result (λ after. after ≤ length bytes.now) }
+        ensures few { self.new ≤ self.old + length bytes.now }
+    {
+        self.find(bytes)
+    }
+}
