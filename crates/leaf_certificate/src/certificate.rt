@@ -28,7 +28,8 @@ impl Model for Certificate {
 
     ghost view = { λ c. record { shares = c.shares; vector = numbers_of c.vector; leaves = c.leaves.items } };
 
-    ghost invariant = { λ c. IsTrue (certificate_fits (record { shares = c.shares; vector = numbers_of c.vector; leaves = c.leaves.items })) };
+    ghost invariant = { λ c. IsTrue (certificate_fits
+        (record { shares = c.shares; vector = numbers_of c.vector; leaves = c.leaves.items })) };
 }
 
 // A copy of the numbers, where there are some.

@@ -47,7 +47,9 @@ impl Model for Scratch {
 
     ghost view = { λ s. (s.vector.items, s.numerators.items) };
 
-    ghost invariant = { λ s. (most_params + most_nesting ≤ vec_capacity s.vector) × (most_components ≤ vec_capacity s.numerators) };
+    ghost invariant = { λ s.
+        (most_params + most_nesting ≤ vec_capacity s.vector)
+        × (most_components ≤ vec_capacity s.numerators) };
 }
 
 impl Scratch {

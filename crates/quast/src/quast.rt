@@ -32,7 +32,9 @@ impl Model for Quast {
 
     ghost view = { λ q. record { width = q.width; tree = tree_of q.node } };
 
-    ghost invariant = { λ q. IsQuast (record { width = q.width; tree = tree_of q.node }) × (q.nesting ≡ model.nesting (tree_of q.node)) };
+    ghost invariant = { λ q.
+        IsQuast (record { width = q.width; tree = tree_of q.node })
+        × (q.nesting ≡ model.nesting (tree_of q.node)) };
 }
 
 /// What could not be joined, as it was given.

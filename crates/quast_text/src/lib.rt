@@ -14,6 +14,6 @@ mod row;
 mod tests;
 mod tree;
 
-pub use print::{print_answer, print_tree};
+pub use print::{print_answer, print_tree, put, put_comment, put_definition, put_form, put_node};
 pub use read::{Spoken, read_answer};
 pub use refusal::TextRefusal;

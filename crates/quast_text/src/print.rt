@@ -55,7 +55,8 @@ fn put_spoken(out: &mut Vec<u8>, comment: &Bytes, answer: &Answer) -> Result<(),
     put(out, b")\n")
 }
 
-fn put_comment(out: &mut Vec<u8>, comment: &[u8]) -> Result<(), AllocError>
+/// Appends a `(`, the comment and a newline.
+pub fn put_comment(out: &mut Vec<u8>, comment: &[u8]) -> Result<(), AllocError>
     ensures ok { Appends (codes "(" ++ comment.now ++ newline) out.old.items out.new.items result }
     ensures kept { Begins out.old.items out.new.items }
 {
@@ -76,7 +77,8 @@ fn put_solution(out: &mut Vec<u8>, answer: &Answer) -> Result<(), AllocError>
     }
 }
 
-fn put_node(out: &mut Vec<u8>, node: &Node) -> Result<(), AllocError>
+/// Appends the text of the tree below a node.
+pub fn put_node(out: &mut Vec<u8>, node: &Node) -> Result<(), AllocError>
     ensures ok { Appends (spell_tree (tree_of node.now)) out.old.items out.new.items result }
     ensures kept { Begins out.old.items out.new.items }
 {
@@ -105,7 +107,8 @@ fn put_condition(out: &mut Vec<u8>, v: &Form) -> Result<(), AllocError>
     put(out, b"\n")
 }
 
-fn put_definition(out: &mut Vec<u8>, v: &Form, d: i128) -> Result<(), AllocError>
+/// Appends the line of a new parameter, the floor of `v` over `d`.
+pub fn put_definition(out: &mut Vec<u8>, v: &Form, d: i128) -> Result<(), AllocError>
     ensures ok { Appends
         (codes "(newparm " ++ decimal (width v.now) ++ codes " (div " ++ spell_form v.now ++ codes " "
         ++ signed_decimal d ++ codes "))\n")
@@ -134,7 +137,8 @@ fn put_divisor(out: &mut Vec<u8>, d: i128) -> Result<(), AllocError>
     put(out, b"))\n")
 }
 
-fn put_form(out: &mut Vec<u8>, v: &Form) -> Result<(), AllocError>
+/// Appends the numbers of a form between row brackets.
+pub fn put_form(out: &mut Vec<u8>, v: &Form) -> Result<(), AllocError>
     ensures ok { Appends (spell_form v.now) out.old.items out.new.items result }
     ensures kept { Begins out.old.items out.new.items }
 {
@@ -247,7 +251,8 @@ fn put_number(out: &mut Vec<u8>, number: i128) -> Result<(), AllocError>
     put(out, Buffer::new().format(number).as_bytes())
 }
 
-fn put(out: &mut Vec<u8>, bytes: &[u8]) -> Result<(), AllocError>
+/// Appends the bytes.
+pub fn put(out: &mut Vec<u8>, bytes: &[u8]) -> Result<(), AllocError>
     ensures ok { Appends bytes.now out.old.items out.new.items result }
     ensures kept { Begins out.old.items out.new.items }
 {
