@@ -11,7 +11,7 @@ use Rattle.pip_model.specs.Rows.{Row, unit_row}
 use Rattle.tableau.specs.Tableaus.{IsRow, IsReduced}
 use Rattle.tableau.specs.Flat.{numbers_of, row_of_numbers, is_unit_row, flat_numbers}
 use Rattle.tableau.specs.Short.{IsShort, IsShortRow}
-use Rattle.tableau.specs.KeptRows.{IsPlace, IsKnown, IsFlat, IsUnsealed, row_length, row_kept, rows_kept}
+use Rattle.tableau.specs.KeptRows.{IsPlace, IsKnown, IsPlain, IsFlat, IsUnsealed, row_length, row_kept, rows_kept}
 use Rattle.tableau.specs.declared.kept.Kept.{Kept}
 use Rattle.tableau.specs.declared.kept.Kept.TheVariants as kept
 use Rattle.tableau.specs.declared.kept.Place.{Place}
@@ -41,6 +41,13 @@ place_more n w l m e (kept.At p) h = omega (arith, e, h)
 
 known_append : (n w : ℕ) (zs more : List ℤ) (ks : List Kept) → All (IsPlace n w (length zs)) ks → All (IsKnown n w zs) ks → All (IsKnown n w (zs ++ more)) ks
 known_append n w zs more ks places h = λ i d lt. λ s. subst IsShortRow (sym (kept_append n w zs more _ (places i d lt))) (h i d lt s)
+
+plain_one : (n w : ℕ) (zs more : List ℤ) (k : Kept) → IsPlace n w (length zs) k → IsPlain n w zs k → IsPlain n w (zs ++ more) k
+plain_one n w zs more (kept.Unit c) h e = e
+plain_one n w zs more (kept.At p) h e = ap is_unit_row (kept_append n w zs more (kept.At p) h) ∙ e
+
+plain_append : (n w : ℕ) (zs more : List ℤ) (ks : List Kept) → All (IsPlace n w (length zs)) ks → All (IsPlain n w zs) ks → All (IsPlain n w (zs ++ more)) ks
+plain_append n w zs more ks places h = λ i d lt. plain_one n w zs more _ (places i d lt) (h i d lt)
 
 last_row : (n w : ℕ) (zs more : List ℤ) (last : Place) → last.first ≡ length zs → length more ≡ row_length n w → row_kept n w (zs ++ more) (kept.At last) ≡ row_of_numbers n more
 last_row n w zs more last f e =
@@ -93,6 +100,8 @@ with_plain n w zs more ks last h f e row reduced short plain =
       reduced = All-same IsReduced _ _ rows (All-push IsReduced _ _ h.reduced reduced);
       short = All-push (IsKnown n w (zs ++ more)) ks (kept.At last) (known_append n w zs more ks h.places h.short)
           (λ s. subst IsShortRow (sym (last_row n w zs more last f e)) (short s));
+      plain = All-push (IsPlain n w (zs ++ more)) ks (kept.At last) (plain_append n w zs more ks h.places h.plain)
+          (ap is_unit_row (last_row n w zs more last f e) ∙ plain);
       flat = sym (ap flat_numbers rows ∙ flat_plain (rows_kept n w zs ks) (row_of_numbers n more) plain ∙ ap (λ (xs : List ℤ). xs ++ numbers_of (row_of_numbers n more)) (sym h.flat) ∙ ap (λ (xs : List ℤ). zs ++ xs) (numbers_again n more (omega arith)));
       few = rw (length_push ks (kept.At last), long, room_more (length ks) (row_length n w)) (omega (arith, h.few));
     }
@@ -122,6 +131,7 @@ with_unit n w c zs ks h lt =
       rows = All-same (IsRow n w) _ _ rows (All-push (IsRow n w) _ _ h.rows (unit_fits n w c lt));
       reduced = All-same IsReduced _ _ rows (All-push IsReduced _ _ h.reduced (content-one (unit_row n w c) refl));
       short = All-push (IsKnown n w zs) ks (kept.Unit c) h.short (λ s. unit_short n w c);
+      plain = All-push (IsPlain n w zs) ks (kept.Unit c) h.plain tt;
       flat = sym (ap flat_numbers rows ∙ flat_unit (rows_kept n w zs ks) (unit_row n w c) (unit_is n w c lt) ∙ sym h.flat);
       few = rw (length_push ks (kept.Unit c), room_more (length ks) (row_length n w)) (omega (arith, h.few));
     }

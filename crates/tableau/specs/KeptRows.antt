@@ -1,9 +1,9 @@
 -- Rows as they are kept: the row of a column by the column, any other by the place of its numbers.
-use Rattle.std.specs.Prelude.{◌≡◌, ℕ, ◌+◌, ◌*◌, ◌<◌, ◌≤◌, ℤ, pos, Bool, true, IsTrue, List, [], ◌∷◌, ◌++◌, length, take, drop, map, max, replicate, All}
+use Rattle.std.specs.Prelude.{◌≡◌, ℕ, ◌+◌, ◌*◌, ◌<◌, ◌≤◌, ℤ, pos, Bool, true, false, IsTrue, List, [], ◌∷◌, ◌++◌, length, take, drop, map, max, replicate, All}
 use Rattle.pip_model.specs.Rows.{Row, unit_row}
 use Rattle.tableau.specs.Short.{IsShortRow}
 use Rattle.tableau.specs.Tableaus.{IsRow, IsReduced}
-use Rattle.tableau.specs.Flat.{row_of_numbers, flat_numbers}
+use Rattle.tableau.specs.Flat.{row_of_numbers, is_unit_row, flat_numbers}
 use Rattle.tableau.specs.declared.kept.Lent.{Lent}
 use Rattle.tableau.specs.declared.kept.Kept.{Kept}
 use Rattle.tableau.specs.declared.kept.Kept.TheVariants as kept
@@ -54,12 +54,21 @@ IsKnown n w numbers k = IsTrue (kept_short k) → IsShortRow (row_kept n w numbe
 abbrev pub IsKnownLent : Lent → Kept → Type 0
 IsKnownLent v k = IsKnown v.unknowns v.width v.numbers.now k
 
+-- a row that is kept by its numbers is not that of a column
+abbrev pub IsPlain : ℕ → ℕ → List ℤ → Kept → Type 0
+IsPlain n w numbers (kept.Unit c) = Unit {0}
+IsPlain n w numbers (kept.At p) = is_unit_row (row_from_place n w numbers p.first) ≡ false
+
+abbrev pub IsPlainLent : Lent → Kept → Type 0
+IsPlainLent v k = IsPlain v.unknowns v.width v.numbers.now k
+
 -- the numbers are those of the rows that are not kept as columns
 pub record IsFlat (n w : ℕ) (numbers : List ℤ) (ks : List Kept) : Type 0 where
   pub places : All (IsPlace n w (length numbers)) ks
   pub rows : All (IsRow n w) (rows_kept n w numbers ks)
   pub reduced : All IsReduced (rows_kept n w numbers ks)
   pub short : All (IsKnown n w numbers) ks
+  pub plain : All (IsPlain n w numbers) ks
   pub flat : numbers ≡ flat_numbers (rows_kept n w numbers ks)
   pub few : length numbers ≤ length ks * row_length n w
 

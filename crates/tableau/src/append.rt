@@ -1,4 +1,4 @@
-ghost use Rattle.std.specs.Prelude.{◌≡◌, ℕ, ◌+◌, ◌-◌, ◌<◌, ◌≤◌, pos, ◌≤ℤ◌, [], ◌∷◌, ◌++◌, length, IsTrue, IfOk, OnErr, OnOk, vec_len, vec_capacity};
+ghost use Rattle.std.specs.Prelude.{◌≡◌, ℕ, ◌+◌, ◌-◌, ◌<◌, ◌≤◌, pos, ◌≤ℤ◌, [], ◌∷◌, ◌++◌, length, IsTrue, IfOk, IfSome, OnErr, OnOk, vec_len, vec_capacity};
 ghost use Rattle.pip_model.specs.Forms.{entry};
 ghost use Rattle.pip_model.specs.Listed.{all_fit};
 ghost use Rattle.pip_model.specs.Rows as model;
@@ -35,10 +35,7 @@ fn append_one(numbers: &mut Vec<i128>, number: i128)
     ensures length { vec_len numbers.new ≡ vec_len numbers.old + 1 }
     ensures room { vec_capacity numbers.old ≤ vec_capacity numbers.new }
 {
-    match numbers.push(number) {
-        Ok(()) => {}
-        Err(_) => unreachable!(),
-    }
+    numbers.push_reserved(number);
 }
 
 // Appends the numbers of a row, for which there is room.
@@ -50,6 +47,19 @@ pub fn append_row(numbers: &mut Vec<i128>, row: &RowView<'_>)
     append_one(numbers, row.den);
     append(numbers, row.coefs);
     append(numbers, row.constant);
+}
+
+// The same, in one piece where the numbers stand in one run.
+fn append_run(numbers: &mut Vec<i128>, row: &RowView<'_>, run: Option<&[i128]>)
+    requires room { vec_len numbers.old + length (numbers_of (row_of row.now)) ≤ vec_capacity numbers.old }
+    requires run { IfSome run (λ s. s.now ≡ numbers_of (row_of row.now)) }
+    ensures items { numbers.new.items ≡ numbers.old.items ++ numbers_of (row_of row.now) }
+    ensures room { vec_capacity numbers.old ≤ vec_capacity numbers.new }
+{
+    match run {
+        Some(run) => append(numbers, run),
+        None => append_row(numbers, row),
+    }
 }
 
 // Appends the numbers of the row divided by their greatest common divisor; whether they are known to be short.
@@ -74,10 +84,12 @@ pub fn append_eliminated(
     p: &RowView<'_>,
     c: usize,
     row: &RowView<'_>,
+    run: Option<&[i128]>,
 ) -> bool
     requires room { vec_len numbers.old + length (numbers_of (row_of row.now)) ≤ vec_capacity numbers.old }
     requires p { IsOwnRow (row_of p.now) }
     requires row { IsRow (length p.now.coefs.now) (length p.now.constant.now - 1) (row_of row.now) }
+    requires run { IfSome run (λ s. s.now ≡ numbers_of (row_of row.now)) }
     requires column { c < length p.now.coefs.now }
     requires positive { pos 1 ≤ℤ entry p.now.coefs.now c }
     requires listed { IsTrue (all_fit (model.eliminated_listed (row_of p.now) c (row_of row.now))) }
@@ -90,7 +102,7 @@ pub fn append_eliminated(
     ensures room { vec_capacity numbers.old ≤ vec_capacity numbers.new }
 {
     let start = numbers.len();
-    append_row(numbers, row);
+    append_run(numbers, row, run);
     let (_, last) = numbers.split_at_mut(start);
     if both(p.short, row.short) {
         eliminate_short(last, p, c)

@@ -8,11 +8,12 @@ ghost use Rattle.tableau.specs.Short.{IsShortRow};
 ghost use Rattle.tableau.specs.Tableaus.{IsRow, IsOwnRow, IsReduced, row_from};
 ghost use Rattle.tableau.specs.Views.{row_of};
 
+use crate::divisor::divisor_with;
 use crate::short::{
     all_short, both, combine_short, is_short, is_short_row, short_product, with_entry,
 };
 use crate::view::RowView;
-use affine_rows::{Overflow, difference, divide_all, floor_div, gcd_with, times};
+use affine_rows::{Overflow, difference, divide_all, floor_div, times};
 
 // Checks `a*r - b*s`, entry by entry.
 fn check_each(a: i128, r: &[i128], b: i128, s: &[i128]) -> Result<(), Overflow>
@@ -143,7 +144,7 @@ pub fn divide_parts(
     if den == 1 {
         return (1, short);
     }
-    let divisor = gcd_with(gcd_with(den, coefs), constant);
+    let divisor = divisor_with(divisor_with(den, coefs), constant);
     if divisor == 1 {
         return (den, short);
     }

@@ -3,10 +3,11 @@ ghost use Rattle.pip_model.specs.Forms.{entry};
 ghost use Rattle.pip_model.specs.Rows as model;
 ghost use Rattle.pip_model.specs.Agreement.{IsChecked};
 ghost use Rattle.affine_rows.specs.Checks.{is_overflow};
-ghost use Rattle.tableau.specs.KeptRows.{IsFlat, IsPlace, IsKnownLent, SameShape, lent_row, lent_rows, with_more, with_rows, unit_run};
+ghost use Rattle.tableau.specs.KeptRows.{IsFlat, IsPlace, IsKnownLent, IsPlainLent, SameShape, lent_row, lent_rows, with_more, with_rows, unit_run};
 ghost use Rattle.tableau.specs.Tableaus.{IsRow, IsOwnRow, IsReduced};
 ghost use Rattle.tableau.specs.Views.{row_of};
 
+use crate::copying::copy_kept;
 use crate::elimination::check_eliminated;
 use crate::flat_rows::FlatRows;
 use crate::kept::{Kept, Lent};
@@ -30,34 +31,43 @@ fn check_row(p: &RowView<'_>, c: usize, row: &RowView<'_>) -> Result<(), Overflo
     check_eliminated(p, c, row)
 }
 
-// Adds what a row is after the pivot on row p and column c. A row that is 0 in the column stays, since its numbers have
-// no common divisor.
+// Adds what a kept row is after the pivot on row p and column c. A row that is 0 in the column stays, since its numbers
+// have no common divisor.
 fn turn_row(
     next: &mut FlatRows,
     p: &RowView<'_>,
     c: usize,
-    row: &RowView<'_>,
+    lent: &Lent<'_>,
+    one: Kept,
 ) -> Result<(), Overflow>
     requires room { length next.old.rows < next.old.most }
-    requires p { IsRow next.old.unknowns next.old.width (row_of p.now) }
-    requires row { IsRow next.old.unknowns next.old.width (row_of row.now) }
-    requires reduced { IsReduced (row_of row.now) }
-    requires column { c < next.old.unknowns }
+    requires unknowns { next.old.unknowns ≡ lent.now.unknowns }
+    requires width { next.old.width ≡ lent.now.width }
+    requires units { lent.now.units.now ≡ unit_run lent.now.unknowns lent.now.width }
+    requires place { IsPlace lent.now.unknowns lent.now.width (length lent.now.numbers.now) one }
+    requires p { IsRow lent.now.unknowns lent.now.width (row_of p.now) }
+    requires row { IsRow lent.now.unknowns lent.now.width (lent_row lent.now one) }
+    requires reduced { IsReduced (lent_row lent.now one) }
+    requires short { IsKnownLent lent.now one }
+    requires plain { IsPlainLent lent.now one }
+    requires column { c < lent.now.unknowns }
     requires positive { pos 1 ≤ℤ entry p.now.coefs.now c }
-    ensures listed { IsChecked is_overflow (model.eliminated_listed (row_of p.now) c (row_of row.now)) result }
-    ensures ok { OnOk result (next.new ≡ with_more next.old (model.eliminated (row_of p.now) c (row_of row.now))) }
+    ensures listed { IsChecked is_overflow (model.eliminated_listed (row_of p.now) c (lent_row lent.now one)) result }
+    ensures ok { OnOk result
+        (next.new ≡ with_more next.old (model.eliminated (row_of p.now) c (lent_row lent.now one))) }
     ensures err { OnErr result (next.new ≡ next.old) }
 {
-    check_row(p, c, row)?;
+    let row = lent.row(one);
+    check_row(p, c, &row)?;
     if row.coefs[c] == 0 {
-        next.push_row(row);
+        copy_kept(next, lent, one);
     } else {
-        next.push_eliminated(p, c, row);
+        next.push_eliminated(p, c, &row, lent.run(one));
     }
     Ok(())
 }
 
-// Adds what a kept row is after the pivot on row p and column c: the row of another column stays.
+// The same, where the row of another column stays without a look at its numbers.
 fn turn_kept(
     next: &mut FlatRows,
     p: &RowView<'_>,
@@ -74,6 +84,7 @@ fn turn_kept(
     requires row { IsRow lent.now.unknowns lent.now.width (lent_row lent.now one) }
     requires reduced { IsReduced (lent_row lent.now one) }
     requires short { IsKnownLent lent.now one }
+    requires plain { IsPlainLent lent.now one }
     requires column { c < lent.now.unknowns }
     requires positive { pos 1 ≤ℤ entry p.now.coefs.now c }
     ensures listed { IsChecked is_overflow (model.eliminated_listed (row_of p.now) c (lent_row lent.now one)) result }
@@ -87,7 +98,7 @@ fn turn_kept(
             return Ok(());
         }
     }
-    turn_row(next, p, c, &lent.row(one))
+    turn_row(next, p, c, lent, one)
 }
 
 // Adds what the kept rows are after the pivot on row p and column c.
@@ -106,6 +117,7 @@ fn turn_rows(
     requires rows { All (λ one. IsRow lent.now.unknowns lent.now.width (lent_row lent.now one)) kept.now }
     requires reduced { All (λ one. IsReduced (lent_row lent.now one)) kept.now }
     requires short { All (IsKnownLent lent.now) kept.now }
+    requires plain { All (IsPlainLent lent.now) kept.now }
     requires p { IsRow lent.now.unknowns lent.now.width (row_of p.now) }
     requires column { c < lent.now.unknowns }
     requires positive { pos 1 ≤ℤ entry p.now.coefs.now c }

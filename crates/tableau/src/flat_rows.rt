@@ -9,6 +9,7 @@ use crate::kept::{Kept, Lent};
 use crate::view::RowView;
 use affine_rows::WantOfMemory;
 use std::alloc::Global;
+use std::cmp::max;
 use std::marker::Model;
 
 // Rows: those of columns by the columns, the others by their numbers, one row after the other. There is room for
@@ -114,7 +115,7 @@ impl FlatRows {
         lent.row(self.kept[i])
     }
 
-    // Makes room for so many rows.
+    // Makes room for so many rows; where there is not enough, for half as many more than now at least.
     pub fn reserve(&mut self, most: usize) -> Result<(), WantOfMemory>
         ensures unknowns { self.new.unknowns ≡ self.old.unknowns }
         ensures width { self.new.width ≡ self.old.width }
@@ -125,6 +126,7 @@ impl FlatRows {
         if most <= self.most {
             return Ok(());
         }
+        let most = max(most, self.most.saturating_add(self.most / 2));
         let numbers = count_numbers(self.unknowns, self.width, most)?;
         self.kept.reserve(most - self.kept.len())?;
         self.numbers.reserve(numbers - self.numbers.len())?;

@@ -1,6 +1,7 @@
-ghost use Rattle.std.specs.Prelude.{◌≡◌, ◌+◌, ◌<◌, ◌≤◌, length, IsTrue};
+ghost use Rattle.std.specs.Prelude.{◌≡◌, ◌+◌, ◌<◌, ◌≤◌, length, take, drop, IsTrue, IfSome};
 ghost use Rattle.pip_model.specs.Rows.{unit_row};
-ghost use Rattle.tableau.specs.KeptRows.{IsPlace, IsKnownLent, row_length, row_from_place, row_kept, unit_run};
+ghost use Rattle.tableau.specs.Flat.{numbers_of};
+ghost use Rattle.tableau.specs.KeptRows.{IsPlace, IsKnownLent, lent_row, row_length, row_from_place, row_kept, unit_run};
 ghost use Rattle.tableau.specs.Short.{IsShortRow};
 ghost use Rattle.tableau.specs.Views.{row_of};
 
@@ -50,6 +51,18 @@ impl<'t> Lent<'t> {
         }
     }
 
+    // The numbers of the row whose first number stands at a place.
+    pub fn numbers_at(&self, first: usize) -> &'t [i128]
+        requires { first + row_length self.now.unknowns self.now.width ≤ length self.now.numbers.now }
+        ensures value { result.now ≡ take (row_length self.now.unknowns self.now.width)
+            (drop first self.now.numbers.now) }
+        ensures length { length result.now ≡ row_length self.now.unknowns self.now.width }
+    {
+        let (_, numbers) = self.numbers.split_at(first);
+        let (numbers, _) = numbers.split_at(self.unknowns + self.width + 2);
+        numbers
+    }
+
     // The row at a place.
     fn plain(&self, at: Place) -> RowView<'t>
         requires place { at.first + row_length self.now.unknowns self.now.width ≤ length self.now.numbers.now }
@@ -57,9 +70,19 @@ impl<'t> Lent<'t> {
             → IsShortRow (row_from_place self.now.unknowns self.now.width self.now.numbers.now at.first) }
         ensures { row_of result ≡ row_from_place self.now.unknowns self.now.width self.now.numbers.now at.first }
     {
-        let (_, numbers) = self.numbers.split_at(at.first);
-        let (numbers, _) = numbers.split_at(self.unknowns + self.width + 2);
-        view_of(numbers, self.unknowns, at.short)
+        view_of(self.numbers_at(at.first), self.unknowns, at.short)
+    }
+
+    // The numbers of a row that is kept by them.
+    #[tactic(auto, using(crate::proofs::Flat::numbers_again))]
+    pub fn run(&self, kept: Kept) -> Option<&'t [i128]>
+        requires { IsPlace self.now.unknowns self.now.width (length self.now.numbers.now) kept }
+        ensures { IfSome result (λ s. s.now ≡ numbers_of (lent_row self.now kept)) }
+    {
+        match kept {
+            Kept::Unit(_) => None,
+            Kept::At(at) => Some(self.numbers_at(at.first)),
+        }
     }
 
     // A row.

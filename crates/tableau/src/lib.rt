@@ -4,6 +4,7 @@
 
 mod append;
 mod copying;
+mod divisor;
 mod elimination;
 mod exchange;
 mod flat_rows;

@@ -1,17 +1,18 @@
-ghost use Rattle.std.specs.Prelude.{◌≡◌, ◌+◌, ◌-◌, ◌<◌, ◌≤◌, pos, ◌≤ℤ◌, [], ◌∷◌, ◌++◌, length, take, drop, IsTrue, OnErr, OnOk, vec_len, vec_capacity};
+ghost use Rattle.std.specs.Prelude.{◌≡◌, ◌+◌, ◌-◌, ◌<◌, ◌≤◌, pos, ◌≤ℤ◌, false, [], ◌∷◌, ◌++◌, length, take, drop, IsTrue, IfSome, OnErr, OnOk, vec_len, vec_capacity};
 ghost use Rattle.pip_model.specs.Forms.{entry};
 ghost use Rattle.pip_model.specs.Listed.{all_fit};
 ghost use Rattle.pip_model.specs.Rows as model;
 ghost use Rattle.pip_model.specs.Cuts.{rounded, rounded_listed};
 ghost use Rattle.pip_model.specs.Agreement.{IsChecked};
 ghost use Rattle.affine_rows.specs.Checks.{is_overflow};
-ghost use Rattle.tableau.specs.Flat.{row_of_numbers};
-ghost use Rattle.tableau.specs.KeptRows.{IsFlat, IsUnsealed, rows_kept, with_more};
+ghost use Rattle.tableau.specs.Flat.{numbers_of, row_of_numbers, is_unit_row};
+ghost use Rattle.tableau.specs.KeptRows.{IsFlat, IsUnsealed, row_length, rows_kept, with_more};
+ghost use Rattle.tableau.specs.Short.{IsShortRow};
 ghost use Rattle.tableau.specs.Tableaus.{IsRow, IsReduced};
 ghost use Rattle.tableau.specs.Views.{row_of};
 
 use crate::append::{
-    append_divided, append_eliminated, append_rounded, append_row, append_widened,
+    append, append_divided, append_eliminated, append_rounded, append_row, append_widened,
 };
 use crate::flat_rows::FlatRows;
 use crate::kept::{Kept, Place};
@@ -26,10 +27,7 @@ fn append_kept(kept: &mut Vec<Kept>, one: Kept)
     ensures count { length kept.new.items ≡ length kept.old.items + 1 }
     ensures room { vec_capacity kept.old ≤ vec_capacity kept.new }
 {
-    match kept.push(one) {
-        Ok(()) => {}
-        Err(_) => unreachable!(),
-    }
+    kept.push_reserved(one);
 }
 
 // Keeps the row whose numbers stand last, from the place on: the row of a column as the column.
@@ -62,6 +60,21 @@ impl FlatRows {
         ensures { self.new ≡ with_more self.old (model.unit_row self.old.unknowns self.old.width c) }
     {
         append_kept(&mut self.kept, Kept::Unit(c));
+    }
+
+    // Adds the row of these numbers, which is not that of a column.
+    pub fn push_plain(&mut self, numbers: &[i128], short: bool)
+        requires room { length self.old.rows < self.old.most }
+        requires length { length numbers.now ≡ row_length self.old.unknowns self.old.width }
+        requires row { IsRow self.old.unknowns self.old.width (row_of_numbers self.old.unknowns numbers.now) }
+        requires reduced { IsReduced (row_of_numbers self.old.unknowns numbers.now) }
+        requires plain { is_unit_row (row_of_numbers self.old.unknowns numbers.now) ≡ false }
+        requires short { IsTrue short → IsShortRow (row_of_numbers self.old.unknowns numbers.now) }
+        ensures { self.new ≡ with_more self.old (row_of_numbers self.old.unknowns numbers.now) }
+    {
+        let first = self.numbers.len();
+        append(&mut self.numbers, numbers);
+        append_kept(&mut self.kept, Kept::At(Place { first, short }));
     }
 
     // Adds a row.
@@ -104,18 +117,25 @@ impl FlatRows {
         );
     }
 
-    // Adds what the row is after the pivot on row p and column c.
-    pub fn push_eliminated(&mut self, p: &RowView<'_>, c: usize, row: &RowView<'_>)
+    // Adds what the row is after the pivot on row p and column c; the run has its numbers.
+    pub fn push_eliminated(
+        &mut self,
+        p: &RowView<'_>,
+        c: usize,
+        row: &RowView<'_>,
+        run: Option<&[i128]>,
+    )
         requires room { length self.old.rows < self.old.most }
         requires p { IsRow self.old.unknowns self.old.width (row_of p.now) }
         requires row { IsRow self.old.unknowns self.old.width (row_of row.now) }
+        requires run { IfSome run (λ s. s.now ≡ numbers_of (row_of row.now)) }
         requires column { c < self.old.unknowns }
         requires positive { pos 1 ≤ℤ entry p.now.coefs.now c }
         requires listed { IsTrue (all_fit (model.eliminated_listed (row_of p.now) c (row_of row.now))) }
         ensures { self.new ≡ with_more self.old (model.eliminated (row_of p.now) c (row_of row.now)) }
     {
         let first = self.numbers.len();
-        let short = append_eliminated(&mut self.numbers, p, c, row);
+        let short = append_eliminated(&mut self.numbers, p, c, row, run);
         let last = Place { first, short };
         seal(
             &mut self.kept,

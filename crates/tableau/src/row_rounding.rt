@@ -3,30 +3,13 @@ ghost use Rattle.pip_model.specs.Rows as model;
 ghost use Rattle.pip_model.specs.Cuts.{rounded, rounded_listed};
 ghost use Rattle.pip_model.specs.Agreement.{IsChecked};
 ghost use Rattle.affine_rows.specs.Checks.{is_overflow};
-ghost use Rattle.tableau.specs.KeptRows.{IsFlat, IsPlace, IsKnownLent, SameShape, lent_row, lent_rows, with_more, with_rows, unit_run};
+ghost use Rattle.tableau.specs.KeptRows.{IsFlat, IsPlace, IsKnownLent, IsPlainLent, SameShape, lent_row, lent_rows, with_rows, unit_run};
 ghost use Rattle.tableau.specs.Tableaus.{IsRow, IsReduced};
 
+use crate::copying::copy_kept;
 use crate::flat_rows::FlatRows;
 use crate::kept::{Kept, Lent};
 use affine_rows::Overflow;
-
-// Adds a kept row.
-fn copy_kept(next: &mut FlatRows, lent: &Lent<'_>, one: Kept)
-    requires room { length next.old.rows < next.old.most }
-    requires unknowns { next.old.unknowns ≡ lent.now.unknowns }
-    requires width { next.old.width ≡ lent.now.width }
-    requires units { lent.now.units.now ≡ unit_run lent.now.unknowns lent.now.width }
-    requires place { IsPlace lent.now.unknowns lent.now.width (length lent.now.numbers.now) one }
-    requires row { IsRow lent.now.unknowns lent.now.width (lent_row lent.now one) }
-    requires reduced { IsReduced (lent_row lent.now one) }
-    requires short { IsKnownLent lent.now one }
-    ensures { next.new ≡ with_more next.old (lent_row lent.now one) }
-{
-    match one {
-        Kept::Unit(c) => next.push_unit(c),
-        Kept::At(_) => next.push_row(&lent.row(one)),
-    }
-}
 
 // Adds the kept rows.
 fn copy_rows(next: &mut FlatRows, lent: &Lent<'_>, kept: &[Kept])
@@ -38,6 +21,7 @@ fn copy_rows(next: &mut FlatRows, lent: &Lent<'_>, kept: &[Kept])
     requires rows { All (λ one. IsRow lent.now.unknowns lent.now.width (lent_row lent.now one)) kept.now }
     requires reduced { All (λ one. IsReduced (lent_row lent.now one)) kept.now }
     requires short { All (IsKnownLent lent.now) kept.now }
+    requires plain { All (IsPlainLent lent.now) kept.now }
     ensures { next.new ≡ with_rows next.old (lent_rows lent.now kept.now) }
 {
     for one in kept {

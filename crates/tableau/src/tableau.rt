@@ -157,7 +157,7 @@ impl Tableau {
         ensures { IfOk result (λ t. t ≡ self.now) }
     {
         let rows = self.rows.try_clone(alloc)?;
-        let next = FlatRows::with_room(alloc, rows.unknowns(), rows.width(), rows.len())?;
+        let next = FlatRows::with_room(alloc, rows.unknowns(), rows.width(), rows.len() + 2)?;
         let units = Vec::from_slice(alloc, self.units.as_slice())?;
         Ok(Tableau { rows, next, units })
     }

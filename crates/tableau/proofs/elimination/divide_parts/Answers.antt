@@ -7,7 +7,7 @@ use Rattle.tableau.proofs.elimination.divide_parts.Goals as goal
 
 pub returns-clause-value : goal.returns-clause-value
 returns-clause-value c =
-    divided_row c.args.den c.args.coefs.now c.args.constant.now c.gcd_with-divisor.result _ _ _ (search rules) (search rules) (search rules) (search rules)
+    divided_row c.args.den c.args.coefs.now c.args.constant.now c.divisor_with-divisor.result _ _ _ (search rules) (search rules) (search rules) (search rules)
 
 pub returns-then-divisor-eq1-clause-value : goal.returns-then-divisor-eq1-clause-value
 returns-then-divisor-eq1-clause-value c =

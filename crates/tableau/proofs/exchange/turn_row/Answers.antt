@@ -1,6 +1,7 @@
-use Rattle.std.proofs.Common.{rules, ap, ◌≡◌, ◌∙◌, pos}
+use Rattle.std.proofs.Common.{rules, ap, ◌≡◌, ◌∙◌, pos, subst}
 use Rattle.pip_model.specs.Forms.{entry}
-use Rattle.tableau.specs.KeptRows.{with_more}
+use Rattle.pip_model.specs.Rows.{Row}
+use Rattle.tableau.specs.KeptRows.{lent_row, with_more}
 use Rattle.tableau.specs.Views.{row_of}
 use Rattle.tableau.proofs.Substituting.{eliminated_none}
 use Rattle.tableau.proofs.exchange.turn_row.Goals as goal
@@ -8,6 +9,9 @@ use Rattle.tableau.proofs.exchange.turn_row.Goals as goal
 pub returns-then-row-c-eq0-clause-ok : goal.returns-then-row-c-eq0-clause-ok
 returns-then-row-c-eq0-clause-ok c =
     let t = c.args.next.now in
-    let none : entry c.args.row.now.coefs.now c.args.c ≡ pos 0 = search rules in
-    let stays = eliminated_none t.unknowns t.width (row_of c.args.p.now) c.args.c (row_of c.args.row.now) c.requires.p c.requires.row c.requires.positive none c.requires.reduced in
-    c.push_row.ensures ∙ ap (with_more t) stays
+    let l = c.args.lent.now in
+    let r = lent_row l c.args.one in
+    let zero : entry c.row-row.result.coefs.now c.args.c ≡ pos 0 = search rules in
+    let none = subst (λ (x : Row). entry x.coefs c.args.c ≡ pos 0) c.row-row.ensures zero in
+    let stays = eliminated_none l.unknowns l.width (row_of c.args.p.now) c.args.c r c.requires.p c.requires.row c.requires.positive none c.requires.reduced in
+    c.copy_kept.ensures ∙ ap (with_more t) stays
