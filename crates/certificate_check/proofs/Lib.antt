@@ -7,3 +7,4 @@ pub mod Owned
 pub mod Refuted
 pub mod Numbers
 pub mod ContextRows
+pub mod Walks

@@ -1,14 +1,17 @@
 -- What each refutation of a leaf starts from beside the leaf's forms.
-use Rattle.std.proofs.Common.{◌≡◌, refl, ap, sym, ◌∙◌, ℕ, zero, suc, ◌+◌, ◌-◌, ◌*◌, ◌<◌, ℤ, pos, List, [], ◌∷◌, ◌++◌, length, take, map, get_or, append_assoc, arith, eqb-true, IsTrue}
-use Rattle.std.specs.Prelude.{slice_index_or, Option, Some, ◌==◌}
+use Rattle.std.proofs.Common.{◌≡◌, refl, ap, sym, ◌∙◌, ℕ, zero, suc, ◌+◌, ◌-◌, ◌*◌, ◌<◌, ℤ, pos, List, [], ◌∷◌, ◌++◌, length, take, map, get_or, append_assoc, arith, eqb-true, IsTrue, Bool, true, false, ◌&&◌, Err}
+use Rattle.std.specs.Prelude.{slice_index_or, Option, Some, None, ◌==◌}
 use Rattle.std.specs.List.{list_all}
 use Rattle.std.proofs.lemmas.List.{length-map, length-append, get_or_append_left, get_or-append_right, get_or-map}
 use Rattle.pip_model.specs.Numbers.{same_number}
 use Rattle.pip_model.specs.Problem.{Problem}
 use Rattle.pip_model.specs.Tree.{Component}
-use Rattle.pip_model.specs.Check.{Premises, LeafCase, leaf_premises, row_premises, sign_premises, least_premises, fronts_from, is_whole_list}
+use Rattle.pip_model.specs.Reading.{◌>>◌}
+use Rattle.pip_model.specs.Certificate.{LeafProofs}
+use Rattle.pip_model.specs.Check.{spot, Rejected, Checks, holds, check_leaf, Premises, LeafCase, leaf_premises, row_premises, sign_premises, least_premises, fronts_from, is_whole_list}
 use Rattle.pip_model.proofs.Tests.{both}
 use Rattle.certificate_check.specs.Leaves.{nothing}
+use Rattle.certificate_check.specs.Paths.{goal_count, has_shape}
 
 pub length-fronts : (front cs : List Component) → length (fronts_from front cs) ≡ length cs
 length-fronts front [] = refl
@@ -85,9 +88,31 @@ own_place P L list cs r e h =
 pub whole_count : (n : ℕ) (cs : List Component) → IsTrue (is_whole_list n (Some cs)) → length cs ≡ n
 whole_count n cs h = eqb-true (length cs) n (both (length cs == n) (list_all (λ (c : Component). same_number c.den (pos 1)) cs) h).0
 
-pub own_count : (P : Problem) (L : LeafCase) (list : Option (List Component)) (cs : List Component) → list ≡ Some cs → IsTrue (is_whole_list P.unknowns list) → length P.rows + 2 * P.unknowns ≡ length (leaf_premises P L list)
-own_count P L list cs e h =
-    let same : length (leaf_premises P L list) ≡ length (leaf_premises P L (Some cs)) = ap (λ (o : Option (List Component)). length (leaf_premises P L o)) e in
-    let own = length-own P L cs in
+pub goals_of_list : (P : Problem) (list : Option (List Component)) (cs : List Component) → list ≡ Some cs → IsTrue (is_whole_list P.unknowns list)
+    → length P.rows + 2 * P.unknowns ≡ goal_count P list
+goals_of_list P list cs e h =
+    let same : goal_count P list ≡ goal_count P (Some cs) = ap (goal_count P) e in
     let count = whole_count P.unknowns cs (rw e at h) in
     omega arith
+
+-- a leaf has as many goals as it has premises of refutations
+pub own_goals : (P : Problem) (L : LeafCase) (list : Option (List Component)) → length (leaf_premises P L list) ≡ goal_count P list
+own_goals P L None = refl
+own_goals P L (Some cs) = length-own P L cs
+
+-- ---- the shape of a leaf's proofs
+
+module _ (P : Problem) (shares : Bool) (l : ℕ) (L : LeafCase) (p : LeafProofs) where
+  shapeless : (b c : Bool) (rest : Checks (Unit {0})) → (b && c) ≡ false → (holds (spot l 0 0) b >> (holds (spot l 0 0) c >> rest)) ≡ Err (Rejected (spot l 0 0))
+  shapeless true true rest e = cc
+  shapeless true false rest e = refl
+  shapeless false c rest e = refl
+
+  shape_same : (is_whole_list P.unknowns L.list && (length p.refutations == length (leaf_premises P L L.list))) ≡ has_shape P L.list p
+  shape_same = ap (λ (n : ℕ). is_whole_list P.unknowns L.list && (length p.refutations == n)) (own_goals P L L.list)
+
+  pub without_shape : has_shape P L.list p ≡ false → check_leaf P shares l L p ≡ Err (Rejected (spot l 0 0))
+  without_shape e = shapeless (is_whole_list P.unknowns L.list) (length p.refutations == length (leaf_premises P L L.list)) _ (shape_same ∙ e)
+
+  pub shape_count : has_shape P L.list p ≡ true → length p.refutations ≡ length (leaf_premises P L L.list)
+  shape_count e = eqb-true (length p.refutations) (length (leaf_premises P L L.list)) (both (is_whole_list P.unknowns L.list) (length p.refutations == length (leaf_premises P L L.list)) (shape_same ∙ e)).1

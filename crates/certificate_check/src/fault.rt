@@ -3,14 +3,26 @@ ghost use Rattle.certificate_check.specs.declared.fault.Fault.TheVariants as fau
 
 use affine_rows::WantOfMemory;
 use std::alloc::{AllocError, AllocFailed};
+use std::fmt;
 
-/// A place in a certificate: a leaf, a refutation of it and a step of that, each counted from 1. 0 stands for what comes
-/// before the first; refutation 0 has the shared steps.
+/// A place in a certificate: a leaf, a refutation of it and a step of that, each counted from 1. 0 stands for what
+/// comes before the first; refutation 0 has the shared steps.
 #[derive(Clone, Copy, Debug, PartialEq, Eq)]
 pub struct Spot {
     pub leaf: usize,
     pub refutation: usize,
     pub step: usize,
+}
+
+impl fmt::Display for Spot {
+    fn fmt<W: fmt::Write>(&self, f: &mut fmt::Formatter<W>) -> fmt::Result {
+        let Spot {
+            leaf,
+            refutation,
+            step,
+        } = *self;
+        write!(f, "leaf {leaf} refutation {refutation} step {step}")
+    }
 }
 
 // Why a check ends before all conditions are met.

@@ -69,7 +69,8 @@ fn row_at(
     requires widths { All (λ (c : Component). length c.form ≡ scope + 1) components.now }
     ensures listed { IsChecked is_form_overflow
         (model.put_in_listed (widen_to scope (drop unknowns row.now)) row.now components.now) result }
-    ensures value { IfOk result (λ r. r ≡ model.put_in (widen_to scope (drop unknowns row.now)) row.now components.now) }
+    ensures value { IfOk result (λ r. r
+        ≡ model.put_in (widen_to scope (drop unknowns row.now)) row.now components.now) }
     ensures long { IfOk result (λ r. length r ≡ scope + 1) }
 {
     let (_, rest) = row.as_slice().split_at(unknowns);
@@ -79,8 +80,8 @@ fn row_at(
     Ok(Form::from_entries(sum))
 }
 
-// The goal of the refutation of a tableau row, over the scope and then the unknowns: the row with the components put for
-// the unknowns is below 0.
+// The goal of the refutation of a tableau row, over the scope and then the unknowns: the row with the components put
+// for the unknowns is below 0.
 pub(crate) fn row_goal(
     alloc: Global,
     unknowns: usize,
@@ -93,7 +94,8 @@ pub(crate) fn row_goal(
     requires count { length components.now ≤ unknowns }
     requires widths { All (λ (c : Component). length c.form ≡ scope + 1) components.now }
     ensures listed { let first = widen_to scope (drop unknowns row.now) in IsChecked is_form_overflow
-        (model.put_in_listed first row.now components.now ++ opposite_listed (model.put_in first row.now components.now)) result }
+        (model.put_in_listed first row.now components.now
+        ++ opposite_listed (model.put_in first row.now components.now)) result }
     ensures value { IfOk result (λ made. made ≡ widen_to (scope + unknowns) (opposite
         (model.put_in (widen_to scope (drop unknowns row.now)) row.now components.now))) }
     ensures long { IfOk result (λ made. length made ≡ scope + unknowns + 1) }
@@ -148,7 +150,8 @@ fn opposite_difference(
     requires within { length g.now ≤ place + 1 }
     ensures listed { IsChecked is_form_overflow
         (opposite_listed (rounding_of width place (record { form = g.now; den = pos 1 }))) result }
-    ensures value { IfOk result (λ form. form ≡ opposite (rounding_of width place (record { form = g.now; den = pos 1 }))) }
+    ensures value { IfOk result (λ form. form
+        ≡ opposite (rounding_of width place (record { form = g.now; den = pos 1 }))) }
 {
     let mut form = rounding(alloc, width, place, g, 1)?;
     form.opposite()?;

@@ -7,6 +7,7 @@ ghost use Rattle.pip_model.specs.Check as model;
 ghost use Rattle.affine_rows.specs.Checks.{is_form_overflow};
 ghost use Rattle.certificate_check.specs.Faults.{fault_of, spot_of};
 ghost use Rattle.certificate_check.specs.Leaves.{case_of, own_premises, AreWide, IsLeaf, nothing};
+ghost use Rattle.certificate_check.specs.Paths.{goal_count, has_shape as has_shape_of};
 
 use crate::fault::{Fault, Spot};
 use crate::goals::{row_goal, sign_goal};
@@ -44,18 +45,35 @@ fn are_whole(components: &[Component]) -> bool
         .all(|component| is_whole_component(component))
 }
 
-impl Leaf<'_> {
-    // Whether a list has one component for each unknown, all of denominator 1.
-    pub(crate) fn is_whole(&self) -> bool
-        ensures { result ≡ model.is_whole_list self.now.problem.now.unknowns (option_copied self.now.list) }
-    {
-        match self.list {
-            Some(components) => components.len() == self.problem.unknowns()
-                && are_whole(components),
-            None => true,
-        }
+// Whether a list has one component for each unknown, all of denominator 1.
+fn is_whole(problem: &Problem, list: Option<&[Component]>) -> bool
+    ensures { result ≡ model.is_whole_list problem.now.unknowns (option_copied list.entry) }
+{
+    match list {
+        Some(components) => components.len() == problem.unknowns() && are_whole(components),
+        None => true,
     }
+}
 
+// How many refutations the leaf has.
+fn goals(problem: &Problem, list: Option<&[Component]>) -> usize
+    requires { IsTrue (model.is_whole_list problem.now.unknowns (option_copied list)) }
+    ensures { result ≡ goal_count problem.now (option_copied list.entry) }
+{
+    match list {
+        Some(_) => problem.rows().len() + 2 * problem.unknowns(),
+        None => 1,
+    }
+}
+
+// Whether a list is whole, and there are as many refutations as there are to be.
+pub(crate) fn has_shape(problem: &Problem, list: Option<&[Component]>, proofs: &LeafProofs) -> bool
+    ensures { result ≡ has_shape_of problem.now (option_copied list.entry) proofs.now }
+{
+    is_whole(problem, list) && proofs.as_slice().len() == goals(problem, list)
+}
+
+impl Leaf<'_> {
     // The forms that each refutation of the leaf starts from: the parameters, the context rows, the path.
     pub(crate) fn start(&self, alloc: Global) -> Result<Known, WantOfMemory>
         requires { IsLeaf self.now.problem.now (case_of self.now) }
@@ -104,7 +122,8 @@ impl Leaf<'_> {
         ensures listed { IsChecked is_form_overflow
             (model.row_premises self.now.problem.now (case_of self.now) components.now row.now).listed result }
         ensures ok { OnOk result (known.new ≡ record known.old {
-          forms = known.old.forms ++ (model.row_premises self.now.problem.now (case_of self.now) components.now row.now).known;
+          forms = known.old.forms
+              ++ (model.row_premises self.now.problem.now (case_of self.now) components.now row.now).known;
         }) }
     {
         let form = row_goal(alloc, self.problem.unknowns(), self.scope, row, components)?;
@@ -170,7 +189,8 @@ impl Leaf<'_> {
         requires widths { AreWide self.now.scope components.now }
         requires place { r < length self.now.problem.now.rows + length components.now + length components.now }
         ensures listed { IsChecked is_form_overflow (slice_index_or
-            (model.leaf_premises self.now.problem.now (case_of self.now) (Some components.now)) r nothing).listed result }
+            (model.leaf_premises self.now.problem.now (case_of self.now) (Some components.now)) r nothing).listed
+            result }
         ensures ok { OnOk result (known.new ≡ record known.old {
           forms = known.old.forms ++ (slice_index_or
               (model.leaf_premises self.now.problem.now (case_of self.now) (Some components.now)) r nothing).known;
@@ -217,8 +237,9 @@ impl Leaf<'_> {
         requires width { known.old.width ≡ self.now.scope + self.now.problem.now.unknowns }
         requires place { r < length (own_premises self.now) }
         requires small { r + 1 < 2 ^ 64 }
-        ensures listed { Agrees (λ _. tt) fault_of result (model.fit (model.spot self.now.number (r + 1) 0) (slice_index_or
-            (own_premises self.now) r nothing).listed) }
+        ensures listed { Agrees (λ _. tt) fault_of result
+            (model.fit (model.spot self.now.number (r + 1) 0)
+            (slice_index_or (own_premises self.now) r nothing).listed) }
         ensures ok { OnOk result (known.new ≡ record known.old {
           forms = known.old.forms ++ (slice_index_or
               (own_premises self.now) r nothing).known;
@@ -297,33 +318,18 @@ impl Leaf<'_> {
         self.refute_all(alloc, &mut known, proofs.as_slice())
     }
 
-    // How many refutations the leaf has.
-    fn goals(&self) -> usize
-        requires { IsTrue (model.is_whole_list self.now.problem.now.unknowns (option_copied self.now.list)) }
-        ensures { result ≡ length (own_premises self.now) }
-    {
-        match self.list {
-            Some(_) => self.problem.rows().len() + 2 * self.problem.unknowns(),
-            None => 1,
-        }
-    }
-
     // Checks the leaf: a list is whole, there are as many refutations as there are to be, and each succeeds.
     pub(crate) fn check(&self, alloc: Global, proofs: &LeafProofs) -> Result<(), Fault>
         requires { IsLeaf self.now.problem.now (case_of self.now) }
         ensures { Agrees (λ _. tt) fault_of result
             (model.check_leaf self.now.problem.now true self.now.number (case_of self.now) proofs.now) }
     {
-        let at = Spot {
-            leaf: self.number,
-            refutation: 0,
-            step: 0,
-        };
-        if !self.is_whole() {
-            return Err(Fault::Rejected(at));
-        }
-        if proofs.as_slice().len() != self.goals() {
-            return Err(Fault::Rejected(at));
+        if !has_shape(self.problem, self.list, proofs) {
+            return Err(Fault::Rejected(Spot {
+                leaf: self.number,
+                refutation: 0,
+                step: 0,
+            }));
         }
         self.check_proofs(alloc, proofs)
     }

@@ -11,7 +11,7 @@ use crate::fault::{Fault, Spot};
 use affine_rows::{Form, Overflow, nonnegative};
 
 // The place of what stands before the first leaf.
-const START: Spot = Spot {
+pub(crate) const START: Spot = Spot {
     leaf: 0,
     refutation: 0,
     step: 0,

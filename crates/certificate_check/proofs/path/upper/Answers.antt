@@ -1,0 +1,14 @@
+use Rattle.std.proofs.Common.{◌≡◌, ◌+◌, ℤ, List, length, ap, ◌∙◌, arith, rules}
+use Rattle.pip_model.specs.Cuts.{Quotient, upper_bound}
+use Rattle.pip_model.proofs.Bounds.{length-bounds}
+use Rattle.certificate_check.proofs.Smaller.{if_ok}
+use Rattle.certificate_check.proofs.path.upper.Goals as goal
+
+pub returns-clause-value : goal.returns-clause-value
+returns-clause-value c = search rules
+
+pub returns-clause-long : goal.returns-clause-long
+returns-clause-long c =
+    let k : Quotient = record { form = c.args.form.now; den = c.args.d } in
+    let long : length (upper_bound (c.args.place + 1) c.args.place k) ≡ c.args.place + 2 = omega (arith, (length-bounds (c.args.place + 1) c.args.place k (omega arith) (omega arith) (omega arith)).1) in
+    if_ok (λ (made : List ℤ). made ≡ upper_bound (c.args.place + 1) c.args.place k) (λ (made : List ℤ). length made ≡ c.args.place + 2) c.upper_bound.result (λ made e. ap length e ∙ long) (returns-clause-value c)
