@@ -1,0 +1,60 @@
+-- The walk of a new parameter, from what the calls at it answered.
+use Rattle.std.proofs.Common.{◌≡◌, ◌∙◌, refl, ap, sym, ℕ, ◌+◌, Bool, true, false, List, ℤ, Option, Some, None, IsTrue, IsFalse}
+use Rattle.std.specs.Prelude.{IfSome, if◌then◌else◌}
+use Rattle.pip_model.specs.Listed.{all_fit}
+use Rattle.pip_model.specs.Tree.{Tree, NewParm}
+use Rattle.pip_model.specs.Cuts.{Quotient}
+use Rattle.pip_model.specs.Run.{Work, Overflow, Done, Refused, class, listed}
+use Rattle.pip_model.specs.Walks as walks
+use Rattle.pip_model.specs.Walks.{Walked, Made, Stopped, Walking, walk_on, make, walked_as, by_run, ByRun, Visit, below, below_listed, not_negative, walk}
+use Rattle.pip_model.specs.Tools.{restricting}
+use Rattle.affine_rows.specs.Checks.{is_form_overflow}
+use Rattle.affine_rows.specs.declared.memory.FormRefusal.{FormRefusal}
+use Rattle.affine_rows.specs.declared.memory.FormRefusal.TheVariants as form
+use Rattle.context.specs.Scoped.{ScopedForms, IsKeptContext}
+use Rattle.quast_tools.specs.Faults.{tool_fault, of_form}
+use Rattle.quast_tools.specs.Visits.{visit_of, checked_sign, IsBelow}
+use Rattle.quast_tools.specs.declared.refusal.ToolRefusal.{ToolRefusal}
+use Rattle.quast_tools.proofs.Walking.{kept_visit, below_visit, in_two, goes_on}
+
+-- numbers that fit, or one that does not
+pub listed_goes : {X : Type 0} (zs : List ℤ) (rest : Unit {0} → Walking X) (w : Work) → all_fit zs ≡ true → walk_on (by_run (listed zs) w) rest ≡ rest tt w
+listed_goes zs rest w fit = ap (λ (b : Bool). walk_on (walked_as (if b then Done (tt {0}) w else Refused Overflow w)) rest) fit
+
+pub listed_stops : {X : Type 0} (zs : List ℤ) (rest : Unit {0} → Walking X) (w : Work) → all_fit zs ≡ false → walk_on (by_run (listed zs) w) rest ≡ Stopped (ByRun Overflow) w
+listed_stops zs rest w unfit = ap (λ (b : Bool). walk_on (walked_as (if b then Done (tt {0}) w else Refused Overflow w)) rest) unfit
+
+module _ (k0 k1 : ScopedForms) (kept : IsKeptContext k0 k1) (v : List ℤ) (d : ℤ) (t a : Tree) (is : t ≡ NewParm v d a) (w0 w1 : Work) (signed : checked_sign k0.forms k0.width v w0 ≡ Made tt w1) (depth : ℕ) where
+  abbrev q : Quotient
+  q = record { form = v; den = d }
+
+  abbrev inner : Visit → Walking Tree
+  inner h w = walk_on (walk restricting (below h q) a w) (λ x. make (NewParm v d x))
+
+  abbrev rest : Visit → Walking Tree
+  rest h w = walk_on (by_run (listed (below_listed h q)) w) (λ done. inner h)
+
+  from_start : walk restricting (visit_of k0 depth) t w0 ≡ rest (visit_of k1 depth) w1
+  from_start =
+      ap (λ (s : Tree). walk restricting (visit_of k0 depth) s w0) is
+      ∙ in_two (by_run (class k0.forms k0.width v) w0) not_negative (λ done. rest (visit_of k0 depth))
+      ∙ goes_on (checked_sign k0.forms k0.width v w0) (λ done. rest (visit_of k0 depth)) tt w1 signed
+      ∙ ap (λ (h : Visit). rest h w1) (sym (kept_visit k0 k1 depth kept))
+
+  pub define_unfit : (r : FormRefusal) (e : ToolRefusal) → e ≡ of_form r → (IsTrue (is_form_overflow r) → IsFalse (all_fit (below_listed (visit_of k1 depth) q))) → IfSome (tool_fault e) (λ f. walk restricting (visit_of k0 depth) t w0 ≡ Stopped f w1)
+  define_unfit form.Overflow e same unfit = rw same (from_start ∙ listed_stops (below_listed (visit_of k1 depth) q) (λ done. inner (visit_of k1 depth)) w1 (unfit refl))
+  define_unfit form.WantOfMemory e same unfit = rw same tt
+
+  module _ (k2 : ScopedForms) (under : IsBelow k1 q k2) (fit : IsTrue (all_fit (below_listed (visit_of k1 depth) q))) (w2 : Work) where
+    from_below : walk restricting (visit_of k0 depth) t w0 ≡ walk_on (walk restricting (visit_of k2 (depth + 1)) a w1) (λ x. make (NewParm v d x))
+    from_below =
+        from_start
+        ∙ listed_goes (below_listed (visit_of k1 depth) q) (λ done. inner (visit_of k1 depth)) w1 fit
+        ∙ ap (λ (h : Visit). walk_on (walk restricting h a w1) (λ x. make (NewParm v d x))) (sym (below_visit k1 k2 q depth under))
+
+    pub define_stops : (o : Option walks.ToolRefusal) → IfSome o (λ f. walk restricting (visit_of k2 (depth + 1)) a w1 ≡ Stopped f w2) → IfSome o (λ f. walk restricting (visit_of k0 depth) t w0 ≡ Stopped f w2)
+    define_stops None h = h
+    define_stops (Some f) h = from_below ∙ ap (λ (x : Walked Tree). walk_on x (λ x. make (NewParm v d x))) h
+
+    pub define_made : (x : Tree) → walk restricting (visit_of k2 (depth + 1)) a w1 ≡ Made x w2 → walk restricting (visit_of k0 depth) t w0 ≡ Made (NewParm v d x) w2
+    define_made x h = from_below ∙ ap (λ (x : Walked Tree). walk_on x (λ x. make (NewParm v d x))) h

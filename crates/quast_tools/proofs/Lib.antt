@@ -1,0 +1,5 @@
+pub mod Lowest
+pub mod Walking
+pub mod Narrow
+pub mod Defining
+pub mod Restricted
