@@ -1,4 +1,5 @@
-//! Parametric integer programming on the command line: standard input in, standard output out, the refusals' lines on standard error.
+//! Parametric integer programming on the command line: standard input in, standard output out, the refusals' lines on
+//! standard error.
 #![tactic(auto)]
 
 use pip_cli::pip_main;

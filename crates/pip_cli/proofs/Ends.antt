@@ -8,22 +8,23 @@ use Rattle.pip_outside.specs.Bytes.{WritesAll}
 use Rattle.pip_outside.specs.Faults.{CountsFaults}
 use Rattle.pip_model.specs.Reading.{Fault, Syntax, Wide, Limit, BigParameter, OptionWord, TooNested, Components, Version}
 use Rattle.pip_model.specs.Run.{Refusal, Overflow, Pivots, Cuts, Splits, Nesting}
-use Rattle.pip_model.specs.Endings.{Ending, finished, fault_ending, refusal_ending, notes_of}
+use Rattle.pip_model.specs.Endings.{Ending, finished, fault_ending, refusal_ending, tool_ending, notes_of}
 use Rattle.pip_model.specs.Commands.{Command}
 use Rattle.pip_model.specs.Output.{IsOutput, IsFirstOutput}
 use Rattle.pip_problem.specs.Faults.{run_fault, read_fault}
-use Rattle.pip_problem.specs.declared.refusal.Refusal.{Refusal as RunRefusal}
-use Rattle.pip_problem.specs.declared.refusal.ReadRefusal.{ReadRefusal}
 use Rattle.quast_text.specs.Faults.{text_fault}
-use Rattle.quast_text.specs.declared.refusal.TextRefusal.{TextRefusal}
+use Rattle.pip_model.specs.Walks.{ToolRefusal, ByRun, Negative, Lengths}
+use Rattle.quast_tools.specs.Faults.{tool_fault}
+use Rattle.leaf_certificate.specs.Faults.{certificate_fault}
 use Rattle.headline.proofs.OutputRight.{output-right, first_output-right}
 use Rattle.headline.proofs.OutputUnique.{output-unique}
-use Rattle.pip_items.specs.Endings.{read_ending, text_ending, run_ending, or_memory, ending_of}
+use Rattle.pip_items.specs.Endings.{told, or_memory, ending_of, IsOfItem}
 use Rattle.pip_items.specs.Items.{Gained, GainedFront, WritesTill}
-use Rattle.pip_items.specs.Outputs.{WritesOutput, IsRead, IsWithin, IsTooLong}
+use Rattle.pip_items.specs.Outputs.{WritesOutput, IsWithin, IsTooLong, bytes_read}
 use Rattle.pip_items.specs.declared.ending.Ending.{Ending as Refused}
 use Rattle.pip_items.specs.declared.ending.Ending.TheVariants as ending
 use Rattle.pip_cli.specs.Ends.{ending_by, GainsLine, IsNoted, AreFirst, EndsWith, HasEnded, AnswersRight, Completes}
+use Rattle.pip_cli.specs.Runs.{WhereTold}
 use Rattle.pip_cli.proofs.Asked.{IsAsked}
 
 -- ---- statuses
@@ -65,21 +66,29 @@ refusal_end : (r : Option Refusal) → IsItemEnd (option_map refusal_ending r)
 refusal_end None = tt
 refusal_end (Some r) = refusal_status r
 
--- the same of each ending of an item
-problem_end : (e : ReadRefusal) → IsItemEnd (read_ending e)
-problem_end e = fault_end (read_fault e)
+tool_status : (r : ToolRefusal) → IsItemStatus (tool_ending r).status
+tool_status (ByRun r) = refusal_status r
+tool_status Negative = record { above_usage = omega arith; no_read_fault = omega arith; no_write_fault = omega arith; no_memory = omega arith }
+tool_status (Lengths a b) = record { above_usage = omega arith; no_read_fault = omega arith; no_write_fault = omega arith; no_memory = omega arith }
 
-answer_end : (e : TextRefusal) → IsItemEnd (text_ending e)
-answer_end e = fault_end (text_fault e)
+tool_end : (r : Option ToolRefusal) → IsItemEnd (option_map tool_ending r)
+tool_end None = tt
+tool_end (Some r) = tool_status r
 
-run_end : (e : RunRefusal) → IsItemEnd (run_ending e)
-run_end e = refusal_end (run_fault e)
+-- the same of each refusal of an item
+item_end : (e : Refused) → IsOfItem e → IsItemEnd (told e)
+item_end ending.WantOfMemory own = tt
+item_end (ending.Problem e) own = fault_end (read_fault e)
+item_end (ending.Answer e) own = fault_end (text_fault e)
+item_end (ending.Certificate e) own = fault_end (certificate_fault e)
+item_end ending.RationalCertificate own = record { above_usage = omega arith; no_read_fault = omega arith; no_write_fault = omega arith; no_memory = omega arith }
+item_end (ending.Rejected s) own = record { above_usage = omega arith; no_read_fault = omega arith; no_write_fault = omega arith; no_memory = omega arith }
+item_end (ending.OverflowAt s) own = record { above_usage = omega arith; no_read_fault = omega arith; no_write_fault = omega arith; no_memory = omega arith }
+item_end (ending.Run e) own = refusal_end (run_fault e)
+item_end (ending.Walk e) own = tool_end (tool_fault e)
+item_end e own = absurd own
 
 -- the status of an item's end, or of want of memory, is that of no other end
-item_above : (o : Option Ending) → IsItemEnd o → (s : ℕ) → s ≡ (or_memory o).status → 2 ≤ s
-item_above None h s k = omega arith
-item_above (Some e) h s k = subst (λ n. 2 ≤ n) (sym k) h.above_usage
-
 item_read : (o : Option Ending) → IsItemEnd o → (s : ℕ) → s ≡ (or_memory o).status → s ≢ 6
 item_read None h s k p = omega arith
 item_read (Some e) h s k p = h.no_read_fault (sym k ∙ p)
@@ -98,69 +107,16 @@ read_fault-by (Ok u) s k p = absurd (omega arith)
 read_fault-by (Err ending.Usage) s k p = absurd (omega arith)
 read_fault-by (Err ending.ReadFault) s k p = refl
 read_fault-by (Err ending.WriteFault) s k p = absurd (omega arith)
-read_fault-by (Err ending.WantOfMemory) s k p = absurd (omega arith)
 read_fault-by (Err ending.InputTooLong) s k p = absurd (omega arith)
-read_fault-by (Err (ending.Problem e)) s k p = absurd (item_read (read_ending e) (problem_end e) s k p)
-read_fault-by (Err (ending.Answer e)) s k p = absurd (item_read (text_ending e) (answer_end e) s k p)
-read_fault-by (Err (ending.Run e)) s k p = absurd (item_read (run_ending e) (run_end e) s k p)
+read_fault-by (Err e) s k p = absurd (item_read (told e) (item_end e tt) s k p)
 
 pub write_fault-by : (r : Result (Unit {0}) Refused) (s : ℕ) → s ≡ (ending_from r).status → s ≡ 7 → r ≡ Err ending.WriteFault
 write_fault-by (Ok u) s k p = absurd (omega arith)
 write_fault-by (Err ending.Usage) s k p = absurd (omega arith)
 write_fault-by (Err ending.ReadFault) s k p = absurd (omega arith)
 write_fault-by (Err ending.WriteFault) s k p = refl
-write_fault-by (Err ending.WantOfMemory) s k p = absurd (omega arith)
 write_fault-by (Err ending.InputTooLong) s k p = absurd (omega arith)
-write_fault-by (Err (ending.Problem e)) s k p = absurd (item_write (read_ending e) (problem_end e) s k p)
-write_fault-by (Err (ending.Answer e)) s k p = absurd (item_write (text_ending e) (answer_end e) s k p)
-write_fault-by (Err (ending.Run e)) s k p = absurd (item_write (run_ending e) (run_end e) s k p)
-
--- 1 is the status of refused words alone
-pub usage-by : (r : Result (Unit {0}) Refused) (s : ℕ) → s ≡ (ending_from r).status → s ≡ 1 → r ≡ Err ending.Usage
-usage-by (Ok u) s k p = absurd (omega arith)
-usage-by (Err ending.Usage) s k p = refl
-usage-by (Err ending.ReadFault) s k p = absurd (omega arith)
-usage-by (Err ending.WriteFault) s k p = absurd (omega arith)
-usage-by (Err ending.WantOfMemory) s k p = absurd (omega arith)
-usage-by (Err ending.InputTooLong) s k p = absurd (omega arith)
-usage-by (Err (ending.Problem e)) s k p = let above = item_above (read_ending e) (problem_end e) s k in absurd (omega arith)
-usage-by (Err (ending.Answer e)) s k p = let above = item_above (text_ending e) (answer_end e) s k in absurd (omega arith)
-usage-by (Err (ending.Run e)) s k p = let above = item_above (run_ending e) (run_end e) s k in absurd (omega arith)
-
--- where no other status stands, the input was read
-pub is-read : (r : Result (Unit {0}) Refused) (s : ℕ) → s ≡ (ending_from r).status → s ≢ 1 → s ≢ 6 → s ≢ 8 → s ≢ 9 → IsRead r
-is-read (Ok u) s k a b c d = tt
-is-read (Err ending.Usage) s k a b c d = absurd (a k)
-is-read (Err ending.ReadFault) s k a b c d = absurd (b k)
-is-read (Err ending.WriteFault) s k a b c d = tt
-is-read (Err ending.WantOfMemory) s k a b c d = absurd (c k)
-is-read (Err ending.InputTooLong) s k a b c d = absurd (d k)
-is-read (Err (ending.Problem e)) s k a b c d = tt
-is-read (Err (ending.Answer e)) s k a b c d = tt
-is-read (Err (ending.Run e)) s k a b c d = tt
-
--- where a count of faults has moved, its status stands
-pub read_fault-status : (r : Result (Unit {0}) Refused) (s before now : ℕ) → s ≡ (ending_from r).status → (¬ (r ≡ Err ending.ReadFault) → now ≡ before) → now ≢ before → s ≡ 6
-read_fault-status (Ok u) s before now k quiet moved = absurd (moved (quiet (λ p. cc)))
-read_fault-status (Err ending.ReadFault) s before now k quiet moved = k
-read_fault-status (Err ending.Usage) s before now k quiet moved = absurd (moved (quiet (λ p. cc)))
-read_fault-status (Err ending.WriteFault) s before now k quiet moved = absurd (moved (quiet (λ p. cc)))
-read_fault-status (Err ending.WantOfMemory) s before now k quiet moved = absurd (moved (quiet (λ p. cc)))
-read_fault-status (Err ending.InputTooLong) s before now k quiet moved = absurd (moved (quiet (λ p. cc)))
-read_fault-status (Err (ending.Problem e)) s before now k quiet moved = absurd (moved (quiet (λ p. cc)))
-read_fault-status (Err (ending.Answer e)) s before now k quiet moved = absurd (moved (quiet (λ p. cc)))
-read_fault-status (Err (ending.Run e)) s before now k quiet moved = absurd (moved (quiet (λ p. cc)))
-
-pub write_fault-status : (r : Result (Unit {0}) Refused) (s before now : ℕ) → s ≡ (ending_from r).status → (¬ (r ≡ Err ending.WriteFault) → now ≡ before) → now ≢ before → s ≡ 7
-write_fault-status (Ok u) s before now k quiet moved = absurd (moved (quiet (λ p. cc)))
-write_fault-status (Err ending.WriteFault) s before now k quiet moved = k
-write_fault-status (Err ending.Usage) s before now k quiet moved = absurd (moved (quiet (λ p. cc)))
-write_fault-status (Err ending.ReadFault) s before now k quiet moved = absurd (moved (quiet (λ p. cc)))
-write_fault-status (Err ending.WantOfMemory) s before now k quiet moved = absurd (moved (quiet (λ p. cc)))
-write_fault-status (Err ending.InputTooLong) s before now k quiet moved = absurd (moved (quiet (λ p. cc)))
-write_fault-status (Err (ending.Problem e)) s before now k quiet moved = absurd (moved (quiet (λ p. cc)))
-write_fault-status (Err (ending.Answer e)) s before now k quiet moved = absurd (moved (quiet (λ p. cc)))
-write_fault-status (Err (ending.Run e)) s before now k quiet moved = absurd (moved (quiet (λ p. cc)))
+write_fault-by (Err e) s k p = absurd (item_write (told e) (item_end e tt) s k p)
 
 -- ---- the notes
 
@@ -196,9 +152,7 @@ module _ (Noted : Ending → Type 0) where
   is-noted (Err ending.WriteFault) s e h = record { cause = (Some ending.WriteFault, e, h); done = λ p. absurd (omega arith); usage = λ p. absurd (omega arith); read_fault = λ p. absurd (omega arith); write_fault = λ _. h; want_of_memory = λ p. absurd (omega arith) }
   is-noted (Err ending.WantOfMemory) s e h = record { cause = (Some ending.WantOfMemory, e, h); done = λ p. absurd (omega arith); usage = λ p. absurd (omega arith); read_fault = λ p. absurd (omega arith); write_fault = λ p. absurd (omega arith); want_of_memory = λ _. h }
   is-noted (Err ending.InputTooLong) s e h = record { cause = (Some ending.InputTooLong, e, h); done = λ p. absurd (omega arith); usage = λ p. absurd (omega arith); read_fault = λ p. absurd (omega arith); write_fault = λ p. absurd (omega arith); want_of_memory = λ p. absurd (omega arith) }
-  is-noted (Err (ending.Problem x)) s e h = item_noted (Some (ending.Problem x)) (read_ending x) (problem_end x) s e h e h
-  is-noted (Err (ending.Answer x)) s e h = item_noted (Some (ending.Answer x)) (text_ending x) (answer_end x) s e h e h
-  is-noted (Err (ending.Run x)) s e h = item_noted (Some (ending.Run x)) (run_ending x) (run_end x) s e h e h
+  is-noted (Err e) s k h = item_noted (Some e) (told e) (item_end e tt) s k h k h
 
 -- ---- the sink
 
@@ -236,7 +190,7 @@ module _ (c : Command) (asked : IsAsked c) (bytes : List ℕ) (a b : Option (Lis
 
     at_memory : s ≡ 8 → Keeps a b → HasEnded c bytes a b Noted s
     at_memory k h = record {
-      whole = λ within p q r. absurd (r k);
+      whole = λ within p. absurd (p.2 k);
       too_long = λ long. record { statuses = inr (inr k); noted = λ p. absurd (omega arith); nothing = h };
       read_fault = λ p. h;
       write_fault = λ p. absurd (omega arith);
@@ -245,14 +199,14 @@ module _ (c : Command) (asked : IsAsked c) (bytes : List ℕ) (a b : Option (Lis
 
     at_item : (o : Option Ending) → IsItemEnd o → s ≡ (or_memory o).status → Noted (or_memory o) → IsWithin c bytes → WritesTill First Whole a b o → HasEnded c bytes a b Noted s
     at_item None end k n within h = record {
-      whole = λ _ p q r. absurd (r k);
+      whole = λ _ p. absurd (p.2 k);
       too_long = λ long. absurd (within_or_not c bytes within long);
       read_fault = λ p. absurd (omega arith);
       write_fault = λ p. absurd (omega arith);
       want_of_memory = λ p. gained_first within h;
     }
     at_item (Some e) end k n within h = record {
-      whole = λ _ p q r. ends_with e k n h;
+      whole = λ _ p. ends_with e k n h;
       too_long = λ long. absurd (within_or_not c bytes within long);
       read_fault = λ p. absurd (end.no_read_fault (sym k ∙ p));
       write_fault = λ p. absurd (end.no_write_fault (sym k ∙ p));
@@ -261,7 +215,7 @@ module _ (c : Command) (asked : IsAsked c) (bytes : List ℕ) (a b : Option (Lis
 
     pub ends-by : (r : Result (Unit {0}) Refused) → s ≡ (ending_from r).status → Noted (ending_from r) → WritesOutput c bytes a b r → HasEnded c bytes a b Noted s
     ends-by (Ok u) k n h = record {
-      whole = λ _ p q r. ends_with finished k n h.1;
+      whole = λ _ p. ends_with finished k n h.1;
       too_long = λ long. absurd (within_or_not c bytes h.0 long);
       read_fault = λ p. absurd (omega arith);
       write_fault = λ p. absurd (omega arith);
@@ -269,14 +223,14 @@ module _ (c : Command) (asked : IsAsked c) (bytes : List ℕ) (a b : Option (Lis
     }
     ends-by (Err ending.Usage) k n h = absurd h
     ends-by (Err ending.ReadFault) k n h = record {
-      whole = λ within p q r. absurd (p k);
+      whole = λ within p. absurd (p.0 k);
       too_long = λ long. record { statuses = inr (inl k); noted = λ p. absurd (omega arith); nothing = h };
       read_fault = λ p. h;
       write_fault = λ p. absurd (omega arith);
       want_of_memory = λ p. absurd (omega arith);
     }
     ends-by (Err ending.WriteFault) k n h = record {
-      whole = λ within p q r. absurd (q k);
+      whole = λ within p. absurd (p.1 k);
       too_long = λ long. absurd (within_or_not c bytes h.0 long);
       read_fault = λ p. absurd (omega arith);
       write_fault = λ p. front_first h.0 h.1;
@@ -285,35 +239,40 @@ module _ (c : Command) (asked : IsAsked c) (bytes : List ℕ) (a b : Option (Lis
     ends-by (Err ending.WantOfMemory) k n (inl h) = at_memory k h
     ends-by (Err ending.WantOfMemory) k n (inr h) = at_item None tt k n h.0 h.1
     ends-by (Err ending.InputTooLong) k n h = record {
-      whole = λ within p q r. absurd (within_or_not c bytes within h.0);
+      whole = λ within p. absurd (within_or_not c bytes within h.0);
       too_long = λ long. record { statuses = inl k; noted = λ p. n; nothing = h.1 };
       read_fault = λ p. absurd (omega arith);
       write_fault = λ p. absurd (omega arith);
       want_of_memory = λ p. absurd (omega arith);
     }
-    ends-by (Err (ending.Problem e)) k n h = at_item (read_ending e) (problem_end e) k n h.0 h.1
-    ends-by (Err (ending.Answer e)) k n h = at_item (text_ending e) (answer_end e) k n h.0 h.1
-    ends-by (Err (ending.Run e)) k n h = at_item (run_ending e) (run_end e) k n h.0 h.1
+    ends-by (Err e) k n h = at_item (told e) (item_end e tt) k n h.0 h.1
 
 -- where no fault and no want of memory ends the run early, each text is right
 module _ (c : Command) (asked : IsAsked c) (bytes : List ℕ) (a b : Option (List ℕ)) (s : ℕ) where
-  right_till : (e : Ending) → s ≡ e.status → IsWithin c bytes → Gained (λ ts. IsOutput c bytes ts e) a b → AnswersRight c bytes a b s
-  right_till e k within h = λ _ p q r. (h.texts, e, output-right c bytes (asked bytes within) h.texts e h.are, h.gained, k)
+  right_till : (e : Ending) → s ≡ e.status → IsWithin c bytes → Gained (λ ts. IsOutput c bytes ts e) a b
+      → AnswersRight c bytes a b s
+  right_till e k within h = λ _ p. record {
+    texts = h.texts;
+    ending = e;
+    right = output-right c bytes (asked bytes within) h.texts e h.are;
+    written = h.gained;
+    status_is = k;
+  }
 
-  right_item : (o : Option Ending) → s ≡ (or_memory o).status → IsWithin c bytes → WritesTill (IsFirstOutput c bytes) (IsOutput c bytes) a b o → AnswersRight c bytes a b s
-  right_item None k within h = λ _ p q r. absurd (r k)
+  right_item : (o : Option Ending) → s ≡ (or_memory o).status → IsWithin c bytes
+      → WritesTill (IsFirstOutput c bytes) (IsOutput c bytes) a b o → AnswersRight c bytes a b s
+  right_item None k within h = λ _ p. absurd (p.2 k)
   right_item (Some e) k within h = right_till e k within h
 
-  pub answers-right : (r : Result (Unit {0}) Refused) → s ≡ (ending_from r).status → WritesOutput c bytes a b r → AnswersRight c bytes a b s
+  pub answers-right : (r : Result (Unit {0}) Refused) → s ≡ (ending_from r).status → WritesOutput c bytes a b r
+      → AnswersRight c bytes a b s
   answers-right (Ok u) k h = right_till finished k h.0 h.1
   answers-right (Err ending.Usage) k h = absurd h
-  answers-right (Err ending.ReadFault) k h = λ _ p q r. absurd (p k)
-  answers-right (Err ending.WriteFault) k h = λ _ p q r. absurd (q k)
-  answers-right (Err ending.WantOfMemory) k h = λ _ p q r. absurd (r k)
-  answers-right (Err ending.InputTooLong) k h = λ within p q r. absurd (within_or_not c bytes within h.0)
-  answers-right (Err (ending.Problem e)) k h = right_item (read_ending e) k h.0 h.1
-  answers-right (Err (ending.Answer e)) k h = right_item (text_ending e) k h.0 h.1
-  answers-right (Err (ending.Run e)) k h = right_item (run_ending e) k h.0 h.1
+  answers-right (Err ending.ReadFault) k h = λ _ p. absurd (p.0 k)
+  answers-right (Err ending.WriteFault) k h = λ _ p. absurd (p.1 k)
+  answers-right (Err ending.WantOfMemory) k h = λ _ p. absurd (p.2 k)
+  answers-right (Err ending.InputTooLong) k h = λ within p. absurd (within_or_not c bytes within h.0)
+  answers-right (Err e) k h = right_item (told e) k h.0 h.1
 
 -- ---- completeness
 
@@ -334,14 +293,16 @@ module _ (c : Command) (bytes : List ℕ) (a b : Option (List ℕ)) (s : ℕ) wh
   completes-by (Err ending.WriteFault) k p q h within ts l = absurd (q k)
   completes-by (Err ending.WantOfMemory) k p q h within ts l = inr k
   completes-by (Err ending.InputTooLong) k p q h within ts l = absurd (within_or_not c bytes within h.0)
-  completes-by (Err (ending.Problem e)) k p q h within ts l = item_done (read_ending e) (problem_end e) k h.1 ts l
-  completes-by (Err (ending.Answer e)) k p q h within ts l = item_done (text_ending e) (answer_end e) k h.1 ts l
-  completes-by (Err (ending.Run e)) k p q h within ts l = item_done (run_ending e) (run_end e) k h.1 ts l
+  completes-by (Err e) k p q h within ts l = item_done (told e) (item_end e tt) k h.1 ts l
 
 -- ---- where the command and the input are told
 
-pub where_told : (P Q : Command → List ℕ → Type 0) (o : Option Command) (input : Option (List ℕ)) → IfSome o IsAsked → ((c : Command) (bytes : List ℕ) → IsAsked c → P c bytes → Q c bytes)
-    → IfSome o (λ c. IfSome input (λ bytes. P c bytes)) → IfSome o (λ c. IfSome input (λ bytes. Q c bytes))
-where_told P Q None input asked f h = tt
-where_told P Q (Some c) None asked f h = tt
-where_told P Q (Some c) (Some bytes) asked f h = f c bytes asked h
+where_bytes : (P Q : List ℕ → Type 0) (input : Option (List ℕ)) → ((bytes : List ℕ) → P bytes → Q bytes)
+    → IfSome input P → IfSome input Q
+where_bytes P Q None f h = tt
+where_bytes P Q (Some bytes) f h = f bytes h
+
+pub where_told : (P Q : Command → List ℕ → Type 0) (o : Option Command) (left : Option (List ℕ)) → IfSome o IsAsked
+    → ((c : Command) (bytes : List ℕ) → IsAsked c → P c bytes → Q c bytes) → WhereTold o left P → WhereTold o left Q
+where_told P Q None left asked f h = tt
+where_told P Q (Some c) left asked f h = where_bytes (P c) (Q c) (bytes_read c left) (λ bytes. f c bytes asked) h

@@ -4,13 +4,26 @@ use Rattle.std.specs.List.{concat}
 use Rattle.std.specs.Io.KnownBytes.{Appends, Keeps}
 use Rattle.pip_outside.specs.Bytes.{AppendsFront}
 use Rattle.pip_outside.specs.Faults.{HasRisen}
-use Rattle.pip_model.specs.Endings.{Ending, all_done, wrong_words, read_failed, write_failed, memory_refused, past_limit, finished, usage_ending, read_fault_ending, write_fault_ending, memory_ending, input_ending, notes_of}
+use Rattle.pip_model.specs.Endings.{Ending, all_done, wrong_words, read_failed, write_failed, memory_refused, past_limit}
+use Rattle.pip_model.specs.Endings.{finished, usage_ending, read_fault_ending, write_fault_ending, memory_ending}
+use Rattle.pip_model.specs.Endings.{input_ending, notes_of}
 use Rattle.pip_model.specs.Commands.{Command}
 use Rattle.pip_model.specs.Output.{IsOutput, IsFirstOutput, IsRightOutput, IsRightFirstOutput}
 use Rattle.pip_items.specs.Endings.{ending_of}
 use Rattle.pip_items.specs.Items.{Gained, GainedFront}
 use Rattle.pip_items.specs.Outputs.{IsWithin, IsTooLong}
 use Rattle.pip_items.specs.declared.ending.Ending.{Ending as Refused}
+
+-- ---- the status
+
+-- no end that may come before the whole input is read
+abbrev pub IsAfterInput : ℕ → Type 0
+IsAfterInput status =
+    (status ≢ wrong_words) × (status ≢ read_failed) × (status ≢ memory_refused) × (status ≢ past_limit)
+
+-- no fault of the outside and no want of memory ends the run early
+abbrev pub IsOfItems : ℕ → Type 0
+IsOfItems status = (status ≢ read_failed) × (status ≢ write_failed) × (status ≢ memory_refused)
 
 -- ---- the notes
 
@@ -39,36 +52,44 @@ pub record IsNoted (Noted : Ending → Type 0) (status : ℕ) : Type 0 where
 abbrev pub AreFirst : Command → List ℕ → List (List ℕ) → Type 0
 AreFirst c bytes ts = IsFirstOutput c bytes ts × IsRightFirstOutput c bytes ts
 
--- The sink gained the command's texts for the input, whole and in order; its end is the status and the line on the notes.
-pub record EndsWith (c : Command) (bytes : List ℕ) (before after : Option (List ℕ)) (Noted : Ending → Type 0) (status : ℕ) : Type 0 where
-  pub texts : List (List ℕ)
-  pub ending : Ending
-  pub output : IsOutput c bytes texts ending
-  pub written : Appends before after (concat texts)
-  pub status_is : status ≡ ending.status
-  pub noted : Noted ending
+-- how a run of a command over an input ends that has these bytes
+module _ (c : Command) (bytes : List ℕ) (before after : Option (List ℕ)) where
+  -- The sink gained the command's texts for the input, whole and in order; its end is the status and the notes' line.
+  pub record EndsWith (Noted : Ending → Type 0) (status : ℕ) : Type 0 where
+    pub texts : List (List ℕ)
+    pub ending : Ending
+    pub output : IsOutput c bytes texts ending
+    pub written : Appends before after (concat texts)
+    pub status_is : status ≡ ending.status
+    pub noted : Noted ending
 
--- The input is too long, unless it was not read to that place: nothing is written.
-pub record EndsAtLimit (before after : Option (List ℕ)) (Noted : Ending → Type 0) (status : ℕ) : Type 0 where
-  pub statuses : (status ≡ past_limit) ⊎ ((status ≡ read_failed) ⊎ (status ≡ memory_refused))
-  pub noted : status ≡ past_limit → Noted input_ending
-  pub nothing : Keeps before after
+  -- The input is too long, unless it was not read to that place: nothing is written.
+  pub record EndsAtLimit (Noted : Ending → Type 0) (status : ℕ) : Type 0 where
+    pub statuses : (status ≡ past_limit) ⊎ ((status ≡ read_failed) ⊎ (status ≡ memory_refused))
+    pub noted : status ≡ past_limit → Noted input_ending
+    pub nothing : Keeps before after
 
--- How a command's run over an input ends.
-pub record HasEnded (c : Command) (bytes : List ℕ) (before after : Option (List ℕ)) (Noted : Ending → Type 0) (status : ℕ) : Type 0 where
-  pub whole : IsWithin c bytes → status ≢ read_failed → status ≢ write_failed → status ≢ memory_refused → EndsWith c bytes before after Noted status
-  pub too_long : IsTooLong c bytes → EndsAtLimit before after Noted status
-  pub read_fault : status ≡ read_failed → Keeps before after
-  pub write_fault : status ≡ write_failed → GainedFront (AreFirst c bytes) before after
-  pub want_of_memory : status ≡ memory_refused → Gained (AreFirst c bytes) before after
+  -- How a command's run over an input ends.
+  pub record HasEnded (Noted : Ending → Type 0) (status : ℕ) : Type 0 where
+    pub whole : IsWithin c bytes → IsOfItems status → EndsWith Noted status
+    pub too_long : IsTooLong c bytes → EndsAtLimit Noted status
+    pub read_fault : status ≡ read_failed → Keeps before after
+    pub write_fault : status ≡ write_failed → GainedFront (AreFirst c bytes) before after
+    pub want_of_memory : status ≡ memory_refused → Gained (AreFirst c bytes) before after
 
--- Where no fault and no want of memory ends the run early: each text that the sink gained is right for the item in its place, and so is the end.
-abbrev pub AnswersRight : Command → List ℕ → Option (List ℕ) → Option (List ℕ) → ℕ → Type 0
-AnswersRight c bytes before after status =
-    IsWithin c bytes → status ≢ read_failed → status ≢ write_failed → status ≢ memory_refused →
-    (ts : List (List ℕ)) × (e : Ending) × IsRightOutput c bytes ts e × Appends before after (concat ts) × (status ≡ e.status)
+  -- The sink gained texts, each of which is right for the item in its place, and so is the end.
+  pub record GainsRight (status : ℕ) : Type 0 where
+    pub texts : List (List ℕ)
+    pub ending : Ending
+    pub right : IsRightOutput c bytes texts ending
+    pub written : Appends before after (concat texts)
+    pub status_is : status ≡ ending.status
 
--- Where no item is refused, all is done, or memory was refused.
-abbrev pub Completes : Command → List ℕ → Option (List ℕ) → Option (List ℕ) → ℕ → Type 0
-Completes c bytes before after status =
-    IsWithin c bytes → (ts : List (List ℕ)) → IsOutput c bytes ts finished → ((status ≡ all_done) × Appends before after (concat ts)) ⊎ (status ≡ memory_refused)
+  abbrev pub AnswersRight : ℕ → Type 0
+  AnswersRight status = IsWithin c bytes → IsOfItems status → GainsRight status
+
+  -- Where no item is refused, all is done, or memory was refused.
+  abbrev pub Completes : ℕ → Type 0
+  Completes status =
+      IsWithin c bytes → (ts : List (List ℕ)) → IsOutput c bytes ts finished →
+      ((status ≡ all_done) × Appends before after (concat ts)) ⊎ (status ≡ memory_refused)

@@ -1,11 +1,11 @@
-ghost use Rattle.std.specs.Prelude.{◌≡◌, ◌≢◌, ◌⊎◌, ◌+◌, ◌≤◌, None, IsErrOf, IfSome};
+ghost use Rattle.std.specs.Prelude.{◌≡◌, ◌≢◌, ◌⊎◌, None, IsErrOf, IfSome};
 ghost use Rattle.std.specs.Io.KnownBytes.{IsAtEnd};
 ghost use Rattle.pip_outside.specs.Faults.{HasRisen};
-ghost use Rattle.pip_model.specs.Limits.{most_input_bytes};
-ghost use Rattle.pip_model.specs.Endings.{all_done, wrong_words, read_failed, write_failed, memory_refused, past_limit};
-ghost use Rattle.pip_items.specs.Outputs.{WritesOutput, TakesInput, IsRead};
-ghost use Rattle.pip_cli.specs.Runs.{command_given, IsWordsEnding};
-ghost use Rattle.pip_cli.specs.Ends.{GainsLine, IsNoted, HasEnded, AnswersRight, Completes};
+ghost use Rattle.pip_model.specs.Endings.{all_done, wrong_words, read_failed, write_failed, memory_refused};
+ghost use Rattle.pip_words.specs.Words.{command_given};
+ghost use Rattle.pip_items.specs.Outputs.{WritesOutput, TakesInput, TakesInputAtMost, IsRead, EndsByFaults};
+ghost use Rattle.pip_cli.specs.Runs.{IsWordsEnding, WhereTold};
+ghost use Rattle.pip_cli.specs.Ends.{GainsLine, IsNoted, IsAfterInput, HasEnded, AnswersRight, Completes};
 
 use pip_items::{Ending, Status, write_output};
 use pip_outside::{Sink, Source};
@@ -24,14 +24,12 @@ fn run<S: Source, K: Sink>(
     ensures untouched { command_given words.now ≡ None → (source.new ≡ source.old) × (sink.new ≡ sink.old) }
     ensures end { IfSome (command_given words.now) TakesInput → IsRead result → IsAtEnd (S.left source.new) }
     ensures spared { IfSome (command_given words.now) (λ c. ¬ TakesInput c → source.new ≡ source.old) }
-    ensures taken { IfSome (S.left source.old) (λ _. S.taken source.new ≤ S.taken source.old + (most_input_bytes + 1)) }
-    ensures read_fault { IsErrOf result Ending.ReadFault → HasRisen (S.faults source.old) (S.faults source.new) }
-    ensures write_fault { IsErrOf result Ending.WriteFault → HasRisen (K.faults sink.old) (K.faults sink.new) }
-    ensures read_quiet { ¬ IsErrOf result Ending.ReadFault → S.faults source.new ≡ S.faults source.old }
-    ensures write_quiet { ¬ IsErrOf result Ending.WriteFault → K.faults sink.new ≡ K.faults sink.old }
+    ensures taken { TakesInputAtMost (S.left source.old) (S.taken source.old) (S.taken source.new) }
+    ensures faults { EndsByFaults (S.faults source.old) (S.faults source.new) (K.faults sink.old) (K.faults sink.new)
+        result }
     ensures unread { IsErrOf result Ending.ReadFault → sink.new ≡ sink.old }
-    ensures output { IfSome (command_given words.now) (λ c. IfSome (S.left source.old) (λ bytes.
-        WritesOutput c bytes (K.written sink.old) (K.written sink.new) result)) }
+    ensures output { WhereTold (command_given words.now) (S.left source.old) (λ c bytes.
+        WritesOutput c bytes (K.written sink.old) (K.written sink.new) result) }
 {
     let command = read_words(alloc, words)?;
     write_output(alloc, &command, source, sink)
@@ -39,8 +37,9 @@ fn run<S: Source, K: Sink>(
 
 /// Does all that the program does and answers its status.
 ///
-/// The words come first, then the whole input is read, but by the trial, and then each item is read, answered, printed and written, up to the first
-/// refusal. Its line goes to the notes; a write of it that fails changes neither the status nor the sink.
+/// The words come first, then the whole input is read, but by the trial, and then each item is read, answered, printed
+/// and written, up to the first refusal. Its line goes to the notes; a write of it that fails changes neither the
+/// status nor the sink.
 pub fn pip_main<S: Source, K: Sink, N: Sink>(
     alloc: Global,
     words: &Vec<String>,
@@ -55,8 +54,9 @@ pub fn pip_main<S: Source, K: Sink, N: Sink>(
 
     // what is read of the source, whatever it tells; the trial reads nothing
     ensures spared { IfSome (command_given words.now) (λ c. ¬ TakesInput c → source.new ≡ source.old) }
-    ensures read_to_end { IfSome (command_given words.now) TakesInput → result ≢ wrong_words → result ≢ read_failed → result ≢ memory_refused → result ≢ past_limit → IsAtEnd (S.left source.new) }
-    ensures taken { IfSome (S.left source.old) (λ _. S.taken source.new ≤ S.taken source.old + (most_input_bytes + 1)) }
+    ensures read_to_end { IfSome (command_given words.now) TakesInput → IsAfterInput result →
+        IsAtEnd (S.left source.new) }
+    ensures taken { TakesInputAtMost (S.left source.old) (S.taken source.old) (S.taken source.new) }
 
     // the causes of faults, each of which ends the run
     ensures read_fault { result ≡ read_failed → HasRisen (S.faults source.old) (S.faults source.new) }
@@ -66,18 +66,23 @@ pub fn pip_main<S: Source, K: Sink, N: Sink>(
     ensures nothing_at_read_fault { result ≡ read_failed → sink.new ≡ sink.old }
 
     // the headline: each text is right for the item in its place
-    ensures right { IfSome (command_given words.now) (λ c. IfSome (S.left source.old) (λ bytes.
-        AnswersRight c bytes (K.written sink.old) (K.written sink.new) result)) }
+    ensures right { WhereTold (command_given words.now) (S.left source.old) (λ c bytes.
+        AnswersRight c bytes (K.written sink.old) (K.written sink.new) result) }
 
     // which texts they are, and the line on the notes
-    ensures output { IfSome (command_given words.now) (λ c. IfSome (S.left source.old) (λ bytes.
-        HasEnded c bytes (K.written sink.old) (K.written sink.new) (GainsLine (N.written notes.old) (N.written notes.new) (N.faults notes.old) (N.faults notes.new)) result)) }
-    ensures notes { IsNoted (GainsLine (N.written notes.old) (N.written notes.new) (N.faults notes.old) (N.faults notes.new)) result }
+    ensures output { let line = GainsLine (N.written notes.old) (N.written notes.new)
+        (N.faults notes.old) (N.faults notes.new) in
+        WhereTold (command_given words.now) (S.left source.old) (λ c bytes.
+        HasEnded c bytes (K.written sink.old) (K.written sink.new) line result) }
+    ensures notes { let line = GainsLine (N.written notes.old) (N.written notes.new)
+        (N.faults notes.old) (N.faults notes.new) in IsNoted line result }
     ensures quiet_notes { result ≡ all_done → notes.new ≡ notes.old }
 
     // where neither the outside nor an item refuses
-    ensures complete { ¬ HasRisen (S.faults source.old) (S.faults source.new) → ¬ HasRisen (K.faults sink.old) (K.faults sink.new) →
-        IfSome (command_given words.now) (λ c. IfSome (S.left source.old) (λ bytes. Completes c bytes (K.written sink.old) (K.written sink.new) result)) }
+    ensures complete { ¬ HasRisen (S.faults source.old) (S.faults source.new) →
+        ¬ HasRisen (K.faults sink.old) (K.faults sink.new) →
+        WhereTold (command_given words.now) (S.left source.old) (λ c bytes.
+        Completes c bytes (K.written sink.old) (K.written sink.new) result) }
 {
     match run(alloc, words, source, sink) {
         Ok(()) => Status::AllDone.number(),

@@ -24,9 +24,7 @@ written_over text bytes a b (Err ending.ReadFault) h own k = absurd (own (λ p. 
 written_over text bytes a b (Err ending.WriteFault) h own k = (h, k)
 written_over text bytes a b (Err ending.WantOfMemory) h own k = inr (h, k)
 written_over text bytes a b (Err ending.InputTooLong) h own k = absurd (own (λ p. cc))
-written_over text bytes a b (Err (ending.Problem e)) h own k = (h, k)
-written_over text bytes a b (Err (ending.Answer e)) h own k = (h, k)
-written_over text bytes a b (Err (ending.Run e)) h own k = (h, k)
+written_over text bytes a b (Err e) h own k = (h, k)
 
 pub items-written : (text : List ℕ → ℕ → ItemAt (List ℕ)) (left : Option (List ℕ)) (input : Vec ℕ Global) (a b : Option (List ℕ)) (r : Result (Unit {0}) Ending) → IfSome left (ReadsInput (Ok input)) → IsOwn r → WritesItems (text input.items) a b r
     → IfSome left (λ bytes. WritesOver text bytes a b r)
@@ -43,29 +41,22 @@ over_taken c taken bytes a b (Err ending.WriteFault) h = (λ _. h.0, h.1)
 over_taken c taken bytes a b (Err ending.WantOfMemory) (inl h) = inl h
 over_taken c taken bytes a b (Err ending.WantOfMemory) (inr h) = inr (λ _. h.0, h.1)
 over_taken c taken bytes a b (Err ending.InputTooLong) h = ((taken, h.0), h.1)
-over_taken c taken bytes a b (Err (ending.Problem e)) h = (λ _. h.0, h.1)
-over_taken c taken bytes a b (Err (ending.Answer e)) h = (λ _. h.0, h.1)
-over_taken c taken bytes a b (Err (ending.Run e)) h = (λ _. h.0, h.1)
+over_taken c taken bytes a b (Err e) h = (λ _. h.0, h.1)
 
 pub output-taken : (c : Command) → TakesInput c → (left : Option (List ℕ)) (a b : Option (List ℕ)) (r : Result (Unit {0}) Ending) → IfSome left (λ bytes. WritesOver (item_text c) bytes a b r) → IfSome left (λ bytes. WritesOutput c bytes a b r)
 output-taken c taken None a b r h = tt
 output-taken c taken (Some bytes) a b r h = over_taken c taken bytes a b r h
 
--- the trial's text is the same over every input
-trial_over : (seed count : ℕ) (bytes : List ℕ) (a b : Option (List ℕ)) (r : Result (Unit {0}) Ending) → IsOwn r → WritesItems (item_text (Trial seed count) []) a b r → WritesOutput (Trial seed count) bytes a b r
-trial_over seed count bytes a b (Ok u) own k = (λ taken. absurd taken, k)
-trial_over seed count bytes a b (Err ending.Usage) own k = absurd (own (λ p. cc))
-trial_over seed count bytes a b (Err ending.ReadFault) own k = absurd (own (λ p. cc))
-trial_over seed count bytes a b (Err ending.WriteFault) own k = (λ taken. absurd taken, k)
-trial_over seed count bytes a b (Err ending.WantOfMemory) own k = inr (λ taken. absurd taken, k)
-trial_over seed count bytes a b (Err ending.InputTooLong) own k = absurd (own (λ p. cc))
-trial_over seed count bytes a b (Err (ending.Problem e)) own k = (λ taken. absurd taken, k)
-trial_over seed count bytes a b (Err (ending.Answer e)) own k = (λ taken. absurd taken, k)
-trial_over seed count bytes a b (Err (ending.Run e)) own k = (λ taken. absurd taken, k)
-
-pub output-trial : (seed count : ℕ) (left : Option (List ℕ)) (a b : Option (List ℕ)) (r : Result (Unit {0}) Ending) → IsOwn r → WritesItems (item_text (Trial seed count) []) a b r → IfSome left (λ bytes. WritesOutput (Trial seed count) bytes a b r)
-output-trial seed count None a b r own k = tt
-output-trial seed count (Some bytes) a b r own k = trial_over seed count bytes a b r own k
+-- the trial reads no bytes
+pub output-trial : (seed count : ℕ) (a b : Option (List ℕ)) (r : Result (Unit {0}) Ending) → IsOwn r
+    → WritesItems (item_text (Trial seed count) []) a b r → WritesOutput (Trial seed count) [] a b r
+output-trial seed count a b (Ok u) own k = (λ taken. absurd taken, k)
+output-trial seed count a b (Err ending.Usage) own k = absurd (own (λ p. cc))
+output-trial seed count a b (Err ending.ReadFault) own k = absurd (own (λ p. cc))
+output-trial seed count a b (Err ending.WriteFault) own k = (λ taken. absurd taken, k)
+output-trial seed count a b (Err ending.WantOfMemory) own k = inr (λ taken. absurd taken, k)
+output-trial seed count a b (Err ending.InputTooLong) own k = absurd (own (λ p. cc))
+output-trial seed count a b (Err e) own k = (λ taken. absurd taken, k)
 
 kept : (a : Option (List ℕ)) → Keeps a a
 kept None = tt
@@ -77,8 +68,4 @@ items-unread text None a e own h = tt
 items-unread text (Some bytes) a ending.ReadFault own h = kept a
 items-unread text (Some bytes) a ending.InputTooLong own h = (h, kept a)
 items-unread text (Some bytes) a ending.WantOfMemory own h = inl (kept a)
-items-unread text (Some bytes) a ending.Usage own h = absurd own
-items-unread text (Some bytes) a ending.WriteFault own h = absurd own
-items-unread text (Some bytes) a (ending.Problem e) own h = absurd own
-items-unread text (Some bytes) a (ending.Answer e) own h = absurd own
-items-unread text (Some bytes) a (ending.Run e) own h = absurd own
+items-unread text (Some bytes) a e own h = absurd own

@@ -1,5 +1,5 @@
 -- What is written of the items of an input, in order.
-use Rattle.std.specs.Prelude.{◌≡◌, ℕ, List, Option, Some, None, IfSome, Result, Ok, Err}
+use Rattle.std.specs.Prelude.{◌≡◌, ℕ, ◌<◌, ◌≤◌, List, Option, Some, None, IfSome, Result, Ok, Err}
 use Rattle.std.specs.List.{concat}
 use Rattle.std.specs.Io.KnownBytes.{Appends}
 use Rattle.pip_outside.specs.Bytes.{AppendsFront}
@@ -20,6 +20,10 @@ IsTextAt wanted (Ok (Some after)) t = wanted ≡ Ok (Some (t, after))
 IsTextAt wanted (Ok None) t = wanted ≡ Ok None
 IsTextAt wanted (Err e) t = IfSome (told e) (λ f. wanted ≡ Err f)
 
+-- a place behind this one, the last at most
+abbrev pub IsBehind : ℕ → ℕ → ℕ → Type 0
+IsBehind at last after = (at < after) × (after ≤ last)
+
 -- the bytes gained are such texts, whole and in order
 pub record Gained (Are : List (List ℕ) → Type 0) (before after : Option (List ℕ)) : Type 0 where
   pub texts : List (List ℕ)
@@ -32,7 +36,8 @@ pub record GainedFront (Are : List (List ℕ) → Type 0) (before after : Option
   pub are : Are texts
   pub gained : AppendsFront before after (concat texts)
 
-module _ (First : List (List ℕ) → Type 0) (Whole : List (List ℕ) → model.Ending → Type 0) (before after : Option (List ℕ)) where
+module _ (First : List (List ℕ) → Type 0) (Whole : List (List ℕ) → model.Ending → Type 0)
+    (before after : Option (List ℕ)) where
   -- all texts of an input that has this end, or first texts where memory was refused
   abbrev pub WritesTill : Option model.Ending → Type 0
   WritesTill (Some e) = Gained (λ ts. Whole ts e) before after
@@ -46,4 +51,5 @@ module _ (First : List (List ℕ) → Type 0) (Whole : List (List ℕ) → model
 
 -- the items whose texts are these
 abbrev pub WritesItems : (ℕ → ItemAt (List ℕ)) → Option (List ℕ) → Option (List ℕ) → Result (Unit {0}) Ending → Type 0
-WritesItems text before after result = Writes (FirstItems text IsItself 0) (Items text IsItself NoEnd 0) before after result
+WritesItems text before after result =
+    Writes (FirstItems text IsItself 0) (Items text IsItself NoEnd 0) before after result

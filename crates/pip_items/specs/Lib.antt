@@ -6,3 +6,6 @@ pub mod Inputs
 pub mod Items
 pub mod Outputs
 pub mod Values
+pub mod Needed
+pub mod Triples
+pub mod Pairs

@@ -1,6 +1,7 @@
 -- What a command writes of an input that is told, by how it ends.
-use Rattle.std.specs.Prelude.{◌⊎◌, ℕ, ◌<◌, ◌≤◌, List, length, Option, Result, Err, ⊤}
+use Rattle.std.specs.Prelude.{◌≡◌, ◌⊎◌, ℕ, ◌+◌, ◌<◌, ◌≤◌, List, [], length, Option, Some, IfSome, Result, Err, IsErrOf, ⊤}
 use Rattle.std.specs.Io.KnownBytes.{Keeps}
+use Rattle.pip_outside.specs.Faults.{HasRisen}
 use Rattle.pip_model.specs.Limits.{most_input_bytes}
 use Rattle.pip_model.specs.Commands.{Command, Trial}
 use Rattle.pip_model.specs.Output.{IsOutput, IsFirstOutput}
@@ -10,17 +11,26 @@ use Rattle.pip_items.specs.declared.ending.Ending.{Ending}
 use Rattle.pip_items.specs.declared.ending.Ending.TheVariants as ending
 
 -- what is written of the items of an input that is read whole, or nothing where it is not read
-abbrev pub WritesOver : (List ℕ → ℕ → ItemAt (List ℕ)) → List ℕ → Option (List ℕ) → Option (List ℕ) → Result (Unit {0}) Ending → Type 0
-WritesOver text bytes before after (Err ending.Usage) = ⊥
-WritesOver text bytes before after (Err ending.ReadFault) = Keeps before after
-WritesOver text bytes before after (Err ending.InputTooLong) = (most_input_bytes < length bytes) × Keeps before after
-WritesOver text bytes before after (Err ending.WantOfMemory) = Keeps before after ⊎ ((length bytes ≤ most_input_bytes) × WritesItems (text bytes) before after (Err ending.WantOfMemory))
-WritesOver text bytes before after r = (length bytes ≤ most_input_bytes) × WritesItems (text bytes) before after r
+module _ (text : List ℕ → ℕ → ItemAt (List ℕ)) (bytes : List ℕ) (before after : Option (List ℕ)) where
+  abbrev pub WritesRead : Result (Unit {0}) Ending → Type 0
+  WritesRead r = (length bytes ≤ most_input_bytes) × WritesItems (text bytes) before after r
+
+  abbrev pub WritesOver : Result (Unit {0}) Ending → Type 0
+  WritesOver (Err ending.Usage) = ⊥
+  WritesOver (Err ending.ReadFault) = Keeps before after
+  WritesOver (Err ending.InputTooLong) = (most_input_bytes < length bytes) × Keeps before after
+  WritesOver (Err ending.WantOfMemory) = Keeps before after ⊎ WritesRead (Err ending.WantOfMemory)
+  WritesOver r = WritesRead r
 
 -- every command but the trial takes an input
 abbrev pub TakesInput : Command → Type 0
 TakesInput (Trial seed count) = ⊥
 TakesInput c = ⊤
+
+-- the bytes that a command reads, where they are told: the trial reads none
+abbrev pub bytes_read : Command → Option (List ℕ) → Option (List ℕ)
+bytes_read (Trial seed count) left = Some []
+bytes_read c left = left
 
 abbrev pub IsWithin : Command → List ℕ → Type 0
 IsWithin c bytes = TakesInput c → length bytes ≤ most_input_bytes
@@ -28,17 +38,17 @@ IsWithin c bytes = TakesInput c → length bytes ≤ most_input_bytes
 abbrev pub IsTooLong : Command → List ℕ → Type 0
 IsTooLong c bytes = TakesInput c × (most_input_bytes < length bytes)
 
--- the texts of an input within its limit
-abbrev pub WritesWithin : Command → List ℕ → Option (List ℕ) → Option (List ℕ) → Result (Unit {0}) Ending → Type 0
-WritesWithin c bytes before after r = IsWithin c bytes × Writes (IsFirstOutput c bytes) (IsOutput c bytes) before after r
+-- the texts of an input within its limit, or nothing where the input is not read
+module _ (c : Command) (bytes : List ℕ) (before after : Option (List ℕ)) where
+  abbrev pub WritesWithin : Result (Unit {0}) Ending → Type 0
+  WritesWithin r = IsWithin c bytes × Writes (IsFirstOutput c bytes) (IsOutput c bytes) before after r
 
--- the same, or nothing where the input is not read
-abbrev pub WritesOutput : Command → List ℕ → Option (List ℕ) → Option (List ℕ) → Result (Unit {0}) Ending → Type 0
-WritesOutput c bytes before after (Err ending.Usage) = ⊥
-WritesOutput c bytes before after (Err ending.ReadFault) = Keeps before after
-WritesOutput c bytes before after (Err ending.InputTooLong) = IsTooLong c bytes × Keeps before after
-WritesOutput c bytes before after (Err ending.WantOfMemory) = Keeps before after ⊎ WritesWithin c bytes before after (Err ending.WantOfMemory)
-WritesOutput c bytes before after r = WritesWithin c bytes before after r
+  abbrev pub WritesOutput : Result (Unit {0}) Ending → Type 0
+  WritesOutput (Err ending.Usage) = ⊥
+  WritesOutput (Err ending.ReadFault) = Keeps before after
+  WritesOutput (Err ending.InputTooLong) = IsTooLong c bytes × Keeps before after
+  WritesOutput (Err ending.WantOfMemory) = Keeps before after ⊎ WritesWithin (Err ending.WantOfMemory)
+  WritesOutput r = WritesWithin r
 
 -- the whole input is read, whatever its items are
 abbrev pub IsRead : Result (Unit {0}) Ending → Type 0
@@ -47,3 +57,16 @@ IsRead (Err ending.ReadFault) = ⊥
 IsRead (Err ending.InputTooLong) = ⊥
 IsRead (Err ending.WantOfMemory) = ⊥
 IsRead r = ⊤
+
+-- ---- the source and the sink, whatever they tell
+
+-- no more is taken of a source that tells than one byte past the most that an input may have
+abbrev pub TakesInputAtMost : Option (List ℕ) → ℕ → ℕ → Type 0
+TakesInputAtMost left before after = IfSome left (λ _. after ≤ before + (most_input_bytes + 1))
+
+-- The faults of the source and of the sink are counted, and each of them ends the run.
+pub record EndsByFaults (read_before read_after write_before write_after : ℕ) (r : Result (Unit {0}) Ending) : Type 0 where
+  pub read_fault : IsErrOf r ending.ReadFault → HasRisen read_before read_after
+  pub write_fault : IsErrOf r ending.WriteFault → HasRisen write_before write_after
+  pub read_quiet : ¬ IsErrOf r ending.ReadFault → read_after ≡ read_before
+  pub write_quiet : ¬ IsErrOf r ending.WriteFault → write_after ≡ write_before

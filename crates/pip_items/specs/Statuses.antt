@@ -15,3 +15,6 @@ number_of status.ReadFailed = model.read_failed
 number_of status.WriteFailed = model.write_failed
 number_of status.MemoryRefused = model.memory_refused
 number_of status.PastLimit = model.past_limit
+number_of status.NotAccepted = model.not_accepted
+number_of status.QuotientNegative = model.quotient_negative
+number_of status.LengthsDiffer = model.lengths_differ

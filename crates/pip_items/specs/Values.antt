@@ -13,7 +13,8 @@ ratios_of (c ∷ cs) [] = []
 ratios_of (c ∷ cs) (n ∷ ns) = reduced c.den (n ∷ []) ∷ ratios_of cs ns
 
 abbrev pub tree_valued : Tree → List ℤ → Result Tree Ending
-tree_valued t u = if all_fit (tree_value_listed t u) then Ok (value_tree (tree_value t u)) else Err (refusal_ending Overflow)
+tree_valued t u =
+    if all_fit (tree_value_listed t u) then Ok (value_tree (tree_value t u)) else Err (refusal_ending Overflow)
 
 abbrev pub valued : Answer → List ℤ → Result Answer Ending
 valued a u = if all_fit (answer_at_listed a u) then Ok (answer_at a u) else Err (refusal_ending Overflow)

@@ -3,7 +3,7 @@ ghost use Rattle.pip_items.specs.Statuses.{number_of};
 ghost use Rattle.pip_outside.specs.Bytes.{WritesAll};
 ghost use Rattle.pip_outside.specs.Faults.{CountsFaults};
 ghost use Rattle.pip_model.specs.Endings.{notes_of};
-ghost use Rattle.pip_items.specs.Endings.{ending_of};
+ghost use Rattle.pip_items.specs.Endings.{ending_of, pieces_ending};
 ghost use Rattle.pip_problem.specs.declared.refusal.Refusal.TheVariants as run;
 ghost use Rattle.pip_items.specs.declared.ending.Ending.TheVariants as ending;
 ghost use Rattle.pip_items.specs.Words.{words_ending};
@@ -11,10 +11,14 @@ ghost use Rattle.pip_items.specs.Words.{words_ending};
 use crate::status::Status;
 use crate::told::tell;
 use affine_rows::Overflow;
+use certificate_check::Spot;
+use leaf_certificate::CertificateRefusal;
 use pip_outside::{Failed, Sink};
 use pip_problem::{ReadRefusal, Refusal};
 use pip_words::WordsRefusal;
+use quast_pieces::PiecesRefusal;
 use quast_text::TextRefusal;
+use quast_tools::ToolRefusal;
 use std::alloc::{AllocError, AllocFailed};
 
 /// Why a run of the program ends before all is done.
@@ -31,8 +35,18 @@ pub enum Ending {
     Problem(ReadRefusal),
     /// An answer is not read.
     Answer(TextRefusal),
+    /// A certificate is not read.
+    Certificate(CertificateRefusal),
+    /// A certificate is of a rational problem.
+    RationalCertificate,
+    /// A certificate is not accepted, for a condition at this place.
+    Rejected(Spot),
+    /// A number of a check does not fit, at this place.
+    OverflowAt(Spot),
     /// The calculation of an item is refused.
     Run(Refusal),
+    /// A walk under a context is refused.
+    Walk(ToolRefusal),
 }
 
 impl Ending {
@@ -79,11 +93,38 @@ impl From<TextRefusal> for Ending {
     }
 }
 
+impl From<CertificateRefusal> for Ending {
+    ghost from_gives = { λ e r. r ≡ ending.Certificate e };
+
+    fn from(refusal: CertificateRefusal) -> Ending {
+        Ending::Certificate(refusal)
+    }
+}
+
 impl From<Refusal> for Ending {
     ghost from_gives = { λ e r. r ≡ ending.Run e };
 
     fn from(refusal: Refusal) -> Ending {
         Ending::Run(refusal)
+    }
+}
+
+impl From<PiecesRefusal> for Ending {
+    ghost from_gives = { λ e r. r ≡ pieces_ending e };
+
+    fn from(refusal: PiecesRefusal) -> Ending {
+        match refusal {
+            PiecesRefusal::Overflow => Ending::Run(Refusal::Overflow),
+            PiecesRefusal::WantOfMemory => Ending::WantOfMemory,
+        }
+    }
+}
+
+impl From<ToolRefusal> for Ending {
+    ghost from_gives = { λ e r. r ≡ ending.Walk e };
+
+    fn from(refusal: ToolRefusal) -> Ending {
+        Ending::Walk(refusal)
     }
 }
 

@@ -1,8 +1,8 @@
-ghost use Rattle.std.specs.Prelude.{◌≡◌, ◌+◌, ◌≤◌, IfSome, IsErrOf, OnOk};
+ghost use Rattle.std.specs.Prelude.{◌≡◌, ◌≤◌, IfSome, IsErrOf, OnOk};
 ghost use Rattle.std.specs.Io.KnownBytes.{IsAtEnd};
 ghost use Rattle.pip_outside.specs.Faults.{HasRisen};
-ghost use Rattle.pip_model.specs.Limits.{most_input_bytes};
 ghost use Rattle.pip_items.specs.Inputs.{ReadsInput, IsOfInput};
+ghost use Rattle.pip_items.specs.Outputs.{TakesInputAtMost};
 
 use crate::ending::Ending;
 use pip_outside::Source;
@@ -11,12 +11,13 @@ use std::alloc::Global;
 /// The most bytes that an input may have.
 pub(crate) const MOST_INPUT_BYTES: usize = 1 << 24;
 
-/// All bytes that a source has left, up to the most that an input may have. No more is asked for than one byte past these.
+/// All bytes that a source has left, up to the most that an input may have. No more is asked for than one byte past
+/// these.
 pub(crate) fn read_input<S: Source>(alloc: Global, source: &mut S) -> Result<Vec<u8>, Ending>
     ensures bytes { IfSome (S.left source.old) (ReadsInput result) }
     ensures own { IsOfInput result }
     ensures end { OnOk result (IsAtEnd (S.left source.new)) }
-    ensures taken { IfSome (S.left source.old) (λ _. S.taken source.new ≤ S.taken source.old + (most_input_bytes + 1)) }
+    ensures taken { TakesInputAtMost (S.left source.old) (S.taken source.old) (S.taken source.new) }
     ensures later { S.faults source.old ≤ S.faults source.new }
     ensures quiet { ¬ IsErrOf result Ending.ReadFault → S.faults source.new ≡ S.faults source.old }
     ensures cause { IsErrOf result Ending.ReadFault → HasRisen (S.faults source.old) (S.faults source.new) }

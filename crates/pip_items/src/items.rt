@@ -1,8 +1,8 @@
-ghost use Rattle.std.specs.Prelude.{◌≡◌, ◌<◌, ◌≤◌, ℕ, List, [], IfOk, IfErr, IfSome, IsErrOf};
+ghost use Rattle.std.specs.Prelude.{◌≡◌, ◌≤◌, ℕ, List, [], IfOk, IfErr, IfSome, IsErrOf};
 ghost use Rattle.pip_outside.specs.Faults.{HasRisen};
 ghost use Rattle.pip_model.specs.Items.{ItemAt};
 ghost use Rattle.pip_items.specs.Endings.{IsOfItem};
-ghost use Rattle.pip_items.specs.Items.{IsTextAt, WritesItems};
+ghost use Rattle.pip_items.specs.Items.{IsTextAt, IsBehind, WritesItems};
 
 use crate::ending::Ending;
 use pip_outside::{Sink, write_all};
@@ -28,7 +28,7 @@ pub(crate) trait ItemTexts {
         requires empty { text.old.items ≡ [] }
         ensures text { IsTextAt (text_at self.now bytes.now at) result text.new.items }
         ensures own { IfErr result IsOfItem }
-        ensures after { IfOk result (λ found. IfSome found (λ after. (at < after) × (after ≤ last_place self.now bytes.now))) };
+        ensures after { IfOk result (λ found. IfSome found (IsBehind at (last_place self.now bytes.now))) };
 }
 
 /// Writes the texts of the items in order, up to the first refusal.

@@ -1,12 +1,11 @@
-ghost use Rattle.std.specs.Prelude.{◌≡◌, ◌+◌, ◌≤◌, IfSome, IsErrOf};
+ghost use Rattle.std.specs.Prelude.{◌≡◌, IfSome, IsErrOf};
 ghost use Rattle.std.specs.Io.KnownBytes.{IsAtEnd};
-ghost use Rattle.pip_outside.specs.Faults.{HasRisen};
-ghost use Rattle.pip_model.specs.Limits.{most_input_bytes};
-ghost use Rattle.pip_model.specs.Items as model;
 ghost use Rattle.pip_words.specs.Words.{meaning_of};
 ghost use Rattle.pip_items.specs.Items.{WritesItems};
-ghost use Rattle.pip_items.specs.Outputs.{WritesOver, WritesOutput, TakesInput, IsRead};
+ghost use Rattle.pip_items.specs.Outputs.{WritesOver, WritesOutput, TakesInput, TakesInputAtMost, IsRead, EndsByFaults, bytes_read};
 
+use crate::commands::check::Check;
+use crate::commands::restrict::Restrict;
 use crate::ending::Ending;
 use crate::input::read_input;
 use crate::items::{ItemTexts, write_items};
@@ -25,11 +24,9 @@ fn write_over_input<C: ItemTexts, S: Source, K: Sink>(
         WritesOver (C.text_at command.now) bytes (K.written sink.old) (K.written sink.new) result) }
     ensures words { ¬ IsErrOf result Ending.Usage }
     ensures end { IsRead result → IsAtEnd (S.left source.new) }
-    ensures taken { IfSome (S.left source.old) (λ _. S.taken source.new ≤ S.taken source.old + (most_input_bytes + 1)) }
-    ensures read_fault { IsErrOf result Ending.ReadFault → HasRisen (S.faults source.old) (S.faults source.new) }
-    ensures write_fault { IsErrOf result Ending.WriteFault → HasRisen (K.faults sink.old) (K.faults sink.new) }
-    ensures read_quiet { ¬ IsErrOf result Ending.ReadFault → S.faults source.new ≡ S.faults source.old }
-    ensures write_quiet { ¬ IsErrOf result Ending.WriteFault → K.faults sink.new ≡ K.faults sink.old }
+    ensures taken { TakesInputAtMost (S.left source.old) (S.taken source.old) (S.taken source.new) }
+    ensures faults { EndsByFaults (S.faults source.old) (S.faults source.new) (K.faults sink.old) (K.faults sink.new)
+        result }
     ensures unread { IsErrOf result Ending.ReadFault → sink.new ≡ sink.old }
 {
     let input = read_input(alloc, source)?;
@@ -44,22 +41,23 @@ pub fn write_output<S: Source, K: Sink>(
     source: &mut S,
     sink: &mut K,
 ) -> Result<(), Ending>
-    ensures output { IfSome (S.left source.old) (λ bytes.
+    ensures output { IfSome (bytes_read (meaning_of command.now) (S.left source.old)) (λ bytes.
         WritesOutput (meaning_of command.now) bytes (K.written sink.old) (K.written sink.new) result) }
     ensures words { ¬ IsErrOf result Ending.Usage }
     ensures end { TakesInput (meaning_of command.now) → IsRead result → IsAtEnd (S.left source.new) }
     ensures spared { ¬ TakesInput (meaning_of command.now) → source.new ≡ source.old }
-    ensures taken { IfSome (S.left source.old) (λ _. S.taken source.new ≤ S.taken source.old + (most_input_bytes + 1)) }
-    ensures read_fault { IsErrOf result Ending.ReadFault → HasRisen (S.faults source.old) (S.faults source.new) }
-    ensures write_fault { IsErrOf result Ending.WriteFault → HasRisen (K.faults sink.old) (K.faults sink.new) }
-    ensures read_quiet { ¬ IsErrOf result Ending.ReadFault → S.faults source.new ≡ S.faults source.old }
-    ensures write_quiet { ¬ IsErrOf result Ending.WriteFault → K.faults sink.new ≡ K.faults sink.old }
+    ensures taken { TakesInputAtMost (S.left source.old) (S.taken source.old) (S.taken source.new) }
+    ensures faults { EndsByFaults (S.faults source.old) (S.faults source.new) (K.faults sink.old) (K.faults sink.new)
+        result }
     ensures unread { IsErrOf result Ending.ReadFault → sink.new ≡ sink.old }
 {
     match command {
         Command::Solve(options) => write_over_input(alloc, options, source, sink),
         Command::Eval(params) => write_over_input(alloc, params, source, sink),
         Command::Simplify(options) => write_over_input(alloc, options, source, sink),
+        Command::Check => write_over_input(alloc, &Check, source, sink),
+        Command::Pieces(options) => write_over_input(alloc, options, source, sink),
+        Command::Restrict(options) => write_over_input(alloc, &Restrict(options), source, sink),
         Command::Trial(options) => write_items(alloc, options, b"", sink),
     }
 }

@@ -14,6 +14,9 @@ pub enum Status {
     WriteFailed,
     MemoryRefused,
     PastLimit,
+    NotAccepted,
+    QuotientNegative,
+    LengthsDiffer,
 }
 
 impl Status {
@@ -32,6 +35,9 @@ impl Status {
             Status::WriteFailed => 7,
             Status::MemoryRefused => 8,
             Status::PastLimit => 9,
+            Status::NotAccepted => 10,
+            Status::QuotientNegative => 11,
+            Status::LengthsDiffer => 12,
         }
     }
 }

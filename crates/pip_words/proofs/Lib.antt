@@ -1,3 +1,5 @@
 pub mod Digits
+pub mod Folds
+pub mod Giving
 pub mod Parameters
 pub mod Parsed

@@ -1,16 +1,20 @@
 -- The command that the words of the command line give, over clap's definition of a simple command.
-use Rattle.std.specs.Prelude.{ℕ, ◌-◌, ◌^◌, ℤ, Bool, true, false, List, [], ◌∷◌, Option, Some, None, codes, if◌then◌else◌, nat_le, length, option_map}
+use Rattle.std.specs.Prelude.{◌≡◌, ℕ, ◌-◌, ◌^◌, ℤ, Bool, true, false, List, [], ◌∷◌, map, Option, Some, None, option_map}
+use Rattle.std.specs.Prelude.{Result, Ok, Err, Vec, String, string_bytes, codes, if◌then◌else◌, nat_le, length, ⊤}
+use Rattle.std.specs.declared.alloc.Global.{Global}
 use Rattle.std.specs.Option.{option_map_or}
 use Rattle.std.specs.Str.{bytes_eq}
 use Rattle.clap.specs.Words.{Row, Text, Kinds, fault_of, subcommand_of, first_of, all_of}
 use Rattle.pip_model.specs.Limits.{most_params, most_pivots, most_cuts, most_splits, most_nesting}
-use Rattle.pip_model.specs.Run.{standard_budget}
-use Rattle.pip_model.specs.Commands.{SolveOptions, Command, Solve, Eval, Simplify, Trial}
+use Rattle.pip_model.specs.Run.{Budget, standard_budget}
+use Rattle.pip_model.specs.Commands.{SolveOptions, Command, Solve, Eval, Simplify, CheckAll, Trial, Pieces, Restrict}
 use Rattle.pip_words.specs.Arguments.{pip_app}
 use Rattle.pip_words.specs.Numbers.{number_of, parameter_of, most_drawn}
 use Rattle.pip_words.specs.declared.command.Command.{Command as Given}
 use Rattle.pip_words.specs.declared.command.SolveOptions.{SolveOptions as GivenOptions}
 use Rattle.pip_words.specs.declared.command.Command.TheVariants as given
+use Rattle.pip_words.specs.declared.refusal.WordsRefusal.{WordsRefusal}
+use Rattle.pip_words.specs.declared.refusal.WordsRefusal.TheVariants as refusal
 
 -- what the code's command is in the model
 abbrev pub options_of : GivenOptions → SolveOptions
@@ -20,7 +24,10 @@ abbrev pub meaning_of : Given → Command
 meaning_of (given.Solve o) = Solve (options_of o)
 meaning_of (given.Eval u) = Eval u
 meaning_of (given.Simplify o) = Simplify o.params
+meaning_of given.Check = CheckAll
 meaning_of (given.Trial o) = Trial o.seed o.count
+meaning_of (given.Pieces o) = Pieces o.params
+meaning_of (given.Restrict o) = Restrict o.params o.limits
 
 infixl 10 ◌>>=◌
 abbrev pub ◌>>=◌ : {A B : Type 0} → Option A → (A → Option B) → Option B
@@ -40,18 +47,30 @@ number_or most default (Some text) = number_of most text
 abbrev pub limit_of : Text → ℕ → ℕ → List Row → Option ℕ
 limit_of name most default rows = number_or most default (first_of name rows)
 
--- solve [--polylib] [--simplify] [--pivots N] [--cuts N] [--splits N] [--nesting N]
+abbrev pub budget_by : Option ℕ → Option ℕ → Option ℕ → Option ℕ → Option Budget
+budget_by pivots cuts splits nesting = do
+  p ← pivots
+  c ← cuts
+  s ← splits
+  n ← nesting
+  Some (record { pivots = p; cuts = c; splits = s; nesting = n })
+
+-- [--pivots N] [--cuts N] [--splits N] [--nesting N]
+abbrev pub budget_of : List Row → Option Budget
+budget_of rows = budget_by (limit_of (codes "pivots") most_pivots standard_budget.pivots rows)
+    (limit_of (codes "cuts") most_cuts standard_budget.cuts rows)
+    (limit_of (codes "splits") most_splits standard_budget.splits rows)
+    (limit_of (codes "nesting") most_nesting standard_budget.nesting rows)
+
+-- solve [--polylib] [--simplify], and a budget
 abbrev pub solve_of : List Row → Option Command
 solve_of rows = do
-  pivots ← limit_of (codes "pivots") most_pivots standard_budget.pivots rows
-  cuts ← limit_of (codes "cuts") most_cuts standard_budget.cuts rows
-  splits ← limit_of (codes "splits") most_splits standard_budget.splits rows
-  nesting ← limit_of (codes "nesting") most_nesting standard_budget.nesting rows
+  budget ← budget_of rows
   Some (Solve (record {
     polylib = flag_of (codes "polylib") rows;
     simplify = flag_of (codes "simplify") rows;
     certificate = false;
-    budget = record { pivots = pivots; cuts = cuts; splits = splits; nesting = nesting };
+    budget = budget;
   }))
 
 abbrev pub all_parameters : List Text → Option (List ℤ)
@@ -91,14 +110,32 @@ trial_of rows = do
   count ← needed_of (codes "count") most_drawn rows
   Some (Trial seed count)
 
+-- pieces M
+abbrev pub pieces_of : List Row → Option Command
+pieces_of rows = option_map Pieces (needed_of (codes "parameters") most_params rows)
+
+-- a number of parameters and a budget
+abbrev pub walk_of : List Row → Option (ℕ × Budget)
+walk_of rows = do
+  m ← needed_of (codes "parameters") most_params rows
+  b ← budget_of rows
+  Some (m, b)
+
+-- restrict M, and a budget
+abbrev pub restrict_of : List Row → Option Command
+restrict_of rows = option_map (λ w. Restrict w.0 w.1) (walk_of rows)
+
 -- the command of this name
 abbrev pub command_named : Text → List Row → Option Command
 command_named name rows =
     if bytes_eq name (codes "solve") then solve_of rows
     else (if bytes_eq name (codes "eval") then eval_of rows
     else (if bytes_eq name (codes "simplify") then simplify_of rows
+    else (if bytes_eq name (codes "check") then Some CheckAll
     else (if bytes_eq name (codes "trial") then trial_of rows
-    else None)))
+    else (if bytes_eq name (codes "pieces") then pieces_of rows
+    else (if bytes_eq name (codes "restrict") then restrict_of rows
+    else None))))))
 
 abbrev pub command_in : Option (Text × List Row) → Option Command
 command_in None = None
@@ -112,3 +149,14 @@ is_accepted (kind ∷ kinds) = false
 -- the command that the words give, if any; the first word is the program's name
 abbrev pub command_of : List Text → Option Command
 command_of words = if is_accepted (fault_of pip_app words) then command_in (subcommand_of pip_app words) else None
+
+abbrev pub command_given : Vec (String Global) Global → Option Command
+command_given words = command_of (map string_bytes words.items)
+
+-- ---- what is read
+
+-- what is read, seen by `view`, is what the words give, and they give nothing where they are refused; nothing is said of want of memory
+abbrev pub Gives : {X Y : Type 0} → (X → Y) → Option Y → Result X WordsRefusal → Type 0
+Gives view wanted (Ok x) = wanted ≡ Some (view x)
+Gives view wanted (Err refusal.Usage) = wanted ≡ None
+Gives view wanted (Err refusal.WantOfMemory) = ⊤

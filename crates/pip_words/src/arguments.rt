@@ -1,124 +1,119 @@
-ghost use Rattle.std.specs.Prelude.{◌≡◌, IfOk, false};
+ghost use Rattle.std.specs.Prelude.{◌≡◌, ◌≤◌, IfOk, fold, length, false};
 ghost use Rattle.clap.specs.Words.{app_of, shape_of, rule_of};
 ghost use Rattle.clap.specs.declared.builder.Command.TheViews.{out-Command};
-ghost use Rattle.pip_words.specs.Arguments.{flag_rule, option_rule, values_rule, needed_rule, solve_with_flags, solve_with_counts, solve_shape, eval_shape, simplify_shape, trial_shape, answers_app, pip_app};
+ghost use Rattle.pip_words.specs.Arguments.{rule_given, shape_given, with_argument, with_entry, pip_app};
 
 use clap::{Arg, ArgAction, Command};
 use std::alloc::{AllocError, Global};
 
-/// `--NAME`, which takes no value.
-fn flag<'a>(alloc: Global, name: &'a str) -> Arg<'a>
-    ensures rule { rule_of result ≡ flag_rule name.entry.now }
+/// An argument of a command, by its name.
+#[derive(Clone, Copy)]
+pub(crate) enum Argument<'a> {
+    /// `--NAME`, which takes no value.
+    Flag(&'a str),
+    /// `--NAME VALUE`.
+    Setting(&'a str),
+    /// A required value without a name.
+    Needed(&'a str),
+    /// Any number of values without a name.
+    Values(&'a str),
+}
+
+/// A command's name and its arguments.
+#[derive(Clone, Copy)]
+pub(crate) struct Entry<'a> {
+    pub(crate) name: &'a str,
+    pub(crate) arguments: &'a [Argument<'a>],
+}
+
+// The argument for `clap`.
+fn made_argument<'a>(alloc: Global, argument: Argument<'a>) -> Arg<'a>
+    ensures rule { rule_of result ≡ rule_given argument.entry }
     ensures local { result.global ≡ false }
 {
-    Arg::new(alloc, name).long(name).action(ArgAction::SetTrue)
+    match argument {
+        Argument::Flag(name) => Arg::new(alloc, name).long(name).action(ArgAction::SetTrue),
+        Argument::Setting(name) => Arg::new(alloc, name).long(name),
+        Argument::Needed(name) => Arg::new(alloc, name).required(true),
+        Argument::Values(name) => Arg::new(alloc, name).num_args(0..),
+    }
 }
 
-/// `--NAME VALUE`.
-fn option<'a>(alloc: Global, name: &'a str) -> Arg<'a>
-    ensures rule { rule_of result ≡ option_rule name.entry.now }
-    ensures local { result.global ≡ false }
-{
-    Arg::new(alloc, name).long(name)
-}
-
-/// Any number of values without a name.
-fn values<'a>(alloc: Global, name: &'a str) -> Arg<'a>
-    ensures rule { rule_of result ≡ values_rule name.entry.now }
-    ensures local { result.global ≡ false }
-{
-    Arg::new(alloc, name).num_args(0..)
-}
-
-/// A required value without a name.
-fn needed<'a>(alloc: Global, name: &'a str) -> Arg<'a>
-    ensures rule { rule_of result ≡ needed_rule name.entry.now }
-    ensures local { result.global ≡ false }
-{
-    Arg::new(alloc, name).required(true)
-}
-
-// A function adds at most three arguments or commands: the proof of a longer chain finds no end.
-
-fn solve_flags<'a>(alloc: Global) -> Result<Command<'a>, AllocError>
-    ensures app { IfOk result (λ command. app_of command ≡ solve_with_flags) }
+// The command for `clap`.
+fn made_command<'a>(alloc: Global, entry: Entry<'a>) -> Result<Command<'a>, AllocError>
+    ensures shape { IfOk result (λ command. shape_of command ≡ shape_given entry.entry) }
     ensures local { IfOk result (λ command. (out-Command command).has_globals ≡ false) }
 {
-    let command = Command::new(alloc, "solve")
-        .arg(flag(alloc, "polylib"))?
-        .arg(flag(alloc, "simplify"))?;
+    let mut command = Command::new(alloc, entry.name);
+    for added in entry.arguments {
+        command = command.arg(made_argument(alloc, *added))?;
+    }
     Ok(command)
 }
 
-fn solve_counts<'a>(alloc: Global) -> Result<Command<'a>, AllocError>
-    ensures app { IfOk result (λ command. app_of command ≡ solve_with_counts) }
-    ensures local { IfOk result (λ command. (out-Command command).has_globals ≡ false) }
+// The program with these commands besides its own.
+fn with_commands<'a>(
+    alloc: Global,
+    program: Command<'a>,
+    entries: &[Entry<'a>],
+) -> Result<Command<'a>, AllocError>
+    ensures { IfOk result (λ made. app_of made ≡ fold with_entry (app_of program.entry) entries.entry.now) }
 {
-    let flags = solve_flags(alloc)?;
-    let command = flags
-        .arg(option(alloc, "pivots"))?
-        .arg(option(alloc, "cuts"))?;
-    Ok(command)
-}
-
-fn solve<'a>(alloc: Global) -> Result<Command<'a>, AllocError>
-    ensures shape { IfOk result (λ command. shape_of command ≡ solve_shape) }
-    ensures local { IfOk result (λ command. (out-Command command).has_globals ≡ false) }
-{
-    let counts = solve_counts(alloc)?;
-    let command = counts
-        .arg(option(alloc, "splits"))?
-        .arg(option(alloc, "nesting"))?;
-    Ok(command)
-}
-
-fn eval<'a>(alloc: Global) -> Result<Command<'a>, AllocError>
-    ensures shape { IfOk result (λ command. shape_of command ≡ eval_shape) }
-    ensures local { IfOk result (λ command. (out-Command command).has_globals ≡ false) }
-{
-    let command = Command::new(alloc, "eval").arg(values(alloc, "parameter"))?;
-    Ok(command)
-}
-
-fn simplify<'a>(alloc: Global) -> Result<Command<'a>, AllocError>
-    ensures shape { IfOk result (λ command. shape_of command ≡ simplify_shape) }
-    ensures local { IfOk result (λ command. (out-Command command).has_globals ≡ false) }
-{
-    let command = Command::new(alloc, "simplify").arg(needed(alloc, "parameters"))?;
-    Ok(command)
-}
-
-fn trial<'a>(alloc: Global) -> Result<Command<'a>, AllocError>
-    ensures shape { IfOk result (λ command. shape_of command ≡ trial_shape) }
-    ensures local { IfOk result (λ command. (out-Command command).has_globals ≡ false) }
-{
-    let command = Command::new(alloc, "trial")
-        .arg(needed(alloc, "seed"))?
-        .arg(needed(alloc, "count"))?;
-    Ok(command)
-}
-
-// The program with the commands that answer.
-fn answers<'a>(alloc: Global) -> Result<Command<'a>, AllocError>
-    ensures { IfOk result (λ command. app_of command ≡ answers_app) }
-{
-    let solve = solve(alloc)?;
-    let eval = eval(alloc)?;
-    let simplify = simplify(alloc)?;
-    let command = Command::new(alloc, "pip")
-        .subcommand_required(true)
-        .subcommand(solve)?
-        .subcommand(eval)?
-        .subcommand(simplify)?;
-    Ok(command)
+    let mut program = program;
+    for entry in entries {
+        program = program.subcommand(made_command(alloc, *entry)?)?;
+    }
+    Ok(program)
 }
 
 /// The program's commands with their arguments, for `clap`.
 pub(crate) fn pip<'a>(alloc: Global) -> Result<Command<'a>, AllocError>
     ensures { IfOk result (λ command. app_of command ≡ pip_app) }
 {
-    let answers = answers(alloc)?;
-    let trial = trial(alloc)?;
-    let command = answers.subcommand(trial)?;
-    Ok(command)
+    let program = Command::new(alloc, "pip").subcommand_required(true);
+    with_commands(
+        alloc,
+        program,
+        &[
+            Entry {
+                name: "solve",
+                arguments: &[
+                    Argument::Flag("polylib"),
+                    Argument::Flag("simplify"),
+                    Argument::Setting("pivots"),
+                    Argument::Setting("cuts"),
+                    Argument::Setting("splits"),
+                    Argument::Setting("nesting"),
+                ],
+            },
+            Entry {
+                name: "eval",
+                arguments: &[Argument::Values("parameter")],
+            },
+            Entry {
+                name: "simplify",
+                arguments: &[Argument::Needed("parameters")],
+            },
+            Entry {
+                name: "check",
+                arguments: &[],
+            },
+            Entry {
+                name: "trial",
+                arguments: &[Argument::Needed("seed"), Argument::Needed("count")],
+            },
+            Entry {
+                name: "pieces",
+                arguments: &[Argument::Needed("parameters")],
+            },
+            Entry {
+                name: "restrict",
+                arguments: &[
+                    Argument::Needed("parameters"),
+                    Argument::Setting("pivots"),
+                    Argument::Setting("cuts"),
+                ],
+            },
+        ],
+    )
 }

@@ -10,7 +10,11 @@ pub enum Command {
     Solve(SolveOptions),
     Eval(ParameterVector),
     Simplify(SimplifyOptions),
+    /// Whether certificates are accepted.
+    Check,
     Trial(TrialOptions),
+    Pieces(PiecesOptions),
+    Restrict(WalkOptions),
 }
 
 /// How problems are read and solved.
@@ -37,4 +41,21 @@ pub struct TrialOptions {
     pub seed: u64,
     /// How many problems, at most 10,000.
     pub count: u16,
+}
+
+/// Which answers are taken apart.
+#[derive(Drop)]
+pub struct PiecesOptions {
+    /// The number of their parameters, at most 48.
+    pub params: usize,
+    ghost few: { params ≤ most_params },
+}
+
+/// How answers are walked under a context.
+#[derive(Drop)]
+pub struct WalkOptions {
+    /// The number of their parameters, at most 48.
+    pub params: usize,
+    pub limits: Limits,
+    ghost few: { params ≤ most_params },
 }

@@ -10,7 +10,9 @@ mod refusal;
 #[cfg(test)]
 mod tests;
 
-pub use command::{Command, SimplifyOptions, SolveOptions, TrialOptions};
+pub use command::{
+    Command, PiecesOptions, SimplifyOptions, SolveOptions, TrialOptions, WalkOptions,
+};
 pub use parameter_vector::ParameterVector;
 pub use reading::read_words;
 pub use refusal::WordsRefusal;

@@ -1,9 +1,15 @@
-ghost use Rattle.std.specs.Prelude.{◌≡◌, ◌≤◌, IfOk, IfErr, IfSome, Some, None, map, string_bytes};
+ghost use Rattle.std.specs.Prelude.{◌≡◌, ◌≤◌, IfOk, IfErr, IfSome, Some, None, map, codes, option_map};
+ghost use Rattle.pip_model.specs.Limits.{most_params};
 ghost use Rattle.clap.specs.Words.{subcommand_rows_of, rows_of, found_of};
-ghost use Rattle.pip_words.specs.Words.{command_of, command_in, solve_of, eval_of, simplify_of, trial_of, flag_of, limit_of, needed_of, parameters_of, meaning_of};
+ghost use Rattle.pip_words.specs.Words.{command_given, meaning_of, Gives, command_in, command_named, solve_of, eval_of, simplify_of};
+ghost use Rattle.pip_words.specs.Words.{pieces_of};
+ghost use Rattle.pip_words.specs.Words.{restrict_of, walk_of};
+ghost use Rattle.pip_words.specs.Words.{trial_of, budget_of, parameters_of, flag_of, limit_of, needed_of};
 
 use crate::arguments::pip;
-use crate::command::{Command, SimplifyOptions, SolveOptions, TrialOptions};
+use crate::command::{
+    Command, PiecesOptions, SimplifyOptions, SolveOptions, TrialOptions, WalkOptions,
+};
 use crate::number::{parameter, short_number};
 use crate::parameter_vector::ParameterVector;
 use crate::refusal::WordsRefusal;
@@ -12,23 +18,23 @@ use clap::error::ErrorKind;
 use pip_problem::{Limits, MOST_PARAMETERS};
 use std::alloc::Global;
 
-const MAX_PIVOTS: u64 = 1_000_000_000;
+const MOST_PIVOTS: u64 = 1_000_000_000;
 
-const MAX_CUTS: u64 = 1_000_000;
+const MOST_CUTS: u64 = 1_000_000;
 
-const MAX_SPLITS: u64 = 1_000_000;
+const MOST_SPLITS: u64 = 1_000_000;
 
-const MAX_NESTING: u64 = 200;
+const MOST_NESTING: u64 = 200;
 
-const MAX_DRAWN: u64 = 10_000;
+const MOST_DRAWN: u64 = 10_000;
 
 /// The command that the words of the command line give; the first word is the program's name and is not looked at.
 ///
 /// Usage is answered exactly where the words are no command: `clap` refuses them, a request for help among it, or
 /// a number word is not one or more decimal digits in its range.
 pub fn read_words(alloc: Global, words: &Vec<String>) -> Result<Command, WordsRefusal>
-    ensures ok { IfOk result (λ command. command_of (map string_bytes words.now.items) ≡ Some (meaning_of command)) }
-    ensures usage { IfErr result (λ e. e ≡ WordsRefusal.Usage → command_of (map string_bytes words.now.items) ≡ None) }
+    ensures ok { IfOk result (λ command. command_given words.now ≡ Some (meaning_of command)) }
+    ensures usage { IfErr result (λ e. e ≡ WordsRefusal.Usage → command_given words.now ≡ None) }
 {
     let pip = pip(alloc)?;
     match pip.try_get_matches_from(words.as_slice()) {
@@ -41,54 +47,54 @@ pub fn read_words(alloc: Global, words: &Vec<String>) -> Result<Command, WordsRe
 }
 
 fn command(alloc: Global, matches: &ArgMatches<'_>) -> Result<Command, WordsRefusal>
-    ensures ok { IfOk result (λ command. command_in (subcommand_rows_of matches.now) ≡ Some (meaning_of command)) }
-    ensures usage { IfErr result (λ e. e ≡ WordsRefusal.Usage → command_in (subcommand_rows_of matches.now) ≡ None) }
+    ensures { Gives meaning_of (command_in (subcommand_rows_of matches.now)) result }
 {
     match matches.subcommand() {
-        Some((name, matches)) => {
-            if name == "solve" {
-                solve(matches)
-            } else if name == "eval" {
-                eval(alloc, matches)
-            } else if name == "simplify" {
-                simplify(matches)
-            } else if name == "trial" {
-                trial(matches)
-            } else {
-                Err(WordsRefusal::Usage)
-            }
-        }
+        Some((name, matches)) => named(alloc, name, matches),
         None => Err(WordsRefusal::Usage),
     }
 }
 
+// The command of a name.
+fn named(alloc: Global, name: &str, matches: &ArgMatches<'_>) -> Result<Command, WordsRefusal>
+    ensures { Gives meaning_of (command_named name.now (rows_of (found_of matches.now))) result }
+{
+    if name == "solve" {
+        solve(matches)
+    } else if name == "eval" {
+        eval(alloc, matches)
+    } else if name == "simplify" {
+        simplify(matches)
+    } else if name == "check" {
+        Ok(Command::Check)
+    } else if name == "trial" {
+        trial(matches)
+    } else if name == "pieces" {
+        pieces(matches)
+    } else if name == "restrict" {
+        restrict(matches)
+    } else {
+        Err(WordsRefusal::Usage)
+    }
+}
+
 fn solve(matches: &ArgMatches<'_>) -> Result<Command, WordsRefusal>
-    ensures ok { IfOk result (λ command. solve_of (rows_of (found_of matches.now)) ≡ Some (meaning_of command)) }
-    ensures usage { IfErr result (λ e. e ≡ WordsRefusal.Usage → solve_of (rows_of (found_of matches.now)) ≡ None) }
+    ensures { Gives meaning_of (solve_of (rows_of (found_of matches.now))) result }
 {
     let polylib = is_set(matches, "polylib");
     let simplify = is_set(matches, "simplify");
-    let standard = Limits::standard();
-    let pivots = limit(matches, "pivots", MAX_PIVOTS, standard.pivots());
-    let cuts = limit(matches, "cuts", MAX_CUTS, standard.cuts());
-    let splits = limit(matches, "splits", MAX_SPLITS, standard.splits());
-    let nesting = limit(matches, "nesting", MAX_NESTING, standard.nesting());
-    match (pivots, cuts, splits, nesting) {
-        (Some(pivots), Some(cuts), Some(splits), Some(nesting)) => {
-            let limits = Limits::new(pivots, cuts, splits, nesting);
-            Ok(Command::Solve(SolveOptions {
-                polylib,
-                simplify,
-                limits,
-            }))
-        }
-        _ => Err(WordsRefusal::Usage),
+    match limits(matches) {
+        Some(limits) => Ok(Command::Solve(SolveOptions {
+            polylib,
+            simplify,
+            limits,
+        })),
+        None => Err(WordsRefusal::Usage),
     }
 }
 
 fn eval(alloc: Global, matches: &ArgMatches<'_>) -> Result<Command, WordsRefusal>
-    ensures ok { IfOk result (λ command. eval_of (rows_of (found_of matches.now)) ≡ Some (meaning_of command)) }
-    ensures usage { IfErr result (λ e. e ≡ WordsRefusal.Usage → eval_of (rows_of (found_of matches.now)) ≡ None) }
+    ensures { Gives meaning_of (eval_of (rows_of (found_of matches.now))) result }
 {
     match matches.get_strs("parameter") {
         Some(texts) => match parameters(alloc, texts) {
@@ -100,8 +106,7 @@ fn eval(alloc: Global, matches: &ArgMatches<'_>) -> Result<Command, WordsRefusal
 }
 
 fn parameters(alloc: Global, texts: &[&str]) -> Result<ParameterVector, WordsRefusal>
-    ensures ok { IfOk result (λ vector. parameters_of (map (λ text. text.now) texts.now) ≡ Some vector) }
-    ensures usage { IfErr result (λ e. e ≡ WordsRefusal.Usage → parameters_of (map (λ text. text.now) texts.now) ≡ None) }
+    ensures { Gives (λ vector. vector) (parameters_of (map (λ text. text.now) texts.now)) result }
 {
     if texts.len() > MOST_PARAMETERS {
         return Err(WordsRefusal::Usage);
@@ -117,23 +122,19 @@ fn parameters(alloc: Global, texts: &[&str]) -> Result<ParameterVector, WordsRef
 }
 
 fn simplify(matches: &ArgMatches<'_>) -> Result<Command, WordsRefusal>
-    ensures ok { IfOk result (λ command. simplify_of (rows_of (found_of matches.now)) ≡ Some (meaning_of command)) }
-    ensures usage { IfErr result (λ e. e ≡ WordsRefusal.Usage → simplify_of (rows_of (found_of matches.now)) ≡ None) }
+    ensures { Gives meaning_of (simplify_of (rows_of (found_of matches.now))) result }
 {
-    match needed(matches, "parameters", MOST_PARAMETERS as u64) {
-        Some(count) => Ok(Command::Simplify(SimplifyOptions {
-            params: count as usize,
-        })),
+    match parameter_count(matches) {
+        Some(params) => Ok(Command::Simplify(SimplifyOptions { params })),
         None => Err(WordsRefusal::Usage),
     }
 }
 
 fn trial(matches: &ArgMatches<'_>) -> Result<Command, WordsRefusal>
-    ensures ok { IfOk result (λ command. trial_of (rows_of (found_of matches.now)) ≡ Some (meaning_of command)) }
-    ensures usage { IfErr result (λ e. e ≡ WordsRefusal.Usage → trial_of (rows_of (found_of matches.now)) ≡ None) }
+    ensures { Gives meaning_of (trial_of (rows_of (found_of matches.now))) result }
 {
     let seed = needed(matches, "seed", u64::MAX);
-    let count = needed(matches, "count", MAX_DRAWN);
+    let count = needed(matches, "count", MOST_DRAWN);
     match (seed, count) {
         (Some(seed), Some(count)) => Ok(Command::Trial(TrialOptions {
             seed,
@@ -143,7 +144,63 @@ fn trial(matches: &ArgMatches<'_>) -> Result<Command, WordsRefusal>
     }
 }
 
-/// The number of a required argument.
+fn pieces(matches: &ArgMatches<'_>) -> Result<Command, WordsRefusal>
+    ensures { Gives meaning_of (pieces_of (rows_of (found_of matches.now))) result }
+{
+    match parameter_count(matches) {
+        Some(params) => Ok(Command::Pieces(PiecesOptions { params })),
+        None => Err(WordsRefusal::Usage),
+    }
+}
+
+// The required number of parameters.
+fn parameter_count(matches: &ArgMatches<'_>) -> Option<usize>
+    ensures value { result ≡ needed_of (codes "parameters") most_params (rows_of (found_of matches.now)) }
+    ensures few { IfSome result (λ n. n ≤ most_params) }
+{
+    match needed(matches, "parameters", MOST_PARAMETERS as u64) {
+        Some(count) => Some(count as usize),
+        None => None,
+    }
+}
+
+// The number of parameters and the budgets of a walk.
+fn walk(matches: &ArgMatches<'_>) -> Option<WalkOptions>
+    ensures { option_map (λ o. (o.params, o.limits)) result ≡ walk_of (rows_of (found_of matches.now)) }
+{
+    match (parameter_count(matches), limits(matches)) {
+        (Some(params), Some(limits)) => Some(WalkOptions { params, limits }),
+        _ => None,
+    }
+}
+
+fn restrict(matches: &ArgMatches<'_>) -> Result<Command, WordsRefusal>
+    ensures { Gives meaning_of (restrict_of (rows_of (found_of matches.now))) result }
+{
+    match walk(matches) {
+        Some(options) => Ok(Command::Restrict(options)),
+        None => Err(WordsRefusal::Usage),
+    }
+}
+
+// The budgets of the options, each its standard where it is not given.
+fn limits(matches: &ArgMatches<'_>) -> Option<Limits>
+    ensures { result ≡ budget_of (rows_of (found_of matches.now)) }
+{
+    let standard = Limits::standard();
+    let pivots = limit(matches, "pivots", MOST_PIVOTS, standard.pivots());
+    let cuts = limit(matches, "cuts", MOST_CUTS, standard.cuts());
+    let splits = limit(matches, "splits", MOST_SPLITS, standard.splits());
+    let nesting = limit(matches, "nesting", MOST_NESTING, standard.nesting());
+    match (pivots, cuts, splits, nesting) {
+        (Some(pivots), Some(cuts), Some(splits), Some(nesting)) => {
+            Some(Limits::new(pivots, cuts, splits, nesting))
+        }
+        _ => None,
+    }
+}
+
+// The number of a required argument.
 fn needed(matches: &ArgMatches<'_>, name: &str, most: u64) -> Option<u64>
     ensures value { result ≡ needed_of name.now most (rows_of (found_of matches.now)) }
     ensures within { IfSome result (λ n. n ≤ most) }
@@ -154,7 +211,7 @@ fn needed(matches: &ArgMatches<'_>, name: &str, most: u64) -> Option<u64>
     }
 }
 
-/// The flag is given.
+// The flag is given.
 fn is_set(matches: &ArgMatches<'_>, name: &str) -> bool
     ensures { result ≡ flag_of name.now (rows_of (found_of matches.now)) }
 {
@@ -164,7 +221,7 @@ fn is_set(matches: &ArgMatches<'_>, name: &str) -> bool
     }
 }
 
-/// The number of an option, or its default.
+// The number of an option, or its default.
 fn limit(matches: &ArgMatches<'_>, name: &str, most: u64, default: u64) -> Option<u64>
     requires { default ≤ most }
     ensures value { result ≡ limit_of name.now most default (rows_of (found_of matches.now)) }

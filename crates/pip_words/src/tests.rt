@@ -1,6 +1,20 @@
-use crate::{Command, WordsRefusal, read_words};
-use std::alloc::Global;
+use crate::{Command, WalkOptions, WordsRefusal, read_words};
+use std::alloc::{AllocError, Global};
 use std::test::Fail;
+
+/// The options of a walk, behind its command.
+fn walk(alloc: Global, name: &str, options: &WalkOptions) -> Result<String, AllocError> {
+    let limits = &options.limits;
+    format!(in alloc;
+        "{} {} {} {} {} {}",
+        name,
+        options.params,
+        limits.pivots(),
+        limits.cuts(),
+        limits.splits(),
+        limits.nesting()
+    )
+}
 
 /// The command that a line's words give, in words of the test.
 fn read(alloc: Global, line: &str) -> Result<String, Fail> {
@@ -22,6 +36,9 @@ fn read(alloc: Global, line: &str) -> Result<String, Fail> {
             )?
         }
         Ok(Command::Simplify(options)) => format!(in alloc; "simplify {}", options.params)?,
+        Ok(Command::Check) => format!(in alloc; "check")?,
+        Ok(Command::Pieces(options)) => format!(in alloc; "pieces {}", options.params)?,
+        Ok(Command::Restrict(options)) => walk(alloc, "restrict", &options)?,
         Ok(Command::Trial(options)) => {
             format!(in alloc; "trial {} {}", options.seed, options.count)?
         }
@@ -98,7 +115,18 @@ fn words_of_lines(rt: HostRuntime) -> Result<(), Fail> {
         ("pip simplify x", "usage"),
         ("pip simplify", "usage"),
         ("pip simplify 1 1", "usage"),
-        ("pip check", "usage"),
+        ("pip check", "check"),
+        ("pip check 1", "usage"),
+        ("pip share", "usage"),
+        ("pip pieces 48", "pieces 48"),
+        ("pip pieces 49", "usage"),
+        ("pip pieces", "usage"),
+        (
+            "pip restrict 48 --cuts 1",
+            "restrict 48 1000000 1 10000 200",
+        ),
+        ("pip restrict 1 --splits 1", "usage"),
+        ("pip restrict 49", "usage"),
         ("pip trial 7 0", "trial 7 0"),
         (
             "pip trial 18446744073709551615 10000",

@@ -2,6 +2,8 @@
 #![tactic(auto)]
 
 #[cfg(test)]
+mod certificates;
+#[cfg(test)]
 mod drawing;
 #[cfg(test)]
 mod examples;
@@ -11,6 +13,8 @@ mod faults;
 mod library;
 #[cfg(test)]
 mod limits;
+#[cfg(test)]
+mod pieces;
 #[cfg(test)]
 mod points;
 #[cfg(test)]
@@ -23,3 +27,5 @@ mod simplifying;
 mod solving;
 #[cfg(test)]
 mod valuing;
+#[cfg(test)]
+mod walking;

@@ -4,7 +4,8 @@ use std::alloc::{AllocError, Global};
 use std::process::Abort;
 use std::test::Fail;
 
-/// A worked row: the words with a blank between two of them, the input, what the sink and the notes gain, and the status.
+/// A worked row: the words with a blank between two of them, the input, what the sink and the notes gain, and the
+/// status.
 #[derive(Clone, Copy, Debug)]
 pub struct Row {
     pub name: &'static str,

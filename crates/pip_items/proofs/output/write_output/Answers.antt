@@ -1,4 +1,4 @@
-use Rattle.pip_model.specs.Commands.{Solve, Eval, Simplify}
+use Rattle.pip_model.specs.Commands.{Solve, Eval, Simplify, CheckAll, Pieces, Restrict}
 use Rattle.pip_words.specs.Words.{options_of}
 use Rattle.pip_items.proofs.Outputs.{output-taken, output-trial}
 use Rattle.pip_items.proofs.output.write_output.Goals as goal
@@ -15,6 +15,21 @@ pub returns-in-Simplify-clause-output : goal.returns-in-Simplify-clause-output
 returns-in-Simplify-clause-output g c =
     rw c.in-Simplify.is (output-taken (Simplify c.in-Simplify.options.params) tt (g.S.Source.left c.args.source.now) (g.K.Sink.written c.args.sink.now) _ c.write_over_input-in-Simplify.result c.write_over_input-in-Simplify.ensures.output)
 
+pub returns-in-Check-clause-output : goal.returns-in-Check-clause-output
+returns-in-Check-clause-output g c =
+    rw c.in-Check.is (output-taken CheckAll tt (g.S.Source.left c.args.source.now) (g.K.Sink.written c.args.sink.now)
+    _ c.write_over_input-in-Check.result c.write_over_input-in-Check.ensures.output)
+
+pub returns-in-Pieces-clause-output : goal.returns-in-Pieces-clause-output
+returns-in-Pieces-clause-output g c =
+    rw c.in-Pieces.is (output-taken (Pieces c.in-Pieces.options.params) tt (g.S.Source.left c.args.source.now) (g.K.Sink.written c.args.sink.now)
+    _ c.write_over_input-in-Pieces.result c.write_over_input-in-Pieces.ensures.output)
+
+pub returns-in-Restrict-clause-output : goal.returns-in-Restrict-clause-output
+returns-in-Restrict-clause-output g c =
+    rw c.in-Restrict.is (output-taken (Restrict c.in-Restrict.options.params c.in-Restrict.options.limits) tt (g.S.Source.left c.args.source.now) (g.K.Sink.written c.args.sink.now)
+    _ c.write_over_input-in-Restrict.result c.write_over_input-in-Restrict.ensures.output)
+
 pub returns-in-Trial-clause-output : goal.returns-in-Trial-clause-output
 returns-in-Trial-clause-output g c =
-    rw c.in-Trial.is (output-trial c.in-Trial.options.seed c.in-Trial.options.count (g.S.Source.left c.args.source.now) (g.K.Sink.written c.args.sink.now) _ c.write_items.result c.write_items.ensures.own c.write_items.ensures.output)
+    rw c.in-Trial.is (output-trial c.in-Trial.options.seed c.in-Trial.options.count (g.K.Sink.written c.args.sink.now) _ c.write_items.result c.write_items.ensures.own c.write_items.ensures.output)

@@ -7,9 +7,11 @@ use Rattle.pip_words.specs.Words.{all_parameters}
 use Rattle.pip_words.proofs.Parameters.{refused, more, none_either}
 use Rattle.pip_words.proofs.reading.parameters.Goals as goal
 
-pub returns-in-None-clause-usage : goal.returns-in-None-clause-usage
-returns-in-None-clause-usage c = λ _. none_either (nat_le (length (map (λ text. text.now) c.args.texts.now)) most_params) (all_parameters (map (λ text. text.now) c.args.texts.now))
-    (refused c.args.texts.now c.loop-text.text-index _ c.loop-text-test.true (ap parameter_of (sym c.as_bytes.ensures.value) ∙ sym c.in-None.ensures.value))
+pub returns-in-None : goal.returns-in-None
+returns-in-None c = none_either (nat_le (length (map (λ text. text.now) c.args.texts.now)) most_params)
+    (all_parameters (map (λ text. text.now) c.args.texts.now))
+    (refused c.args.texts.now c.loop-text.text-index _ c.loop-text-test.true
+    (ap parameter_of (sym c.as_bytes.ensures.value) ∙ sym c.in-None.ensures.value))
 
 pub loop-text-preserved : goal.loop-text-preserved
 loop-text-preserved c = record {

@@ -1,0 +1,22 @@
+-- From what the check finds to the texts of check.
+use Rattle.std.proofs.Common.{◌≡◌, ap, refl, ℕ, List, codes}
+use Rattle.std.specs.Prelude.{Result, Ok, Err, IfSome, Option, Some, None}
+use Rattle.pip_model.specs.Check.{Checks}
+use Rattle.pip_model.specs.Endings as model
+use Rattle.pip_model.specs.ItemTexts.{verdict_text}
+use Rattle.pip_items.specs.Endings.{told}
+use Rattle.pip_items.specs.Triples.{verdict, IsFound}
+use Rattle.pip_items.specs.declared.ending.Ending.{Ending}
+
+where_some : {A : Type 0} (P Q : A → Type 0) (o : Option A) → ((x : A) → P x → Q x) → IfSome o P → IfSome o Q
+where_some P Q None f h = tt
+where_some P Q (Some x) f h = f x h
+
+verdict_err : (found : Checks (Unit {0})) (e : model.Ending) → verdict found ≡ Err e → verdict_text found ≡ Err e
+verdict_err (Ok u) e h = cc
+verdict_err (Err f) e h = cc
+
+-- where the check finds a fault, this is the end of check
+pub check_refused : (found : Checks (Unit {0})) (e : Ending) → IsFound (Err e) found
+    → IfSome (told e) (λ f. verdict_text found ≡ Err f)
+check_refused found e h = where_some _ _ (told e) (verdict_err found) h

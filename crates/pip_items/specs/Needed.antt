@@ -1,0 +1,18 @@
+-- Parts of an item that have to be there.
+use Rattle.std.specs.Prelude.{ℕ, List, Result}
+use Rattle.pip_model.specs.Certificate.{Certificate, read_certificate}
+use Rattle.pip_model.specs.Endings.{Ending}
+use Rattle.pip_model.specs.Items.{or_ending, needed}
+use Rattle.pip_model.specs.Reading.{◌>>=◌}
+use Rattle.pip_model.specs.TreeText as text
+use Rattle.quast_text.specs.Spoken.{spoken_of}
+use Rattle.quast_text.specs.declared.read.Spoken.{Spoken}
+
+-- an answer with its comment, and the place behind it
+abbrev pub spoken_found : Spoken × ℕ → text.Spoken × ℕ
+spoken_found x = (spoken_of x.0, x.1)
+
+abbrev pub needed_certificate : List ℕ → ℕ → Result (Certificate × ℕ) Ending
+needed_certificate bytes place = do
+  found ← or_ending (read_certificate bytes place)
+  needed bytes found

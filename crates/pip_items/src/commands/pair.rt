@@ -1,0 +1,45 @@
+ghost use Rattle.std.specs.Prelude.{◌≤◌, length, IfOk, IfErr, IfSome};
+ghost use Rattle.pip_model.specs.Agreement.{Agrees};
+ghost use Rattle.pip_model.specs.Limits.{most_params};
+ghost use Rattle.pip_model.specs.ItemKinds as kinds;
+ghost use Rattle.pip_items.specs.Endings.{told, IsOfItem};
+ghost use Rattle.pip_items.specs.Items.{IsBehind};
+ghost use Rattle.pip_items.specs.Pairs.{IsPair, pair_found};
+
+use super::needed::needed_answer;
+use crate::ending::Ending;
+use affine_rows::Forms;
+use pip_reader::read_context;
+use quast_text::Spoken;
+use std::alloc::Global;
+
+/// A context and an answer over as many parameters.
+#[derive(Drop)]
+pub(super) struct Pair {
+    pub(super) rows: Forms,
+    pub(super) first: Spoken,
+}
+
+/// The pair that begins with the first `(` at or behind a place, and the place behind it; none exactly where there is no
+/// `(`.
+pub(super) fn pair_at(
+    alloc: Global,
+    bytes: &[u8],
+    at: usize,
+    params: usize,
+) -> Result<Option<(Pair, usize)>, Ending>
+    requires place { at ≤ length bytes.now }
+    requires few { params ≤ most_params }
+    ensures agrees { Agrees pair_found told result (kinds.pair bytes.now params at) }
+    ensures own { IfErr result IsOfItem }
+    ensures pair { IfOk result (λ found. IfSome found (λ x. IsPair params x.0)) }
+    ensures after { IfOk result (λ found. IfSome found (λ x. IsBehind at (length bytes.now) x.1)) }
+{
+    match read_context(alloc, bytes, at, params)? {
+        Some((rows, at)) => {
+            let (first, after) = needed_answer(alloc, bytes, at, params)?;
+            Ok(Some((Pair { rows, first }, after)))
+        }
+        None => Ok(None),
+    }
+}

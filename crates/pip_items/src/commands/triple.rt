@@ -1,0 +1,86 @@
+ghost use Rattle.std.specs.Prelude.{◌≡◌, ◌≤◌, length, IfOk, IfErr, IfSome, Some};
+ghost use Rattle.pip_model.specs.Agreement.{Agrees};
+ghost use Rattle.pip_model.specs.Check as model;
+ghost use Rattle.pip_model.specs.ItemKinds as kinds;
+ghost use Rattle.quast.specs.Answers.{answer_of};
+ghost use Rattle.pip_items.specs.Endings.{told, IsOfItem};
+ghost use Rattle.pip_items.specs.Items.{IsBehind};
+ghost use Rattle.pip_items.specs.Triples.{IsTriple, triple_of, triple_found, IsFound};
+
+use super::needed::{needed_answer, needed_certificate};
+use crate::ending::Ending;
+use certificate_check::{CheckRefusal, Verdict, check};
+use leaf_certificate::Certificate;
+use pip_problem::Problem;
+use pip_reader::read_problem;
+use quast::Answer;
+use std::alloc::Global;
+
+/// An integer problem, an answer over its parameters, and a certificate.
+#[derive(Drop)]
+pub(super) struct Triple {
+    pub(super) problem: Problem,
+    pub(super) answer: Answer,
+    pub(super) certificate: Certificate,
+}
+
+// What stands behind a problem, and the place behind that. A rational problem is refused before its answer is read.
+fn rest_of_triple(
+    alloc: Global,
+    bytes: &[u8],
+    problem: Problem,
+    at: usize,
+) -> Result<(Triple, usize), Ending>
+    requires { at ≤ length bytes.now }
+    ensures agrees { Agrees (λ x. Some (triple_of x.0, x.1)) told result
+        (kinds.rest_of_triple bytes.now (problem, at)) }
+    ensures own { IfErr result IsOfItem }
+    ensures triple { IfOk result (λ x. IsTriple x.0) }
+    ensures place { IfOk result (λ x. IsBehind at (length bytes.now) x.1) }
+{
+    if !problem.integer() {
+        return Err(Ending::RationalCertificate);
+    }
+    let (spoken, at) = needed_answer(alloc, bytes, at, problem.params())?;
+    let (certificate, at) = needed_certificate(alloc, bytes, at)?;
+    let triple = Triple {
+        problem,
+        answer: spoken.answer,
+        certificate,
+    };
+    Ok((triple, at))
+}
+
+/// The triple that begins with the first `(` at or behind a place, and the place behind it; none exactly where there is
+/// no `(`.
+pub(super) fn triple_at(
+    alloc: Global,
+    bytes: &[u8],
+    at: usize,
+) -> Result<Option<(Triple, usize)>, Ending>
+    requires { at ≤ length bytes.now }
+    ensures agrees { Agrees triple_found told result (kinds.triple bytes.now at) }
+    ensures own { IfErr result IsOfItem }
+    ensures triple { IfOk result (λ found. IfSome found (λ x. IsTriple x.0)) }
+    ensures place { IfOk result (λ found. IfSome found (λ x. IsBehind at (length bytes.now) x.1)) }
+{
+    match read_problem(alloc, bytes, at)? {
+        Some((problem, after)) => Ok(Some(rest_of_triple(alloc, bytes, problem, after)?)),
+        None => Ok(None),
+    }
+}
+
+/// Nothing where the certificate is accepted, else its first fault.
+pub(super) fn accept(alloc: Global, triple: &Triple) -> Result<(), Ending>
+    requires { IsTriple triple.now }
+    ensures own { IfErr result IsOfItem }
+    ensures found { IsFound result
+        (model.check triple.now.problem (answer_of triple.now.answer) triple.now.certificate) }
+{
+    match check(alloc, &triple.problem, &triple.answer, &triple.certificate) {
+        Ok(Verdict::Accepted) => Ok(()),
+        Ok(Verdict::Rejected(spot)) => Err(Ending::Rejected(spot)),
+        Err(CheckRefusal::Overflow(spot)) => Err(Ending::OverflowAt(spot)),
+        Err(CheckRefusal::WantOfMemory) => Err(Ending::WantOfMemory),
+    }
+}
