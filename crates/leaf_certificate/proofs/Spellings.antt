@@ -1,14 +1,8 @@
 -- Texts of lists.
-use Rattle.std.proofs.Common.{◌≡◌, ◌≤◌, ◌∙◌, refl, ap, append_assoc, length, take, ℕ, ℤ, Bool, List, [], ◌∷◌, ◌++◌, flat_map}
-use Rattle.std.proofs.lemmas.List.{take_all}
+use Rattle.std.proofs.Common.{◌≡◌, ◌∙◌, refl, ap, append_assoc, ℕ, ℤ, Bool, List, [], ◌∷◌, ◌++◌, flat_map}
 use Rattle.std.specs.Prelude.{Result, Ok, Err, OnOk}
-use Rattle.pip_model.specs.TreeText.{spell_numbers}
 use Rattle.pip_model.specs.Certificate.{Refutation, LeafProofs, spell_terms, spell_steps, spell_refutations, spell_leaves}
-use Rattle.leaf_certificate.specs.Printing.{spell_entry, spell_term, spell_step, spell_refutation, spell_leaf}
-
-pub numbers_flat : (cs : List ℤ) → flat_map spell_entry cs ≡ spell_numbers cs
-numbers_flat [] = refl
-numbers_flat (c ∷ cs) = ap (λ t. spell_entry c ++ t) (numbers_flat cs)
+use Rattle.leaf_certificate.specs.Printing.{spell_term, spell_step, spell_refutation, spell_leaf}
 
 pub terms_flat : (ts : List (ℤ × ℤ)) → flat_map spell_term ts ≡ spell_terms ts
 terms_flat [] = refl
@@ -25,10 +19,6 @@ refutations_flat (r ∷ rs) = ap (λ t. spell_refutation r ++ t) (refutations_fl
 pub leaves_flat : (shares : Bool) (ls : List LeafProofs) → flat_map (spell_leaf shares) ls ≡ spell_leaves shares ls
 leaves_flat shares [] = refl
 leaves_flat shares (l ∷ ls) = ap (λ t. spell_leaf shares l ++ t) (leaves_flat shares ls)
-
--- the text of all elements once they are gone through
-pub written : {X : Type 0} (f : X → List ℕ) (xs : List X) (i : ℕ) (text : List ℕ) → length xs ≤ i → flat_map f xs ≡ text → flat_map f (take i xs) ≡ text
-written f xs i text h e = rw (take_all i xs h) e
 
 -- three texts one behind another
 pub joined : {X E : Type 0} (r : Result X E) (old x y z first second new : List ℕ) → first ≡ old ++ x → second ≡ first ++ y → OnOk r (new ≡ second ++ z) → OnOk r (new ≡ old ++ (x ++ y ++ z))

@@ -1,11 +1,7 @@
 -- Words of the contracts on printing.
-use Rattle.std.specs.Prelude.{◌≡◌, ◌-◌, ℕ, ℤ, Bool, List, ◌++◌, length, codes, Option, Some, Ok, Result, OnOk}
+use Rattle.std.specs.Prelude.{◌≡◌, ◌-◌, ℕ, ℤ, Bool, List, ◌++◌, length, codes, Option, Some, Ok}
 use Rattle.std.specs.Fmt.{signed_decimal}
 use Rattle.pip_model.specs.Certificate.{Step, Refutation, LeafProofs, Certificate, spell_terms, spell_steps, spell_refutations, groups, format, spell_vector, read_certificate}
-
--- a blank and a number
-abbrev pub spell_entry : ℤ → List ℕ
-spell_entry c = codes " " ++ signed_decimal c
 
 -- a blank and an index, a blank and its multiplier
 abbrev pub spell_term : ℤ × ℤ → List ℕ
@@ -25,15 +21,6 @@ spell_leaf shares l = codes "(\n" ++ spell_refutations (groups shares l) ++ code
 -- the line of the format and the vector
 abbrev pub spell_head : Bool → Option (List ℤ) → List ℕ
 spell_head shares v = codes "(certificate " ++ signed_decimal (format shares) ++ codes " " ++ spell_vector v ++ codes "\n"
-
--- where nothing is refused, the text stands behind the old bytes
-abbrev pub Appends : {X E : Type 0} → List ℕ → List ℕ → List ℕ → Result X E → Type 0
-Appends text old new result = OnOk result (new ≡ old ++ text)
-
--- the new bytes begin with the old ones
-pub record Begins (old new : List ℕ) : Type 0 where
-  pub rest : List ℕ
-  pub is : new ≡ old ++ rest
 
 -- the text is read as this certificate, whatever stands behind it; the place after it is that of its last byte
 abbrev pub IsReadBack : List ℕ → Certificate → Type 0

@@ -10,8 +10,6 @@ mod read_leaf;
 mod read_step;
 mod refusal;
 mod step;
-#[cfg(test)]
-mod tests;
 
 pub use certificate::Certificate;
 pub use leaf::{LeafProofs, Refutation};

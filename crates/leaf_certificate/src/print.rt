@@ -2,15 +2,15 @@ ghost use Rattle.std.specs.Prelude.{◌≡◌, ◌++◌, codes, IsTrue, OnErr};
 ghost use Rattle.std.specs.Fmt.{signed_decimal};
 ghost use Rattle.pip_model.specs.Certificate.{groups, spell_terms, spell_steps, spell_refutations, spell_leaves, spell_vector, spell_certificate};
 ghost use Rattle.pip_model.specs.Printed.{certificate_fits};
-ghost use Rattle.pip_model.specs.TreeText.{spell_numbers, spell_form};
-ghost use Rattle.leaf_certificate.specs.Printing.{Appends, Begins, IsReadBack, spell_entry, spell_term, spell_step, spell_refutation, spell_leaf, spell_head};
+ghost use Rattle.text_parts.specs.Printing.{Appends, Begins};
+ghost use Rattle.leaf_certificate.specs.Printing.{IsReadBack, spell_term, spell_step, spell_refutation, spell_leaf, spell_head};
 
 use crate::certificate::Certificate;
 use crate::leaf::{LeafProofs, Refutation};
 use crate::step::{Step, Terms};
 use affine_rows::WantOfMemory;
-use itoa::Buffer;
 use std::alloc::AllocError;
+use text_parts::{put, put_entry, put_number, put_row};
 
 /// Appends the text of a certificate, or leaves `out` as it was. The text is read back as this certificate, whatever
 /// stands behind it.
@@ -66,25 +66,6 @@ fn put_vector(out: &mut Vec<u8>, c: &Certificate) -> Result<(), AllocError>
         Some(numbers) => put_row(out, numbers),
         None => put(out, b"void"),
     }
-}
-
-fn put_row(out: &mut Vec<u8>, numbers: &[i128]) -> Result<(), AllocError>
-    ensures ok { Appends (spell_form numbers.now) out.old.items out.new.items result }
-    ensures kept { Begins out.old.items out.new.items }
-{
-    put(out, b"#[")?;
-    put_numbers(out, numbers)?;
-    put(out, b"]")
-}
-
-fn put_numbers(out: &mut Vec<u8>, numbers: &[i128]) -> Result<(), AllocError>
-    ensures ok { Appends (spell_numbers numbers.now) out.old.items out.new.items result }
-    ensures kept { Begins out.old.items out.new.items }
-{
-    for number in numbers {
-        put_entry(out, *number)?;
-    }
-    Ok(())
 }
 
 fn put_leaves(out: &mut Vec<u8>, shares: bool, leaves: &[LeafProofs]) -> Result<(), AllocError>
@@ -180,26 +161,4 @@ fn put_term(out: &mut Vec<u8>, term: (i128, i128)) -> Result<(), AllocError>
     let (index, multiplier) = term;
     put_entry(out, index)?;
     put_entry(out, multiplier)
-}
-
-fn put_entry(out: &mut Vec<u8>, entry: i128) -> Result<(), AllocError>
-    ensures ok { Appends (spell_entry entry) out.old.items out.new.items result }
-    ensures kept { Begins out.old.items out.new.items }
-{
-    put(out, b" ")?;
-    put_number(out, entry)
-}
-
-fn put_number(out: &mut Vec<u8>, number: i128) -> Result<(), AllocError>
-    ensures ok { Appends (signed_decimal number) out.old.items out.new.items result }
-    ensures kept { Begins out.old.items out.new.items }
-{
-    put(out, Buffer::new().format(number).as_bytes())
-}
-
-fn put(out: &mut Vec<u8>, bytes: &[u8]) -> Result<(), AllocError>
-    ensures ok { Appends bytes.now out.old.items out.new.items result }
-    ensures kept { Begins out.old.items out.new.items }
-{
-    out.extend_from_slice(bytes)
 }

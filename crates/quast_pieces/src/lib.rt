@@ -3,8 +3,6 @@
 
 mod print;
 mod refusal;
-#[cfg(test)]
-mod tests;
 
 pub use print::print_pieces;
 pub use refusal::PiecesRefusal;

@@ -1,19 +1,16 @@
 -- Texts of lists, and numbers over a denominator.
-use Rattle.std.proofs.Common.{◌≡◌, ◌∙◌, ◌≤◌, refl, ap, sym, length, take, append_assoc, codes, if◌then◌else◌, ℕ, ℤ, pos, negsuc, ◌≤ℤ◌, ◌<◌, unsigned_abs, Bool, true, false, arith, List, [], ◌∷◌, ◌++◌, flat_map}
+use Rattle.std.proofs.Common.{◌≡◌, ◌∙◌, ◌≤◌, refl, ap, sym, append_assoc, codes, if◌then◌else◌, ℕ, ℤ, pos, negsuc, ◌≤ℤ◌, ◌<◌, unsigned_abs, Bool, true, false, arith, List, [], ◌∷◌, ◌++◌, flat_map}
 use Rattle.std.proofs.lemmas.Int.{ints}
-use Rattle.std.proofs.lemmas.List.{append-nil, take_all}
+use Rattle.std.proofs.lemmas.List.{append-nil}
 use Rattle.std.specs.Fmt.{signed_decimal}
 use Rattle.std.proofs.Math.Nat.{pos_of_dvd_of_pos}
 use Rattle.std.specs.Prelude.{Result, Ok, Err, OnOk, is_err}
 use Rattle.pip_model.specs.Numbers.{floor_div, gcd, same_number}
 use Rattle.pip_model.specs.Tree.{Component}
-use Rattle.pip_model.specs.TreeText.{spell_numbers, spell_fraction, spell_fractions, spell_components}
-use Rattle.quast_text.specs.Printing.{Begins, spell_entry, spell_denominator, spell_term, spell_component}
+use Rattle.pip_model.specs.TreeText.{spell_fraction, spell_fractions, spell_components}
+use Rattle.text_parts.specs.Printing.{Begins}
+use Rattle.quast_text.specs.Printing.{spell_denominator, spell_term, spell_component}
 use Rattle.pip_model.proofs.Gcd.{common-IsGcd}
-
-pub numbers_flat : (cs : List ℤ) → flat_map spell_entry cs ≡ spell_numbers cs
-numbers_flat [] = refl
-numbers_flat (c ∷ cs) = ap (λ t. spell_entry c ++ t) (numbers_flat cs)
 
 pub fractions_flat : (d : ℤ) (cs : List ℤ) → flat_map (spell_term d) cs ≡ spell_fractions d cs
 fractions_flat d [] = refl
@@ -22,10 +19,6 @@ fractions_flat d (c ∷ cs) = ap (λ t. spell_term d c ++ t) (fractions_flat d c
 pub components_flat : (cs : List Component) → flat_map spell_component cs ≡ spell_components cs
 components_flat [] = refl
 components_flat (c ∷ cs) = ap (λ t. spell_component c ++ t) (components_flat cs)
-
--- the text of all elements once they are gone through
-pub written : {X : Type 0} (f : X → List ℕ) (xs : List X) (i : ℕ) (text : List ℕ) → length xs ≤ i → flat_map f xs ≡ text → flat_map f (take i xs) ≡ text
-written f xs i text h e = rw (take_all i xs h) e
 
 -- ---- lowest terms
 

@@ -1,13 +1,9 @@
 -- Words of the contracts on printing.
-use Rattle.std.specs.Prelude.{◌≡◌, ◌-◌, ℕ, ℤ, List, [], ◌++◌, if◌then◌else◌, length, codes, Some, Ok, Result, OnOk}
+use Rattle.std.specs.Prelude.{◌≡◌, ◌-◌, ℕ, ℤ, List, [], ◌++◌, if◌then◌else◌, length, codes, Some, Ok}
 use Rattle.std.specs.Fmt.{signed_decimal}
 use Rattle.pip_model.specs.Numbers.{floor_div, same_number}
 use Rattle.pip_model.specs.TreeText.{Spoken, read_answer, spell_fraction, spell_fractions}
 use Rattle.pip_model.specs.Tree.{Component}
-
--- a blank and a number
-abbrev pub spell_entry : ℤ → List ℕ
-spell_entry c = codes " " ++ signed_decimal c
 
 -- a stroke and d over its divisor, nothing where that is 1
 abbrev pub spell_denominator : ℤ → ℤ → List ℕ
@@ -20,15 +16,6 @@ spell_term d c = codes " " ++ spell_fraction c d
 -- the line of a component
 abbrev pub spell_component : Component → List ℕ
 spell_component c = codes "#[" ++ spell_fractions c.den c.form ++ codes "]\n"
-
--- where nothing is refused, the text stands behind the old bytes
-abbrev pub Appends : {X E : Type 0} → List ℕ → List ℕ → List ℕ → Result X E → Type 0
-Appends text old new result = OnOk result (new ≡ old ++ text)
-
--- the new bytes begin with the old ones
-pub record Begins (old new : List ℕ) : Type 0 where
-  pub rest : List ℕ
-  pub is : new ≡ old ++ rest
 
 -- the text is read as this answer over np parameters, whatever stands behind it; the place after it is that of its last byte
 abbrev pub IsReadBack : List ℕ → ℕ → Spoken → Type 0

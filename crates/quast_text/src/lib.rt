@@ -10,10 +10,8 @@ mod print;
 mod read;
 mod refusal;
 mod row;
-#[cfg(test)]
-mod tests;
 mod tree;
 
-pub use print::{print_answer, print_tree, put, put_comment, put_definition, put_form, put_node};
+pub use print::{print_answer, print_tree, put_comment, put_definition, put_form, put_node};
 pub use read::{Spoken, read_answer};
 pub use refusal::TextRefusal;

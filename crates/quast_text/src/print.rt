@@ -1,18 +1,20 @@
 ghost use Rattle.std.specs.Prelude.{◌≡◌, ◌+◌, ◌-◌, ◌≤◌, ◌≤ℤ◌, ◌++◌, ℕ, pos, length, All, decimal, codes, OnOk, OnErr};
 ghost use Rattle.std.specs.Fmt.{signed_decimal};
 ghost use Rattle.pip_model.specs.Forms.{width};
-ghost use Rattle.pip_model.specs.TreeText.{newline, spell_numbers, spell_form, spell_fraction, spell_fractions, spell_components, spell_tree, spell_answer, spell};
+ghost use Rattle.pip_model.specs.TreeText.{newline, spell_form, spell_fraction, spell_fractions, spell_components, spell_tree, spell_answer, spell};
 ghost use Rattle.pip_model.specs.Printed.{IsGroup, IsPrintableAnswer};
 ghost use Rattle.pip_model.specs.Limits.{most_params};
 ghost use Rattle.affine_rows.specs.Checks.{Fits};
 ghost use Rattle.quast.specs.Trees.{tree_of, IsQuast};
 ghost use Rattle.quast.specs.Answers.{answer_of, IsOver};
-ghost use Rattle.quast_text.specs.Printing.{Appends, Begins, spell_entry, spell_denominator, spell_term, spell_component, IsReadBack};
+ghost use Rattle.text_parts.specs.Printing.{Appends, Begins};
+ghost use Rattle.quast_text.specs.Printing.{spell_denominator, spell_term, spell_component, IsReadBack};
 
 use affine_rows::{Bytes, Form, WantOfMemory, floor_div, gcd};
 use itoa::Buffer;
 use quast::{Answer, Component, Node, Quast};
 use std::alloc::AllocError;
+use text_parts::{put, put_entry, put_number, put_row};
 
 /// Appends the text of a tree, or leaves `out` as it was.
 pub fn print_tree(tree: &Quast, out: &mut Vec<u8>) -> Result<(), WantOfMemory>
@@ -142,19 +144,7 @@ pub fn put_form(out: &mut Vec<u8>, v: &Form) -> Result<(), AllocError>
     ensures ok { Appends (spell_form v.now) out.old.items out.new.items result }
     ensures kept { Begins out.old.items out.new.items }
 {
-    put(out, b"#[")?;
-    put_entries(out, v.as_slice())?;
-    put(out, b"]")
-}
-
-fn put_entries(out: &mut Vec<u8>, entries: &[i128]) -> Result<(), AllocError>
-    ensures ok { Appends (spell_numbers entries.now) out.old.items out.new.items result }
-    ensures kept { Begins out.old.items out.new.items }
-{
-    for entry in entries {
-        put_entry(out, *entry)?;
-    }
-    Ok(())
+    put_row(out, v.as_slice())
 }
 
 fn put_list(out: &mut Vec<u8>, components: &[Component]) -> Result<(), AllocError>
@@ -234,27 +224,4 @@ fn put_denominator(out: &mut Vec<u8>, d: i128, divisor: i128) -> Result<(), Allo
     }
     put(out, b"/")?;
     put_number(out, floor_div(d, divisor))
-}
-
-fn put_entry(out: &mut Vec<u8>, entry: i128) -> Result<(), AllocError>
-    ensures ok { Appends (spell_entry entry) out.old.items out.new.items result }
-    ensures kept { Begins out.old.items out.new.items }
-{
-    put(out, b" ")?;
-    put_number(out, entry)
-}
-
-fn put_number(out: &mut Vec<u8>, number: i128) -> Result<(), AllocError>
-    ensures ok { Appends (signed_decimal number) out.old.items out.new.items result }
-    ensures kept { Begins out.old.items out.new.items }
-{
-    put(out, Buffer::new().format(number).as_bytes())
-}
-
-/// Appends the bytes.
-pub fn put(out: &mut Vec<u8>, bytes: &[u8]) -> Result<(), AllocError>
-    ensures ok { Appends bytes.now out.old.items out.new.items result }
-    ensures kept { Begins out.old.items out.new.items }
-{
-    out.extend_from_slice(bytes)
 }

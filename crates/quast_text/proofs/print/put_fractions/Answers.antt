@@ -1,7 +1,8 @@
 use Rattle.std.proofs.Common.{◌++◌, ◌∙◌, ap, arith}
 use Rattle.pip_model.specs.TreeText.{spell_fractions}
 use Rattle.quast_text.specs.Printing.{spell_term}
-use Rattle.quast_text.proofs.Spellings.{written, fractions_flat}
+use Rattle.text_parts.proofs.Spellings.{written}
+use Rattle.quast_text.proofs.Spellings.{fractions_flat}
 use Rattle.quast_text.proofs.print.put_fractions.Goals as goal
 
 pub returns-clause-ok : goal.returns-clause-ok
