@@ -33,6 +33,3 @@ pub use numbers::{
     Overflow, divides, floor_div, floor_mod, gcd, minus, nonnegative, plus, positive, times,
 };
 pub use tokens::{Kind, Lexeme, blank, digits, integer, plain_number, token, unsigned_part};
-
-#[cfg(test)]
-mod tests;

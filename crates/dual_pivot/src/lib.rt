@@ -8,6 +8,3 @@ mod elimination;
 pub use choice::entering;
 pub use elimination::pivot;
 pub use tableau::StepRefusal;
-
-#[cfg(test)]
-mod tests;

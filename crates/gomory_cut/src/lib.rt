@@ -8,6 +8,3 @@ mod fractions;
 pub use cuts::{constant_cut, parametric_cut, parametric_cut_by, rewrite};
 pub use fractions::{Fraction, find_fraction, first_fraction, residue_of};
 pub use tableau::StepRefusal;
-
-#[cfg(test)]
-mod tests;

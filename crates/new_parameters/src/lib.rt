@@ -9,6 +9,3 @@ mod quotients;
 pub use bounds::rounding;
 pub use quotient::Quotient;
 pub use quotients::Quotients;
-
-#[cfg(test)]
-mod tests;

@@ -1,5 +1,5 @@
 -- The greatest common divisor of numbers of which the first divides the second.
-use Rattle.std.proofs.Common.{◌≡◌, ◌∙◌, ap, sym, ℕ, ◌+◌, ℤ, pos, negsuc, ◌≤ℤ◌, ◌*ℤ◌, ◌+ℤ◌, unsigned_abs, arith}
+use Rattle.std.proofs.Common.{◌≡◌, ap, ℤ, pos, negsuc, ◌≤ℤ◌, ◌*ℤ◌, ◌+ℤ◌, unsigned_abs, arith}
 use Rattle.std.proofs.lemmas.Int.{ints}
 use Rattle.std.proofs.lemmas.Nat.Gcd.{dvd_refl}
 use Rattle.pip_model.specs.Numbers.{floor_div, floor_mod, gcd}

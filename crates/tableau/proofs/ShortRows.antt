@@ -28,7 +28,7 @@ list_short xs h = list_all-from_AllPass is_short xs (λ k d lt. passes (get_or x
 pub product_bound : (a b : ℤ) → IsShort a → IsShort b → unsigned_abs (a *ℤ b) < 2 ^ 126
 product_bound a b x y = product_fits a b x y
 
-short_fit : (z : ℤ) → IsShort z → Fits z
+pub short_fit : (z : ℤ) → IsShort z → Fits z
 short_fit z h = lt-ltb (unsigned_abs z) (2 ^ 127) (omega (arith, h))
 
 pub fits_short : (xs : List ℤ) → All IsShort xs → All Fits xs

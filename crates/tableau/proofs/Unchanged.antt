@@ -1,39 +1,18 @@
 -- A row whose entry in the pivot's column is 0, and whose numbers have no common divisor, stays as it is in a pivot. The pivot's listed
 -- numbers of the row are its own numbers times the pivot, and zeros.
-use Rattle.std.proofs.Common.{◌≡◌, ◌∙◌, refl, ap, sym, subst, ℕ, zero, suc, ◌+◌, ◌*◌, ◌/◌, ◌%◌, ◌<◌, ℤ, pos, ◌-ℤ◌, ◌*ℤ◌, unsigned_abs, arith, List, [], ◌∷◌, ◌++◌, length, Bool, true, false, ◌&&◌}
+use Rattle.std.proofs.Common.{◌≡◌, ◌∙◌, refl, ap, sym, ℕ, zero, suc, ◌<◌, ℤ, pos, ◌-ℤ◌, ◌*ℤ◌, unsigned_abs, arith, List, [], ◌∷◌, ◌++◌, length, Bool, true, false, ◌&&◌}
 use Rattle.std.specs.Prelude.{slice_set, IsTrue, All}
 use Rattle.std.proofs.lemmas.List.Sums.{list_all-from_AllPass}
 use Rattle.std.proofs.lemmas.Int.{ints, unsigned_abs-mul}
-use Rattle.std.proofs.lemmas.Nat.Gcd.{IsGcd-from_zero, IsGcd-from_mod, same_from_IsGcd}
-use Rattle.std.proofs.Math.Nat.{div-add-mod, mod-lt, mul-add-mod_self_left, mod-eq_of_lt, mul-lt-mul_of_pos_left}
-use Rattle.std.specs.Int.{IsGcd}
-use Rattle.pip_model.specs.Numbers.{fits, floor_div, euclid, gcd, gcd_of}
+use Rattle.pip_model.specs.Numbers.{fits, floor_div, gcd, gcd_of}
 use Rattle.pip_model.specs.Forms.{entry, combine, floor_divided, remove, scale}
 use Rattle.pip_model.specs.Listed.{all_fit, combine_listed}
 use Rattle.pip_model.specs.Rows.{Row, divided, substituted, eliminated, eliminated_listed}
-use Rattle.pip_model.proofs.Division.{euclid-IsGcd, floor-unique}
+use Rattle.pip_model.proofs.Division.{floor-unique}
+use Rattle.pip_model.proofs.Gcd.{common-scaled}
 use Rattle.tableau.specs.Tableaus.{content}
 
 -- ---- the divisor of multiples is the multiple of the divisor
-
-scaled-mod : (x a b : ℕ) → 0 < x → 0 < b → (x * a) % (x * b) ≡ x * (a % b)
-scaled-mod x a b h k =
-    let whole : x * a ≡ x * b * (a / b) + x * (a % b) = omega (arith, ap (λ n. x * n) (div-add-mod a b)) in
-    let below : a % b < b = mod-lt a k in
-    let small : x * (a % b) < x * b = mul-lt-mul_of_pos_left below h in
-    ap (λ n. n % (x * b)) whole ∙ mul-add-mod_self_left (x * b) (a / b) (x * (a % b)) ∙ mod-eq_of_lt small
-
-euclid-scaled : (x steps a b : ℕ) → 0 < x → b < steps → IsGcd (x * a) (x * b) (x * euclid steps a b)
-euclid-scaled x zero a b k h = absurd (omega arith)
-euclid-scaled x (suc steps) a zero k h = IsGcd-from_zero (x * a) (x * 0) (omega arith)
-euclid-scaled x (suc steps) a (suc b) k h =
-    let below : a % suc b < suc b = mod-lt a (omega arith) in
-    let rest = euclid-scaled x steps (suc b) (a % suc b) k (omega arith) in
-    IsGcd-from_mod (x * a) (x * suc b) _ (subst (λ r. IsGcd (x * suc b) r (x * euclid steps (suc b) (a % suc b))) (sym (scaled-mod x a (suc b) k (omega arith))) rest)
-
-pub common-scaled : (x a b : ℕ) → 0 < x → euclid (x * b + 1) (x * a) (x * b) ≡ x * euclid (b + 1) a b
-common-scaled x a b h =
-    same_from_IsGcd (x * a) (x * b) _ _ (euclid-IsGcd (x * b + 1) (x * a) (x * b) (omega arith)) (euclid-scaled x (b + 1) a b h (omega arith))
 
 gcd-scaled : (x : ℕ) (a b : ℤ) → 0 < x → gcd (pos x *ℤ a) (pos x *ℤ b) ≡ pos x *ℤ gcd a b
 gcd-scaled x a b h = rw (unsigned_abs-mul (pos x) a, unsigned_abs-mul (pos x) b) (ap pos (common-scaled x (unsigned_abs a) (unsigned_abs b) h))

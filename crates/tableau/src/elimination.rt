@@ -9,8 +9,9 @@ ghost use Rattle.tableau.specs.Tableaus.{IsRow, IsOwnRow, IsReduced, row_from};
 ghost use Rattle.tableau.specs.Views.{row_of};
 
 use crate::divisor::divisor_with;
+use crate::narrow::{divide_all_short, short_divisor_with, short_quotient};
 use crate::short::{
-    all_short, both, combine_short, is_short, is_short_row, short_product, with_entry,
+    all_short, both, combine_short, is_short, is_short_row, narrow, short_product, with_entry,
 };
 use crate::view::RowView;
 use affine_rows::{Overflow, difference, divide_all, floor_div, times};
@@ -127,6 +128,42 @@ fn combine_but(a: i128, r: &mut [i128], b: i128, s: &[i128], c: usize, entry: i1
     at[0] = entry;
 }
 
+// Divides a row of short numbers by their greatest common divisor; the new denominator.
+#[tactic(auto, using(crate::proofs::ShortRows::fits_short, crate::proofs::ShortRows::short_fit))]
+fn divide_short_parts(den: i128, coefs: &mut [i128], constant: &mut [i128]) -> i128
+    requires row { IsOwnRow (row_from den coefs.old constant.old) }
+    requires short { IsShortRow (row_from den coefs.old constant.old) }
+    ensures value { row_from result coefs.new constant.new ≡ model.divided (row_from den coefs.old constant.old) }
+    ensures row { IsRow (length coefs.old) (length constant.old - 1) (row_from result coefs.new constant.new) }
+    ensures short { IsShortRow (row_from result coefs.new constant.new) }
+{
+    let divisor = short_divisor_with(short_divisor_with(narrow(den), coefs), constant);
+    if divisor == 1 {
+        return den;
+    }
+    divide_all_short(coefs, divisor);
+    divide_all_short(constant, divisor);
+    short_quotient(den, divisor)
+}
+
+// Divides a row by the greatest common divisor of its numbers; the new denominator, and whether the numbers are known
+// to be short, as before where nothing is divided.
+fn divide_long_parts(den: i128, coefs: &mut [i128], constant: &mut [i128]) -> (i128, bool)
+    requires { IsOwnRow (row_from den coefs.old constant.old) }
+    ensures value { row_from result.0 coefs.new constant.new ≡ model.divided (row_from den coefs.old constant.old) }
+    ensures row { IsRow (length coefs.old) (length constant.old - 1) (row_from result.0 coefs.new constant.new) }
+    ensures short { IsTrue result.1 → IsShortRow (row_from result.0 coefs.new constant.new) }
+{
+    let divisor = divisor_with(divisor_with(den, coefs), constant);
+    if divisor == 1 {
+        return (den, false);
+    }
+    divide_all(coefs, divisor);
+    divide_all(constant, divisor);
+    let den = floor_div(den, divisor);
+    (den, is_short_row(den, coefs, constant))
+}
+
 // Divides a row by the greatest common divisor of its numbers; the new denominator, and whether the numbers are known
 // to be short, as before where nothing is divided.
 pub fn divide_parts(
@@ -144,14 +181,11 @@ pub fn divide_parts(
     if den == 1 {
         return (1, short);
     }
-    let divisor = divisor_with(divisor_with(den, coefs), constant);
-    if divisor == 1 {
-        return (den, short);
+    if short {
+        let den = divide_short_parts(den, coefs, constant);
+        return (den, true);
     }
-    divide_all(coefs, divisor);
-    divide_all(constant, divisor);
-    let den = floor_div(den, divisor);
-    (den, is_short_row(den, coefs, constant))
+    divide_long_parts(den, coefs, constant)
 }
 
 // Puts row p, solved for column c, into a row; the new denominator.

@@ -9,6 +9,7 @@ mod elimination;
 mod exchange;
 mod flat_rows;
 mod kept;
+mod narrow;
 mod pushing;
 mod refusal;
 mod row;
@@ -19,9 +20,7 @@ mod unit_run;
 mod view;
 mod widening;
 
+pub use narrow::{short_floor_div, short_gcd};
 pub use refusal::StepRefusal;
 pub use tableau::Tableau;
 pub use view::RowView;
-
-#[cfg(test)]
-mod tests;

@@ -94,7 +94,7 @@ fn is_half(z: i64) -> bool
 }
 
 // The short number in 64 bits.
-fn narrow(z: i128) -> i64
+pub fn narrow(z: i128) -> i64
     requires { IsShort z }
     ensures { result ≡ z }
 {
