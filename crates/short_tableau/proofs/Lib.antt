@@ -1,0 +1,5 @@
+pub mod Places
+pub mod Fitting
+pub mod ShortParts
+pub mod UnitNumbers
+pub mod Cutting

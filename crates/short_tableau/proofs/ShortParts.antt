@@ -1,0 +1,103 @@
+-- A short row with another put in.
+use Rattle.std.proofs.Common.{◌≡◌, refl, sym, ◌∙◌, subst, ℕ, zero, suc, ◌+◌, ◌<◌, ◌^◌, ℤ, pos, ◌≤ℤ◌, List, [], ◌∷◌, ◌++◌, length, replicate, unsigned_abs, arith, length-set, ◌*ℤ◌, negsuc}
+use Rattle.std.proofs.lemmas.Int.{ints}
+use Rattle.std.specs.Prelude.{slice_set, slice_index_or}
+use Rattle.std.proofs.lemmas.Bool.{lt-ltb}
+use Rattle.std.proofs.lemmas.List.{take_at, drop_at, length-map}
+use Rattle.std.proofs.lemmas.List.Elements.{All-set, All-replicate}
+use Rattle.pip_model.specs.Numbers.{gcd, gcd_of}
+use Rattle.pip_model.proofs.Gcd.{gcd_between, quotient_positive}
+use Rattle.pip_model.specs.Forms.{entry, combine}
+use Rattle.pip_model.specs.Rows.{Row, divided, substituted, eliminated, unit_row}
+use Rattle.affine_rows.specs.Checks.{Fits}
+use Rattle.tableau.specs.Flat.{row_of_numbers}
+use Rattle.tableau.specs.Short.{IsShort, IsShortRow}
+use Rattle.tableau.specs.Tableaus.{IsRow, row_from}
+use Rattle.tableau.proofs.ShortRows.{fits_short}
+use Rattle.tableau.proofs.Contents.{content-one}
+use Rattle.tableau.proofs.Flat.{unit_fits}
+use Rattle.tableau.proofs.Places.{length_combine}
+use Rattle.tableau.proofs.Substituting.{eliminated_none, eliminated_reduced}
+use Rattle.short_tableau.specs.Dense.{IsShortReduced}
+
+short_fit : (z : ℤ) → IsShort z → Fits z
+short_fit z h = lt-ltb (unsigned_abs z) (2 ^ 127) (omega (arith, h))
+
+-- a row of these lengths, whose numbers are short
+pub short_row : (n w : ℕ) (r : Row) → pos 1 ≤ℤ r.den → length r.coefs ≡ n → length r.constant ≡ w + 1 → IsShortRow r → IsRow n w r
+short_row n w r h coefs constant short = record {
+  positive = h;
+  den_fits = short_fit r.den short.den;
+  coefs = coefs;
+  constant = constant;
+  coefs_fit = fits_short r.coefs short.coefs;
+  constant_fit = fits_short r.constant short.constant;
+}
+
+-- a row's numbers as its parts
+pub row_split : (n : ℕ) (zs front rest coefs constant : List ℤ) → zs ≡ front ++ rest → rest ≡ coefs ++ constant → length front ≡ 1 → length coefs ≡ n
+    → row_of_numbers n zs ≡ row_from (slice_index_or front 0 (pos 0)) coefs constant
+row_split n zs [] rest coefs constant e f one long = absurd (omega arith)
+row_split n zs (x ∷ []) rest coefs constant e f one long = rw (e, f, take_at coefs constant n long, drop_at coefs constant n long) refl
+row_split n zs (x ∷ y ∷ front) rest coefs constant e f one long = absurd (omega arith)
+
+pub row_join : (n : ℕ) (front coefs constant : List ℤ) (z : ℤ) → length front ≡ 1 → length coefs ≡ n → row_of_numbers n (slice_set front 0 z ++ (coefs ++ constant)) ≡ row_from z coefs constant
+row_join n [] coefs constant z one long = absurd (omega arith)
+row_join n (x ∷ []) coefs constant z one long = rw (take_at coefs constant n long, drop_at coefs constant n long) refl
+row_join n (x ∷ y ∷ front) coefs constant z one long = absurd (omega arith)
+
+-- ---- what a short row is after a pivot
+
+pub product_positive : (a b : ℤ) → pos 1 ≤ℤ a → pos 1 ≤ℤ b → pos 1 ≤ℤ (a *ℤ b)
+product_positive (pos zero) b h k = absurd (omega (arith, ints))
+product_positive (negsuc n) b h k = absurd (omega (arith, ints))
+product_positive (pos (suc n)) (pos zero) h k = absurd (omega (arith, ints))
+product_positive (pos (suc n)) (negsuc m) h k = absurd (omega (arith, ints))
+product_positive (pos (suc n)) (pos (suc m)) h k = omega (arith, ints)
+
+pub divided_positive : (r : Row) → pos 1 ≤ℤ r.den → pos 1 ≤ℤ (divided r).den
+divided_positive r h =
+    let between = gcd_between r.den (gcd (gcd_of r.coefs) (gcd_of r.constant)) h in
+    quotient_positive r.den (gcd r.den (gcd (gcd_of r.coefs) (gcd_of r.constant))) between.0 between.1
+
+eliminated_coefs : (n c : ℕ) (p r : Row) → length p.coefs ≡ n → length r.coefs ≡ n → length (eliminated p c r).coefs ≡ n
+eliminated_coefs n c p r hp hr =
+    length-map (substituted p c r).coefs _ ∙ length-set (combine (entry p.coefs c) r.coefs (entry r.coefs c) p.coefs) c _
+    ∙ length_combine (entry p.coefs c) (entry r.coefs c) r.coefs p.coefs (hr ∙ sym hp) ∙ hp
+
+eliminated_constant : (w c : ℕ) (p r : Row) → length p.constant ≡ w → length r.constant ≡ w → length (eliminated p c r).constant ≡ w
+eliminated_constant w c p r hp hr =
+    length-map (substituted p c r).constant _
+    ∙ length_combine (entry p.coefs c) (entry r.coefs c) r.constant p.constant (hr ∙ sym hp) ∙ hp
+
+pub turned_row : (n c : ℕ) (p r made : Row) → IsShortReduced n p → IsShortReduced n r → pos 1 ≤ℤ entry p.coefs c → made ≡ eliminated p c r → IsShortRow made → IsShortReduced n made
+turned_row n c p r made hp hr h e short =
+    let positive = divided_positive (substituted p c r) (product_positive r.den (entry p.coefs c) hr.row.positive h) in
+    subst (IsShortReduced n) (sym e) (record {
+      row = short_row n 0 (eliminated p c r) positive (eliminated_coefs n c p r hp.row.coefs hr.row.coefs) (eliminated_constant 1 c p r hp.row.constant hr.row.constant) (subst IsShortRow e short);
+      reduced = eliminated_reduced n 0 c p r hr.row h;
+      short = subst IsShortRow e short;
+    })
+
+-- a row whose parts are made one by one
+pub substituted_made : (p : Row) (c : ℕ) (r : Row) (den z : ℤ) (coefs constant : List ℤ) → den ≡ r.den *ℤ entry p.coefs c → z ≡ entry r.coefs c *ℤ p.den
+    → coefs ≡ combine (entry p.coefs c) r.coefs (entry r.coefs c) p.coefs → constant ≡ combine (entry p.coefs c) r.constant (entry r.coefs c) p.constant
+    → row_from den (slice_set coefs c z) constant ≡ substituted p c r
+substituted_made p c r den z coefs constant e f g h = rw (e, f, g, h) refl
+
+-- a row that is 0 in the column stays
+pub stays : (n c : ℕ) (p r : Row) → IsShortReduced n p → IsShortReduced n r → pos 1 ≤ℤ entry p.coefs c → entry r.coefs c ≡ pos 0 → r ≡ eliminated p c r
+stays n c p r hp hr h zero_at = eliminated_none n 0 p c r hp.row hr.row h zero_at hr.reduced
+
+-- ---- the row of a column
+
+pub unit_short : (n c : ℕ) → c < n → IsShortReduced n (unit_row n 0 c)
+unit_short n c h = record {
+  row = unit_fits n 0 c h;
+  reduced = content-one (unit_row n 0 c) refl;
+  short = record {
+    den = omega arith;
+    coefs = All-set IsShort (replicate n (pos 0)) c (pos 1) (omega arith) (All-replicate IsShort n (pos 0) (omega arith));
+    constant = All-replicate IsShort 1 (pos 0) (omega arith);
+  };
+}

@@ -1,0 +1,88 @@
+-- The numbers of the row of a column, and of a form's row.
+use Rattle.std.proofs.Common.{◌≡◌, refl, ap, sym, ◌∙◌, subst, ℕ, zero, suc, ◌+◌, ◌-◌, ◌<◌, ◌≤◌, ℤ, pos, List, [], ◌∷◌, ◌++◌, length, map, take, drop, replicate, get_or, arith, append-nil, append_assoc, length-append, length-drop, length-set}
+use Rattle.std.specs.Prelude.{All, slice_set}
+use Rattle.std.proofs.lemmas.List.{take_at, drop_at, take_all, drop_all, take_more, take-append-drop, length-replicate, set-append_left, length-take-le, drop_more, length_push}
+use Rattle.std.proofs.lemmas.Int.{ints}
+use Rattle.std.proofs.lemmas.List.Elements.{All-push, All-append, All-take, All-drop, All-replicate}
+use Rattle.pip_model.specs.Forms.{width, coefficients, constant, widen_to}
+use Rattle.pip_model.specs.Rows.{form_row, unit_row}
+use Rattle.affine_rows.proofs.Mapped.{mapped}
+use Rattle.tableau.specs.Flat.{row_of_numbers, numbers_of}
+use Rattle.tableau.specs.Short.{IsShort, IsShortRow}
+use Rattle.tableau.proofs.Contents.{content-one}
+use Rattle.short_tableau.specs.Dense.{IsShortReduced}
+use Rattle.short_tableau.proofs.ShortParts.{short_row}
+
+const_map : (xs : List ℤ) → map (λ x. pos 0) xs ≡ replicate (length xs) (pos 0)
+const_map [] = refl
+const_map (x ∷ xs) = ap (λ (rest : List ℤ). pos 0 ∷ rest) (const_map xs)
+
+pub cleared : (xs : List ℤ) (i : ℕ) → length xs ≤ i → mapped (λ x. pos 0) i xs ≡ replicate (length xs) (pos 0)
+cleared xs i h = rw (take_all i xs h, drop_all i xs h) (append-nil (map (λ x. pos 0) xs) ∙ const_map xs)
+
+zeros_more : (n : ℕ) → replicate (n + 1) (pos 0) ≡ replicate n (pos 0) ++ pos 0 ∷ []
+zeros_more zero = refl
+zeros_more (suc n) = let g : suc n + 1 ≡ suc (n + 1) = omega arith in rw g (ap (λ (rest : List ℤ). pos 0 ∷ rest) (zeros_more n))
+
+pub unit_numbers : (n c : ℕ) (zs : List ℤ) → zs ≡ replicate (n + 2) (pos 0) → c < n → row_of_numbers n (slice_set (slice_set zs 0 (pos 1)) (c + 1) (pos 1)) ≡ unit_row n 0 c
+unit_numbers n c zs e h =
+    let g : n + 2 ≡ suc (n + 1) = omega arith in
+    let k : c + 1 ≡ suc c = omega arith in
+    let column = slice_set (replicate n (pos 0)) c (pos 1) in
+    let long : length column ≡ n = length-set (replicate n (pos 0)) c (pos 1) ∙ length-replicate n (pos 0) in
+    let made : slice_set (replicate n (pos 0) ++ pos 0 ∷ []) c (pos 1) ≡ column ++ pos 0 ∷ [] = set-append_left (replicate n (pos 0)) (pos 0 ∷ []) c (pos 1) (simp length-replicate h) in
+    rw (e, g, k, zeros_more n, made, take_at column (pos 0 ∷ []) n long, drop_at column (pos 0 ∷ []) n long) refl
+
+-- ---- one number more
+
+pub appended_step : (old now xs : List ℤ) (i : ℕ) (y d : ℤ) → i < length xs → now ≡ old ++ take i xs → y ≡ get_or xs i d → now ++ y ∷ [] ≡ old ++ take (i + 1) xs
+appended_step old now xs i y d h e g = rw (e, g, take_more xs i d h) (append_assoc old (take i xs) (get_or xs i d ∷ []))
+
+pub short_step : (xs : List ℤ) (i : ℕ) (y d : ℤ) → i < length xs → All IsShort (take i xs) → y ≡ get_or xs i d → IsShort y → All IsShort (take (i + 1) xs)
+short_step xs i y d h all e short = rw (take_more xs i d h) (All-push IsShort (take i xs) (get_or xs i d) all (subst IsShort e short))
+
+-- ---- the row of a form
+
+last_part : (c : List ℤ) → 1 ≤ length c → drop (width c) c ≡ constant c ∷ []
+last_part c h = drop_more c (width c) (pos 0) (omega arith) ∙ ap (λ (rest : List ℤ). constant c ∷ rest) (drop_all (width c + 1) c (omega arith))
+
+module _ (n : ℕ) (c : List ℤ) (some : 1 ≤ length c) (narrow : length c ≤ n + 1) (front last : List ℤ) (is_front : front ≡ take (length c - 1) c) (is_last : last ≡ drop (length c - 1) c) where
+  abbrev zeros : List ℤ
+  zeros = replicate (n - width c) (pos 0)
+
+  pub form_numbers : numbers_of (form_row n (widen_to n c)) ≡ pos 1 ∷ ((front ++ zeros) ++ last)
+  form_numbers =
+      ap (λ (zs : List ℤ). pos 1 ∷ zs) (take-append-drop n (widen_to n c))
+      ∙ rw (is_front, is_last, last_part c some) refl
+
+  pub form_pushed : (old one two three four : List ℤ) (size : ℕ) → one ≡ old ++ pos 1 ∷ [] → two ≡ one ++ front → size ≡ length old + (n + 1)
+      → three ≡ take size two ++ replicate (size - length two) (pos 0) → four ≡ three ++ last → four ≡ old ++ numbers_of (form_row n (widen_to n c))
+  form_pushed old one two three four size e f s g h =
+      let wide : length front ≡ width c = ap length is_front ∙ length-take-le (length c - 1) c (omega arith) in
+      let long : length two ≡ length old + 1 + width c = ap length f ∙ length-append one front ∙ omega (arith, wide, ap length e ∙ length-append old (pos 1 ∷ [])) in
+      let rest : size - length two ≡ n - width c = omega (arith, s, long, some, narrow) in
+      let all : take size two ≡ two = take_all size two (omega (arith, s, long, some, narrow)) in
+      rw (form_numbers, h, g, rest, all, f, e)
+      (ap (λ (zs : List ℤ). zs ++ last) (append_assoc (old ++ pos 1 ∷ []) front zeros ∙ append_assoc old (pos 1 ∷ []) (front ++ zeros))
+      ∙ append_assoc old (pos 1 ∷ (front ++ zeros)) last)
+
+  pub form_short : All IsShort front → All IsShort last → IsShortRow (form_row n (widen_to n c))
+  form_short a b =
+      let whole : All IsShort ((front ++ zeros) ++ last) = All-append IsShort (front ++ zeros) last (All-append IsShort front zeros a (All-replicate IsShort (n - width c) (pos 0) (omega arith))) b in
+      let same : widen_to n c ≡ (front ++ zeros) ++ last = rw (is_front, is_last, last_part c some) refl in
+      let all = subst (All IsShort) (sym same) whole in
+      record { den = omega arith; coefs = All-take IsShort n (widen_to n c) all; constant = All-drop IsShort n (widen_to n c) all }
+
+module _ (n : ℕ) (c : List ℤ) (some : 1 ≤ length c) (narrow : length c ≤ n + 1) where
+  full : length (coefficients c ++ replicate (n - width c) (pos 0)) ≡ n
+  full = simp (length-append, length-replicate, length-take-le) (omega (arith, some, narrow, length-take-le (width c) c (omega arith)))
+
+  wide : length (widen_to n c) ≡ n + 1
+  wide = length_push (coefficients c ++ replicate (n - width c) (pos 0)) (constant c) ∙ ap (λ k. k + 1) full
+
+  pub form_kept : IsShortRow (form_row n (widen_to n c)) → IsShortReduced n (form_row n (widen_to n c))
+  form_kept short = record {
+    row = short_row n 0 (form_row n (widen_to n c)) (omega (arith, ints)) (length-take-le n (widen_to n c) (omega (arith, wide))) (length-drop n (widen_to n c) ∙ omega (arith, wide)) short;
+    reduced = content-one (form_row n (widen_to n c)) refl;
+    short = short;
+  }

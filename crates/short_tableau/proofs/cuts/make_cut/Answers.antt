@@ -1,0 +1,21 @@
+use Rattle.std.proofs.Common.{rules, ◌≡◌, ◌∙◌, ap, sym, subst, ◌++◌, to_z, of_z}
+use Rattle.std.specs.Prelude.{slice_set}
+use Rattle.std.specs.Int.{w64}
+use Rattle.pip_model.specs.Cuts.{constant_cut}
+use Rattle.tableau.specs.Flat.{row_of_numbers}
+use Rattle.tableau.specs.Short.{IsShortRow}
+use Rattle.tableau.specs.Tableaus.{row_from}
+use Rattle.short_tableau.proofs.Cutting.{cut_row}
+use Rattle.short_tableau.proofs.ShortParts.{row_join}
+use Rattle.short_tableau.proofs.cuts.make_cut.Goals as goal
+
+pub returns-clause-row : goal.returns-clause-row
+returns-clause-row c =
+    let n = c.args.unknowns in
+    let front = c.split_at_mut-den.result.0.now in
+    let same : to_z w64 (of_z w64 c.cut_parts.result) ≡ c.cut_parts.result = search rules in
+    let join = row_join n front c.cut_parts.new.coefs c.cut_parts.new.constant (to_z w64 (of_z w64 c.cut_parts.result)) (search rules) (search rules)
+    ∙ ap (λ z. row_from z c.cut_parts.new.coefs c.cut_parts.new.constant) same in
+    let made : row_of_numbers c.args.unknowns (slice_set c.split_at_mut-den.result.0.now 0 (to_z w64 (of_z w64 c.cut_parts.result)) ++ (c.cut_parts.new.coefs ++ c.cut_parts.new.constant))
+    ≡ constant_cut (row_of_numbers c.args.unknowns c.args.row.now) = search rules in
+    cut_row n (row_of_numbers n c.args.row.now) _ c.requires.row made (subst IsShortRow (sym join) c.cut_parts.ensures.short)

@@ -1,0 +1,6 @@
+use Rattle.std.proofs.Common.{◌≡◌, pos}
+use Rattle.affine_rows.proofs.Mapped.{mapped}
+use Rattle.short_tableau.proofs.row.clear_all.Given as goal
+
+abbrev pub invariant-loop-number : goal.invariant-loop-number
+invariant-loop-number l = l.numbers ≡ mapped (λ x. pos 0) l.number-index l.fn.numbers

@@ -1,0 +1,26 @@
+use Rattle.std.proofs.Common.{rules, ◌∙◌, arith, length, refl, []}
+use Rattle.std.specs.Prelude.{IsTrue}
+use Rattle.pip_model.specs.Rows.{form_row, eliminated}
+use Rattle.affine_rows.proofs.Mapped.{mapped_step}
+use Rattle.short_tableau.specs.Dense.{rows_in}
+use Rattle.short_tableau.specs.Rows.{row_of}
+use Rattle.short_tableau.proofs.Places.{length_rows, mapped_all}
+use Rattle.short_tableau.proofs.rows.turn_rows.Goals as goal
+
+pub loop-i-preserved : goal.loop-i-preserved
+loop-i-preserved c =
+    let n = length c.args.p.now.coefs.now in
+    let done : IsTrue c.turn_at.result = search rules in
+    let h = length_rows n c.args.rows c.args.numbers.now in
+    record {
+      dense = c.turn_at.ensures.dense done;
+      rows = c.turn_at.ensures.rows done
+          ∙ mapped_step (eliminated (row_of c.args.p.now) c.args.c) (rows_in n c.args.rows c.args.numbers.now) (rows_in n c.args.rows c.loop-i.numbers) c.loop-i.i _ (form_row 0 []) (omega (arith, h)) c.loop-i.invariant.rows refl;
+      size = c.turn_at.ensures.size ∙ c.loop-i.invariant.size;
+    }
+
+pub returns-clause-rows : goal.returns-clause-rows
+returns-clause-rows c = λ all.
+    let n = length c.args.p.now.coefs.now in
+    let h = length_rows n c.args.rows c.args.numbers.now in
+    c.loop-i.invariant.rows ∙ mapped_all (eliminated (row_of c.args.p.now) c.args.c) (rows_in n c.args.rows c.args.numbers.now) c.loop-i.i (omega (arith, h))

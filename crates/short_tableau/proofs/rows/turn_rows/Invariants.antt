@@ -1,0 +1,13 @@
+use Rattle.std.proofs.Common.{◌≡◌, length}
+use Rattle.pip_model.specs.Rows.{eliminated}
+use Rattle.affine_rows.proofs.Mapped.{mapped}
+use Rattle.short_tableau.specs.Dense.{IsDense, rows_in}
+use Rattle.short_tableau.specs.Rows.{row_of}
+use Rattle.short_tableau.proofs.rows.turn_rows.Given as goal
+
+abbrev pub invariant-loop-i : goal.invariant-loop-i
+invariant-loop-i l = record {
+  dense : IsDense (length l.p.coefs.now) l.rows l.numbers;
+  rows : rows_in (length l.p.coefs.now) l.rows l.numbers ≡ mapped (eliminated (row_of l.p) l.c) l.i (rows_in (length l.p.coefs.now) l.rows l.fn.numbers);
+  size : length l.numbers ≡ length l.fn.numbers;
+}

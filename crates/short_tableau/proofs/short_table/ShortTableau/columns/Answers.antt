@@ -1,0 +1,8 @@
+use Rattle.std.proofs.Common.{subst}
+use Rattle.std.specs.Prelude.{All}
+use Rattle.tableau.specs.Tableaus.{TableauRows}
+use Rattle.short_tableau.specs.Dense.{IsShortReduced}
+use Rattle.short_tableau.proofs.short_table.ShortTableau.columns.Goals as goal
+
+pub returns-clause-rows : goal.returns-clause-rows
+returns-clause-rows c = subst (λ (t : TableauRows). All (IsShortReduced t.unknowns) t.rows) c.self.view_is c.self.invariant.rows

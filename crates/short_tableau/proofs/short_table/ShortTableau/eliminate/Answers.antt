@@ -1,0 +1,25 @@
+use Rattle.std.proofs.Common.{◌≡◌, ◌∙◌, ap, sym, subst, arith, ℕ}
+use Rattle.std.specs.Prelude.{IsTrue, flat_map}
+use Rattle.pip_model.specs.Listed.{all_fit}
+use Rattle.pip_model.specs.Rows.{row_at, eliminated_listed}
+use Rattle.tableau.specs.Tableaus.{TableauRows}
+use Rattle.short_tableau.specs.Dense.{rows_in, IsShortReduced}
+use Rattle.short_tableau.specs.Rows.{row_of}
+use Rattle.short_tableau.proofs.Fitting.{flat_fit}
+use Rattle.short_tableau.proofs.short_table.ShortTableau.eliminate.Goals as goal
+
+pub returns-then-not-turn_rows-clause-listed : goal.returns-then-not-turn_rows-clause-listed
+returns-then-not-turn_rows-clause-listed c =
+    let s = c.self.inside in
+    let n : c.args.t.now.unknowns ≡ c.self.inside.unknowns = c.requires.unknowns ∙ sym (ap (λ (t : TableauRows). t.unknowns) c.self.view_is) in
+    let row = subst (IsShortReduced s.unknowns) c.row.ensures.value (subst (λ (k : ℕ). IsShortReduced k (row_of c.row.result)) n c.row.ensures.row) in
+    subst (λ (t : TableauRows). IsTrue (all_fit (flat_map (eliminated_listed (row_at c.args.t.now.rows c.args.i) c.args.c) t.rows))) c.self.view_is
+    (flat_fit s.unknowns (row_at c.args.t.now.rows c.args.i) c.args.c (rows_in s.unknowns s.count s.numbers.items) row (omega (arith, n, c.requires.unknowns, c.requires.column)) c.self.invariant.rows)
+
+pub returns-clause-listed : goal.returns-clause-listed
+returns-clause-listed c =
+    let s = c.self.inside in
+    let n : c.args.t.now.unknowns ≡ c.self.inside.unknowns = c.requires.unknowns ∙ sym (ap (λ (t : TableauRows). t.unknowns) c.self.view_is) in
+    let row = subst (IsShortReduced s.unknowns) c.row.ensures.value (subst (λ (k : ℕ). IsShortReduced k (row_of c.row.result)) n c.row.ensures.row) in
+    subst (λ (t : TableauRows). IsTrue (all_fit (flat_map (eliminated_listed (row_at c.args.t.now.rows c.args.i) c.args.c) t.rows))) c.self.view_is
+    (flat_fit s.unknowns (row_at c.args.t.now.rows c.args.i) c.args.c (rows_in s.unknowns s.count s.numbers.items) row (omega (arith, n, c.requires.unknowns, c.requires.column)) c.self.invariant.rows)

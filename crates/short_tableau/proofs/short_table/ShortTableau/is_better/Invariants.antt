@@ -1,0 +1,9 @@
+use Rattle.std.proofs.Common.{◌≡◌, drop, take}
+use Rattle.pip_model.specs.Rows.{is_better}
+use Rattle.short_tableau.specs.Rows.{row_of}
+use Rattle.short_tableau.proofs.short_table.ShortTableau.is_better.Given as goal
+
+abbrev pub invariant-loop-i : goal.invariant-loop-i
+invariant-loop-i l =
+    let u = take l.self.unknowns l.self.rows in
+    is_better (drop l.i u) (row_of l.p) l.k l.b ≡ is_better u (row_of l.p) l.k l.b

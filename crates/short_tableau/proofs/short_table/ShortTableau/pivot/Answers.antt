@@ -1,0 +1,32 @@
+use Rattle.std.proofs.Common.{◌≡◌, ap, subst, arith}
+use Rattle.std.specs.Prelude.{IsTrue}
+use Rattle.pip_model.specs.Listed.{all_fit}
+use Rattle.pip_model.specs.Rows.{pivot_listed}
+use Rattle.tableau.specs.Tableaus.{TableauRows}
+use Rattle.short_tableau.specs.Dense.{rows_in}
+use Rattle.short_tableau.proofs.Fitting.{pivot_fits}
+use Rattle.short_tableau.proofs.Places.{count_is, length_rows}
+use Rattle.short_tableau.proofs.short_table.ShortTableau.pivot.Goals as goal
+
+pub pivot_rows-requires-clause-row : goal.pivot_rows-requires-clause-row
+pivot_rows-requires-clause-row c =
+    let k = count_is c.self.inside.unknowns c.self.inside.count c.self.inside.numbers.items c.args.self.now c.self.view_is in
+    omega (arith, k, c.requires.row)
+
+pub returns-then-not-pivot_rows-clause-listed : goal.returns-then-not-pivot_rows-clause-listed
+returns-then-not-pivot_rows-clause-listed c =
+    let s = c.self.inside in
+    let n : c.self.inside.unknowns ≡ c.args.self.now.unknowns = ap (λ (t : TableauRows). t.unknowns) c.self.view_is in
+    let k = count_is s.unknowns s.count s.numbers.items c.args.self.now c.self.view_is in
+    let l = length_rows s.unknowns s.count s.numbers.items in
+    subst (λ (t : TableauRows). IsTrue (all_fit (pivot_listed t.rows c.args.r c.args.c))) c.self.view_is
+    (pivot_fits s.unknowns c.args.r c.args.c (rows_in s.unknowns s.count s.numbers.items) c.self.invariant.rows (omega (arith, k, l, c.requires.row)) (omega (arith, n, c.requires.column)))
+
+pub returns-clause-listed : goal.returns-clause-listed
+returns-clause-listed c =
+    let s = c.self.inside in
+    let n : c.self.inside.unknowns ≡ c.args.self.now.unknowns = ap (λ (t : TableauRows). t.unknowns) c.self.view_is in
+    let k = count_is s.unknowns s.count s.numbers.items c.args.self.now c.self.view_is in
+    let l = length_rows s.unknowns s.count s.numbers.items in
+    subst (λ (t : TableauRows). IsTrue (all_fit (pivot_listed t.rows c.args.r c.args.c))) c.self.view_is
+    (pivot_fits s.unknowns c.args.r c.args.c (rows_in s.unknowns s.count s.numbers.items) c.self.invariant.rows (omega (arith, k, l, c.requires.row)) (omega (arith, n, c.requires.column)))

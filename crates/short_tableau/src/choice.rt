@@ -1,0 +1,118 @@
+ghost use Rattle.std.specs.Prelude.{◌≡◌, ◌+◌, ◌<◌, ◌≤◌, pos, ◌≤ℤ◌, length, take, IfSome, IsTrue};
+ghost use Rattle.std.specs.List.{list_any};
+ghost use Rattle.pip_model.specs.Numbers.{is_positive};
+ghost use Rattle.pip_model.specs.Listed.{all_fit};
+ghost use Rattle.pip_model.specs.Rows as model;
+ghost use Rattle.dual_pivot.specs.Choices.{product_at, better, choice, candidates_from, IsCandidate};
+ghost use Rattle.tableau.specs.Tableaus.{IsRow};
+ghost use Rattle.short_tableau.specs.Dense.{IsShortReduced};
+ghost use Rattle.short_tableau.specs.Rows.{row_of};
+
+use crate::numbers::product;
+use crate::row::ShortRow;
+use crate::short_table::ShortTableau;
+
+// Whether the number is above 0.
+fn is_above(z: i64) -> bool
+    ensures value { result ≡ is_positive z }
+    ensures some { IsTrue result → pos 1 ≤ℤ z }
+{
+    z > 0
+}
+
+// Whether a number is above 0.
+fn any_above(numbers: &[i64]) -> bool
+    ensures { result ≡ list_any is_positive numbers.now }
+{
+    numbers.iter().any(|number| is_above(*number))
+}
+
+impl ShortTableau {
+    // The product for column k at row i, which is compared with that for column b.
+    fn product_at(&self, i: usize, p: &ShortRow<'_>, k: usize, b: usize) -> i128
+        requires row { i < length self.now.rows }
+        requires p { IsShortReduced self.now.unknowns (row_of p.now) }
+        requires k { k < self.now.unknowns }
+        requires b { b < self.now.unknowns }
+        ensures { result ≡ product_at self.now.rows i (row_of p.now) k b }
+    {
+        product(self.row(i).coefs[k], p.coefs[b])
+    }
+
+    // Whether column k has the smaller list of quotients a_ik / a_pk over the unknowns' rows than column b.
+    fn is_better(&self, p: &ShortRow<'_>, k: usize, b: usize) -> bool
+        requires rows { self.now.unknowns ≤ length self.now.rows }
+        requires p { IsShortReduced self.now.unknowns (row_of p.now) }
+        requires k { k < self.now.unknowns }
+        requires b { b < self.now.unknowns }
+        ensures { result ≡ model.is_better (take self.now.unknowns self.now.rows) (row_of p.now) k b }
+    {
+        for i in 0..self.unknowns() {
+            let of_k = self.product_at(i, p, k, b);
+            let of_b = self.product_at(i, p, b, k);
+            if of_k != of_b {
+                return of_k < of_b;
+            }
+        }
+        false
+    }
+
+    // The better of the best so far and column k.
+    fn better_of(&self, p: &ShortRow<'_>, best: Option<usize>, k: usize) -> usize
+        requires rows { self.now.unknowns ≤ length self.now.rows }
+        requires p { IsShortReduced self.now.unknowns (row_of p.now) }
+        requires k { IsCandidate self.now.unknowns (row_of p.now) k }
+        requires best { IfSome best (IsCandidate self.now.unknowns (row_of p.now)) }
+        ensures value { result ≡ better (take self.now.unknowns self.now.rows) (row_of p.now) best k }
+        ensures candidate { IsCandidate self.now.unknowns (row_of p.now) result }
+    {
+        match best {
+            None => k,
+            Some(b) => { if self.is_better(p, k, b) { k } else { b } }
+        }
+    }
+
+    // The best so far, and then column k, where the row is positive in it.
+    fn next_best(&self, p: &ShortRow<'_>, best: Option<usize>, k: usize) -> Option<usize>
+        requires rows { self.now.unknowns ≤ length self.now.rows }
+        requires p { IsShortReduced self.now.unknowns (row_of p.now) }
+        requires k { k < self.now.unknowns }
+        requires best { IfSome best (IsCandidate self.now.unknowns (row_of p.now)) }
+        ensures value { choice (take self.now.unknowns self.now.rows) (row_of p.now) result
+            (candidates_from (row_of p.now) (k + 1))
+            ≡ choice (take self.now.unknowns self.now.rows) (row_of p.now) best (candidates_from (row_of p.now) k) }
+        ensures candidate { IfSome result (IsCandidate self.now.unknowns (row_of p.now)) }
+    {
+        if !is_above(p.coefs[k]) {
+            return best;
+        }
+        Some(self.better_of(p, best, k))
+    }
+
+    /// Whether row i is above 0 in a column.
+    pub fn has_positive(&self, i: usize) -> bool
+        requires { i < length self.now.rows }
+        ensures { result ≡ list_any is_positive (model.row_at self.now.rows i).coefs }
+    {
+        any_above(self.row(i).coefs)
+    }
+
+    /// The column that enters at row r: of the columns in which the row is positive the one whose list of quotients
+    /// `a_ik / a_rk` over the unknowns' rows is lexicographically least, the lowest on a tie; none where the row has no
+    /// positive coefficient. All listed numbers fit.
+    pub fn entering(&self, r: usize) -> Option<usize>
+        requires row { r < length self.now.rows }
+        requires rows { self.now.unknowns ≤ length self.now.rows }
+        ensures listed { IsTrue (all_fit (model.entering_listed self.now.rows r)) }
+        ensures value { result ≡ model.entering self.now.rows r }
+        ensures candidate { IfSome result (IsCandidate self.now.unknowns (model.row_at self.now.rows r)) }
+        ensures row { IsRow self.now.unknowns 0 (model.row_at self.now.rows r) }
+    {
+        let p = self.row(r);
+        let mut best = None;
+        for k in 0..self.columns() {
+            best = self.next_best(&p, best, k);
+        }
+        best
+    }
+}

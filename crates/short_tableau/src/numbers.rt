@@ -1,0 +1,207 @@
+ghost use Rattle.std.specs.Prelude.{◌≡◌, ◌<◌, ◌≤◌, ◌^◌, pos, ◌-ℤ◌, ◌*ℤ◌, ◌≤ℤ◌, unsigned_abs, length, All, IsTrue, IfSome};
+ghost use Rattle.pip_model.specs.Numbers.{gcd as gcd_of_two, gcd_of, floor_mod as floor_mod_of};
+ghost use Rattle.pip_model.specs.Forms.{combine as combine_of, floor_divided};
+ghost use Rattle.tableau.specs.Short.{IsShort};
+
+use tableau::{short_floor_div, short_gcd};
+
+// Whether the number lies from -(2^31 - 1) to 2^31 - 1.
+fn is_half(z: i64) -> bool
+    ensures { IsTrue result → unsigned_abs z < 2 ^ 31 }
+{
+    -2147483647 <= z && z <= 2147483647
+}
+
+// The product of numbers of 32 bits.
+#[tactic(auto, using(tableau::proofs::ShortRows::half_bound))]
+fn exact_half_product(a: i64, b: i64) -> i64
+    requires a { unsigned_abs a < 2 ^ 31 }
+    requires b { unsigned_abs b < 2 ^ 31 }
+    ensures { result ≡ a *ℤ b }
+{
+    a * b
+}
+
+// The product of numbers of 32 bits, and its bound.
+#[tactic(auto, using(tableau::proofs::ShortRows::half_bound))]
+fn half_product(a: i64, b: i64) -> i64
+    requires a { unsigned_abs a < 2 ^ 31 }
+    requires b { unsigned_abs b < 2 ^ 31 }
+    ensures value { result ≡ a *ℤ b }
+    ensures bound { unsigned_abs result < 2 ^ 62 }
+{
+    exact_half_product(a, b)
+}
+
+// The difference of numbers that are far from the ends, which is short.
+fn half_difference(a: i64, b: i64) -> i64
+    requires a { unsigned_abs a < 2 ^ 62 }
+    requires b { unsigned_abs b < 2 ^ 62 }
+    ensures value { result ≡ a -ℤ b }
+    ensures short { IsShort result }
+{
+    a - b
+}
+
+// The product of short numbers.
+#[tactic(auto, using(tableau::proofs::ShortRows::product_bound))]
+fn exact_product(a: i64, b: i64) -> i128
+    requires a { IsShort a }
+    requires b { IsShort b }
+    ensures { result ≡ a *ℤ b }
+{
+    (a as i128) * (b as i128)
+}
+
+// The product of short numbers, and its bound.
+#[tactic(auto, using(tableau::proofs::ShortRows::product_bound))]
+pub fn product(a: i64, b: i64) -> i128
+    requires a { IsShort a }
+    requires b { IsShort b }
+    ensures value { result ≡ a *ℤ b }
+    ensures bound { unsigned_abs result < 2 ^ 126 }
+{
+    exact_product(a, b)
+}
+
+// The number in 64 bits, where it is short.
+pub fn narrow(z: i128) -> Option<i64>
+    ensures value { IfSome result (λ n. n ≡ z) }
+    ensures short { IfSome result IsShort }
+{
+    if -9223372036854775807 <= z && z <= 9223372036854775807 {
+        Some(z as i64)
+    } else {
+        None
+    }
+}
+
+// The product of short numbers, where it is short.
+pub fn times(a: i64, b: i64) -> Option<i64>
+    requires a { IsShort a }
+    requires b { IsShort b }
+    ensures value { IfSome result (λ n. n ≡ a *ℤ b) }
+    ensures short { IfSome result IsShort }
+{
+    narrow(product(a, b))
+}
+
+// The difference of numbers that are far from the ends.
+fn wide_difference(a: i128, b: i128) -> i128
+    requires a { unsigned_abs a < 2 ^ 126 }
+    requires b { unsigned_abs b < 2 ^ 126 }
+    ensures { result ≡ a -ℤ b }
+{
+    a - b
+}
+
+// `a*x - b*y` for short numbers.
+fn wide_entry(a: i64, x: i64, b: i64, y: i64) -> i128
+    requires a { IsShort a }
+    requires x { IsShort x }
+    requires b { IsShort b }
+    requires y { IsShort y }
+    ensures { result ≡ a *ℤ x -ℤ b *ℤ y }
+{
+    wide_difference(product(a, x), product(b, y))
+}
+
+// `a*x - b*y` for short numbers, where it is short.
+fn narrow_entry(a: i64, x: i64, b: i64, y: i64) -> Option<i64>
+    requires a { IsShort a }
+    requires x { IsShort x }
+    requires b { IsShort b }
+    requires y { IsShort y }
+    ensures value { IfSome result (λ n. n ≡ a *ℤ x -ℤ b *ℤ y) }
+    ensures short { IfSome result IsShort }
+{
+    narrow(wide_entry(a, x, b, y))
+}
+
+// `a*x - b*y` for numbers of 32 bits.
+fn half_entry(a: i64, x: i64, b: i64, y: i64) -> i64
+    requires a { unsigned_abs a < 2 ^ 31 }
+    requires x { unsigned_abs x < 2 ^ 31 }
+    requires b { unsigned_abs b < 2 ^ 31 }
+    requires y { unsigned_abs y < 2 ^ 31 }
+    ensures value { result ≡ a *ℤ x -ℤ b *ℤ y }
+    ensures short { IsShort result }
+{
+    half_difference(half_product(a, x), half_product(b, y))
+}
+
+// `a*x - b*y` for short numbers, where it is short: by 64 bits where they have 32.
+fn entry(a: i64, x: i64, b: i64, y: i64) -> Option<i64>
+    requires a { IsShort a }
+    requires x { IsShort x }
+    requires b { IsShort b }
+    requires y { IsShort y }
+    ensures value { IfSome result (λ n. n ≡ a *ℤ x -ℤ b *ℤ y) }
+    ensures short { IfSome result IsShort }
+{
+    if is_half(a) && is_half(x) && is_half(b) && is_half(y) {
+        return Some(half_entry(a, x, b, y));
+    }
+    narrow_entry(a, x, b, y)
+}
+
+// Makes `a*r - b*s` of r, entry by entry, up to the first that is not short; whether all are.
+pub fn combine(a: i64, r: &mut [i64], b: i64, s: &[i64]) -> bool
+    requires lengths { length r.old ≡ length s.now }
+    requires a { IsShort a }
+    requires r { All IsShort r.old }
+    requires b { IsShort b }
+    requires s { All IsShort s.now }
+    ensures value { IsTrue result → r.new ≡ combine_of a r.old b s.now }
+    ensures short { IsTrue result → All IsShort r.new }
+    ensures length { length r.new ≡ length r.old }
+{
+    for i in 0..r.len() {
+        let Some(number) = entry(a, r[i], b, s[i]) else {
+            return false;
+        };
+        r[i] = number;
+    }
+    true
+}
+
+// The greatest common divisor of a number and all entries.
+pub fn gcd_with(start: i64, entries: &[i64]) -> i64
+    requires start { pos 1 ≤ℤ start }
+    requires start_short { IsShort start }
+    requires short { All IsShort entries.now }
+    ensures value { result ≡ gcd_of_two start (gcd_of entries.now) }
+    ensures positive { pos 1 ≤ℤ result }
+    ensures short { IsShort result }
+{
+    let mut found = start;
+    for number in entries {
+        if found == 1 {
+            return 1;
+        }
+        found = short_gcd(found, *number);
+    }
+    found
+}
+
+// What the quotient rounded down leaves, in `0 .. d - 1`.
+pub fn floor_mod(a: i64, d: i64) -> i64
+    requires positive { pos 1 ≤ℤ d }
+    requires short { IsShort d }
+    ensures value { result ≡ floor_mod_of a d }
+    ensures short { IsShort result }
+{
+    a.rem_euclid(d)
+}
+
+// Divides each entry, rounded down.
+pub fn divide_all(entries: &mut [i64], d: i64)
+    requires positive { pos 1 ≤ℤ d }
+    requires short { All IsShort entries.old }
+    ensures value { entries.new ≡ floor_divided d entries.old }
+    ensures short { All IsShort entries.new }
+{
+    for number in entries.iter_mut() {
+        *number = short_floor_div(*number, d);
+    }
+}

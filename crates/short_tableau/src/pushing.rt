@@ -1,0 +1,91 @@
+ghost use Rattle.std.specs.Prelude.{◌≡◌, ◌+◌, ◌<◌, ◌≤◌, ◌++◌, length, take, All, IsTrue, IsFalse, IfOk, OnOk, OnErr, vec_len};
+ghost use Rattle.pip_model.specs.Forms.{widen_to};
+ghost use Rattle.pip_model.specs.Rows.{form_row, unit_row};
+ghost use Rattle.affine_rows.specs.Forms.{IsForm};
+ghost use Rattle.tableau.specs.Flat.{numbers_of};
+ghost use Rattle.tableau.specs.Short.{IsShort, IsShortRow};
+ghost use Rattle.short_tableau.specs.Rows.{row_of};
+
+use crate::numbers::narrow;
+use crate::row::{ShortRow, make_unit};
+use affine_rows::WantOfMemory;
+
+// Appends the numbers of a row, or some of them.
+fn append_row(numbers: &mut Vec<i64>, row: &ShortRow<'_>) -> Result<(), WantOfMemory>
+    ensures ok { OnOk result (numbers.new.items ≡ numbers.old.items ++ numbers_of (row_of row.now)) }
+    ensures front { take (vec_len numbers.old) numbers.new.items ≡ numbers.old.items }
+{
+    numbers.push(row.den)?;
+    numbers.extend_from_slice(row.coefs)?;
+    numbers.extend_from_slice(row.constant)?;
+    Ok(())
+}
+
+// Appends the numbers of a row. A refusal leaves all as it was.
+pub fn push_row(numbers: &mut Vec<i64>, row: &ShortRow<'_>) -> Result<(), WantOfMemory>
+    ensures ok { OnOk result (numbers.new.items ≡ numbers.old.items ++ numbers_of (row_of row.now)) }
+    ensures err { OnErr result (numbers.new.items ≡ numbers.old.items) }
+{
+    let before = numbers.len();
+    let pushed = append_row(numbers, row);
+    if pushed.is_err() {
+        numbers.truncate(before);
+    }
+    pushed
+}
+
+// Appends the numbers of the row of column c. A refusal leaves all as it was.
+pub fn push_unit_row(numbers: &mut Vec<i64>, unknowns: usize, c: usize) -> Result<(), WantOfMemory>
+    requires { c < unknowns }
+    ensures ok { OnOk result (numbers.new.items ≡ numbers.old.items ++ numbers_of (unit_row unknowns 0 c)) }
+    ensures err { OnErr result (numbers.new.items ≡ numbers.old.items) }
+{
+    let before = numbers.len();
+    let more = unknowns.checked_add(2).ok_or(WantOfMemory)?;
+    let size = before.checked_add(more).ok_or(WantOfMemory)?;
+    numbers.resize(size, 0)?;
+    let (_, row) = numbers.split_at_mut(before);
+    make_unit(row, unknowns, c);
+    Ok(())
+}
+
+// Appends the numbers up to the first that is not short; whether all are.
+fn append_short(numbers: &mut Vec<i64>, entries: &[i128]) -> Result<bool, WantOfMemory>
+    ensures items { IfOk result (λ b. IsTrue b → numbers.new.items ≡ numbers.old.items ++ entries.now) }
+    ensures short { IfOk result (λ b. IsTrue b → All IsShort entries.now) }
+{
+    for number in entries {
+        let Some(short) = narrow(*number) else {
+            return Ok(false);
+        };
+        numbers.push(short)?;
+    }
+    Ok(true)
+}
+
+// Appends the numbers of the row of a form that is read over all columns, up to the first that is not short; whether
+// all are.
+pub fn append_form(
+    numbers: &mut Vec<i64>,
+    unknowns: usize,
+    form: &[i128],
+) -> Result<bool, WantOfMemory>
+    requires form { IsForm form.now }
+    requires narrow { length form.now ≤ unknowns + 1 }
+    ensures items { IfOk result (λ b. IsTrue b → numbers.new.items
+        ≡ numbers.old.items ++ numbers_of (form_row unknowns (widen_to unknowns form.now))) }
+    ensures short { IfOk result (λ b. IsTrue b → IsShortRow (form_row unknowns (widen_to unknowns form.now))) }
+{
+    let (coefficients, constant) = form.split_at(form.len() - 1);
+    let more = unknowns.checked_add(1).ok_or(WantOfMemory)?;
+    let size = numbers.len().checked_add(more).ok_or(WantOfMemory)?;
+    numbers.push(1)?;
+    if !append_short(numbers, coefficients)? {
+        return Ok(false);
+    }
+    numbers.resize(size, 0)?;
+    if !append_short(numbers, constant)? {
+        return Ok(false);
+    }
+    Ok(true)
+}

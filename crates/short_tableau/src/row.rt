@@ -1,0 +1,168 @@
+ghost use Rattle.std.specs.Prelude.{◌≡◌, ◌+◌, ◌-◌, ◌<◌, pos, ◌≤ℤ◌, length, replicate, IsTrue, IfSome};
+ghost use Rattle.pip_model.specs.Forms.{entry};
+ghost use Rattle.pip_model.specs.Rows as model;
+ghost use Rattle.tableau.specs.Flat.{row_of_numbers};
+ghost use Rattle.tableau.specs.Short.{IsShort, IsShortRow};
+ghost use Rattle.tableau.specs.Tableaus.{IsRow, IsOwnRow, IsReduced, row_from};
+ghost use Rattle.short_tableau.specs.Dense.{IsShortReduced, row_size};
+ghost use Rattle.short_tableau.specs.Rows.{row_of};
+
+use crate::numbers::{combine, divide_all, gcd_with, times};
+use tableau::short_floor_div;
+
+// A row: its denominator, its coefficients, and its constant form, which is a constant.
+#[derive(Clone, Copy)]
+pub struct ShortRow<'t> {
+    pub den: i64,
+    pub coefs: &'t [i64],
+    pub constant: &'t [i64],
+}
+
+// The row of these numbers over so many columns.
+pub fn view_of(row: &[i64], unknowns: usize) -> ShortRow<'_>
+    requires { length row.now ≡ row_size unknowns }
+    ensures { row_of result ≡ row_of_numbers unknowns row.now }
+{
+    let (den, rest) = row.split_at(1);
+    let (coefs, constant) = rest.split_at(unknowns);
+    ShortRow {
+        den: den[0],
+        coefs,
+        constant,
+    }
+}
+
+// Puts row p, solved for column c, into a row; the new denominator, none where a number is not short.
+fn substitute(
+    p: &ShortRow<'_>,
+    c: usize,
+    den: i64,
+    coefs: &mut [i64],
+    constant: &mut [i64],
+) -> Option<i64>
+    requires p { IsRow (length coefs.old) (length constant.old - 1) (row_of p.now) }
+    requires row { IsOwnRow (row_from den coefs.old constant.old) }
+    requires column { c < length coefs.old }
+    requires positive { pos 1 ≤ℤ entry p.now.coefs.now c }
+    requires p_short { IsShortRow (row_of p.now) }
+    requires row_short { IsShortRow (row_from den coefs.old constant.old) }
+    ensures value { IfSome result (λ d. row_from d coefs.new constant.new ≡ model.substituted (row_of p.now) c
+        (row_from den coefs.old constant.old)) }
+    ensures short { IfSome result (λ d. IsShortRow (row_from d coefs.new constant.new)) }
+    ensures coefs { length coefs.new ≡ length coefs.old }
+    ensures constant { length constant.new ≡ length constant.old }
+{
+    let a = p.coefs[c];
+    let b = coefs[c];
+    let Some(den) = times(den, a) else {
+        return None;
+    };
+    let Some(entry) = times(b, p.den) else {
+        return None;
+    };
+    if !combine(a, coefs, b, p.coefs) {
+        return None;
+    }
+    if !combine(a, constant, b, p.constant) {
+        return None;
+    }
+    coefs[c] = entry;
+    Some(den)
+}
+
+// Divides a row by the greatest common divisor of its numbers; the new denominator.
+pub fn divide_parts(den: i64, coefs: &mut [i64], constant: &mut [i64]) -> i64
+    requires positive { pos 1 ≤ℤ den }
+    requires short { IsShortRow (row_from den coefs.old constant.old) }
+    ensures value { row_from result coefs.new constant.new ≡ model.divided (row_from den coefs.old constant.old) }
+    ensures short { IsShortRow (row_from result coefs.new constant.new) }
+    ensures coefs { length coefs.new ≡ length coefs.old }
+    ensures constant { length constant.new ≡ length constant.old }
+{
+    if den == 1 {
+        return 1;
+    }
+    let divisor = gcd_with(gcd_with(den, coefs), constant);
+    if divisor == 1 {
+        return den;
+    }
+    divide_all(coefs, divisor);
+    divide_all(constant, divisor);
+    short_floor_div(den, divisor)
+}
+
+// Makes of a row what it is after the pivot on row p and column c; the new denominator, none where a number of the row
+// is not short before it is divided.
+fn eliminate_parts(
+    p: &ShortRow<'_>,
+    c: usize,
+    den: i64,
+    coefs: &mut [i64],
+    constant: &mut [i64],
+) -> Option<i64>
+    requires p { IsRow (length coefs.old) (length constant.old - 1) (row_of p.now) }
+    requires row { IsOwnRow (row_from den coefs.old constant.old) }
+    requires column { c < length coefs.old }
+    requires positive { pos 1 ≤ℤ entry p.now.coefs.now c }
+    requires p_short { IsShortRow (row_of p.now) }
+    requires row_short { IsShortRow (row_from den coefs.old constant.old) }
+    ensures value { IfSome result (λ d. row_from d coefs.new constant.new ≡ model.eliminated (row_of p.now) c
+        (row_from den coefs.old constant.old)) }
+    ensures short { IfSome result (λ d. IsShortRow (row_from d coefs.new constant.new)) }
+    ensures coefs { length coefs.new ≡ length coefs.old }
+    ensures constant { length constant.new ≡ length constant.old }
+{
+    let Some(den) = substitute(p, c, den, coefs, constant) else {
+        return None;
+    };
+    Some(divide_parts(den, coefs, constant))
+}
+
+// Makes of the numbers of a row those after the pivot on row p and column c; whether they are short. A row that is 0 in
+// the column stays.
+pub fn eliminate(row: &mut [i64], p: &ShortRow<'_>, c: usize) -> bool
+    requires size { length row.old ≡ row_size (length p.now.coefs.now) }
+    requires p { IsShortReduced (length p.now.coefs.now) (row_of p.now) }
+    requires row { IsShortReduced (length p.now.coefs.now) (row_of_numbers (length p.now.coefs.now) row.old) }
+    requires column { c < length p.now.coefs.now }
+    requires positive { pos 1 ≤ℤ entry p.now.coefs.now c }
+    ensures value { IsTrue result → row_of_numbers (length p.now.coefs.now) row.new
+        ≡ model.eliminated (row_of p.now) c (row_of_numbers (length p.now.coefs.now) row.old) }
+    ensures row { IsTrue result → IsShortReduced (length p.now.coefs.now)
+        (row_of_numbers (length p.now.coefs.now) row.new) }
+    ensures size { length row.new ≡ length row.old }
+{
+    let (den, rest) = row.split_at_mut(1);
+    let (coefs, constant) = rest.split_at_mut(p.coefs.len());
+    if coefs[c] == 0 {
+        return true;
+    }
+    match eliminate_parts(p, c, den[0], coefs, constant) {
+        Some(now) => {
+            den[0] = now;
+            true
+        }
+        None => false,
+    }
+}
+
+// Makes all numbers 0.
+fn clear_all(numbers: &mut [i64])
+    ensures { numbers.new ≡ replicate (length numbers.old) (pos 0) }
+{
+    for number in numbers.iter_mut() {
+        *number = 0;
+    }
+}
+
+// Makes of the numbers of a row those of the row of column c.
+pub fn make_unit(row: &mut [i64], unknowns: usize, c: usize)
+    requires size { length row.old ≡ row_size unknowns }
+    requires column { c < unknowns }
+    ensures value { row_of_numbers unknowns row.new ≡ model.unit_row unknowns 0 c }
+    ensures size { length row.new ≡ length row.old }
+{
+    clear_all(row);
+    row[0] = 1;
+    row[c + 1] = 1;
+}

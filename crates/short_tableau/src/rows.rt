@@ -1,0 +1,132 @@
+ghost use Rattle.std.specs.Prelude.{◌≡◌, ◌+◌, ◌*◌, ◌<◌, ◌≤◌, pos, ◌≤ℤ◌, length, map, slice_set, IsTrue};
+ghost use Rattle.pip_model.specs.Forms.{entry};
+ghost use Rattle.pip_model.specs.Rows as model;
+ghost use Rattle.tableau.specs.Flat.{row_of_numbers};
+ghost use Rattle.short_tableau.specs.Dense.{IsDense, IsShortReduced, rows_in, row_size};
+ghost use Rattle.short_tableau.specs.Rows.{row_of};
+
+use crate::row::{ShortRow, eliminate, make_unit, view_of};
+
+// Where the numbers of row i begin.
+pub fn place_of(unknowns: usize, rows: usize, i: usize, numbers: &[i64]) -> usize
+    requires dense { length numbers.now ≡ rows * row_size unknowns }
+    requires row { i < rows }
+    ensures value { result ≡ i * row_size unknowns }
+    ensures within { result + row_size unknowns ≤ length numbers.now }
+{
+    i * (unknowns + 2)
+}
+
+// Row i of so many.
+pub fn row_in(numbers: &[i64], unknowns: usize, rows: usize, i: usize) -> ShortRow<'_>
+    requires dense { IsDense unknowns rows numbers.now }
+    requires row { i < rows }
+    ensures { row_of result ≡ model.row_at (rows_in unknowns rows numbers.now) i }
+{
+    let (_, behind) = numbers.split_at(place_of(unknowns, rows, i, numbers));
+    let (row, _) = behind.split_at(unknowns + 2);
+    view_of(row, unknowns)
+}
+
+// Makes of row i of so many what it is after the pivot on row p and column c; whether its numbers are short.
+fn turn_at(numbers: &mut [i64], rows: usize, i: usize, p: &ShortRow<'_>, c: usize) -> bool
+    requires dense { IsDense (length p.now.coefs.now) rows numbers.old }
+    requires row { i < rows }
+    requires p { IsShortReduced (length p.now.coefs.now) (row_of p.now) }
+    requires column { c < length p.now.coefs.now }
+    requires positive { pos 1 ≤ℤ entry p.now.coefs.now c }
+    ensures dense { IsTrue result → IsDense (length p.now.coefs.now) rows numbers.new }
+    ensures rows { IsTrue result → rows_in (length p.now.coefs.now) rows numbers.new
+        ≡ slice_set (rows_in (length p.now.coefs.now) rows numbers.old) i
+        (model.eliminated (row_of p.now) c (model.row_at (rows_in (length p.now.coefs.now) rows numbers.old) i)) }
+    ensures size { length numbers.new ≡ length numbers.old }
+{
+    let unknowns = p.coefs.len();
+    let place = place_of(unknowns, rows, i, numbers);
+    let (_, behind) = numbers.split_at_mut(place);
+    let (row, _) = behind.split_at_mut(unknowns + 2);
+    eliminate(row, p, c)
+}
+
+// Makes of so many rows what they are after the pivot on row p and column c; whether their numbers are short.
+pub fn turn_rows(numbers: &mut [i64], rows: usize, p: &ShortRow<'_>, c: usize) -> bool
+    requires dense { IsDense (length p.now.coefs.now) rows numbers.old }
+    requires p { IsShortReduced (length p.now.coefs.now) (row_of p.now) }
+    requires column { c < length p.now.coefs.now }
+    requires positive { pos 1 ≤ℤ entry p.now.coefs.now c }
+    ensures dense { IsTrue result → IsDense (length p.now.coefs.now) rows numbers.new }
+    ensures rows { IsTrue result → rows_in (length p.now.coefs.now) rows numbers.new
+        ≡ map (model.eliminated (row_of p.now) c) (rows_in (length p.now.coefs.now) rows numbers.old) }
+    ensures size { length numbers.new ≡ length numbers.old }
+{
+    for i in 0..rows {
+        if !turn_at(numbers, rows, i, p, c) {
+            return false;
+        }
+    }
+    true
+}
+
+// How many rows stand in front of a pivot's row and behind it, and its column.
+#[derive(Clone, Copy)]
+struct Sides {
+    front: usize,
+    back: usize,
+    column: usize,
+}
+
+// Makes of the rows in front of a row and behind it what they are after the pivot on it; whether their numbers are
+// short.
+fn turn_sides(
+    front: &mut [i64],
+    row: &[i64],
+    back: &mut [i64],
+    unknowns: usize,
+    sides: Sides,
+) -> bool
+    requires front { IsDense unknowns sides.front front.old }
+    requires back { IsDense unknowns sides.back back.old }
+    requires size { length row.now ≡ row_size unknowns }
+    requires row { IsShortReduced unknowns (row_of_numbers unknowns row.now) }
+    requires column { sides.column < unknowns }
+    requires positive { pos 1 ≤ℤ entry (row_of_numbers unknowns row.now).coefs sides.column }
+    ensures front { IsTrue result → IsDense unknowns sides.front front.new }
+    ensures back { IsTrue result → IsDense unknowns sides.back back.new }
+    ensures front_rows { IsTrue result → rows_in unknowns sides.front front.new
+        ≡ map (model.eliminated (row_of_numbers unknowns row.now) sides.column)
+        (rows_in unknowns sides.front front.old) }
+    ensures back_rows { IsTrue result → rows_in unknowns sides.back back.new
+        ≡ map (model.eliminated (row_of_numbers unknowns row.now) sides.column)
+        (rows_in unknowns sides.back back.old) }
+{
+    let p = view_of(row, unknowns);
+    if !turn_rows(front, sides.front, &p, sides.column) {
+        return false;
+    }
+    turn_rows(back, sides.back, &p, sides.column)
+}
+
+// Makes of so many rows those after the pivot on row r and column c; whether their numbers are short.
+pub fn pivot_rows(numbers: &mut [i64], unknowns: usize, rows: usize, r: usize, c: usize) -> bool
+    requires dense { IsDense unknowns rows numbers.old }
+    requires row { r < rows }
+    requires column { c < unknowns }
+    requires positive { pos 1 ≤ℤ entry (model.row_at (rows_in unknowns rows numbers.old) r).coefs c }
+    ensures dense { IsTrue result → IsDense unknowns rows numbers.new }
+    ensures rows { IsTrue result → rows_in unknowns rows numbers.new
+        ≡ model.pivot (rows_in unknowns rows numbers.old) r c }
+{
+    let place = place_of(unknowns, rows, r, numbers);
+    let sides = Sides {
+        front: r,
+        back: rows - (r + 1),
+        column: c,
+    };
+    let (front, behind) = numbers.split_at_mut(place);
+    let (row, back) = behind.split_at_mut(unknowns + 2);
+    if !turn_sides(front, row, back, unknowns, sides) {
+        return false;
+    }
+    make_unit(row, unknowns, c);
+    true
+}

@@ -1,0 +1,226 @@
+ghost use Rattle.std.specs.Prelude.{◌≡◌, ◌+◌, ◌^◌, ◌<◌, ◌≤◌, pos, ◌≤ℤ◌, not, [], ◌∷◌, ◌++◌, All, length, map, flat_map, IsTrue, IsFalse, IfOk, OnOk, OnErr};
+ghost use Rattle.pip_model.specs.Cuts.{constant_cut};
+ghost use Rattle.pip_model.specs.Forms.{constant, entry, widen_to};
+ghost use Rattle.pip_model.specs.Listed.{all_fit};
+ghost use Rattle.pip_model.specs.Numbers.{is_nonneg};
+ghost use Rattle.pip_model.specs.Rows as model;
+ghost use Rattle.affine_rows.specs.Forms.{IsForm};
+ghost use Rattle.tableau.specs.Tableaus.{with_row};
+ghost use Rattle.short_tableau.specs.Dense.{IsShortReduced};
+ghost use Rattle.short_tableau.specs.Rows.{row_of};
+
+use crate::cuts::push_cut_row;
+use crate::pushing::{append_form, push_row, push_unit_row};
+use crate::row::ShortRow;
+use crate::rows::{pivot_rows, row_in, turn_rows};
+use affine_rows::WantOfMemory;
+use std::alloc::Global;
+use std::marker::Model;
+
+/// Rows over the same columns, one for each unknown, whose constant forms are constants. Each number of a row lies from
+/// -(2^63 - 1) to 2^63 - 1, and a row's numbers have no common divisor. Contracts see the rows as a tableau's.
+// The numbers stand row after row: the denominator, the coefficients, the constant.
+#[derive(Drop)]
+pub struct ShortTableau {
+    unknowns: usize,
+    count: usize,
+    numbers: Vec<i64>,
+}
+
+impl Model for ShortTableau {
+    ghost use Rattle.tableau.specs.Tableaus.{TableauRows};
+    ghost use Rattle.short_tableau.specs.Dense.{IsDense, rows_in};
+
+    ghost Value = { TableauRows };
+
+    ghost view = { λ t.
+        record { unknowns = t.unknowns; width = 0; rows = rows_in t.unknowns t.count t.numbers.items } };
+
+    ghost invariant = { λ t. IsDense t.unknowns t.count t.numbers.items };
+}
+
+impl ShortTableau {
+    /// No rows over so many columns. It takes no memory.
+    pub fn new(alloc: Global, unknowns: usize) -> ShortTableau
+        ensures { result ≡ record { unknowns = unknowns; width = 0; rows = [] } }
+    {
+        ShortTableau {
+            unknowns,
+            count: 0,
+            numbers: Vec::new(alloc),
+        }
+    }
+
+    /// No rows over so many columns, and room for so many rows.
+    pub fn with_room(
+        alloc: Global,
+        unknowns: usize,
+        rows: usize,
+    ) -> Result<ShortTableau, WantOfMemory>
+        ensures { IfOk result (λ t. t ≡ record { unknowns = unknowns; width = 0; rows = [] }) }
+    {
+        let size = unknowns.checked_add(2).ok_or(WantOfMemory)?;
+        let room = size.checked_mul(rows).ok_or(WantOfMemory)?;
+        Ok(ShortTableau {
+            unknowns,
+            count: 0,
+            numbers: Vec::with_capacity(alloc, room)?,
+        })
+    }
+
+    /// Drops all rows, and has so many columns from now on. The room stays.
+    pub fn restart(&mut self, unknowns: usize)
+        ensures { self.new ≡ record { unknowns = unknowns; width = 0; rows = [] } }
+    {
+        self.unknowns = unknowns;
+        self.count = 0;
+        self.numbers.clear();
+    }
+
+    /// Becomes the same as another. It takes no memory where there is room.
+    pub fn copy_from(&mut self, t: &ShortTableau) -> Result<(), WantOfMemory>
+        ensures { OnOk result (self.new ≡ t.now) }
+    {
+        self.unknowns = t.unknowns;
+        self.count = 0;
+        self.numbers.clear();
+        self.numbers.extend_from_slice(&t.numbers)?;
+        self.count = t.count;
+        Ok(())
+    }
+
+    /// The number of rows.
+    pub fn rows(&self) -> usize
+        ensures { result ≡ length self.now.rows }
+    {
+        self.count
+    }
+
+    /// The number of columns.
+    pub fn unknowns(&self) -> usize
+        ensures { result ≡ self.now.unknowns }
+    {
+        self.unknowns
+    }
+
+    // The number of columns; the rows are short.
+    pub(crate) fn columns(&self) -> usize
+        ensures value { result ≡ self.now.unknowns }
+        ensures rows { All (IsShortReduced self.now.unknowns) self.now.rows }
+    {
+        self.unknowns
+    }
+
+    // Row i.
+    pub(crate) fn row(&self, i: usize) -> ShortRow<'_>
+        requires { i < length self.now.rows }
+        ensures value { row_of result ≡ model.row_at self.now.rows i }
+        ensures row { IsShortReduced self.now.unknowns (row_of result) }
+    {
+        row_in(&self.numbers, self.unknowns, self.count, i)
+    }
+
+    /// Whether the constant of row i is below 0.
+    pub fn is_below(&self, i: usize) -> bool
+        requires { i < length self.now.rows }
+        ensures { result ≡ not (is_nonneg (constant (model.row_at self.now.rows i).constant)) }
+    {
+        self.row(i).constant[0] < 0
+    }
+
+    /// Adds the row of column c, whose quantity is that column's. A refusal leaves all as it was.
+    pub fn push_unit(&mut self, c: usize) -> Result<(), WantOfMemory>
+        requires { c < self.old.unknowns }
+        ensures ok { OnOk result (self.new ≡ with_row self.old (model.unit_row self.old.unknowns 0 c)) }
+        ensures err { OnErr result (self.new ≡ self.old) }
+    {
+        push_unit_row(&mut self.numbers, self.unknowns, c)?;
+        self.count += 1;
+        Ok(())
+    }
+
+    /// Adds row i of a tableau over the same columns. A refusal leaves all as it was.
+    pub fn push_copy(&mut self, t: &ShortTableau, i: usize) -> Result<(), WantOfMemory>
+        requires unknowns { t.now.unknowns ≡ self.old.unknowns }
+        requires row { i < length t.now.rows }
+        ensures ok { OnOk result (self.new ≡ with_row self.old (model.row_at t.now.rows i)) }
+        ensures err { OnErr result (self.new ≡ self.old) }
+    {
+        push_row(&mut self.numbers, &t.row(i))?;
+        self.count += 1;
+        Ok(())
+    }
+
+    /// Adds the cut by row i: where the row's quantity is whole, the sum of the fractional parts of its coefficients times
+    /// the columns' quantities is at least that of the opposite of its constant. A refusal leaves all as it was.
+    pub fn push_cut(&mut self, i: usize) -> Result<(), WantOfMemory>
+        requires { i < length self.old.rows }
+        ensures ok { OnOk result (self.new ≡ with_row self.old (constant_cut (model.row_at self.old.rows i))) }
+        ensures err { OnErr result (self.new ≡ self.old) }
+    {
+        push_cut_row(&mut self.numbers, self.unknowns, self.count, i)?;
+        self.count += 1;
+        Ok(())
+    }
+
+    /// Adds the row of a form, which is read over all columns, where its numbers are short, and says whether they are.
+    /// Else no row is left, as after a refusal.
+    pub fn push_form(&mut self, form: &[i128]) -> Result<bool, WantOfMemory>
+        requires form { IsForm form.now }
+        requires narrow { length form.now ≤ self.old.unknowns + 1 }
+        ensures short { IfOk result (λ b. IsTrue b → self.new
+            ≡ with_row self.old (model.form_row self.old.unknowns (widen_to self.old.unknowns form.now))) }
+        ensures unknowns { self.new.unknowns ≡ self.old.unknowns }
+    {
+        let pushed = append_form(&mut self.numbers, self.unknowns, form);
+        if let Ok(true) = pushed {
+            self.count += 1;
+            return Ok(true);
+        }
+        self.count = 0;
+        self.numbers.clear();
+        pushed?;
+        Ok(false)
+    }
+
+    /// The pivot on row r and column c: the row, solved for the column's quantity, is put into each other row, and
+    /// row r becomes the row of the column. Whether the rows' numbers are short; where one is not, before its row is
+    /// divided, no row is left. All listed numbers fit. It takes no memory.
+    pub fn pivot(&mut self, r: usize, c: usize) -> bool
+        requires row { r < length self.old.rows }
+        requires column { c < self.old.unknowns }
+        requires positive { pos 1 ≤ℤ entry (model.row_at self.old.rows r).coefs c }
+        ensures listed { IsTrue (all_fit (model.pivot_listed self.old.rows r c)) }
+        ensures short { IsTrue result → self.new ≡ record self.old { rows = model.pivot self.old.rows r c } }
+        ensures long { IsFalse result → self.new ≡ record self.old { rows = [] } }
+    {
+        if !pivot_rows(&mut self.numbers, self.unknowns, self.count, r, c) {
+            self.count = 0;
+            self.numbers.clear();
+            return false;
+        }
+        true
+    }
+
+    /// Puts row i of a tableau over the same columns, solved for the quantity of column c, into each row. Whether the
+    /// rows' numbers are short; where one is not, before its row is divided, no row is left. All listed numbers fit. It
+    /// takes no memory.
+    pub fn eliminate(&mut self, t: &ShortTableau, i: usize, c: usize) -> bool
+        requires unknowns { t.now.unknowns ≡ self.old.unknowns }
+        requires row { i < length t.now.rows }
+        requires column { c < self.old.unknowns }
+        requires positive { pos 1 ≤ℤ entry (model.row_at t.now.rows i).coefs c }
+        ensures listed { IsTrue (all_fit
+            (flat_map (model.eliminated_listed (model.row_at t.now.rows i) c) self.old.rows)) }
+        ensures short { IsTrue result → self.new
+            ≡ record self.old { rows = map (model.eliminated (model.row_at t.now.rows i) c) self.old.rows } }
+        ensures long { IsFalse result → self.new ≡ record self.old { rows = [] } }
+    {
+        if !turn_rows(&mut self.numbers, self.count, &t.row(i), c) {
+            self.count = 0;
+            self.numbers.clear();
+            return false;
+        }
+        true
+    }
+}
