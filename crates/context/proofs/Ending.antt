@@ -1,14 +1,16 @@
 -- Where no row is below 0 and those of the unknowns are whole, the run without parameters has a point.
-use Rattle.std.proofs.Common.{◌≡◌, ◌∙◌, refl, ap, sym, ℕ, ◌+◌, ◌≤◌, Bool, true, false, ◌&&◌, Option, Some, None, is_none, is_some, List, [], ◌∷◌, ◌++◌, length}
-use Rattle.std.specs.Prelude.{if◌then◌else◌}
-use Rattle.std.proofs.lemmas.List.{take-append-le}
-use Rattle.pip_model.specs.Numbers.{is_nonneg}
-use Rattle.pip_model.specs.Forms.{constant}
-use Rattle.pip_model.specs.Rows.{Row, first_fraction, fraction_from}
-use Rattle.pip_model.specs.Run.{Work, Done, Closed, go_on, give, leaf, turn, turn_by, last_turn, numbers_of, point_setting}
+use Rattle.std.proofs.Common.{◌≡◌, ◌∙◌, refl, ap, sym, ℕ, zero, suc, ◌+◌, ◌≤◌, ℤ, arith, Bool, true, false, ◌&&◌, Option, Some, None, is_none, is_some, List, [], ◌∷◌, ◌++◌, length, take}
+use Rattle.std.specs.Prelude.{if◌then◌else◌, filter, ◌||◌}
+use Rattle.std.proofs.lemmas.List.{take-append-le, get_or_at}
+use Rattle.std.specs.List.{list_any}
+use Rattle.pip_model.specs.Numbers.{is_nonneg, is_positive}
+use Rattle.pip_model.specs.Forms.{constant, entry}
+use Rattle.pip_model.specs.Rows.{Row, row_at, form_row, count_from, candidates, entering_of, entering_of_listed, first_fraction, fraction_from}
+use Rattle.pip_model.specs.Tree.{Bottom}
+use Rattle.pip_model.specs.Run.{Work, Done, Closed, go_on, give, listed, leaf, turn, turn_by, last_turn, pivot_turn, numbers_of, point_setting}
 use Rattle.pip_model.proofs.Fuel.{closed_run_from, falls-constant_class}
 use Rattle.context.specs.Turns.{negative_from, node_of}
-use Rattle.context.specs.Remembered.{replayed, finds_point, asked, IsStopped}
+use Rattle.context.specs.Remembered.{replayed, finds_point, asked, IsStopped, EndsWith}
 use Rattle.context.specs.declared.remembered.Remembered.{Remembered}
 use Rattle.context.proofs.Turning.{signs_of, turn_is}
 
@@ -49,12 +51,80 @@ both true true e = (refl, refl)
 both true false e = absurd cc
 both false b e = absurd cc
 
+-- ---- one row behind them
+
+only : (rows : List Row) → length rows ≡ 1 → row_at rows 0 ∷ [] ≡ rows
+only [] h = absurd (omega arith)
+only (r ∷ []) h = refl
+only (r ∷ s ∷ rows) h = absurd (omega arith)
+
+-- at a row from 0 on the point stays
+alone : (rows : List Row) → length rows ≡ 1 → is_nonneg (constant (row_at rows 0).constant) ≡ true → negative_from 0 rows ≡ None
+alone [] h e = absurd (omega arith)
+alone (r ∷ []) h e = by (is_nonneg (constant r.constant)) e
+  where
+    by : (t : Bool) → t ≡ true → (if t then negative_from 1 [] else Some 0) ≡ None
+    by true e = refl
+    by false e = absurd cc
+alone (r ∷ s ∷ rows) h e = absurd (omega arith)
+
+pub ends_point : (now : List Row) → length now ≡ 1 → is_nonneg (constant (row_at now 0).constant) ≡ true → EndsWith now true
+ends_point now one above n E v h e =
+    let parts = both (is_none (negative_from 0 E)) (is_none (first_fraction n E)) e in
+    finds_here n E now v h (none_of (negative_from 0 E) parts.0) (alone now one above) (none_of (first_fraction n E) parts.1)
+
+-- at a row below 0 in which no column is positive, there is none
+neither : (a b : Bool) → (a || b) ≡ false → (a ≡ false) × (b ≡ false)
+neither true b e = absurd cc
+neither false b e = (refl, e)
+
+no_entry : (cs : List ℤ) (k : ℕ) → list_any is_positive cs ≡ false → is_positive (entry cs k) ≡ false
+no_entry [] k e = refl
+no_entry (c ∷ cs) zero e = (neither (is_positive c) (list_any is_positive cs) e).0
+no_entry (c ∷ cs) (suc k) e = no_entry cs k ((neither (is_positive c) (list_any is_positive cs) e).1)
+
+filter-none : (f : ℕ → Bool) (ks : List ℕ) → ((k : ℕ) → f k ≡ false) → filter f ks ≡ []
+filter-none f [] all = refl
+filter-none f (k ∷ ks) all = rw (all k) (filter-none f ks all)
+
+no_candidates : (p : Row) → list_any is_positive p.coefs ≡ false → candidates p ≡ []
+no_candidates p e = filter-none (λ k. is_positive (entry p.coefs k)) (count_from 0 (length p.coefs)) (λ k. no_entry p.coefs k e)
+
+negative-last : (E : List Row) (r : Row) (i : ℕ) → negative_from i E ≡ None → is_nonneg (constant r.constant) ≡ false → negative_from i (E ++ r ∷ []) ≡ Some (i + length E)
+negative-last [] r i e f = by (is_nonneg (constant r.constant)) f
+  where
+    by : (t : Bool) → t ≡ false → (if t then negative_from (i + 1) [] else Some i) ≡ Some (i + 0)
+    by true e = absurd cc
+    by false e = let g : i ≡ i + 0 = omega arith in ap Some g
+negative-last (x ∷ E) r i e f = by (is_nonneg (constant x.constant)) e (λ h. negative-last E r (i + 1) h f)
+  where
+    by : (t : Bool) → (if t then negative_from (i + 1) E else Some i) ≡ None → (negative_from (i + 1) E ≡ None → negative_from (i + 1) (E ++ r ∷ []) ≡ Some (i + 1 + length E))
+        → (if t then negative_from (i + 1) (E ++ r ∷ []) else Some i) ≡ Some (i + suc (length E))
+    by true e later = let g : i + 1 + length E ≡ i + suc (length E) = omega arith in later e ∙ ap Some g
+    by false e later = absurd cc
+
+none_here : (n : ℕ) (E : List Row) (r : Row) (v : Work) → negative_from 0 E ≡ None → is_nonneg (constant r.constant) ≡ false → candidates r ≡ [] → finds_point n (E ++ r ∷ []) v ≡ Done false v
+none_here n E r v e below free =
+    let rows = E ++ r ∷ [] in
+    let at : row_at (E ++ r ∷ []) (length E) ≡ r = get_or_at E r [] (form_row 0 []) (length E) refl in
+    let none : 0 + length E ≡ length E = omega arith in
+    let first : negative_from 0 (E ++ r ∷ []) ≡ Some (length E) = negative-last E r 0 e below ∙ ap Some none in
+    let closed : turn (point_setting n) (node_of (E ++ r ∷ [])) v ≡ Done (Closed Bottom) v
+    = turn_is n rows v
+    ∙ ap (λ o. turn_by (point_setting n) (node_of rows) (signs_of o) v) first
+    ∙ ap (λ (p : Row). go_on (listed (entering_of_listed (take (length p.coefs) rows) p (candidates p)) v) (λ done. pivot_turn (point_setting n) (node_of rows) (length E) (entering_of (take (length p.coefs) rows) p (candidates p)))) at
+    ∙ ap (λ (ks : List ℕ). go_on (listed (entering_of_listed (take (length r.coefs) rows) r ks) v) (λ done. pivot_turn (point_setting n) (node_of rows) (length E) (entering_of (take (length r.coefs) rows) r ks))) free in
+    ap (λ o. go_on o (λ t. give (is_some (numbers_of t)))) (closed_run_from (point_setting n) falls-constant_class (node_of rows) v v Bottom closed)
+
+pub ends_none : (now : List Row) → length now ≡ 1 → is_nonneg (constant (row_at now 0).constant) ≡ false → list_any is_positive (row_at now 0).coefs ≡ false → EndsWith now false
+ends_none now one below none n E v h e =
+    let parts = both (is_none (negative_from 0 E)) (is_none (first_fraction n E)) e in
+    ap (λ (rows : List Row). finds_point n (E ++ rows) v) (sym (only now one))
+    ∙ none_here n E (row_at now 0) v (none_of (negative_from 0 E) parts.0) below (no_candidates (row_at now 0) none)
+
 -- so no copy of the last rows is needed
-pub asked_here : (m : Remembered) (rows now : List Row) (w v : Work) → IsStopped m → m.at_end ≡ true → replayed m.run.pivots.rows m.run.columns.items rows w ≡ Done now v → is_none (negative_from 0 now) ≡ true
-    → asked m rows w ≡ Done true v
-asked_here m rows now w v is at_end made none =
-    let E = m.run.end.rows in
-    let n = m.run.end.unknowns in
-    let parts = both (is_none (negative_from 0 E)) (is_none (first_fraction n E)) (sym is.at_end ∙ at_end) in
-    ap (λ o. go_on o (λ now. finds_point n (E ++ now))) made
-    ∙ finds_here n E now v is.formed.rows (none_of (negative_from 0 E) parts.0) (none_of (negative_from 0 now) none) (none_of (first_fraction n E) parts.1)
+pub asked_end : (m : Remembered) (rows now : List Row) (w v : Work) (found : Bool) → IsStopped m → m.at_end ≡ true → replayed m.run.pivots.rows m.run.columns.items rows w ≡ Done now v → EndsWith now found
+    → asked m rows w ≡ Done found v
+asked_end m rows now w v found is at_end made ends =
+    ap (λ o. go_on o (λ now. finds_point m.run.end.unknowns (m.run.end.rows ++ now))) made
+    ∙ ends m.run.end.unknowns m.run.end.rows v is.formed.rows (sym is.at_end ∙ at_end)

@@ -4,6 +4,8 @@ pub mod Pointing
 pub mod WidenedRows
 pub mod FurtherRows
 pub mod Replaying
+pub mod Positives
+pub mod Tracing
 pub mod OneFormMore
 pub mod Ending
 pub mod PointMeaning

@@ -1,6 +1,6 @@
 -- What a run with one row more behind its first rows tells of a context with one form more.
-use Rattle.std.proofs.Common.{◌≡◌, ◌∙◌, refl, ap, sym, subst, ℕ, zero, suc, ℤ, Bool, List, [], ◌∷◌, ◌++◌, map, is_some}
-use Rattle.std.specs.Prelude.{Result}
+use Rattle.std.proofs.Common.{◌≡◌, ◌∙◌, refl, ap, sym, subst, ℕ, zero, suc, ℤ, Bool, List, [], ◌∷◌, ◌++◌, map, is_some, Option, Some, None}
+use Rattle.std.specs.Prelude.{Result, IfSome}
 use Rattle.std.proofs.lemmas.List.{map-append}
 use Rattle.pip_model.specs.Forms.{widen_to}
 use Rattle.pip_model.specs.Tree.{Tree}
@@ -9,6 +9,7 @@ use Rattle.pip_model.specs.Run.{Work, Outcome, Done, Refused, go_on, give, run_f
 use Rattle.pip_model.specs.Agreement.{AgreesCounted}
 use Rattle.pip_problem.specs.Faults.{run_fault}
 use Rattle.pip_problem.specs.declared.refusal.Refusal as code
+use Rattle.context.specs.Counts.{IsCountedRun}
 use Rattle.context.specs.Turns.{node_of}
 use Rattle.context.specs.Remembered.{has_point, finds_point, replayed, asked, first_rows, IsReplay, IsRemembered}
 use Rattle.context.specs.declared.remembered.Remembered.{Remembered}
@@ -60,3 +61,17 @@ module _ (n : ℕ) (K : List (List ℤ)) (c : List ℤ) (before after : Work) (r
       let found : AgreesCounted (λ b. b) run_fault r after (finds_point u (first_rows n K ++ row) before)
       = subst (λ (o : Outcome Bool). AgreesCounted (λ b. b) run_fault r after o) (sym (asked_is m (first_rows n K) row before is.replay)) gives in
       plainly_tells (subst (λ (k : ℕ). AgreesCounted (λ b. b) run_fault r after (finds_point k (first_rows n K ++ form_row k (widen_to k c) ∷ []) before)) is.unknowns found)
+
+  pub plain_run : IsCountedRun (λ b. b) run_fault r before after (finds_point n (first_rows n K ++ form_row n (widen_to n c) ∷ [])) → IsCountedRun (λ b. b) run_fault r before after (has_point n (K ++ c ∷ []))
+  plain_run told = record { agrees = plainly_tells told.agrees; counted = told.counted }
+
+  pub remembered_run : (m : Remembered) → IsRemembered n K m → IsCountedRun (λ b. b) run_fault r before after (asked m (form_row m.run.end.unknowns (widen_to m.run.end.unknowns c) ∷ []))
+      → IsCountedRun (λ b. b) run_fault r before after (has_point n (K ++ c ∷ []))
+  remembered_run m is told = record { agrees = remembered_tells m is told.agrees; counted = told.counted }
+
+-- where the remembered run answers
+pub known_tells : (n : ℕ) (K : List (List ℤ)) (c : List ℤ) (before after : Work) (m : Remembered) → IsRemembered n K m → (o : Option (Result Bool code.Refusal))
+    → IfSome o (λ r. IsCountedRun (λ b. b) run_fault r before after (asked m (form_row m.run.end.unknowns (widen_to m.run.end.unknowns c) ∷ [])))
+    → IfSome o (λ r. IsCountedRun (λ b. b) run_fault r before after (has_point n (K ++ c ∷ [])))
+known_tells n K c before after m is None told = told
+known_tells n K c before after m is (Some r) told = remembered_run n K c before after r m is told

@@ -1,9 +1,11 @@
 -- A run remembered: from one pivot to the next.
-use Rattle.std.proofs.Common.{◌≡◌, ◌∙◌, refl, ap, sym, ℕ, zero, suc, ◌+◌, ◌<◌, ◌≤◌, arith, Option, Some, None, List, [], ◌∷◌, ◌++◌, length, get_or, drop}
-use Rattle.std.specs.Prelude.{IfSome}
+use Rattle.std.proofs.Common.{◌≡◌, ◌∙◌, refl, ap, sym, ℕ, zero, suc, ◌+◌, ◌<◌, ◌≤◌, arith, Option, Some, None, List, [], ◌∷◌, ◌++◌, length, map, get_or, drop, Bool, true, false}
+use Rattle.std.specs.Prelude.{IfSome, flat_map, if◌then◌else◌}
 use Rattle.std.proofs.lemmas.List.{drop_more, drop_all}
-use Rattle.pip_model.specs.Rows.{Row, row_at, form_row, pivot}
-use Rattle.pip_model.specs.Run.{Work, Outcome, Done, Refused, Refusal, Counted, go_on, give, run_from, point_setting}
+use Rattle.pip_model.specs.Listed.{all_fit}
+use Rattle.pip_model.specs.Rows.{Row, row_at, form_row, pivot, eliminated, eliminated_listed}
+use Rattle.pip_model.specs.Run.{Work, Outcome, Done, Refused, Refusal, Overflow, Counted, ◌>>◌, go_on, give, listed, count_pivot, run_from, point_setting}
+use Rattle.tableau.specs.Tableaus.{TableauRows}
 use Rattle.context.specs.Turns.{node_of}
 use Rattle.context.specs.Remembered.{turned, replayed, IsPivot}
 use Rattle.context.proofs.FurtherRows.{IsStep, step-front}
@@ -50,6 +52,21 @@ each_more n [] (d ∷ cs) p c e all is i h = absurd (omega arith)
 each_more n (q ∷ ps) [] p c e all is i h = absurd (omega arith)
 each_more n (q ∷ ps) (d ∷ cs) p c e all is zero h = all 0 (omega arith)
 each_more n (q ∷ ps) (d ∷ cs) p c e all is (suc i) h = each_more n ps cs p c (omega (arith, e)) (λ j k. all (suc j) (omega (arith, k))) is i (omega (arith, h))
+
+abbrev counted_on : Work → Outcome (Unit {0})
+counted_on v = Done tt v
+
+-- a pivot that is counted, and whose numbers fit
+pub turned-made : (p : Row) (c : ℕ) (R : List Row) (w v : Work) (made t : TableauRows) → count_pivot w ≡ counted_on v → all_fit (flat_map (eliminated_listed p c) R) ≡ true
+    → made ≡ record t { rows = map (eliminated p c) R } → turned p c R w ≡ Done made.rows v
+turned-made p c R w v made t counted fit e =
+    ap (λ o. go_on o (λ done. listed (flat_map (eliminated_listed p c) R) >> give (map (eliminated p c) R))) counted
+    ∙ checked (all_fit (flat_map (eliminated_listed p c) R)) fit
+    ∙ ap (λ (s : TableauRows). Done s.rows v) (sym e)
+  where
+    checked : (b : Bool) → b ≡ true → go_on (if b then counted_on v else Refused Overflow v) (λ done. give (map (eliminated p c) R)) ≡ Done (map (eliminated p c) R) v
+    checked true e = refl
+    checked false e = absurd cc
 
 -- one more of the pivots
 pub replayed-at : (ps : List Row) (cs : List ℕ) (i : ℕ) (F : List Row) (w : Work) → length ps ≡ length cs → i < length cs

@@ -4,7 +4,7 @@ use Rattle.pip_model.specs.Contexts.{IsContext}
 use Rattle.pip_model.specs.Forms.{entry, widen_to}
 use Rattle.pip_model.specs.Tree.{Tree, Bottom}
 use Rattle.pip_model.specs.Rows.{Row, row_at, start, eliminated, eliminated_listed, first_fraction}
-use Rattle.pip_model.specs.Run.{Work, Counted, ◌>>=◌, ◌>>◌, go_on, give, listed, count_pivot, leaf, run_from, numbers_of, point, point_setting}
+use Rattle.pip_model.specs.Run.{Work, Counted, Done, ◌>>=◌, ◌>>◌, go_on, give, listed, count_pivot, leaf, run_from, numbers_of, point, point_setting}
 use Rattle.context.specs.Turns.{negative_from, node_of}
 use Rattle.context.specs.declared.remembered.Replay.{Replay}
 use Rattle.context.specs.declared.remembered.Remembered.{Remembered}
@@ -89,3 +89,7 @@ pub record IsRemembered (n : ℕ) (K : List (List ℤ)) (m : Remembered) : Type 
 pub record IsKnown (n : ℕ) (K : List (List ℤ)) (kept : Option Remembered) : Type 0 where
   pub context : IsContext n K
   pub known : IfSome kept (IsRemembered n K)
+
+-- where a run shows a point, it ends at once with these rows behind its own, with a point or without one
+abbrev pub EndsWith : List Row → Bool → Type 0
+EndsWith now found = (n : ℕ) (E : List Row) (v : Work) → n ≤ length E → is_end n E ≡ true → finds_point n (E ++ now) v ≡ Done found v

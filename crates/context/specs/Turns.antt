@@ -22,9 +22,10 @@ node_of rows = record { rows = rows; context = []; quotients = []; depth = 0 }
 
 -- what a turn made of a node, the rows now being these
 abbrev pub made : ℕ → List Row → Turn → run.Turn
-made n rows code.Bottom = run.Closed Bottom
+made n rows (code.Bottom r) = run.Closed Bottom
 made n rows code.List = run.Closed (leaf (point_setting n) (node_of rows))
-made n rows code.Again = run.Again (node_of rows)
+made n rows (code.Pivot r c) = run.Again (node_of rows)
+made n rows (code.Cut i) = run.Again (node_of rows)
 
 -- the turn of a node at a row below 0: bottom where no column enters, else it goes on from these rows
 abbrev pub pivoted : Node → List Row → Bool → run.Turn

@@ -1,89 +1,127 @@
-ghost use Rattle.std.specs.Prelude.{◌≡◌, ◌+◌, ◌<◌, ◌≤◌, [], ◌∷◌, ◌++◌, length, OnOk};
+ghost use Rattle.std.specs.Prelude.{◌≡◌, ◌+◌, ◌<◌, ◌≤◌, [], ◌∷◌, ◌++◌, length, get_or, OnOk, IfSome, IfNone};
 ghost use Rattle.pip_model.specs.Contexts.{IsContext};
 ghost use Rattle.pip_model.specs.Forms.{widen_to};
-ghost use Rattle.pip_model.specs.Rows.{form_row};
+ghost use Rattle.pip_model.specs.Rows.{form_row, row_at};
 ghost use Rattle.pip_problem.specs.Faults.{run_fault};
-ghost use Rattle.tableau.specs.Tableaus.{IsRow};
-ghost use Rattle.tableau.specs.Views.{row_of};
 ghost use Rattle.context.specs.Counts.{IsCountedRun};
-ghost use Rattle.context.specs.Remembered.{IsPivot, IsFormed, IsStopped, turned, replayed, asked, finds_point, first_rows};
+ghost use Rattle.context.specs.Stops.{stop_fault};
+ghost use Rattle.context.specs.Remembered.{IsFormed, IsStopped, turned, replayed, asked, finds_point, first_rows, EndsWith};
 
 use crate::point_run::run_on;
-use crate::point_turn::first_negative;
 use crate::remembered::{Remembered, Replay};
 use crate::rows::{push_form, start_rows};
+use crate::short_rows::push_short;
+use crate::short_run::run_short;
+use crate::stop::Stop;
 use crate::work::Work;
-use affine_rows::Form;
+use affine_rows::{Form, WantOfMemory};
 use pip_problem::Refusal;
+use short_tableau::ShortTableau;
 use std::alloc::Global;
-use tableau::{RowView, Tableau};
 
-// A pivot on a row that stands in front of these is counted, and turns them.
-fn turn_rows(rows: &mut Tableau, p: &RowView<'_>, c: usize, work: &mut Work) -> Result<(), Refusal>
-    requires p { IsRow rows.old.unknowns rows.old.width (row_of p.now) }
-    requires pivot { IsPivot rows.old.unknowns (row_of p.now) c }
-    ensures gives { IsCountedRun (λ x. rows.new.rows) run_fault result work.old work.new
-        (turned (row_of p.now) c rows.old.rows) }
+// A remembered pivot is counted, and turns these rows.
+fn turn_rows(rows: &mut ShortTableau, m: &Replay, i: usize, work: &mut Work) -> Result<(), Stop>
+    requires formed { IsFormed m.now }
+    requires pivot { i < length m.now.columns.items }
+    requires unknowns { rows.old.unknowns ≡ m.now.end.unknowns }
+    ensures gives { IsCountedRun (λ x. rows.new.rows) stop_fault result work.old work.new
+        (turned (row_at m.now.pivots.rows i) (get_or m.now.columns.items i 0) rows.old.rows) }
     ensures unknowns { rows.new.unknowns ≡ rows.old.unknowns }
-    ensures width { rows.new.width ≡ rows.old.width }
-    ensures number { length rows.new.rows ≡ length rows.old.rows }
+    ensures number { OnOk result (length rows.new.rows ≡ length rows.old.rows) }
 {
     work.count_pivot()?;
-    rows.eliminate(p, c)?;
+    if !rows.eliminate(&m.pivots, i, m.columns[i]) {
+        return Err(Stop::Long);
+    }
     Ok(())
 }
 
 // Turns the rows by the pivots in order.
-fn replay(m: &Replay, rows: &mut Tableau, work: &mut Work) -> Result<(), Refusal>
+fn replay(m: &Replay, rows: &mut ShortTableau, work: &mut Work) -> Result<(), Stop>
     requires formed { IsFormed m.now }
     requires unknowns { rows.old.unknowns ≡ m.now.end.unknowns }
-    requires width { rows.old.width ≡ 0 }
-    ensures gives { IsCountedRun (λ x. rows.new.rows) run_fault result work.old work.new
+    ensures gives { IsCountedRun (λ x. rows.new.rows) stop_fault result work.old work.new
         (replayed m.now.pivots.rows m.now.columns.items rows.old.rows) }
     ensures unknowns { rows.new.unknowns ≡ m.now.end.unknowns }
-    ensures width { rows.new.width ≡ 0 }
-    ensures number { length rows.new.rows ≡ length rows.old.rows }
+    ensures number { OnOk result (length rows.new.rows ≡ length rows.old.rows) }
 {
     for i in 0..m.columns.len() {
-        turn_rows(rows, &m.pivots.row(i), m.columns[i], work)?;
+        turn_rows(rows, m, i, work)?;
     }
     Ok(())
 }
 
 // Goes on from the last rows of a run with the only row of another tableau behind them.
-fn go_on(alloc: Global, m: &Replay, row: &Tableau, work: &mut Work) -> Result<bool, Refusal>
+fn go_on(alloc: Global, m: &Replay, row: &ShortTableau, work: &mut Work) -> Result<bool, Stop>
     requires formed { IsFormed m.now }
     requires unknowns { row.now.unknowns ≡ m.now.end.unknowns }
-    requires width { row.now.width ≡ 0 }
     requires number { length row.now.rows ≡ 1 }
-    ensures gives { IsCountedRun (λ b. b) run_fault result work.old work.new
+    ensures gives { IsCountedRun (λ b. b) stop_fault result work.old work.new
         (finds_point m.now.end.unknowns (m.now.end.rows ++ row.now.rows)) }
 {
-    let mut t = m.end.try_clone(alloc)?;
+    let rows = m.end.rows().checked_add(1).ok_or(WantOfMemory)?;
+    let mut t = ShortTableau::with_room(alloc, m.end.unknowns(), rows)?;
+    t.copy_from(&m.end)?;
     t.push_copy(row, 0)?;
-    run_on(&mut t, work)
+    run_short(&mut t, work)
+}
+
+// Whether a point is found, where a run that shows one ends with the only row of this tableau behind its own: the row is
+// not below 0, or it is and no column enters. None where the run goes on.
+fn ends_at(row: &ShortTableau) -> Option<bool>
+    requires { length row.now.rows ≡ 1 }
+    ensures { IfSome result (EndsWith row.now.rows) }
+{
+    if !row.is_below(0) {
+        return Some(true);
+    }
+    if !row.has_positive(0) {
+        return Some(false);
+    }
+    None
 }
 
 // Whether a remembered run with the form's row behind it finds a point: the row is turned by the remembered pivots, and
 // the run goes on where it does not end there.
-pub(crate) fn ask(
+pub(crate) fn ask(alloc: Global, m: &Remembered, form: &Form, work: &mut Work) -> Result<bool, Stop>
+    requires stopped { IsStopped m.now }
+    requires narrow { length form.now ≤ m.now.run.end.unknowns + 1 }
+    ensures gives { IsCountedRun (λ b. b) stop_fault result work.old work.new
+        (asked m.now (form_row m.now.run.end.unknowns (widen_to m.now.run.end.unknowns form.now) ∷ [])) }
+{
+    let mut row = ShortTableau::with_room(alloc, m.run.end.unknowns(), 1)?;
+    push_short(&mut row, form)?;
+    replay(&m.run, &mut row, work)?;
+    if m.at_end {
+        if let Some(found) = ends_at(&row) {
+            return Ok(found);
+        }
+    }
+    go_on(alloc, &m.run, &row, work)
+}
+
+// The same; None where a number is not short, and nothing is counted then.
+pub(crate) fn ask_shortly(
     alloc: Global,
     m: &Remembered,
     form: &Form,
     work: &mut Work,
-) -> Result<bool, Refusal>
+) -> Option<Result<bool, Refusal>>
     requires stopped { IsStopped m.now }
     requires narrow { length form.now ≤ m.now.run.end.unknowns + 1 }
-    ensures gives { IsCountedRun (λ b. b) run_fault result work.old work.new
-        (asked m.now (form_row m.now.run.end.unknowns (widen_to m.now.run.end.unknowns form.now) ∷ [])) }
+    ensures gives { IfSome result (λ r. IsCountedRun (λ b. b) run_fault r work.old work.new
+        (asked m.now (form_row m.now.run.end.unknowns (widen_to m.now.run.end.unknowns form.now) ∷ []))) }
+    ensures none { IfNone result (work.new ≡ work.old) }
 {
-    let mut row = m.run.end.empty_like();
-    push_form(alloc, &mut row, form)?;
-    replay(&m.run, &mut row, work)?;
-    if m.at_end && first_negative(&row).is_none() {
-        return Ok(true);
+    let before = work.counts();
+    match ask(alloc, m, form, work) {
+        Ok(found) => Some(Ok(found)),
+        Err(Stop::Refused(refusal)) => Some(Err(refusal)),
+        Err(Stop::Long) => {
+            work.back_to(before);
+            None
+        }
     }
-    go_on(alloc, &m.run, &row, work)
 }
 
 // Whether the run of the forms as rows, and of one form more, finds a point.

@@ -1,17 +1,22 @@
-ghost use Rattle.std.specs.Prelude.{◌≡◌, ◌+◌, ◌-◌, ◌^◌, ◌<◌, ◌≤◌, [], ◌∷◌, ◌++◌, length, take, IfOk, OnOk, IfErr, IfSome};
+ghost use Rattle.std.specs.Prelude.{◌≡◌, ◌+◌, ◌-◌, ◌^◌, ◌<◌, ◌≤◌, pos, ◌≤ℤ◌, ◌<ℤ◌, [], ◌∷◌, ◌++◌, length, take, All, IfOk, OnOk, IfErr, IfSome, IfNone};
 ghost use Rattle.pip_model.specs.Contexts.{IsContext, PointTells, IsPointRefusal};
+ghost use Rattle.pip_model.specs.RefutedPoint.{IsRefutedPoint};
+ghost use Rattle.pip_model.specs.Refuting as refuting;
 ghost use Rattle.pip_model.specs.Run as model;
+ghost use Rattle.affine_rows.specs.Checks.{Fits};
 ghost use Rattle.pip_problem.specs.Faults.{run_fault};
 ghost use Rattle.context.specs.Counts.{IsCountedRun};
 ghost use Rattle.context.specs.Remembered.{has_point};
 ghost use Rattle.context.specs.Scoped.{IsKeptContext};
 
-use crate::asking::{ask, ask_plainly};
+use crate::asking::{ask_plainly, ask_shortly};
 use crate::point::Point;
 use crate::point_run::find_point;
+use crate::refute::refute_forms;
 use crate::remembered::{Remembered, remember};
 use crate::work::Work;
 use affine_rows::{Form, WantOfMemory};
+use leaf_certificate::Refutation;
 use pip_problem::Refusal;
 use std::alloc::Global;
 use std::marker::Model;
@@ -27,6 +32,8 @@ pub struct Context {
     width: usize,
     forms: Vec<Form>,
     known: Option<Remembered>,
+    // Whether it was tried to make the run of these forms.
+    is_tried: bool,
 }
 
 /// How many forms a context had, and its width: where it can go back to.
@@ -60,6 +67,7 @@ impl Context {
             width,
             forms: Vec::new(alloc),
             known: None,
+            is_tried: false,
         })
     }
 
@@ -84,6 +92,7 @@ impl Context {
         let _ = f.width();
         self.forms.push(f).unwrap();
         self.known = None;
+        self.is_tried = false;
     }
 
     /// Adds a place, at which all forms read 0. Takes no memory.
@@ -95,6 +104,7 @@ impl Context {
     {
         self.width += 1;
         self.known = None;
+        self.is_tried = false;
     }
 
     /// The number of forms and the width. Each form is no wider.
@@ -121,6 +131,7 @@ impl Context {
         self.forms.truncate(mark.forms);
         self.width = mark.width;
         self.known = None;
+        self.is_tried = false;
     }
 
     /// A whole vector of numbers from 0 on at which no form is below 0; None exactly where there is none. It is found
@@ -135,16 +146,59 @@ impl Context {
         find_point(alloc, self.width, &self.forms, work)
     }
 
-    // Makes the run of the forms alone, where it is not known.
+    /// The steps by which the forms have no point, None exactly where `point` gives a vector. They are made along its
+    /// run, with its counts and its refusals. A form's index is its place in the context; `places` has the indices of
+    /// the places' forms, and `first` is that of the first step's form.
+    pub fn refute(
+        &self,
+        alloc: Global,
+        places: &[i128],
+        first: i128,
+        work: &mut Work,
+    ) -> Result<Option<Refutation>, Refusal>
+        requires number { length places.now ≡ self.now.width }
+        requires places { All Fits places.now }
+        requires some { pos 0 ≤ℤ first }
+        requires few { first <ℤ pos (2 ^ 64) }
+        ensures gives { IsCountedRun (λ o. o) run_fault result work.old work.new
+            (refuting.refute self.now.width self.now.forms places.now first) }
+        ensures point { IsRefutedPoint (model.point self.now.width self.now.forms work.old)
+            (refuting.refute self.now.width self.now.forms places.now first work.old) }
+        ensures refusal { IfErr result (λ e. IfSome (run_fault e) IsPointRefusal) }
+    {
+        refute_forms(alloc, &self.forms, places, first, work)
+    }
+
+    // Makes the run of the forms alone, where that was not tried before.
     fn recall(&mut self, alloc: Global)
         ensures kept { IsKeptContext self.old self.new }
     {
-        if self.known.is_some() {
+        if self.is_tried {
             return;
         }
+        self.is_tried = true;
         if let Ok(known) = remember(alloc, self.width, &self.forms) {
             self.known = Some(known);
         }
+    }
+
+    // Whether the context with one form more has a point, by the remembered run; None where there is none, or a number
+    // is not short, and nothing is counted then.
+    fn ask_known(
+        &self,
+        alloc: Global,
+        form: &Form,
+        work: &mut Work,
+    ) -> Option<Result<bool, Refusal>>
+        requires narrow { length form.now ≤ self.now.width + 1 }
+        ensures gives { IfSome result (λ r. IsCountedRun (λ b. b) run_fault r work.old work.new
+            (has_point self.now.width (self.now.forms ++ form.now ∷ []))) }
+        ensures none { IfNone result (work.new ≡ work.old) }
+    {
+        let Some(known) = &self.known else {
+            return None;
+        };
+        ask_shortly(alloc, known, form, work)
     }
 
     /// Whether the context with one form more has a point, as `point` would find it; the form is no wider than the
@@ -163,8 +217,8 @@ impl Context {
         ensures kept { IsKeptContext self.old self.new }
     {
         self.recall(alloc);
-        if let Some(known) = &self.known {
-            return ask(alloc, known, form, work);
+        if let Some(answer) = self.ask_known(alloc, form, work) {
+            return answer;
         }
         ask_plainly(alloc, self.width, &self.forms, form, work)
     }

@@ -6,17 +6,21 @@ mod context;
 mod point;
 mod point_run;
 mod point_turn;
+mod positive_terms;
 mod refusal;
+mod refute;
 mod remembered;
 mod rows;
+mod short_rows;
+mod short_run;
 mod steps;
+mod stop;
+mod trace;
 mod work;
 
 pub use context::{Context, ContextMark};
 pub use point::Point;
+pub use positive_terms::push_positive;
 pub use refusal::of_step;
 pub use steps::{count_and_cut, enter_and_pivot};
 pub use work::Work;
-
-#[cfg(test)]
-mod tests;

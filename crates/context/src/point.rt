@@ -31,6 +31,14 @@ impl Point {
         &self.values
     }
 
+    /// Keeps the first n of its numbers. Takes no memory.
+    pub fn keep_first(&mut self, n: usize)
+        requires { n ≤ length self.old }
+        ensures { self.new ≡ take n self.old }
+    {
+        self.values.truncate(n);
+    }
+
     /// The point of no places.
     pub(crate) fn empty(alloc: Global) -> Point
         ensures { result ≡ [] }

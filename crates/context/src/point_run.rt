@@ -26,9 +26,9 @@ pub(crate) fn run_on(rows: &mut Tableau, work: &mut Work) -> Result<bool, Refusa
 {
     loop {
         match take_turn(rows, work)? {
-            Turn::Bottom => return Ok(false),
+            Turn::Bottom(_) => return Ok(false),
             Turn::List => return Ok(true),
-            Turn::Again => {}
+            Turn::Pivot(_, _) | Turn::Cut(_) => {}
         }
     }
 }

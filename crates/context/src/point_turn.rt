@@ -1,4 +1,4 @@
-ghost use Rattle.std.specs.Prelude.{◌≡◌, ◌<◌, ◌≤◌, not, length, IfSome};
+ghost use Rattle.std.specs.Prelude.{◌≡◌, ◌<◌, ◌≤◌, None, Some, not, length, IfOk, IfSome};
 ghost use Rattle.pip_model.specs.Forms.{constant};
 ghost use Rattle.pip_model.specs.Numbers.{is_nonneg};
 ghost use Rattle.pip_model.specs.Rows.{row_at};
@@ -6,20 +6,23 @@ ghost use Rattle.pip_model.specs.Run as model;
 ghost use Rattle.pip_model.specs.Run.{turn_by, MinusAt, AllPlus, point_setting};
 ghost use Rattle.pip_problem.specs.Faults.{run_fault};
 ghost use Rattle.context.specs.Counts.{IsCountedRun};
+ghost use Rattle.context.specs.Traces.{IsTurnAt};
 ghost use Rattle.context.specs.Turns.{negative_from, node_of, made, HasSameScope};
 
-use crate::steps::{count_and_cut, enter_and_pivot};
+use crate::steps::{count_and_cut, enter};
 use crate::work::Work;
 use affine_rows::nonnegative;
 use gomory_cut::first_fraction;
 use pip_problem::Refusal;
 use tableau::Tableau;
 
-// What a turn of the run made of the tableau: it has no point, it shows the point, or the run goes on.
+// What a turn of the run made of the tableau: no column enters at a row below 0, so that it has no point; it shows the
+// point; a pivot on a row and a column, or the cut of a row, and the run goes on.
 pub enum Turn {
-    Bottom,
+    Bottom(usize),
     List,
-    Again,
+    Pivot(usize, usize),
+    Cut(usize),
 }
 
 // Whether the constant of row i is below 0.
@@ -50,14 +53,15 @@ fn pivot_turn(rows: &mut Tableau, work: &mut Work, r: usize) -> Result<Turn, Ref
     requires width { rows.old.width ≡ 0 }
     requires rows { rows.old.unknowns ≤ length rows.old.rows }
     requires row { r < length rows.old.rows }
+    requires first { negative_from 0 rows.old.rows ≡ Some r }
     ensures gives { IsCountedRun (made rows.old.unknowns rows.new.rows) run_fault result work.old work.new
         (turn_by (point_setting rows.old.unknowns) (node_of rows.old.rows) (MinusAt r)) }
+    ensures place { IfOk result (IsTurnAt rows.old.unknowns rows.old.rows rows.new.rows) }
     ensures scope { HasSameScope rows.old rows.new }
 {
-    if enter_and_pivot(rows, r, work)? {
-        Ok(Turn::Again)
-    } else {
-        Ok(Turn::Bottom)
+    match enter(rows, r, work)? {
+        Some(c) => Ok(Turn::Pivot(r, c)),
+        None => Ok(Turn::Bottom(r)),
     }
 }
 
@@ -65,15 +69,17 @@ fn pivot_turn(rows: &mut Tableau, work: &mut Work, r: usize) -> Result<Turn, Ref
 fn last_turn(rows: &mut Tableau, work: &mut Work) -> Result<Turn, Refusal>
     requires width { rows.old.width ≡ 0 }
     requires rows { rows.old.unknowns ≤ length rows.old.rows }
+    requires none { negative_from 0 rows.old.rows ≡ None }
     ensures gives { IsCountedRun (made rows.old.unknowns rows.new.rows) run_fault result work.old work.new
         (turn_by (point_setting rows.old.unknowns) (node_of rows.old.rows) AllPlus) }
+    ensures place { IfOk result (IsTurnAt rows.old.unknowns rows.old.rows rows.new.rows) }
     ensures scope { HasSameScope rows.old rows.new }
 {
     let Some(i) = first_fraction(rows) else {
         return Ok(Turn::List);
     };
     count_and_cut(rows, i, work)?;
-    Ok(Turn::Again)
+    Ok(Turn::Cut(i))
 }
 
 // One turn: a pivot at a row below 0, else a cut at a fraction.
@@ -83,6 +89,7 @@ pub(crate) fn take_turn(rows: &mut Tableau, work: &mut Work) -> Result<Turn, Ref
     requires rows { rows.old.unknowns ≤ length rows.old.rows }
     ensures gives { IsCountedRun (made rows.old.unknowns rows.new.rows) run_fault result work.old work.new
         (model.turn (point_setting rows.old.unknowns) (node_of rows.old.rows)) }
+    ensures place { IfOk result (IsTurnAt rows.old.unknowns rows.old.rows rows.new.rows) }
     ensures scope { HasSameScope rows.old rows.new }
 {
     match first_negative(rows) {

@@ -1,24 +1,22 @@
-ghost use Rattle.std.specs.Prelude.{◌≡◌, ◌<◌, ◌≤◌, Some, List, length, map, IfOk, OnOk};
+ghost use Rattle.std.specs.Prelude.{◌≡◌, ◌<◌, ◌≤◌, Some, List, [], ◌∷◌, ◌++◌, length, map, IfOk, OnOk};
 ghost use Rattle.pip_model.specs.Contexts.{IsContext};
 ghost use Rattle.pip_model.specs.Rows.{Row};
 ghost use Rattle.context.specs.Turns.{negative_from};
 ghost use Rattle.context.specs.Remembered.{IsFormed, IsReplay, IsRemembered, first_rows, is_end};
 
-use crate::point_turn::first_negative;
-use crate::rows::start_rows;
+use crate::short_rows::{first_below, start_short};
+use crate::stop::Stop;
 use affine_rows::{Form, WantOfMemory};
-use dual_pivot::{entering, pivot};
-use gomory_cut::first_fraction;
+use short_tableau::ShortTableau;
 use std::alloc::Global;
-use tableau::{StepRefusal, Tableau};
 
 // Pivots of a run without parameters, in order: their rows as they stood before each, and their columns. And the rows
 // that the pivots made of the first ones.
 #[derive(Drop)]
 pub struct Replay {
-    pub pivots: Tableau,
+    pub pivots: ShortTableau,
     pub columns: Vec<usize>,
-    pub end: Tableau,
+    pub end: ShortTableau,
 }
 
 // The pivots of a run or of its beginning, and whether its last rows show a point: none is below 0, and those of the
@@ -30,22 +28,30 @@ pub struct Remembered {
 }
 
 // No pivot yet.
-fn first(alloc: Global, places: usize, forms: &[Form]) -> Result<Replay, WantOfMemory>
+fn first(alloc: Global, places: usize, forms: &[Form]) -> Result<Replay, Stop>
     requires { IsContext places forms.now }
     ensures formed { IfOk result IsFormed }
     ensures unknowns { IfOk result (λ m. m.end.unknowns ≡ places) }
     ensures replay { IfOk result (IsReplay (first_rows places forms.now)) }
 {
-    let end = start_rows(alloc, places, forms)?;
+    let end = start_short(alloc, places, forms)?;
     Ok(Replay {
-        pivots: end.empty_like(),
+        pivots: ShortTableau::new(alloc, places),
         columns: Vec::new(alloc),
         end,
     })
 }
 
+// Adds a column.
+fn push_column(columns: &mut Vec<usize>, c: usize) -> Result<(), WantOfMemory>
+    ensures { OnOk result (columns.new.items ≡ columns.old.items ++ c ∷ []) }
+{
+    columns.push(c)?;
+    Ok(())
+}
+
 // The step at the first row below 0: whether a column enters. Where one does, the pivot is written down and made.
-fn pivot_at(m: &mut Replay, r: usize) -> Result<bool, StepRefusal>
+fn pivot_at(m: &mut Replay, r: usize) -> Result<bool, Stop>
     requires formed { IsFormed m.old }
     requires row { r < length m.old.end.rows }
     requires first { negative_from 0 m.old.end.rows ≡ Some r }
@@ -53,25 +59,26 @@ fn pivot_at(m: &mut Replay, r: usize) -> Result<bool, StepRefusal>
     ensures unknowns { IfOk result (λ x. m.new.end.unknowns ≡ m.old.end.unknowns) }
     ensures replay { IfOk result (λ x. (first : List Row) → IsReplay first m.old → IsReplay first m.new) }
 {
-    let Some(c) = entering(&m.end, r)? else {
+    let Some(c) = m.end.entering(r) else {
         return Ok(false);
     };
-    let _ = m.end.row(r);
     m.pivots.push_copy(&m.end, r)?;
-    m.columns.push(c)?;
-    pivot(&mut m.end, r, c)?;
+    push_column(&mut m.columns, c)?;
+    if !m.end.pivot(r, c) {
+        return Err(Stop::Long);
+    }
     Ok(true)
 }
 
 // Pivots up to the run's first cut or its end, but no more than it has rows.
-fn run_up(m: &mut Replay) -> Result<(), StepRefusal>
+fn run_up(m: &mut Replay) -> Result<(), Stop>
     requires { IsFormed m.old }
     ensures formed { OnOk result (IsFormed m.new) }
     ensures unknowns { OnOk result (m.new.end.unknowns ≡ m.old.end.unknowns) }
     ensures replay { OnOk result ((first : List Row) → IsReplay first m.old → IsReplay first m.new) }
 {
     for _ in 0..m.end.rows() {
-        let Some(r) = first_negative(&m.end) else {
+        let Some(r) = first_below(&m.end) else {
             return Ok(());
         };
         if !pivot_at(m, r)? {
@@ -82,20 +89,15 @@ fn run_up(m: &mut Replay) -> Result<(), StepRefusal>
 }
 
 // Whether no row is below 0, and those of the unknowns are whole.
-fn shows_point(rows: &Tableau) -> bool
-    requires rows { rows.now.unknowns ≤ length rows.now.rows }
-    requires width { rows.now.width ≡ 0 }
+fn shows_point(rows: &ShortTableau) -> bool
+    requires { rows.now.unknowns ≤ length rows.now.rows }
     ensures { result ≡ is_end rows.now.unknowns rows.now.rows }
 {
-    first_negative(rows).is_none() && first_fraction(rows).is_none()
+    first_below(rows).is_none() && rows.first_fraction().is_none()
 }
 
 // The run of the forms as rows up to its first cut or its end, but no more pivots than it has rows. Nothing is counted.
-pub(crate) fn remember(
-    alloc: Global,
-    places: usize,
-    forms: &[Form],
-) -> Result<Remembered, StepRefusal>
+pub(crate) fn remember(alloc: Global, places: usize, forms: &[Form]) -> Result<Remembered, Stop>
     requires { IsContext places forms.now }
     ensures { IfOk result (IsRemembered places forms.now) }
 {

@@ -20,6 +20,14 @@ pub struct Work {
     splits: u64,
 }
 
+// What was counted of pivots, cuts and splits.
+#[derive(Clone, Copy)]
+pub struct Counts {
+    pub pivots: u64,
+    pub cuts: u64,
+    pub splits: u64,
+}
+
 impl Model for Work {
     ghost use Rattle.std.specs.Prelude.{◌≤◌};
     ghost use Rattle.pip_model.specs.Run as run;
@@ -72,6 +80,31 @@ impl Work {
         ensures { result ≡ self.now.splits }
     {
         self.splits
+    }
+
+    // What is counted so far.
+    pub(crate) fn counts(&self) -> Counts
+        ensures pivots { result.pivots ≡ self.now.pivots }
+        ensures cuts { result.cuts ≡ self.now.cuts }
+        ensures splits { result.splits ≡ self.now.splits }
+    {
+        Counts {
+            pivots: self.pivots,
+            cuts: self.cuts,
+            splits: self.splits,
+        }
+    }
+
+    // Counts no more than before.
+    pub(crate) fn back_to(&mut self, counts: Counts)
+        requires pivots { counts.pivots ≤ self.old.pivots }
+        requires cuts { counts.cuts ≤ self.old.cuts }
+        requires splits { counts.splits ≤ self.old.splits }
+        ensures { self.new ≡ record self.old { pivots = counts.pivots; cuts = counts.cuts; splits = counts.splits } }
+    {
+        self.pivots = counts.pivots;
+        self.cuts = counts.cuts;
+        self.splits = counts.splits;
     }
 
     /// Counts a pivot, before it is made. It is refused exactly where the count stands at its limit, which it does then

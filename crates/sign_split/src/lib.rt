@@ -7,6 +7,4 @@ mod signs;
 
 pub use classes::Class;
 pub use classify::{class, class_of_entries};
-
-#[cfg(test)]
-mod tests;
+pub use signs::is_nowhere_below;

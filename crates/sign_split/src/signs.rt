@@ -13,8 +13,8 @@ fn negative(z: i128) -> bool
     z < 0
 }
 
-// Whether no entry is below 0, so that the form is at least 0 wherever its places are.
-pub(crate) fn is_nowhere_below(entries: &[i128]) -> bool
+/// Whether no entry is below 0, so that the form is at least 0 wherever its places are.
+pub fn is_nowhere_below(entries: &[i128]) -> bool
     ensures { result ≡ list_all is_nonneg entries.now }
 {
     entries.iter().all(|entry| nonnegative(*entry))

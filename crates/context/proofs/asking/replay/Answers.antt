@@ -1,5 +1,4 @@
 use Rattle.std.proofs.Common.{rules, ◌≡◌, ◌∙◌, ◌<◌, sym, get_or, length}
-use Rattle.std.proofs.lemmas.Grind.{get_or_default_zero}
 use Rattle.pip_model.specs.Rows.{row_at}
 use Rattle.pip_model.specs.Run.{Done}
 use Rattle.context.specs.Remembered.{turned}
@@ -12,13 +11,10 @@ loop-i-preserved c =
     let ps = c.args.m.now.pivots.rows in
     let cs = c.args.m.now.columns.items in
     let h : c.loop-i.i < length c.args.m.now.columns.items = search rules in
-    let column : c.index.result.now ≡ get_or c.args.m.now.columns.items c.loop-i.i 0 = c.index.ensures ∙ get_or_default_zero c.args.m.now.columns.items c.loop-i.i c.index.result.now h in
-    let row = c.row.ensures.value in
     let t : turned (row_at c.args.m.now.pivots.rows c.loop-i.i) (get_or c.args.m.now.columns.items c.loop-i.i 0) c.loop-i.rows.rows c.loop-i.work ≡ Done c.turn_rows.new.rows.rows c.turn_rows.new.work
-    = rw (← row, ← column) c.in_ok-turn_rows.ensures.gives.agrees in
+    = c.in_ok-turn_rows.ensures.gives.agrees in
     record {
       unknowns = c.in_ok-turn_rows.ensures.unknowns ∙ c.loop-i.invariant.unknowns;
-      width = c.in_ok-turn_rows.ensures.width ∙ c.loop-i.invariant.width;
       number = c.in_ok-turn_rows.ensures.number ∙ c.loop-i.invariant.number;
       counted = counted_on c.args.work.now c.loop-i.work c.turn_rows.new.work c.loop-i.invariant.counted c.in_ok-turn_rows.ensures.gives.counted;
       same = sym (replayed-on ps cs c.loop-i.i c.loop-i.rows.rows c.loop-i.work c.requires.formed.lengths h c.turn_rows.new.rows.rows c.turn_rows.new.work t) ∙ c.loop-i.invariant.same;

@@ -6,7 +6,6 @@ use Rattle.context.proofs.asking.replay.Given as goal
 abbrev pub invariant-loop-i : goal.invariant-loop-i
 invariant-loop-i l = record {
   unknowns : l.rows.unknowns ≡ l.m.end.unknowns;
-  width : l.rows.width ≡ 0;
   number : length l.rows.rows ≡ length l.fn.rows.rows;
   counted : HasCounted l.fn.work l.work;
   same : replayed (drop l.i l.m.pivots.rows) (drop l.i l.m.columns.items) l.rows.rows l.work ≡ replayed l.m.pivots.rows l.m.columns.items l.fn.rows.rows l.fn.work;

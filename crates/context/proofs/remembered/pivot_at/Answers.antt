@@ -1,4 +1,4 @@
-use Rattle.std.proofs.Common.{rules}
+use Rattle.std.proofs.Common.{rules, arith}
 use Rattle.context.proofs.FurtherRows.{IsStep}
 use Rattle.context.proofs.Replaying.{reaches_more}
 use Rattle.context.proofs.remembered.pivot_at.Goals as goal
@@ -10,12 +10,13 @@ returns-clause-replay c first is =
     let made : IsStep E c.args.r c.in-Some.c = record {
       below = c.requires.first;
       within = c.requires.row;
-      columns = search rules;
+      columns = omega (arith, c.entering.ensures.row.coefs, c.requires.formed.rows);
       enters = search rules;
       compared = search rules;
-      fits = c.in_ok-pivot.ensures.listed;
+      fits = c.pivot.ensures.listed;
     } in
+    let pivoted = c.pivot.ensures.short (search rules) in
     record {
-      run = rw (c.in_ok-push_copy.ensures.ok, c.in_ok-push.ensures.items, c.in_ok-pivot.ensures.ok)
+      run = rw (c.in_ok-push_copy.ensures.ok, c.in_ok-push_column.ensures, pivoted)
           (reaches_more m.end.unknowns first m.pivots.rows m.columns.items E c.args.r c.in-Some.c c.requires.formed.lengths is.run made);
     }

@@ -1,0 +1,40 @@
+-- Indices with positive multipliers, one by one; indices from 0 on.
+use Rattle.std.proofs.Common.{◌≡◌, refl, ap, ◌∙◌, ℕ, zero, suc, ◌+◌, ◌<◌, ℤ, pos, true, false, List, [], ◌∷◌, ◌++◌, length, drop, map, arith, sym}
+use Rattle.std.proofs.lemmas.List.{drop_more}
+use Rattle.std.proofs.Math.Seq.{append_snoc}
+use Rattle.pip_model.specs.Numbers.{is_positive}
+use Rattle.pip_model.specs.Forms.{entry}
+use Rattle.pip_model.specs.Rows.{count_from}
+use Rattle.pip_model.specs.Refuting.{positive_terms, indices}
+
+module _ (is ms : List ℤ) (i : ℕ) (h : i < length is) (k : length ms ≡ length is) where
+  pub positive-here : is_positive (entry ms i) ≡ true → positive_terms (drop i is) (drop i ms) ≡ (entry is i, entry ms i) ∷ positive_terms (drop (i + 1) is) (drop (i + 1) ms)
+  positive-here e =
+      let g : i < length ms = omega (arith, h, k) in
+      rw (drop_more is i (pos 0) h, drop_more ms i (pos 0) g, e) refl
+
+  pub positive-later : is_positive (entry ms i) ≡ false → positive_terms (drop i is) (drop i ms) ≡ positive_terms (drop (i + 1) is) (drop (i + 1) ms)
+  positive-later e =
+      let g : i < length ms = omega (arith, h, k) in
+      rw (drop_more is i (pos 0) h, drop_more ms i (pos 0) g, e) refl
+
+  -- a pair more, and what is left
+  pub push-here : (T U X : List (ℤ × ℤ)) → U ≡ T ++ (entry is i, entry ms i) ∷ [] → is_positive (entry ms i) ≡ true
+      → T ++ positive_terms (drop i is) (drop i ms) ≡ X → U ++ positive_terms (drop (i + 1) is) (drop (i + 1) ms) ≡ X
+  push-here T U X made e same =
+      let rest = positive_terms (drop (i + 1) is) (drop (i + 1) ms) in
+      ap (λ (V : List (ℤ × ℤ)). V ++ rest) made ∙ append_snoc T (entry is i, entry ms i) rest ∙ ap (λ (V : List (ℤ × ℤ)). T ++ V) (sym (positive-here e)) ∙ same
+
+  pub push-later : (T X : List (ℤ × ℤ)) → is_positive (entry ms i) ≡ false → T ++ positive_terms (drop i is) (drop i ms) ≡ X
+      → T ++ positive_terms (drop (i + 1) is) (drop (i + 1) ms) ≡ X
+  push-later T X e same = ap (λ (V : List (ℤ × ℤ)). T ++ V) (sym (positive-later e)) ∙ same
+
+counts-more : (i n : ℕ) → map pos (count_from i (suc n)) ≡ map pos (count_from i n) ++ pos (i + n) ∷ []
+counts-more i zero = ap (λ k. pos k ∷ []) (omega arith)
+counts-more i (suc n) = ap (λ (V : List ℤ). pos i ∷ V) (counts-more (i + 1) n) ∙ ap (λ k. pos i ∷ (map pos (count_from (i + 1) n) ++ pos k ∷ [])) (omega arith)
+
+pub indices-more : (n : ℕ) → indices 0 (n + 1) ≡ indices 0 n ++ pos n ∷ []
+indices-more n =
+    let s : n + 1 ≡ suc n = omega arith in
+    let z : 0 + n ≡ n = omega arith in
+    ap (indices 0) s ∙ counts-more 0 n ∙ ap (λ k. map pos (count_from 0 n) ++ pos k ∷ []) z

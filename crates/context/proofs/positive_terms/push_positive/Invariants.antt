@@ -1,0 +1,6 @@
+use Rattle.std.proofs.Common.{◌≡◌, ◌++◌, drop}
+use Rattle.pip_model.specs.Refuting.{positive_terms}
+use Rattle.context.proofs.positive_terms.push_positive.Given as goal
+
+abbrev pub invariant-loop-i : goal.invariant-loop-i
+invariant-loop-i l = l.terms ++ positive_terms (drop l.i l.indices) (drop l.i l.multipliers) ≡ l.fn.terms ++ positive_terms l.indices l.multipliers

@@ -1,0 +1,24 @@
+use Rattle.std.proofs.Common.{rules, ◌≡◌, ◌∙◌, refl, sym, arith, subst, length}
+use Rattle.std.specs.Prelude.{IfSome}
+use Rattle.std.proofs.lemmas.Grind.{common_steps}
+use Rattle.pip_model.specs.Rows.{row_at}
+use Rattle.pip_model.specs.Run.{Refused, Done}
+use Rattle.context.specs.Stops.{stop_fault}
+use Rattle.context.specs.Turns.{counted_cut}
+use Rattle.context.proofs.Turning.{cut_again, cut_refused}
+use Rattle.context.proofs.short_run.last_turn.Goals as goal
+
+pub returns-in_err-count_and_cut-clause-gives : goal.returns-in_err-count_and_cut-clause-gives
+returns-in_err-count_and_cut-clause-gives c =
+    let one : length (row_at c.args.rows.now.rows c.in-Some.i).constant ≡ 1 = c.in-Some.ensures.row.constant in
+    let on = cut_again c.args.rows.now.unknowns c.args.rows.now.rows c.in-Some.i c.args.work.now (search rules) one in
+    let fault = cut_refused c.args.rows.now.rows c.in-Some.i c.args.work.now c.count_and_cut.new.work (stop_fault c.in_err-count_and_cut.field-0.0) c.in_err-count_and_cut.ensures.gives.agrees in
+    let told = subst (λ o. IfSome (stop_fault c.in_err-count_and_cut.field-0.0) (λ f. o ≡ Refused f c.count_and_cut.new.work)) (sym on) fault in
+    record { agrees = grind (arith, common_steps, told); counted = c.count_and_cut.ensures.gives.counted }
+
+pub returns-clause-gives : goal.returns-clause-gives
+returns-clause-gives c =
+    let one : length (row_at c.args.rows.now.rows c.in-Some.i).constant ≡ 1 = c.in-Some.ensures.row.constant in
+    let made : counted_cut c.args.rows.now.rows c.in-Some.i c.args.work.now ≡ Done c.count_and_cut.new.rows.rows c.count_and_cut.new.work = search rules in
+    let on = cut_again c.args.rows.now.unknowns c.args.rows.now.rows c.in-Some.i c.args.work.now (search rules) one in
+    record { agrees = on ∙ rw made refl; counted = c.count_and_cut.ensures.gives.counted }

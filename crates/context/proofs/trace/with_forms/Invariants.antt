@@ -1,0 +1,10 @@
+use Rattle.std.proofs.Common.{◌≡◌, ◌++◌, All}
+use Rattle.pip_model.specs.Refuting.{indices}
+use Rattle.affine_rows.specs.Checks.{Fits}
+use Rattle.context.proofs.trace.with_forms.Given as goal
+
+abbrev pub invariant-loop-i : goal.invariant-loop-i
+invariant-loop-i l = record {
+  value : l.made.items ≡ l.places ++ indices 0 l.i;
+  fits : All Fits l.made.items;
+}

@@ -1,0 +1,36 @@
+-- What a run without parameters has derived, turn by turn.
+use Rattle.std.specs.Prelude.{◌≡◌, ℕ, ◌<◌, pos, ◌+ℤ◌, Bool, true, false, Option, Some, None, List, [], ◌∷◌, ◌++◌, length}
+use Rattle.pip_model.specs.Rows.{Row, row_at, entering, first_fraction}
+use Rattle.pip_model.specs.Cuts.{constant_cut}
+use Rattle.pip_model.specs.Certificate.{Refutation}
+use Rattle.pip_model.specs.Refuting.{Trace, cut_step}
+use Rattle.context.specs.Turns.{negative_from}
+use Rattle.context.specs.declared.point_turn.Turn.{Turn}
+use Rattle.context.specs.declared.point_turn.Turn.TheVariants as code
+
+-- the cut by the row R: its row stands for its step's form
+abbrev pub with_cut : Trace → Row → Trace
+with_cut T R = record {
+  rows = T.rows ++ T.next ∷ [];
+  columns = T.columns;
+  next = T.next +ℤ pos 1;
+  steps = T.steps ++ cut_step R T.columns ∷ [];
+}
+
+-- which turn it was: the first row below 0 and the column that entered there, or the first fraction and its cut
+abbrev pub IsTurnAt : ℕ → List Row → List Row → Turn → Type 0
+IsTurnAt n rows now (code.Bottom r) = (negative_from 0 rows ≡ Some r) × (r < length rows) × (entering rows r ≡ None) × (now ≡ rows)
+IsTurnAt n rows now code.List = (negative_from 0 rows ≡ None) × (first_fraction n rows ≡ None)
+IsTurnAt n rows now (code.Pivot r c) = (negative_from 0 rows ≡ Some r) × (r < length rows) × (entering rows r ≡ Some c) × (c < n) × (length now ≡ length rows)
+IsTurnAt n rows now (code.Cut i) =
+    (negative_from 0 rows ≡ None) × (first_fraction n rows ≡ Some i) × (i < length rows) × (now ≡ rows ++ constant_cut (row_at rows i) ∷ [])
+
+-- an index for each row and each column
+pub record IsTraced (n : ℕ) (rows : List Row) (T : Trace) : Type 0 where
+  pub rows_traced : length T.rows ≡ length rows
+  pub columns_traced : length T.columns ≡ n
+
+-- the steps of a run that ended without a point, none of one with a point
+abbrev pub steps_if : Bool → Trace → Option Refutation
+steps_if true T = Some T.steps
+steps_if false T = None

@@ -1,0 +1,25 @@
+ghost use Rattle.std.specs.Prelude.{◌≡◌, ◌++◌, length, All, OnOk};
+ghost use Rattle.pip_model.specs.Refuting as model;
+ghost use Rattle.affine_rows.specs.Checks.{Fits};
+
+use affine_rows::{WantOfMemory, positive};
+use leaf_certificate::Terms;
+
+/// Puts the indices whose multipliers are above 0 behind the pairs, each with its multiplier, in order.
+pub fn push_positive(
+    terms: &mut Terms,
+    indices: &[i128],
+    multipliers: &[i128],
+) -> Result<(), WantOfMemory>
+    requires number { length multipliers.now ≡ length indices.now }
+    requires indices { All Fits indices.now }
+    requires multipliers { All Fits multipliers.now }
+    ensures { OnOk result (terms.new ≡ terms.old ++ model.positive_terms indices.now multipliers.now) }
+{
+    for i in 0..indices.len() {
+        if positive(multipliers[i]) {
+            terms.push((indices[i], multipliers[i]))?;
+        }
+    }
+    Ok(())
+}

@@ -1,0 +1,90 @@
+ghost use Rattle.std.specs.Prelude.{◌≡◌, ◌^◌, ◌≤◌, pos, ◌≤ℤ◌, ◌<ℤ◌, length, All};
+ghost use Rattle.pip_model.specs.Contexts.{IsContext};
+ghost use Rattle.pip_model.specs.Refuting as model;
+ghost use Rattle.pip_model.specs.Refuting.{refute_by, refute_from};
+ghost use Rattle.affine_rows.specs.Checks.{Fits};
+ghost use Rattle.pip_problem.specs.Faults.{run_fault};
+ghost use Rattle.context.specs.Counts.{IsCountedRun};
+ghost use Rattle.context.specs.Traces.{IsTraced, steps_if};
+ghost use Rattle.context.specs.Turns.{node_of};
+
+use crate::point_turn::{Turn, take_turn};
+use crate::rows::start_rows;
+use crate::trace::Trace;
+use crate::work::Work;
+use affine_rows::Form;
+use leaf_certificate::Refutation;
+use pip_problem::Refusal;
+use std::alloc::Global;
+use tableau::Tableau;
+
+// The run without parameters to its end, with its trace: whether it found no point.
+fn refute_on(
+    alloc: Global,
+    rows: &mut Tableau,
+    trace: &mut Trace,
+    work: &mut Work,
+) -> Result<bool, Refusal>
+    requires width { rows.old.width ≡ 0 }
+    requires rows { rows.old.unknowns ≤ length rows.old.rows }
+    requires traced { IsTraced rows.old.unknowns rows.old.rows trace.old }
+    ensures gives { IsCountedRun (λ b. steps_if b trace.new) run_fault result work.old work.new
+        (refute_from rows.old.unknowns trace.old (node_of rows.old.rows)) }
+{
+    loop {
+        match take_turn(rows, work)? {
+            Turn::Bottom(r) => {
+                trace.close(alloc, r, &rows.row(r))?;
+                return Ok(true);
+            }
+            Turn::List => return Ok(false),
+            Turn::Pivot(r, c) => trace.exchange(r, c),
+            Turn::Cut(i) => trace.cut(alloc, &rows.row(i))?,
+        }
+    }
+}
+
+// The steps of the run without parameters over the forms as rows, none where it finds a point.
+fn run(
+    alloc: Global,
+    forms: &[Form],
+    places: &[i128],
+    first: i128,
+    work: &mut Work,
+) -> Result<Option<Refutation>, Refusal>
+    requires context { IsContext (length places.now) forms.now }
+    requires places { All Fits places.now }
+    requires some { pos 0 ≤ℤ first }
+    requires few { first <ℤ pos (2 ^ 64) }
+    ensures gives { IsCountedRun (λ o. o) run_fault result work.old work.new
+        (refute_by (length places.now) forms.now places.now first) }
+{
+    let mut rows = start_rows(alloc, places.len(), forms)?;
+    let mut trace = Trace::start(alloc, places, forms.len(), first)?;
+    if !refute_on(alloc, &mut rows, &mut trace, work)? {
+        return Ok(None);
+    }
+    Ok(Some(trace.into_steps()))
+}
+
+// The steps by which the forms have no point, none where they have one.
+#[tactic(auto, using(crate::proofs::Tracing::refute_by_run))]
+pub(crate) fn refute_forms(
+    alloc: Global,
+    forms: &[Form],
+    places: &[i128],
+    first: i128,
+    work: &mut Work,
+) -> Result<Option<Refutation>, Refusal>
+    requires context { IsContext (length places.now) forms.now }
+    requires places { All Fits places.now }
+    requires some { pos 0 ≤ℤ first }
+    requires few { first <ℤ pos (2 ^ 64) }
+    ensures gives { IsCountedRun (λ o. o) run_fault result work.old work.new
+        (model.refute (length places.now) forms.now places.now first) }
+{
+    if places.is_empty() && forms.is_empty() {
+        return Ok(None);
+    }
+    run(alloc, forms, places, first, work)
+}

@@ -1,0 +1,71 @@
+ghost use Rattle.std.specs.Prelude.{◌≡◌, ◌+◌, ◌<◌, ◌≤◌, None, [], ◌∷◌, ◌++◌, length, map, IfOk, IfErr, IfSome, OnOk};
+ghost use Rattle.pip_model.specs.Contexts.{IsContext};
+ghost use Rattle.pip_model.specs.Forms.{widen_to};
+ghost use Rattle.pip_model.specs.Rows as model;
+ghost use Rattle.pip_model.specs.Rows.{form_row, count_from};
+ghost use Rattle.context.specs.Stops.{stop_fault};
+ghost use Rattle.context.specs.Turns.{negative_from};
+
+use crate::stop::Stop;
+use affine_rows::{Form, WantOfMemory};
+use short_tableau::ShortTableau;
+use std::alloc::Global;
+
+// Adds the row of one form, whose numbers have to be short.
+pub(crate) fn push_short(rows: &mut ShortTableau, form: &Form) -> Result<(), Stop>
+    requires narrow { length form.now ≤ rows.old.unknowns + 1 }
+    ensures ok { OnOk result (rows.new ≡ record rows.old {
+      rows = rows.old.rows ++ form_row rows.old.unknowns (widen_to rows.old.unknowns form.now) ∷ [];
+    }) }
+    ensures free { IfErr result (λ e. stop_fault e ≡ None) }
+{
+    if !rows.push_form(form.as_slice())? {
+        return Err(Stop::Long);
+    }
+    Ok(())
+}
+
+// The rows of the columns alone, with room for so many more.
+fn start_columns(alloc: Global, places: usize, more: usize) -> Result<ShortTableau, WantOfMemory>
+    ensures { IfOk result (λ rows. rows
+        ≡ record { unknowns = places; width = 0; rows = map (model.unit_row places 0) (count_from 0 places) }) }
+{
+    let room = places.checked_add(more).ok_or(WantOfMemory)?;
+    let mut rows = ShortTableau::with_room(alloc, places, room)?;
+    for c in 0..places {
+        rows.push_unit(c)?;
+    }
+    Ok(rows)
+}
+
+// The forms as rows over the unknowns alone: one column for each place, and no parameters.
+#[tactic(auto, using(crate::proofs::Pointing::length_start))]
+pub(crate) fn start_short(
+    alloc: Global,
+    places: usize,
+    forms: &[Form],
+) -> Result<ShortTableau, Stop>
+    requires { IsContext places forms.now }
+    ensures value { IfOk result (λ rows. rows
+        ≡ record { unknowns = places; width = 0; rows = model.start places 0 (map (widen_to places) forms.now) }) }
+    ensures rows { IfOk result (λ rows. places ≤ length rows.rows) }
+{
+    let mut rows = start_columns(alloc, places, forms.len())?;
+    for form in forms {
+        push_short(&mut rows, form)?;
+    }
+    Ok(rows)
+}
+
+// The first row whose constant is below 0.
+pub(crate) fn first_below(rows: &ShortTableau) -> Option<usize>
+    ensures value { result ≡ negative_from 0 rows.now.rows }
+    ensures bound { IfSome result (λ r. r < length rows.now.rows) }
+{
+    for i in 0..rows.rows() {
+        if rows.is_below(i) {
+            return Some(i);
+        }
+    }
+    None
+}

@@ -1,0 +1,86 @@
+ghost use Rattle.std.specs.Prelude.{◌≡◌, ◌<◌, ◌≤◌, length, OnOk};
+ghost use Rattle.pip_model.specs.Run as model;
+ghost use Rattle.pip_model.specs.Run.{turn_by, run_from, MinusAt, AllPlus, point_setting};
+ghost use Rattle.context.specs.Counts.{IsCountedRun};
+ghost use Rattle.context.specs.Stops.{stop_fault};
+ghost use Rattle.context.specs.Turns.{node_of, made, counted_cut, HasSameScope};
+ghost use Rattle.context.specs.Remembered.{ended};
+
+use crate::point_turn::Turn;
+use crate::short_rows::first_below;
+use crate::stop::Stop;
+use crate::work::Work;
+use short_tableau::ShortTableau;
+
+// At a row below 0: no point where no column enters, else a pivot.
+fn pivot_turn(rows: &mut ShortTableau, work: &mut Work, r: usize) -> Result<Turn, Stop>
+    requires rows { rows.old.unknowns ≤ length rows.old.rows }
+    requires row { r < length rows.old.rows }
+    ensures gives { IsCountedRun (made rows.old.unknowns rows.new.rows) stop_fault result work.old work.new
+        (turn_by (point_setting rows.old.unknowns) (node_of rows.old.rows) (MinusAt r)) }
+    ensures scope { OnOk result (HasSameScope rows.old rows.new) }
+{
+    let Some(c) = rows.entering(r) else {
+        return Ok(Turn::Bottom(r));
+    };
+    work.count_pivot()?;
+    if !rows.pivot(r, c) {
+        return Err(Stop::Long);
+    }
+    Ok(Turn::Pivot(r, c))
+}
+
+// A cut by row i is counted, and then added.
+fn count_and_cut(rows: &mut ShortTableau, i: usize, work: &mut Work) -> Result<(), Stop>
+    requires { i < length rows.old.rows }
+    ensures gives { IsCountedRun (λ x. rows.new.rows) stop_fault result work.old work.new
+        (counted_cut rows.old.rows i) }
+    ensures scope { OnOk result (HasSameScope rows.old rows.new) }
+{
+    work.count_cut()?;
+    rows.push_cut(i)?;
+    Ok(())
+}
+
+// A cut at the first fraction, where there is one.
+fn last_turn(rows: &mut ShortTableau, work: &mut Work) -> Result<Turn, Stop>
+    requires { rows.old.unknowns ≤ length rows.old.rows }
+    ensures gives { IsCountedRun (made rows.old.unknowns rows.new.rows) stop_fault result work.old work.new
+        (turn_by (point_setting rows.old.unknowns) (node_of rows.old.rows) AllPlus) }
+    ensures scope { OnOk result (HasSameScope rows.old rows.new) }
+{
+    let Some(i) = rows.first_fraction() else {
+        return Ok(Turn::List);
+    };
+    count_and_cut(rows, i, work)?;
+    Ok(Turn::Cut(i))
+}
+
+// One turn over short rows: a pivot at a row below 0, else a cut at a fraction.
+#[tactic(auto, using(crate::proofs::Turning::turn_is))]
+fn take_turn(rows: &mut ShortTableau, work: &mut Work) -> Result<Turn, Stop>
+    requires { rows.old.unknowns ≤ length rows.old.rows }
+    ensures gives { IsCountedRun (made rows.old.unknowns rows.new.rows) stop_fault result work.old work.new
+        (model.turn (point_setting rows.old.unknowns) (node_of rows.old.rows)) }
+    ensures scope { OnOk result (HasSameScope rows.old rows.new) }
+{
+    match first_below(rows) {
+        Some(r) => pivot_turn(rows, work, r),
+        None => last_turn(rows, work),
+    }
+}
+
+// The run over short rows to its end: whether it found a point, which the rows then show.
+pub(crate) fn run_short(rows: &mut ShortTableau, work: &mut Work) -> Result<bool, Stop>
+    requires { rows.old.unknowns ≤ length rows.old.rows }
+    ensures gives { IsCountedRun (ended rows.old.unknowns rows.new.rows) stop_fault result work.old work.new
+        (run_from (point_setting rows.old.unknowns) (node_of rows.old.rows)) }
+{
+    loop {
+        match take_turn(rows, work)? {
+            Turn::Bottom(_) => return Ok(false),
+            Turn::List => return Ok(true),
+            Turn::Pivot(_, _) | Turn::Cut(_) => {}
+        }
+    }
+}
