@@ -11,4 +11,4 @@ mod solving;
 mod turn;
 
 pub use pending::{Frame, Pending};
-pub use solving::solve;
+pub use solving::{answer_from, context_point, solve};

@@ -11,7 +11,7 @@ ghost use Rattle.pip_solve.specs.Signs.{signs_of, kept_signs, keep_class, scanne
 use affine_rows::Form;
 use context::{Context, Work};
 use pip_problem::Refusal;
-use sign_split::{Class, class_of_entries};
+use sign_split::{Class, class_of_entries, is_nowhere_below};
 use tableau::Tableau;
 
 // The signs of a node's rows: no row is below 0 or of both signs, or the first row below 0, or else the condition of
@@ -38,6 +38,9 @@ fn class_of_row(
     ensures kept { IsKeptContext context.old context.new }
 {
     let row = rows.row(i);
+    if is_nowhere_below(row.constant) {
+        return Ok(Class::Plus);
+    }
     class_of_entries(rows.allocator(), context, row.constant, work)
 }
 

@@ -9,6 +9,7 @@ ghost use Rattle.pip_model.specs.Run.{IsBudget, answered, first_node, run_from, 
 ghost use Rattle.pip_model.specs.Agreement.{Agrees, AgreesCounted};
 ghost use Rattle.pip_model.specs.WellFormed.{IsProblem, IsWellFormedAnswer};
 ghost use Rattle.pip_problem.specs.Faults.{run_fault};
+ghost use Rattle.context.specs.Counts.{IsCountedRun};
 ghost use Rattle.quast.specs.Answers.{answer_of, IsOver};
 ghost use Rattle.pip_solve.specs.Turns.{tree_in};
 ghost use Rattle.pip_solve.specs.Starts.{IsFirstPath};
@@ -17,7 +18,7 @@ use crate::node::run;
 use crate::path::Path;
 use crate::pending::Pending;
 use affine_rows::{Form, WantOfMemory};
-use context::{Context, Work};
+use context::{Context, Point, Work};
 use new_parameters::Quotients;
 use pip_problem::{Limits, Problem, Refusal};
 use quast::{Answer, Quast};
@@ -109,28 +110,74 @@ fn tree(
     Ok(tree)
 }
 
-// The answer of the run, after what was counted. All that may be pending and join the context has its room from the
-// start.
-fn answer(
+// The same, from the room for so many levels. All that may be pending and join the context has its room from the start.
+fn tree_within(
     alloc: Global,
     problem: &Problem,
     levels: usize,
     work: &mut Work,
-) -> Result<Answer, Refusal>
+) -> Result<Quast, Refusal>
     requires nesting { levels ≡ work.old.budget.nesting }
     requires few { levels ≤ most_nesting }
-    ensures gives { AgreesCounted answer_of run_fault result work.new (model.answer problem.now work.old) }
-    ensures scope { IfOk result (IsOver problem.now.params) }
+    ensures gives { AgreesCounted tree_in run_fault result work.new
+        (run_from (setting problem.now) (first_node problem.now) work.old) }
+    ensures width { IfOk result (λ tree. tree.width ≡ problem.now.params) }
 {
     let mut path = path_of(alloc, problem, levels)?;
     let mut pending = Pending::reserve(alloc, levels)?;
-    match path.context.point(alloc, work)? {
+    let tree = tree(alloc, problem, &mut path, &mut pending, work)?;
+    Ok(tree)
+}
+
+/// The point that the run finds for the context of a problem, before all else; None where there is none.
+pub fn context_point(
+    alloc: Global,
+    problem: &Problem,
+    work: &mut Work,
+) -> Result<Option<Point>, Refusal>
+    ensures gives { IsCountedRun (λ o. o) run_fault result work.old work.new
+        (model.point problem.now.params problem.now.context) }
+{
+    let context = context_of(alloc, problem, 0)?;
+    context.point(alloc, work)
+}
+
+/// The answer of the run, after the point that it found for the context and what was counted for it.
+pub fn answer_from(
+    alloc: Global,
+    problem: &Problem,
+    point: &Option<Point>,
+    limits: &Limits,
+    work: &mut Work,
+) -> Result<Answer, Refusal>
+    requires budget { work.old.budget ≡ limits.now }
+    ensures gives { AgreesCounted answer_of run_fault result work.new
+        (model.answer_from problem.now point.now work.old) }
+    ensures scope { IfOk result (IsOver problem.now.params) }
+{
+    let levels = limits.nesting() as usize;
+    match point {
         None => Ok(Answer::Void),
         Some(_) => {
-            let tree = tree(alloc, problem, &mut path, &mut pending, work)?;
+            let tree = tree_within(alloc, problem, levels, work)?;
             Ok(Answer::Tree(tree))
         }
     }
+}
+
+// The answer of the run from its start, in which nothing is counted yet.
+fn answer(
+    alloc: Global,
+    problem: &Problem,
+    limits: &Limits,
+    work: &mut Work,
+) -> Result<Answer, Refusal>
+    requires budget { work.old.budget ≡ limits.now }
+    ensures gives { AgreesCounted answer_of run_fault result work.new (model.answer problem.now work.old) }
+    ensures scope { IfOk result (IsOver problem.now.params) }
+{
+    let point = context_point(alloc, problem, work)?;
+    answer_from(alloc, problem, &point, limits, work)
 }
 
 // The answer of the run from its start.
@@ -141,9 +188,9 @@ fn solved(alloc: Global, problem: &Problem, limits: &Limits) -> Result<Answer, R
     ensures budget { IsBudget limits.now }
 {
     let _ = problem.unknowns();
+    let _ = limits.nesting();
     let mut work = Work::start(limits);
-    let levels = limits.nesting() as usize;
-    answer(alloc, problem, levels, &mut work)
+    answer(alloc, problem, limits, &mut work)
 }
 
 /// The answer of the written run (P. Feautrier, "Parametric integer programming", RAIRO 1988): `void` exactly where

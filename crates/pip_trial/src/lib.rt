@@ -11,6 +11,3 @@ pub use draw::draw_problem;
 pub use generator::Generator;
 pub use tally::Tally;
 pub use trial::{print_trial, run_trial};
-
-#[cfg(test)]
-mod tests;

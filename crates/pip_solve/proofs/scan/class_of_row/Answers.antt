@@ -1,0 +1,11 @@
+use Rattle.std.proofs.Common.{rules}
+use Rattle.pip_model.specs.Rows.{row_at}
+use Rattle.context.proofs.Counting.{counted_none}
+use Rattle.sign_split.proofs.TightSigns.{class_plus}
+use Rattle.pip_solve.proofs.scan.class_of_row.Goals as goal
+
+pub returns-then-is_nowhere_below-clause-gives : goal.returns-then-is_nowhere_below-clause-gives
+returns-then-is_nowhere_below-clause-gives c = record {
+  agrees = class_plus c.args.context.now.forms c.args.context.now.width (row_at c.args.rows.now.rows c.args.i).constant c.args.work.now (search rules);
+  counted = counted_none c.args.work.now;
+}

@@ -1,0 +1,9 @@
+pub mod Told
+pub mod LeafBelow
+pub mod MadeBelow
+pub mod MadeGoals
+pub mod QuotientLists
+pub mod Refuting
+pub mod Whole
+pub mod Certifying
+pub mod AtNode

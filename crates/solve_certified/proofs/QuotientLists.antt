@@ -1,0 +1,54 @@
+-- The quotients' steps, and the places that they read.
+use Rattle.std.proofs.Common.{◌≡◌, refl, ap, ap₂, sym, ◌∙◌, ℕ, zero, suc, ◌+◌, ◌<◌, ℤ, pos, List, [], ◌∷◌, ◌++◌, length, take, drop, get_or, append_assoc, length-append, arith}
+use Rattle.std.proofs.lemmas.List.{take_at, drop_more, length-map}
+use Rattle.pip_model.specs.Rows.{count_from}
+use Rattle.pip_model.specs.Refuting.{indices}
+use Rattle.pip_model.specs.Certificate.{Refutation}
+use Rattle.pip_model.specs.Made.{PathQuotient, quotient_step, quotient_steps}
+use Rattle.solve_certified.specs.Quotients.{steps_from, ReadsPlaces}
+
+-- the quotient at a place reads the places before it
+pub reads_at : (n : ℕ) (ks : List PathQuotient) (j : ℕ) (d : PathQuotient) → ReadsPlaces n ks → j < length ks → length (get_or ks j d).quotient.form ≡ n + j + 1
+reads_at n [] j d h l = absurd (omega arith)
+reads_at n (k ∷ ks) zero d h l = omega (arith, h.0)
+reads_at n (k ∷ ks) (suc j) d h l = reads_at (n + 1) ks j d h.1 (omega arith) ∙ omega arith
+
+pub reads_more : (n : ℕ) (ks : List PathQuotient) (k : PathQuotient) → ReadsPlaces n ks → length k.quotient.form ≡ n + length ks + 1 → ReadsPlaces n (ks ++ k ∷ [])
+reads_more n [] k h l = (omega (arith, l), tt)
+reads_more n (j ∷ ks) k h l = (h.0, reads_more (n + 1) ks k h.1 (omega (arith, l)))
+
+-- the next step
+pub steps_next : (front n : ℕ) (places : List ℤ) (ks : List PathQuotient) (j : ℕ) (d : PathQuotient) → j < length ks
+    → steps_from front (n + j) places (drop j ks) ≡ quotient_step front (take (n + j) places) (get_or ks j d) ∷ steps_from front (n + (j + 1)) places (drop (j + 1) ks)
+steps_next front n places ks j d h =
+    let next : n + j + 1 ≡ n + (j + 1) = omega arith in
+    ap (steps_from front (n + j) places) (drop_more ks j d h)
+    ∙ ap (λ (m : ℕ). quotient_step front (take (n + j) places) (get_or ks j d) ∷ steps_from front m places (drop (j + 1) ks)) next
+
+pub length-indices : (i n : ℕ) → length (indices i n) ≡ n
+length-indices i n = length-map (count_from i n) pos ∙ counted i n
+  where
+    counted : (i n : ℕ) → length (count_from i n) ≡ n
+    counted i zero = refl
+    counted i (suc n) = ap suc (counted (i + 1) n)
+
+-- all steps, over the places of the definition
+pub steps_same : (front count : ℕ) (before after : List ℤ) (ks : List PathQuotient)
+    → steps_from front (length before) (before ++ indices count (length ks) ++ after) ks ≡ quotient_steps front count before ks
+steps_same front count before after [] = refl
+steps_same front count before after (k ∷ ks) =
+    let rest = indices (count + 1) (length ks) in
+    let now = before ++ pos count ∷ [] in
+    let split : before ++ indices count (length (k ∷ ks)) ++ after ≡ before ++ (indices count (length (k ∷ ks)) ++ after) = append_assoc before (indices count (length (k ∷ ks))) after in
+    let moved : before ++ indices count (length (k ∷ ks)) ++ after ≡ now ++ rest ++ after = ap (λ (xs : List ℤ). xs ++ after) (sym (append_assoc before (pos count ∷ []) rest)) in
+    ap₂ (λ (x : List ℤ) (ys : Refutation). quotient_step front x k ∷ ys)
+    (ap (take (length before)) split ∙ take_at before (indices count (length (k ∷ ks)) ++ after) (length before) refl)
+    (ap₂ (λ (n : ℕ) (ps : List ℤ). steps_from front n ps ks) (sym (length-append before (pos count ∷ []))) moved ∙ steps_same front (count + 1) now after ks)
+
+-- one index more
+pub indices-last : (i n : ℕ) → indices i (n + 1) ≡ indices i n ++ pos (i + n) ∷ []
+indices-last i n = let s : n + 1 ≡ suc n = omega arith in ap (indices i) s ∙ more i n
+  where
+    more : (i n : ℕ) → indices i (suc n) ≡ indices i n ++ pos (i + n) ∷ []
+    more i zero = ap (λ (k : ℕ). pos k ∷ []) (let e : i ≡ i + 0 = omega arith in e)
+    more i (suc n) = ap (λ (xs : List ℤ). pos i ∷ xs) (more (i + 1) n) ∙ ap (λ (k : ℕ). pos i ∷ (indices (i + 1) n ++ pos k ∷ [])) (let e : i + 1 + n ≡ i + suc n = omega arith in e)

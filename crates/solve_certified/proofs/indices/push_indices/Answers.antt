@@ -1,0 +1,16 @@
+use Rattle.std.proofs.Common.{rules, ◌≡◌, ◌∙◌, ap, sym, pos, ◌+◌, ◌++◌, [], ◌∷◌, List, ℤ, append_assoc}
+use Rattle.std.proofs.lemmas.List.Elements.{All-push}
+use Rattle.pip_model.specs.Refuting.{indices}
+use Rattle.affine_rows.specs.Checks.{Fits}
+use Rattle.solve_certified.proofs.QuotientLists.{indices-last}
+use Rattle.solve_certified.proofs.indices.push_indices.Goals as goal
+
+pub loop-i-preserved : goal.loop-i-preserved
+loop-i-preserved c =
+    let made : c.push.new.self.items ≡ c.loop-i.places.items ++ pos (c.args.first + c.loop-i.i) ∷ [] = search rules in
+    let fit : Fits (pos (c.args.first + c.loop-i.i)) = search rules in
+    record {
+      value = made ∙ ap (λ (V : List ℤ). V ++ pos (c.args.first + c.loop-i.i) ∷ []) c.loop-i.invariant.value ∙ append_assoc c.args.places.now.items (indices c.args.first c.loop-i.i) (pos (c.args.first + c.loop-i.i) ∷ [])
+          ∙ ap (λ (V : List ℤ). c.args.places.now.items ++ V) (sym (indices-last c.args.first c.loop-i.i));
+      fits = rw made (All-push Fits c.loop-i.places.items (pos (c.args.first + c.loop-i.i)) c.loop-i.invariant.fits fit);
+    }

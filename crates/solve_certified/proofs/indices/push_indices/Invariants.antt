@@ -1,0 +1,10 @@
+use Rattle.std.proofs.Common.{◌≡◌, ◌++◌, All}
+use Rattle.pip_model.specs.Refuting.{indices}
+use Rattle.affine_rows.specs.Checks.{Fits}
+use Rattle.solve_certified.proofs.indices.push_indices.Given as goal
+
+abbrev pub invariant-loop-i : goal.invariant-loop-i
+invariant-loop-i l = record {
+  value : l.places.items ≡ l.fn.places.items ++ indices l.first l.i;
+  fits : All Fits l.places.items;
+}

@@ -1,0 +1,18 @@
+use Rattle.std.proofs.Common.{◌≡◌, ◌+◌, []}
+use Rattle.pip_model.specs.Check.{scope_forms}
+use Rattle.pip_model.specs.Made.{made_leaf}
+use Rattle.certificate_check.specs.Leaves.{case_of}
+use Rattle.solve_certified.proofs.MadeGoals.{from_here}
+use Rattle.solve_certified.proofs.leaf.LeafMaking.refute_all.Given as goal
+
+abbrev pub invariant-loop-r : goal.invariant-loop-r
+invariant-loop-r l =
+    let P = l.self.leaf.problem.now in
+    let L = case_of l.self.leaf in
+    let ks = l.self.scope.quotients.now in
+    record {
+      width : l.known.width ≡ l.self.leaf.scope + P.unknowns;
+      known : l.known.forms ≡ scope_forms P L;
+      shared : l.proofs.shared ≡ [];
+      made : made_leaf P L ks L.list l.fn.work ≡ from_here P L ks l.r l.proofs.refutations l.work;
+    }

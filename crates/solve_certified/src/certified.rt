@@ -1,0 +1,162 @@
+ghost use Rattle.std.specs.Prelude.{◌≡◌, true, ℤ, List, Option, All, IsTrue, IfOk, IfSome, option_copied};
+ghost use Rattle.pip_model.specs.Certificate as certificate;
+ghost use Rattle.pip_model.specs.Check as check;
+ghost use Rattle.pip_model.specs.Leaves.{IsReached};
+ghost use Rattle.pip_model.specs.Made as model;
+ghost use Rattle.pip_model.specs.Made.{IsNotRejected};
+ghost use Rattle.pip_model.specs.Printed.{certificate_fits};
+ghost use Rattle.pip_model.specs.Right.{IsRight};
+ghost use Rattle.pip_model.specs.Run.{IsBudget, Outcome, answered};
+ghost use Rattle.pip_model.specs.Run.{Work as Counts};
+ghost use Rattle.pip_model.specs.Tree.{Void, Solved};
+ghost use Rattle.pip_model.specs.Agreement.{Agrees, AgreesCounted};
+ghost use Rattle.pip_model.specs.WellFormed.{IsProblem, IsWellFormedAnswer};
+ghost use Rattle.pip_problem.specs.Faults.{run_fault};
+ghost use Rattle.quast.specs.Answers.{answer_of, IsOver};
+ghost use Rattle.affine_rows.specs.Checks.{Fits};
+ghost use Rattle.solve_certified.specs.Certified.{certificate_in, certified_of};
+ghost use Rattle.solve_certified.specs.Walks.{are_whole, is_whole_answer};
+
+use crate::refutation::Scope;
+use crate::trail::Trail;
+use crate::walk::Walk;
+use affine_rows::Overflow;
+use certificate_check::void_forms;
+use context::{Point, Work};
+use leaf_certificate::{Certificate, LeafProofs};
+use pip_problem::{Limits, Problem, Refusal};
+use pip_solve::{answer_from, context_point};
+use quast::{Answer, Quast};
+use std::alloc::Global;
+
+/// The answer of `solve` to an integer problem, and the certificate of it: for each of its leaves, in the order of the
+/// check, the derivations along the runs of points that find none. The certificate is `Overflow` exactly where a number
+/// that is listed for such a run does not fit. The whole is refused as `solve` is, and after the run by a count of
+/// pivots or cuts, which go on. The check of the answer by the certificate does not reject it.
+pub fn solve_with_certificate(
+    alloc: Global,
+    problem: &Problem,
+    limits: &Limits,
+) -> Result<(Answer, Result<Certificate, Overflow>), Refusal>
+    requires integer { problem.now.integer ≡ true }
+    ensures gives { Agrees certified_of run_fault result
+        (answered (model.solve_with_certificate limits.now problem.now)) }
+    ensures right { IfOk result (λ r. IsRight problem.now (answer_of r.0)) }
+    ensures reached { IfOk result (λ r. IsReached problem.now (answer_of r.0)) }
+    ensures well_formed { IfOk result (λ r. IsWellFormedAnswer problem.now.params (answer_of r.0)) }
+    ensures scope { IfOk result (λ r. IsOver problem.now.params r.0) }
+    ensures accepted { IfOk result (λ r. IfOk r.1 (λ c.
+        IsNotRejected (check.check problem.now (answer_of r.0) c))) }
+    ensures fits { IfOk result (λ r. IfOk r.1 (λ c. IsTrue (certificate_fits c))) }
+{
+    let certified = certified(alloc, problem, limits);
+    certified
+}
+
+// The numbers of the point.
+fn numbers(point: &Option<Point>) -> Option<&[i128]>
+    ensures { option_copied result ≡ point.now }
+{
+    match point {
+        None => None,
+        Some(point) => Some(point.as_slice()),
+    }
+}
+
+// The certificate of a tree, by the point of the context.
+fn certificate_of_tree(
+    alloc: Global,
+    problem: &Problem,
+    point: &Option<Point>,
+    tree: &Quast,
+    work: &mut Work,
+) -> Result<Certificate, Refusal>
+    requires width { tree.now.width ≡ problem.now.params }
+    requires whole { IsTrue (are_whole problem.now.unknowns tree.now.tree) }
+    requires fits { IfSome point.now (All Fits) }
+    ensures { AgreesCounted (λ c. c) run_fault result work.new
+        (model.run_certificate problem.now point.now (Solved tree.now.tree) work.old) }
+{
+    let mut trail = Trail::new(alloc, problem.params());
+    let mut made = Certificate::try_new(alloc, numbers(point))?;
+    let walk = Walk { alloc, problem };
+    walk.make_node(&mut trail, tree.root(), &mut made, work)?;
+    Ok(made)
+}
+
+// The certificate of an empty context.
+fn certificate_of_void(
+    alloc: Global,
+    problem: &Problem,
+    work: &mut Work,
+) -> Result<Certificate, Refusal>
+    ensures { (p : Option (List ℤ)) → AgreesCounted (λ c. c) run_fault result work.new
+        (model.run_certificate problem.now p Void work.old) }
+{
+    let known = void_forms(alloc, problem)?;
+    let scope = Scope {
+        params: problem.params(),
+        front: known.len(),
+        own: known.len(),
+        quotients: &[],
+    };
+    let mut proofs = LeafProofs::new(alloc);
+    proofs.push(scope.refute(alloc, &known, 0, work)?)?;
+    let mut made = Certificate::try_new(alloc, None)?;
+    made.push(proofs)?;
+    Ok(made)
+}
+
+// The certificate of an answer, by the point of the context.
+fn certificate_of(
+    alloc: Global,
+    problem: &Problem,
+    point: &Option<Point>,
+    answer: &Answer,
+    work: &mut Work,
+) -> Result<Certificate, Refusal>
+    requires width { IsOver problem.now.params answer.now }
+    requires whole { IsTrue (is_whole_answer problem.now.unknowns (answer_of answer.now)) }
+    requires fits { IfSome point.now (All Fits) }
+    ensures { AgreesCounted (λ c. c) run_fault result work.new
+        (model.run_certificate problem.now point.now (answer_of answer.now) work.old) }
+{
+    match answer {
+        Answer::Void => certificate_of_void(alloc, problem, work),
+        Answer::Tree(tree) => certificate_of_tree(alloc, problem, point, tree, work),
+    }
+}
+
+// The certificate, or that a listed number does not fit; a budget's refusal stays one.
+fn if_fits(made: Result<Certificate, Refusal>) -> Result<Result<Certificate, Overflow>, Refusal>
+    ensures { (w : Counts) (o : Outcome certificate.Certificate) → AgreesCounted (λ c. c) run_fault made w o
+        → AgreesCounted certificate_in run_fault result w (model.if_fits o) }
+{
+    match made {
+        Ok(certificate) => Ok(Ok(certificate)),
+        Err(Refusal::Overflow) => Ok(Err(Overflow)),
+        Err(refusal) => Err(refusal),
+    }
+}
+
+// The answer and its certificate, from the run's start.
+fn certified(
+    alloc: Global,
+    problem: &Problem,
+    limits: &Limits,
+) -> Result<(Answer, Result<Certificate, Overflow>), Refusal>
+    requires integer { problem.now.integer ≡ true }
+    ensures gives { Agrees certified_of run_fault result
+        (answered (model.solve_with_certificate limits.now problem.now)) }
+    ensures scope { IfOk result (λ r. IsOver problem.now.params r.0) }
+    ensures problem { IsProblem problem.now }
+    ensures budget { IsBudget limits.now }
+{
+    let _ = problem.unknowns();
+    let _ = limits.nesting();
+    let mut work = Work::start(limits);
+    let point = context_point(alloc, problem, &mut work)?;
+    let answer = answer_from(alloc, problem, &point, limits, &mut work)?;
+    let certificate = if_fits(certificate_of(alloc, problem, &point, &answer, &mut work))?;
+    Ok((answer, certificate))
+}

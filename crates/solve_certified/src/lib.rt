@@ -1,0 +1,13 @@
+//! The answer of a problem's run, and the certificate by which it is checked without a solver.
+#![tactic(auto)]
+
+mod certified;
+mod indices;
+mod leaf;
+mod narrowed;
+mod quotients;
+mod refutation;
+mod trail;
+mod walk;
+
+pub use certified::solve_with_certificate;

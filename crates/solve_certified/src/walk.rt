@@ -1,0 +1,108 @@
+ghost use Rattle.std.specs.Prelude.{◌≡◌, false, option_copied, OnOk};
+ghost use Rattle.pip_model.specs.Agreement.{AgreesCounted};
+ghost use Rattle.pip_problem.specs.Faults.{run_fault};
+ghost use Rattle.quast.specs.Trees.{tree_of};
+ghost use Rattle.certificate_check.specs.Walks.{leaf_tree};
+ghost use Rattle.solve_certified.specs.Walks.{made_below, IsAt};
+
+use crate::leaf::{LeafMaking, of_form};
+use crate::refutation::Scope;
+use crate::trail::Trail;
+use certificate_check::Leaf;
+use context::Work;
+use leaf_certificate::Certificate;
+use pip_problem::{Problem, Refusal};
+use quast::{Component, Node};
+use std::alloc::Global;
+
+// The walk over the tree of an answer, in whose order the refutations are made.
+#[derive(Drop)]
+pub(crate) struct Walk<'a> {
+    pub(crate) alloc: Global,
+    pub(crate) problem: &'a Problem,
+}
+
+impl Walk<'_> {
+    // Makes the proofs of the leaf at the trail's end: a list, or a bottom.
+    fn make_leaf(
+        &self,
+        trail: &Trail,
+        list: Option<&[Component]>,
+        made: &mut Certificate,
+        work: &mut Work,
+    ) -> Result<(), Refusal>
+        requires at { IsAt self.now.problem.now trail.now (leaf_tree (option_copied list)) }
+        requires format { made.old.shares ≡ false }
+        ensures gives { AgreesCounted (λ _. made.new) run_fault result work.new
+            (made_below self.now.problem.now trail.now made.old (leaf_tree (option_copied list.entry)) work.old) }
+        ensures format { made.new.shares ≡ false }
+    {
+        let params = self.problem.params();
+        let front = params + self.problem.context().len();
+        let Some(own) = front.checked_add(trail.forms().len()) else {
+            return Err(Refusal::WantOfMemory);
+        };
+        let making = LeafMaking {
+            leaf: Leaf {
+                number: 1,
+                problem: self.problem,
+                scope: trail.scope(),
+                path: trail.forms(),
+                list,
+            },
+            scope: Scope {
+                params,
+                front,
+                own,
+                quotients: trail.quotients(),
+            },
+        };
+        let proofs = making.refute_all(self.alloc, work)?;
+        made.push(proofs)?;
+        Ok(())
+    }
+
+    // Makes the proofs of the leaves below the node at the trail's end.
+    pub(crate) fn make_node(
+        &self,
+        trail: &mut Trail,
+        node: &Node,
+        made: &mut Certificate,
+        work: &mut Work,
+    ) -> Result<(), Refusal>
+        requires at { IsAt self.now.problem.now trail.old (tree_of node.now) }
+        requires format { made.old.shares ≡ false }
+        ensures gives { AgreesCounted (λ _. made.new) run_fault result work.new
+            (made_below self.now.problem.now trail.old made.old (tree_of node.now) work.old) }
+        ensures format { made.new.shares ≡ false }
+        ensures trail { OnOk result (trail.new ≡ trail.old) }
+    {
+        match node {
+            Node::Bottom => self.make_leaf(trail, None, made, work),
+            Node::Leaf(components) => {
+                self.make_leaf(trail, Some(components.as_slice()), made, work)
+            }
+            Node::Select(v, a, b) => {
+                let mark = trail.mark();
+                trail.push(self.alloc, v)?;
+                self.make_node(trail, a, made, work)?;
+                trail.back_to(mark);
+                if let Err(refusal) = trail.push_opposite(self.alloc, v) {
+                    return Err(of_form(refusal));
+                }
+                self.make_node(trail, b, made, work)?;
+                trail.back_to(mark);
+                Ok(())
+            }
+            Node::Define(v, d, a) => {
+                let mark = trail.mark();
+                if let Err(refusal) = trail.push_quotient(self.alloc, v, *d) {
+                    return Err(of_form(refusal));
+                }
+                self.make_node(trail, a, made, work)?;
+                trail.back_to(mark);
+                Ok(())
+            }
+        }
+    }
+}
