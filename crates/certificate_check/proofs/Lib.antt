@@ -2,9 +2,10 @@ pub mod Sums
 pub mod Steps
 pub mod Making
 pub mod Smaller
-pub mod Wide
 pub mod Owned
 pub mod Refuted
 pub mod Numbers
-pub mod ContextRows
 pub mod Walks
+pub mod Shares
+pub mod Commons
+pub mod Indices

@@ -5,7 +5,7 @@ use Rattle.pip_model.specs.Reading.{◌>>=◌, ◌>>◌}
 use Rattle.pip_model.specs.Listed.{all_fit, opposite_listed}
 use Rattle.pip_model.specs.Problem.{Problem}
 use Rattle.pip_model.specs.Certificate.{Refutation, LeafProofs}
-use Rattle.pip_model.specs.Check.{Spot, spot, Checks, holds, fit, after_steps, Premises, LeafCase, joined, check_refutation, check_refutations, check_proofs, is_whole_list, leaf_forms, leaf_premises, check_leaf, check_leaves, check_void, leaf_cases, ends_absurd}
+use Rattle.pip_model.specs.Check.{Spot, spot, Checks, holds, fit, after_steps, Premises, LeafCase, joined, check_refutation, check_refutations, check_proofs, is_whole_list, leaf_forms, leaf_premises, check_leaf, check_leaves, leaf_cases, ends_absurd}
 use Rattle.pip_model.specs.Cuts.{Quotient, lower_bound, upper_bound}
 use Rattle.pip_model.specs.Forms.{opposite, constant}
 use Rattle.pip_model.specs.Tree.{Tree, Bottom, Leaf, If, NewParm, Component, leaves}
@@ -79,13 +79,3 @@ leaves_same P shares l w path zs ys (NewParm v d a) ps h =
     let longer = path ++ lower_bound (w + 1) w k ∷ high ∷ [] in
     ap (λ (ns : List ℤ). check_leaves P shares l (leaf_cases (w + 1) longer ns a) ps) (append_assoc zs ys (constant high ∷ []))
     ∙ leaves_same P shares l (w + 1) longer zs (ys ++ constant high ∷ []) a ps h
-
--- without numbers of the path the formats differ in nothing
-pub one_format : (P : Problem) (shares : Bool) (l w : ℕ) (path : List (List ℤ)) (list : Option (List Component)) (p : LeafProofs)
-    → check_leaf P shares l (record { scope = w; path = path; listed = []; list = list }) p ≡ check_leaf P true l (record { scope = w; path = path; listed = []; list = list }) p
-one_format P true l w path list p = refl
-one_format P false l w path list p = refl
-
-pub void_format : (P : Problem) (shares : Bool) (ls : List LeafProofs) → check_void P shares ls ≡ check_void P true ls
-void_format P true ls = refl
-void_format P false ls = refl

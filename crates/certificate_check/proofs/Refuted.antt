@@ -1,10 +1,10 @@
 -- A refutation and the numbers of its starting forms.
-use Rattle.std.proofs.Common.{◌≡◌, refl, ap, ap₂, sym, ◌∙◌, ℕ, ◌+◌, ◌<◌, ◌≤◌, ℤ, List, [], ◌∷◌, ◌++◌, length, take, drop, map, get_or, arith, Ok, Err}
-use Rattle.std.proofs.lemmas.List.{length-append, length-map, take-take, take_at, drop_more, drop_all, get_or-map}
+use Rattle.std.proofs.Common.{◌≡◌, refl, ap, ap₂, sym, ◌∙◌, ℕ, ◌+◌, ◌<◌, ℤ, List, [], ◌∷◌, ◌++◌, length, take, drop, map, get_or, arith, Ok, Err}
+use Rattle.std.proofs.lemmas.List.{length-append, length-map, take-take, take_at, drop_more, get_or-map}
 use Rattle.std.specs.Prelude.{Option, Some, None, IfSome}
 use Rattle.pip_model.specs.Reading.{◌>>◌}
 use Rattle.pip_model.specs.Certificate.{Refutation}
-use Rattle.pip_model.specs.Check.{spot, CheckFault, Checks, fit, Premises, joined, check_refutation, check_refutations}
+use Rattle.pip_model.specs.Check.{CheckFault, Checks, Premises, joined, check_refutation, check_refutations}
 use Rattle.certificate_check.specs.Leaves.{nothing}
 
 abbrev pub bare : List (List ℤ) → Premises
@@ -17,14 +17,6 @@ then_rest (Err f) rest e = cc
 then_stop : (first rest : Checks (Unit {0})) (f : CheckFault) → first ≡ Err f → (first >> rest) ≡ Err f
 then_stop (Ok x) rest f e = cc
 then_stop (Err g) rest f e = e
-
-module _ (l r w : ℕ) (start : Premises) (steps : Refutation) where
-  pub refutation_fits : fit (spot l r 0) start.listed ≡ Ok tt → check_refutation l r w start steps ≡ check_refutation l r w (bare start.known) steps
-  refutation_fits e = then_rest (fit (spot l r 0) start.listed) (check_refutation l r w (bare start.known) steps) e
-
-  pub refutation_stops : (o : Option CheckFault) → IfSome o (λ f. fit (spot l r 0) start.listed ≡ Err f) → IfSome o (λ f. check_refutation l r w start steps ≡ Err f)
-  refutation_stops None h = tt
-  refutation_stops (Some f) h = then_stop (fit (spot l r 0) start.listed) (check_refutation l r w (bare start.known) steps) f h
 
 -- the first forms stay
 pub front_kept : (old own now joint : List (List ℤ)) → joint ≡ old ++ own → take (length joint) now ≡ joint → take (length old) now ≡ old
@@ -58,8 +50,3 @@ module _ (l i w : ℕ) (known : Premises) (own : List Premises) (xs : List Refut
       e
       ∙ ap₂ (check_refutations l (i + 1) w) first (drop_more xs i d k)
       ∙ then_stop (check_refutation l (i + 1) w (joined known (get_or own i nothing)) (get_or xs i d)) (check_refutations l (i + 1 + 1) w (drop (i + 1) all) (drop (i + 1) xs)) f s
-
-pub refutations_done : (l i w : ℕ) (known : Premises) (own : List Premises) (xs : List Refutation) → length own ≤ i
-    → check_refutations l (i + 1) w (drop i (map (joined known) own)) (drop i xs) ≡ Ok tt
-refutations_done l i w known own xs h =
-    ap (λ (ss : List Premises). check_refutations l (i + 1) w ss (drop i xs)) (drop_all i (map (joined known) own) (let long : length (map (joined known) own) ≡ length own = length-map own (joined known) in omega arith))

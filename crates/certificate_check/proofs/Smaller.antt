@@ -23,15 +23,6 @@ module _ (now : List ℤ) (row : List ℤ) (cs : List Component) (i : ℕ) (d : 
   abbrev f : List ℤ
   f = (get_or cs i d).form
 
-  pub put_step : (next : List ℤ) → i < length row → i < length cs → next ≡ plus_term now a f → put_in now (drop i row) (drop i cs) ≡ put_in next (drop (i + 1) row) (drop (i + 1) cs)
-  put_step next h k e = rw (drop_more row i (pos 0) h, drop_more cs i d k, e) refl
-
-  pub put_listed_step : (next : List ℤ) → i < length row → i < length cs → next ≡ plus_term now a f → IsTrue (all_fit (plus_term_listed now a f))
-      → all_fit (put_in_listed now (drop i row) (drop i cs)) ≡ all_fit (put_in_listed next (drop (i + 1) row) (drop (i + 1) cs))
-  put_listed_step next h k e fit =
-      rw (drop_more row i (pos 0) h, drop_more cs i d k, e)
-      (fit_behind (plus_term_listed now a f) (put_in_listed (plus_term now a f) (drop (i + 1) row) (drop (i + 1) cs)) fit)
-
   pub put_refused : (first : List ℤ) → i < length row → i < length cs → all_fit (put_in_listed now (drop i row) (drop i cs)) ≡ all_fit (put_in_listed first row cs)
       → IsFalse (all_fit (plus_term_listed now a f)) → IsFalse (all_fit (put_in_listed first row cs))
   put_refused first h k e fit =

@@ -1,7 +1,7 @@
 -- Steps of a sum to which a multiple of a form is added in place, entry by entry, and of a sum of terms.
-use Rattle.std.proofs.Common.{◌≡◌, refl, ap, sym, ◌∙◌, ℕ, ◌+◌, ◌<◌, ◌≤◌, ℤ, ◌+ℤ◌, ◌*ℤ◌, pos, Bool, true, false, ◌&&◌, List, [], ◌∷◌, ◌++◌, length, take, drop, set, get_or, append_assoc, append-nil, arith, Ok, Err}
+use Rattle.std.proofs.Common.{◌≡◌, refl, ap, sym, ◌∙◌, ℕ, ◌+◌, ◌<◌, ◌≤◌, ℤ, ◌+ℤ◌, ◌*ℤ◌, pos, Bool, true, false, ◌&&◌, List, [], ◌∷◌, ◌++◌, length, take, drop, set, get_or, append_assoc, arith, Ok, Err}
 use Rattle.std.specs.Prelude.{IsTrue, IsFalse, nat_lt, unsigned_abs, slice_index_or, Option, Some, None, IfSome}
-use Rattle.std.proofs.lemmas.List.{drop_more, drop_all, take_all, take_more_set, drop-set-lt}
+use Rattle.std.proofs.lemmas.List.{drop_more, drop_all, take_more_set, drop-set-lt}
 use Rattle.std.proofs.lemmas.List.Folds.{list_all-append}
 use Rattle.pip_model.specs.Numbers.{fits, is_nonneg}
 use Rattle.pip_model.specs.Forms.{scale}
@@ -71,9 +71,6 @@ pub multiple_fits : (first now : List ℤ) (m : ℤ) (c : List ℤ) (i : ℕ) �
     → all_fit (entries_listed (drop i now) m (drop i c)) ≡ all_fit (entries_listed first m c) → IsTrue (all_fit (plus_term_listed first m c))
 multiple_fits first now m c i same h e = sym (entries_listed-fit first m c same) ∙ sym e ∙ entries_end now m c i h
 
-pub multiple_end : (now : List ℤ) (m : ℤ) (c : List ℤ) (i : ℕ) → length now ≤ i → take i now ++ plus_term (drop i now) m (drop i c) ≡ now
-multiple_end now m c i h = rw (drop_all i now h, take_all i now h) (append-nil now)
-
 -- ---- terms
 
 module _ (at : Spot) (known : List (List ℤ)) (sum : List ℤ) where
@@ -88,20 +85,11 @@ module _ (at : Spot) (known : List (List ℤ)) (sum : List ℤ) where
       go (Ok x) (Err f) t now = refl
       go (Err f) s t now = refl
 
-  pub terms_next : (ts : List (ℤ × ℤ)) (i : ℕ) (d : ℤ × ℤ) (now : List ℤ) → i < length ts → sum_of at known sum (get_or ts i d ∷ []) ≡ Ok now → sum_of at known sum (drop i ts) ≡ sum_of at known now (drop (i + 1) ts)
-  terms_next ts i d now h e =
-      ap (sum_of at known sum) (drop_more ts i d h)
-      ∙ first_and_rest (get_or ts i d) (drop (i + 1) ts)
-      ∙ ap (λ (x : Checks (List ℤ)). x >>= (λ (now : List ℤ). sum_of at known now (drop (i + 1) ts))) e
-
   pub terms_stop : (ts : List (ℤ × ℤ)) (i : ℕ) (d : ℤ × ℤ) (f : CheckFault) → i < length ts → sum_of at known sum (get_or ts i d ∷ []) ≡ Err f → sum_of at known sum (drop i ts) ≡ Err f
   terms_stop ts i d f h e =
       ap (sum_of at known sum) (drop_more ts i d h)
       ∙ first_and_rest (get_or ts i d) (drop (i + 1) ts)
       ∙ ap (λ (x : Checks (List ℤ)). x >>= (λ (now : List ℤ). sum_of at known now (drop (i + 1) ts))) e
-
-  pub terms_done : (ts : List (ℤ × ℤ)) (i : ℕ) → length ts ≤ i → sum_of at known sum (drop i ts) ≡ Ok sum
-  terms_done ts i h = ap (sum_of at known sum) (drop_all i ts h)
 
   pub terms_refused : (first : List ℤ) (ts : List (ℤ × ℤ)) (i : ℕ) (d : ℤ × ℤ) (o : Option CheckFault) → i < length ts → sum_of at known first ts ≡ sum_of at known sum (drop i ts)
       → IfSome o (λ f. sum_of at known sum (get_or ts i d ∷ []) ≡ Err f) → IfSome o (λ f. sum_of at known first ts ≡ Err f)

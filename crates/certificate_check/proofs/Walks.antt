@@ -1,30 +1,24 @@
 -- The leaves below a node: first those of its first tree, and the first of them where a number of the path does not fit.
-use Rattle.std.proofs.Common.{◌≡◌, refl, ap, ap₂, sym, ◌∙◌, ℕ, zero, suc, ◌+◌, ◌<◌, ◌≤◌, ℤ, pos, ◌≤ℤ◌, Bool, true, false, ◌&&◌, List, [], ◌∷◌, ◌++◌, length, map, take, drop, get_or, arith, subst, Ok, Err, eqb-true, if◌then◌else◌}
-use Rattle.std.specs.Prelude.{◌==◌, nat_le, int_le, All, Option, Some, None, IfSome}
+use Rattle.std.proofs.Common.{◌≡◌, refl, ap, ap₂, sym, ◌∙◌, ℕ, zero, suc, ◌+◌, ◌<◌, ◌≤◌, ℤ, Bool, true, false, ◌&&◌, List, [], ◌∷◌, ◌++◌, length, map, take, drop, get_or, arith, subst, Ok, Err, eqb-true, if◌then◌else◌}
+use Rattle.std.specs.Prelude.{◌==◌, All, Option, Some, None, IfSome}
 use Rattle.std.specs.List.{list_all}
-use Rattle.std.proofs.lemmas.Int.{ints}
 use Rattle.std.proofs.lemmas.List.{drop-drop, drop_more, take_at}
-use Rattle.pip_model.specs.Limits.{most_components}
 use Rattle.pip_model.specs.Reading.{◌>>=◌, ◌>>◌}
-use Rattle.pip_model.specs.Numbers.{gcd, gcd_of, same_number}
 use Rattle.pip_model.specs.Forms.{opposite, constant}
 use Rattle.pip_model.specs.Listed.{all_fit, opposite_listed}
 use Rattle.pip_model.specs.Cuts.{Quotient, lower_bound, upper_bound}
 use Rattle.pip_model.specs.Problem.{Problem}
-use Rattle.pip_model.specs.Tree.{Tree, Bottom, Leaf, If, NewParm, Component, leaves, is_form, is_component}
+use Rattle.pip_model.specs.Tree.{Tree, Bottom, Leaf, If, NewParm, Component, leaves}
 use Rattle.pip_model.specs.Certificate.{Refutation, LeafProofs}
 use Rattle.pip_model.specs.Printed.{steps_fit, shared_fit, leaf_fits}
 use Rattle.pip_model.specs.Check.{Spot, spot, CheckFault, Rejected, Unfit, Checks, holds, fit, after_steps, Premises, LeafCase, leaf_cases, leaf_forms, leaf_premises, joined, check_refutation, check_refutations, check_leaf, check_leaves, is_whole_list}
-use Rattle.pip_model.proofs.Tests.{both, three, all_passed, one_at_least}
+use Rattle.pip_model.proofs.Tests.{both}
 use Rattle.pip_model.proofs.Fitting.{fit_never}
 use Rattle.check_laws.proofs.CheckLoops.{check_leaves-if}
-use Rattle.check_laws.proofs.StartingForms.{every-kept}
-use Rattle.check_laws.proofs.Refutations.{every-all}
 use Rattle.certificate_check.specs.Paths.{PathForms, first_list, goal_count, path_fault, no_proofs}
-use Rattle.certificate_check.specs.Leaves.{AreWide, IsLeaf}
-use Rattle.certificate_check.specs.Walks.{below, leaf_tree, IsAt}
+use Rattle.certificate_check.specs.Walks.{below, IsAt}
 use Rattle.certificate_check.specs.declared.walk.Walk.{Walk}
-use Rattle.certificate_check.proofs.Numbers.{leaves_same, one_format}
+use Rattle.certificate_check.proofs.Numbers.{leaves_same}
 use Rattle.certificate_check.proofs.Owned.{own_goals, whole_count}
 
 -- ---- tests of a list
@@ -33,14 +27,6 @@ pub passes_at : {X : Type 0} (p : X → Bool) (xs : List X) (i : ℕ) (d : X) �
 passes_at p [] i d h k = absurd (omega arith)
 passes_at p (x ∷ xs) zero d h k = (both (p x) (list_all p xs) h).0
 passes_at p (x ∷ xs) (suc i) d h k = passes_at p xs i d (both (p x) (list_all p xs) h).1 (omega arith)
-
--- the components of a list over w places
-one_at_most : (d : ℤ) → int_le (pos 1) d ≡ true → pos 1 ≤ℤ d
-one_at_most d h = let e = one_at_least d h in omega (arith, ints)
-
-pub list_wide : (w : ℕ) (cs : List Component) → list_all (is_component w) cs ≡ true → AreWide w cs
-list_wide w cs h = every-all (λ (c : Component). length c.form ≡ w + 1) cs (every-kept (λ (c : Component). is_component w c ≡ true) (λ (c : Component). length c.form ≡ w + 1) cs
-    (λ c k. eqb-true (length c.form) (w + 1) (three (int_le (pos 1) c.den) (is_form w c.form) (same_number (gcd c.den (gcd_of c.form)) (pos 1)) k).1) (all_passed (is_component w) cs h))
 
 -- ---- a leaf where a number of its path does not fit
 
@@ -124,22 +110,6 @@ module _ (P : Problem) (shares : Bool) (ps : List LeafProofs) where
   abbrev pub under : ℕ → ℕ → List (List ℤ) → Tree → Checks (Unit {0})
   under l w path t = check_leaves P shares (l + 1) (leaf_cases w path [] t) (drop l ps)
 
-  alone : (x : Checks (Unit {0})) → (x >> Ok tt) ≡ x
-  alone (Ok tt) = refl
-  alone (Err f) = refl
-
-  leaf_alone : (l w : ℕ) (path : List (List ℤ)) (d : LeafProofs) (list : Option (List Component)) → l < length ps
-      → check_leaves P shares (l + 1) (record { scope = w; path = path; listed = []; list = list } ∷ []) (drop l ps) ≡ check_leaf P true (l + 1) (record { scope = w; path = path; listed = []; list = list }) (get_or ps l d)
-  leaf_alone l w path d list h =
-      ap (check_leaves P shares (l + 1) (record { scope = w; path = path; listed = []; list = list } ∷ [])) (drop_more ps l d h)
-      ∙ alone (check_leaf P shares (l + 1) (record { scope = w; path = path; listed = []; list = list }) (get_or ps l d))
-      ∙ one_format P shares (l + 1) w path list (get_or ps l d)
-
-  pub one_leaf : (l w : ℕ) (path : List (List ℤ)) (d : LeafProofs) (list : Option (List Component)) → l < length ps
-      → under l w path (leaf_tree list) ≡ check_leaf P true (l + 1) (record { scope = w; path = path; listed = []; list = list }) (get_or ps l d)
-  one_leaf l w path d None h = leaf_alone l w path d None h
-  one_leaf l w path d (Some cs) h = leaf_alone l w path d (Some cs) h
-
   -- a choice
   module _ (l w : ℕ) (path : List (List ℤ)) (v : List ℤ) (a b : Tree) where
     second : List LeafProofs → ℕ → List ℤ → Checks (Unit {0})
@@ -197,19 +167,6 @@ some_leaves Bottom = omega arith
 some_leaves (Leaf cs) = omega arith
 some_leaves (If v a b) = let e = some_leaves a in omega arith
 some_leaves (NewParm v d a) = some_leaves a
-
-pub at_leaf : (w : Walk) (l s : ℕ) (path : List (List ℤ)) (list : Option (List Component)) → IsAt w l s (leaf_tree list) → All (λ (c : List ℤ). length c ≤ s + 1) path
-    → IsLeaf w.problem.now (record { scope = s; path = path; listed = []; list = list })
-at_leaf w l s path None at within = record { scope = at.params; path = within; list = tt }
-at_leaf w l s path (Some cs) at within = record {
-  scope = at.params;
-  path = within;
-  list = list_wide s cs (three (nat_le 1 (length cs)) (nat_le (length cs) most_components) (list_all (is_component s) cs) at.scoped).2;
-}
-
-pub at_place : (w : Walk) (l s : ℕ) (list : Option (List Component)) → IsAt w l s (leaf_tree list) → l < length w.proofs.now
-at_place w l s None at = omega (arith, at.proofs)
-at_place w l s (Some cs) at = omega (arith, at.proofs)
 
 -- ---- where the walk is
 

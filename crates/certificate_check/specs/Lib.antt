@@ -4,3 +4,4 @@ pub mod Leaves
 pub mod Verdicts
 pub mod Paths
 pub mod Walks
+pub mod Sharing

@@ -1,4 +1,4 @@
-ghost use Rattle.std.specs.Prelude.{◌≡◌, ◌+◌, ◌<◌, ◌≤◌, ◌++◌, [], ◌∷◌, length, take, IfOk, OnOk, OnErr};
+ghost use Rattle.std.specs.Prelude.{◌≡◌, ◌+◌, ◌<◌, ◌≤◌, ◌++◌, [], ◌∷◌, length, take, All, IfOk, OnOk, OnErr};
 ghost use Rattle.std.specs.List.{list_all};
 ghost use Rattle.pip_model.specs.Numbers.{is_zero, is_negative};
 ghost use Rattle.pip_model.specs.Agreement.{Agrees};
@@ -12,9 +12,9 @@ use leaf_certificate::Step;
 use std::alloc::Global;
 use std::marker::Model;
 
-// The known forms of a refutation, in the order of their numbers.
+/// The known forms of a refutation, in the order of their numbers.
 #[derive(Drop)]
-pub(crate) struct Known {
+pub struct Known {
     width: usize,
     forms: Vec<Form>,
 }
@@ -41,18 +41,26 @@ impl Known {
         }
     }
 
-    // The number of places.
-    pub(crate) fn width(&self) -> usize
+    /// The number of places.
+    pub fn width(&self) -> usize
         ensures { result ≡ self.now.width }
     {
         self.width
     }
 
-    // The number of forms.
-    pub(crate) fn len(&self) -> usize
+    /// The number of forms.
+    pub fn len(&self) -> usize
         ensures { result ≡ length self.now.forms }
     {
         self.forms.len()
+    }
+
+    /// The forms in order.
+    pub fn as_slice(&self) -> &[Form]
+        ensures value { result.now ≡ self.now.forms }
+        ensures wide { All (λ c. length c ≡ self.now.width + 1) self.now.forms }
+    {
+        &self.forms
     }
 
     // Puts a form behind the others. A refusal leaves them as they were.
@@ -65,8 +73,8 @@ impl Known {
         Ok(())
     }
 
-    // Drops the forms behind the first n.
-    pub(crate) fn truncate(&mut self, n: usize)
+    /// Drops the forms behind the first n.
+    pub fn truncate(&mut self, n: usize)
         ensures { self.new ≡ record self.old { forms = take n self.old.forms } }
     {
         self.forms.truncate(n);

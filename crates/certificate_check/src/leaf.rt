@@ -18,15 +18,15 @@ use pip_problem::Problem;
 use quast::Component;
 use std::alloc::Global;
 
-// A leaf of a tree: its number, the problem, the parameters and quotients in scope, the forms of its path, and the
-// components of a list, none for a bottom.
+/// A leaf of a tree: its number, the problem, the parameters and quotients in scope, the forms of its path, and the
+/// components of a list, none for a bottom.
 #[derive(Drop)]
-pub(crate) struct Leaf<'a> {
-    pub(crate) number: usize,
-    pub(crate) problem: &'a Problem,
-    pub(crate) scope: usize,
-    pub(crate) path: &'a [Form],
-    pub(crate) list: Option<&'a [Component]>,
+pub struct Leaf<'a> {
+    pub number: usize,
+    pub problem: &'a Problem,
+    pub scope: usize,
+    pub path: &'a [Form],
+    pub list: Option<&'a [Component]>,
 }
 
 // Whether the denominator is 1.
@@ -55,8 +55,8 @@ fn is_whole(problem: &Problem, list: Option<&[Component]>) -> bool
     }
 }
 
-// How many refutations the leaf has.
-fn goals(problem: &Problem, list: Option<&[Component]>) -> usize
+/// How many refutations a leaf has: one at a bottom; of a list one for each row, and two for each unknown.
+pub fn refutation_count(problem: &Problem, list: Option<&[Component]>) -> usize
     requires { IsTrue (model.is_whole_list problem.now.unknowns (option_copied list)) }
     ensures { result ≡ goal_count problem.now (option_copied list.entry) }
 {
@@ -70,12 +70,12 @@ fn goals(problem: &Problem, list: Option<&[Component]>) -> usize
 pub(crate) fn has_shape(problem: &Problem, list: Option<&[Component]>, proofs: &LeafProofs) -> bool
     ensures { result ≡ has_shape_of problem.now (option_copied list.entry) proofs.now }
 {
-    is_whole(problem, list) && proofs.as_slice().len() == goals(problem, list)
+    is_whole(problem, list) && proofs.as_slice().len() == refutation_count(problem, list)
 }
 
 impl Leaf<'_> {
-    // The forms that each refutation of the leaf starts from: the parameters, the context rows, the path.
-    pub(crate) fn start(&self, alloc: Global) -> Result<Known, WantOfMemory>
+    /// The forms that each refutation of the leaf starts from: the parameters, the context rows, the path.
+    pub fn start(&self, alloc: Global) -> Result<Known, WantOfMemory>
         requires { IsLeaf self.now.problem.now (case_of self.now) }
         ensures { IfOk result (λ k. k ≡ record {
           width = self.now.scope + self.now.problem.now.unknowns;
@@ -208,8 +208,8 @@ impl Leaf<'_> {
         self.push_least_goal(alloc, known, front)
     }
 
-    // Puts the forms of a refutation, from 0, behind the others.
-    fn push_goal(&self, alloc: Global, known: &mut Known, r: usize) -> Result<(), FormRefusal>
+    /// Puts the forms of a refutation, from 0, behind the others.
+    pub fn push_goal(&self, alloc: Global, known: &mut Known, r: usize) -> Result<(), FormRefusal>
         requires leaf { IsLeaf self.now.problem.now (case_of self.now) }
         requires whole { IsTrue (model.is_whole_list self.now.problem.now.unknowns (option_copied self.now.list)) }
         requires width { known.old.width ≡ self.now.scope + self.now.problem.now.unknowns }

@@ -9,9 +9,9 @@ use affine_rows::{Form, FormRefusal, WantOfMemory, lower_bound, upper_bound};
 use std::alloc::Global;
 use std::marker::Model;
 
-// The forms of the path to a node, each over the first of the parameters and quotients in scope there.
+/// The forms of the path to a node, each over the first of the parameters and quotients in scope there.
 #[derive(Drop)]
-pub(crate) struct Path {
+pub struct Path {
     scope: usize,
     forms: Vec<Form>,
 }
@@ -67,8 +67,8 @@ fn upper(alloc: Global, place: usize, form: &Form, d: i128) -> Result<Form, Form
 }
 
 impl Path {
-    // The path to the root, over so many parameters. It takes no memory.
-    pub(crate) fn new(alloc: Global, params: usize) -> Path
+    /// The path to the root, over so many parameters. It takes no memory.
+    pub fn new(alloc: Global, params: usize) -> Path
         ensures { result ≡ record { scope = params; forms = [] } }
     {
         Path {
@@ -77,23 +77,23 @@ impl Path {
         }
     }
 
-    // The number of parameters and quotients in scope.
-    pub(crate) fn scope(&self) -> usize
+    /// The number of parameters and quotients in scope.
+    pub fn scope(&self) -> usize
         ensures { result ≡ self.now.scope }
     {
         self.scope
     }
 
-    // The number of forms.
-    pub(crate) fn len(&self) -> usize
+    /// The number of forms.
+    pub fn len(&self) -> usize
         ensures value { result ≡ length self.now.forms }
         ensures within { All (λ c. length c ≤ self.now.scope + 1) self.now.forms }
     {
         self.forms.len()
     }
 
-    // The forms in order.
-    pub(crate) fn as_slice(&self) -> &[Form]
+    /// The forms in order.
+    pub fn as_slice(&self) -> &[Form]
         ensures value { result.now ≡ self.now.forms }
         ensures within { All (λ c. length c ≤ self.now.scope + 1) self.now.forms }
     {
@@ -117,8 +117,8 @@ impl Path {
         self.scope += 1;
     }
 
-    // Goes on to the first tree of a choice.
-    pub(crate) fn push(&mut self, alloc: Global, form: &Form) -> Result<(), WantOfMemory>
+    /// Goes on to the first tree of a choice.
+    pub fn push(&mut self, alloc: Global, form: &Form) -> Result<(), WantOfMemory>
         requires { length form.now ≡ self.old.scope + 1 }
         ensures { OnOk result (self.new ≡ record self.old { forms = self.old.forms ++ form.now ∷ [] }) }
     {
@@ -126,8 +126,8 @@ impl Path {
         self.put(form)
     }
 
-    // Goes on to the second tree of a choice.
-    pub(crate) fn push_opposite(&mut self, alloc: Global, form: &Form) -> Result<(), FormRefusal>
+    /// Goes on to the second tree of a choice.
+    pub fn push_opposite(&mut self, alloc: Global, form: &Form) -> Result<(), FormRefusal>
         requires { length form.now ≡ self.old.scope + 1 }
         ensures listed { IsChecked is_form_overflow (opposite_listed form.now) result }
         ensures ok { OnOk result (self.new ≡ record self.old { forms = self.old.forms ++ opposite form.now ∷ [] }) }
@@ -137,13 +137,8 @@ impl Path {
         Ok(())
     }
 
-    // Goes on below the definition of a quotient, with its two bounds.
-    pub(crate) fn push_bounds(
-        &mut self,
-        alloc: Global,
-        form: &Form,
-        d: i128,
-    ) -> Result<(), FormRefusal>
+    /// Goes on below the definition of a quotient, with its two bounds.
+    pub fn push_bounds(&mut self, alloc: Global, form: &Form, d: i128) -> Result<(), FormRefusal>
         requires width { length form.now ≡ self.old.scope + 1 }
         requires room { self.old.scope + 1 < 2 ^ 64 }
         requires divisor { pos 1 ≤ℤ d }
@@ -165,8 +160,8 @@ impl Path {
         Ok(())
     }
 
-    // Goes back to a node with this scope, whose path has n forms.
-    pub(crate) fn go_back(&mut self, scope: usize, n: usize)
+    /// Goes back to a node with this scope, whose path has n forms.
+    pub fn go_back(&mut self, scope: usize, n: usize)
         requires { All (λ c. length c ≤ scope + 1) (take n self.old.forms) }
         ensures { self.new ≡ record { scope = scope; forms = take n self.old.forms } }
     {

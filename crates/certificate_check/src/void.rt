@@ -10,8 +10,8 @@ use leaf_certificate::LeafProofs;
 use pip_problem::Problem;
 use std::alloc::Global;
 
-// The forms that the refutation of `void` starts from: the parameters, the context rows.
-fn void_forms(alloc: Global, problem: &Problem) -> Result<Known, WantOfMemory>
+/// The forms that the refutation of `void` starts from: the parameters, the context rows.
+pub fn void_forms(alloc: Global, problem: &Problem) -> Result<Known, WantOfMemory>
     ensures { IfOk result (λ k. k ≡ record {
       width = problem.now.params;
       forms = (model.void_forms problem.now).known;

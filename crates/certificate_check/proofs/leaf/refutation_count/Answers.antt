@@ -1,7 +1,7 @@
 use Rattle.std.proofs.Common.{◌≡◌, ap, arith, rules, length}
 use Rattle.std.specs.Prelude.{option_copied}
 use Rattle.certificate_check.proofs.Owned.{goals_of_list}
-use Rattle.certificate_check.proofs.leaf.goals.Goals as goal
+use Rattle.certificate_check.proofs.leaf.refutation_count.Goals as goal
 
 pub returns-in-Some : goal.returns-in-Some
 returns-in-Some c =

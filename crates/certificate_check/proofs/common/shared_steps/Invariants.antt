@@ -1,0 +1,12 @@
+use Rattle.std.proofs.Common.{◌≡◌, ◌<◌, drop, map, length}
+use Rattle.pip_model.specs.Share.{shared_by}
+use Rattle.certificate_check.specs.Sharing.{sized}
+use Rattle.certificate_check.proofs.common.shared_steps.Given as goal
+
+abbrev pub invariant-loop-r : goal.invariant-loop-r
+invariant-loop-r l =
+    (l.shared.items ≡ shared_by l.leaf (drop l.r (map sized l.sizes)) (drop l.r l.refutations))
+    × (l.r < length l.refutations)
+
+abbrev pub decreases-loop-r : goal.decreases-loop-r
+decreases-loop-r l = l.r
