@@ -1,10 +1,10 @@
 -- A component is in lowest terms: divided by their greatest common divisor its parts are the same.
-use Rattle.std.proofs.Common.{◌≡◌, ap, ap₂, ◌∙◌, refl, ℕ, ◌+◌, ℤ, pos, ◌≤ℤ◌, arith, List, int_le, ◌&&◌, IsTrue}
+use Rattle.std.proofs.Common.{◌≡◌, ap, ap₂, ◌∙◌, ℕ, ℤ, pos, ◌≤ℤ◌, arith, List, int_le}
 use Rattle.std.proofs.lemmas.Int.{ints}
 use Rattle.pip_model.specs.Numbers.{fits, floor_div, gcd, gcd_of, same_number}
 use Rattle.pip_model.specs.Forms.{floor_divided}
 use Rattle.pip_model.specs.Listed.{all_fit}
-use Rattle.pip_model.specs.Tree.{Component, reduced, is_form, is_component}
+use Rattle.pip_model.specs.Tree.{Component, reduced, is_form}
 use Rattle.pip_model.proofs.Tests.{three, both, same_number_is, one_at_least}
 use Rattle.pip_model.proofs.Gcd.{div_one, floor_divided_one}
 use Rattle.affine_rows.specs.Checks.{Fits}

@@ -1,5 +1,5 @@
 -- The widths of a new parameter's bounds, and those of trees and their forms.
-use Rattle.std.proofs.Common.{◌≡◌, ◌∙◌, ap, ℕ, suc, ◌+◌, ◌≤◌, arith, ℤ, List, length}
+use Rattle.std.proofs.Common.{◌≡◌, ap, ℕ, ◌+◌, ◌≤◌, arith, ℤ, List, length}
 use Rattle.pip_model.specs.Cuts.{Quotient, lower_bound, upper_bound}
 use Rattle.pip_model.proofs.Bounds.{length-bounds}
 

@@ -1,12 +1,9 @@
 -- The steps of a walk, from what the calls at a node answered: a part that stops a walk stops it, and after one that is made the walk goes on.
-use Rattle.std.proofs.Common.{◌≡◌, ◌∙◌, ap, sym, subst, refl, ℕ, ◌+◌, ◌≤◌, arith, List, [], ◌∷◌, ◌++◌, length, take, append_assoc, length-append, ℤ, Option, Some, None, Result, Ok, Err, IsTrue, IsFalse}
+use Rattle.std.proofs.Common.{◌≡◌, ◌∙◌, ap, subst, refl, ℕ, ◌+◌, arith, List, [], ◌∷◌, ℤ, Option, Some, None, Result}
 use Rattle.std.specs.Prelude.{IfSome}
-use Rattle.pip_model.specs.Forms.{opposite}
-use Rattle.pip_model.specs.Contexts.{IsContext}
-use Rattle.pip_model.specs.Tree.{Tree, If, NewParm}
 use Rattle.pip_model.specs.Cuts.{Quotient}
-use Rattle.pip_model.specs.Run.{Work, Class, Plus, Minus, Unknown, class, listed}
-use Rattle.pip_model.specs.Walks.{ToolRefusal, Walked, Made, Stopped, Walking, walk_on, ◌>>=◌, ◌>>◌, make, by_run, Visit, where_holds, below, below_listed, Walker, by_class, not_negative, walk}
+use Rattle.pip_model.specs.Run.{Work}
+use Rattle.pip_model.specs.Walks.{ToolRefusal, Walked, Made, Stopped, Walking, walk_on, ◌>>=◌, where_holds, below}
 use Rattle.pip_model.specs.ToolAgreement.{AgreesWalked}
 use Rattle.context.specs.Scoped.{ScopedForms, IsKeptContext}
 use Rattle.quast_tools.specs.Visits.{visit_of, IsUnder, IsBelow, IsGrown}

@@ -1,2 +1,5 @@
 pub mod Faults
 pub mod Visits
+pub mod Readings
+pub mod Searches
+pub mod Samenesses

@@ -1,13 +1,11 @@
 -- Where a walk stands: its context in memory.
-use Rattle.std.specs.Prelude.{◌≡◌, ℕ, ◌+◌, ◌≤◌, ℤ, List, [], ◌∷◌, ◌++◌, length, ⊤}
+use Rattle.std.specs.Prelude.{◌≡◌, ℕ, ◌+◌, ◌≤◌, ℤ, List, [], ◌∷◌, ◌++◌, length}
 use Rattle.pip_model.specs.Contexts.{IsContext}
 use Rattle.pip_model.specs.Cuts.{Quotient, lower_bound, upper_bound}
-use Rattle.pip_model.specs.Tree.{Tree, nesting}
+use Rattle.pip_model.specs.Tree.{Tree}
 use Rattle.pip_model.specs.Run.{class}
 use Rattle.pip_model.specs.Walks.{Walking, ◌>>=◌, by_run, not_negative, Visit}
 use Rattle.quast.specs.Trees.{ScopedTree}
-use Rattle.quast.specs.declared.answer.Answer.{Answer}
-use Rattle.quast.specs.declared.answer.Answer.TheVariants as answer
 use Rattle.context.specs.Scoped.{ScopedForms}
 use Rattle.context.specs.declared.context.ContextMark.{ContextMark}
 
@@ -46,8 +44,3 @@ pub record IsMarked (before : ScopedForms) (mark : ContextMark) : Type 0 where
   pub forms : mark.forms ≡ length before.forms
   pub width : mark.width ≡ before.width
   pub narrow : IsContext before.width before.forms
-
--- no path of the answer's tree has more than n if and newparm nodes
-abbrev pub IsNested : Answer → ℕ → Type 0
-IsNested answer.Void n = ⊤
-IsNested (answer.Tree q) n = nesting q.tree ≤ n

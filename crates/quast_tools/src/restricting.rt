@@ -14,11 +14,11 @@ ghost use Rattle.context.specs.Scoped.{IsKeptContext};
 ghost use Rattle.quast.specs.Answers.{answer_of, IsOver};
 ghost use Rattle.quast.specs.Trees.{tree_of};
 ghost use Rattle.quast_tools.specs.Faults.{tool_fault};
-ghost use Rattle.quast_tools.specs.Visits.{visit_of, tree_in, IsNested};
+ghost use Rattle.quast_tools.specs.Visits.{visit_of, tree_in};
 
 use crate::lists::copies;
 use crate::refusal::ToolRefusal;
-use crate::starting::{context_of, point};
+use crate::starting::{context_of, levels, point};
 use crate::steps::{check_sign, enter, go_below, leave, mark, opposite, sign};
 use affine_rows::{Form, Forms};
 use context::{Context, Work};
@@ -118,21 +118,6 @@ fn restrict_tree(
 {
     let made = restrict_node(alloc, tree.root(), context, work)?;
     Ok(made)
-}
-
-// The most nodes that choose or define on a path of the answer.
-fn levels(answer: &Answer) -> usize
-    ensures few { result ≤ most_nesting }
-    ensures nesting { IsNested answer.now result }
-    ensures formed { (w : ℕ) → IsOver w answer.now → IsWellFormedAnswer w (answer_of answer.now) }
-{
-    match answer {
-        Answer::Void => 0,
-        Answer::Tree(tree) => {
-            let _ = tree.root();
-            tree.nesting()
-        }
-    }
 }
 
 // The answer on the rows, after what was counted.

@@ -1,12 +1,17 @@
-ghost use Rattle.std.specs.Prelude.{◌≡◌, ◌+◌, ◌*◌, ◌≤◌, IfOk};
+ghost use Rattle.std.specs.Prelude.{◌≡◌, ℕ, ◌+◌, ◌*◌, ◌≤◌, length, IfOk, IfSome};
+ghost use Rattle.pip_model.specs.Limits.{most_nesting};
 ghost use Rattle.pip_model.specs.Run.{point as point_of};
 ghost use Rattle.pip_model.specs.ToolAgreement.{AgreesWalked};
 ghost use Rattle.pip_model.specs.Walks.{by_run};
+ghost use Rattle.pip_model.specs.WellFormed.{IsWellFormedAnswer};
+ghost use Rattle.quast.specs.Answers.{answer_of, IsOver};
 ghost use Rattle.quast_tools.specs.Faults.{tool_fault};
+ghost use Rattle.quast_tools.specs.Readings.{answer_nesting};
 
 use crate::refusal::ToolRefusal;
 use affine_rows::{Forms, WantOfMemory};
 use context::{Context, Point, Work};
+use quast::Answer;
 use std::alloc::Global;
 
 // The context of the rows, with room for two more forms at each of so many levels.
@@ -15,7 +20,7 @@ pub(crate) fn context_of(
     rows: &Forms,
     levels: usize,
 ) -> Result<Context, WantOfMemory>
-    requires { levels ≤ 400 }
+    requires { levels ≤ 2 * most_nesting + 1 }
     ensures width { IfOk result (λ k. k.width ≡ rows.now.width) }
     ensures forms { IfOk result (λ k. k.forms ≡ rows.now.forms) }
     ensures room { IfOk result (λ k. 2 * levels ≤ k.spare) }
@@ -39,7 +44,23 @@ pub(crate) fn point(
     ensures gives { AgreesWalked (λ o. o) tool_fault result work.new
         (by_run (point_of context.now.width context.now.forms) work.old) }
     ensures budget { work.new.budget ≡ work.old.budget }
+    ensures width { IfOk result (λ o. IfSome o (λ p. length p ≡ context.now.width)) }
 {
     let found = context.point(alloc, work)?;
     Ok(found)
+}
+
+// The most nodes that choose or define on a path of the answer.
+pub(crate) fn levels(answer: &Answer) -> usize
+    ensures few { result ≤ most_nesting }
+    ensures nesting { answer_nesting answer.now ≤ result }
+    ensures formed { (w : ℕ) → IsOver w answer.now → IsWellFormedAnswer w (answer_of answer.now) }
+{
+    match answer {
+        Answer::Void => 0,
+        Answer::Tree(tree) => {
+            let _ = tree.root();
+            tree.nesting()
+        }
+    }
 }

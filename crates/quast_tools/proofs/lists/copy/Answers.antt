@@ -1,4 +1,4 @@
-use Rattle.std.proofs.Common.{◌≡◌, arith}
+use Rattle.std.proofs.Common.{arith}
 use Rattle.std.proofs.lemmas.Grind.{common_steps}
 use Rattle.quast_tools.proofs.Lowest.{reduced_same}
 use Rattle.quast_tools.proofs.lists.copy.Goals as goal

@@ -1,8 +1,9 @@
-use Rattle.std.proofs.Common.{◌≡◌, ◌+◌, subst, rules, ℕ, ℤ, IsTrue, IsFalse, to_z, of_z}
+use Rattle.std.proofs.Common.{◌≡◌, ◌+◌, subst, refl, rules, ℕ, ℤ, IsTrue, IsFalse, to_z, of_z}
 use Rattle.std.specs.Int.{w128}
 use Rattle.std.proofs.lemmas.Result.{err_from_is_err_and}
 use Rattle.pip_model.specs.Listed.{all_fit}
 use Rattle.pip_model.specs.Tree.{NewParm}
+use Rattle.pip_model.specs.Tools.{restricting}
 use Rattle.pip_model.specs.Walks.{Made, below_listed}
 use Rattle.affine_rows.specs.Checks.{is_form_overflow}
 use Rattle.quast.specs.Trees.{tree_of}
@@ -20,7 +21,7 @@ restrict_node-returns-in_err-go_below-in-Define-clause-gives t c =
     let unfit : (depth : ℕ) → IsTrue (is_form_overflow c.in_err-go_below-in-Define.field-0.0) → IsFalse (all_fit (below_listed (visit_of c.check_sign.new.context depth) (quotient c.in-Define.form c.in-Define.den))) =
     λ depth. subst (λ (d : ℤ). IsTrue (is_form_overflow c.in_err-go_below-in-Define.field-0.0) → IsFalse (all_fit (below_listed (visit_of c.check_sign.new.context depth) (quotient c.in-Define.form d)))) den (c.in_err-go_below-in-Define.ensures.listed depth) in
     let p = err_from_is_err_and c.from_residual-in_err-go_below-in-Define.result c.from_residual-in_err-go_below-in-Define.ensures.1 in
-    rw p.1 (λ depth. define_unfit c.args.context.now c.check_sign.new.context (search rules) c.in-Define.form c.in-Define.den (tree_of c.args.node.now) (tree_of c.in-Define.below.value) is c.args.work.now c.check_sign.new.work signed depth c.in_err-go_below-in-Define.field-0.0 p.0 p.2 (unfit depth))
+    rw p.1 (λ depth. define_unfit restricting c.args.context.now c.check_sign.new.context (search rules) c.in-Define.form c.in-Define.den (tree_of c.args.node.now) (tree_of c.in-Define.below.value) is c.args.work.now c.check_sign.new.work signed depth refl c.in_err-go_below-in-Define.field-0.0 p.0 p.2 (unfit depth))
 
 pub restrict_node-returns-in_err-inner-in-Define-clause-gives : goal.restrict_node-returns-in_err-inner-in-Define-clause-gives
 restrict_node-returns-in_err-inner-in-Define-clause-gives t c =
@@ -31,7 +32,7 @@ restrict_node-returns-in_err-inner-in-Define-clause-gives t c =
     let fit : (depth : ℕ) → IsTrue (all_fit (below_listed (visit_of c.check_sign.new.context depth) (quotient c.in-Define.form c.in-Define.den))) =
     λ depth. subst (λ (d : ℤ). IsTrue (all_fit (below_listed (visit_of c.check_sign.new.context depth) (quotient c.in-Define.form d)))) den (c.in_ok-go_below-in-Define.ensures.listed depth) in
     let p = err_from_is_err_and c.from_residual-in_err-inner-in-Define.result c.from_residual-in_err-inner-in-Define.ensures.1 in
-    rw (p.1, p.2) (λ depth. define_stops c.args.context.now c.check_sign.new.context (search rules) c.in-Define.form c.in-Define.den (tree_of c.args.node.now) (tree_of c.deref-in-Define.result.now) is c.args.work.now c.check_sign.new.work signed depth c.go_below.new.context under (fit depth) c.restrict_node-in-Define.new.work (tool_fault c.in_err-inner-in-Define.field-0.0) (c.in_err-inner-in-Define.ensures.gives (depth + 1)))
+    rw (p.1, p.2) (λ depth. define_stops restricting c.args.context.now c.check_sign.new.context (search rules) c.in-Define.form c.in-Define.den (tree_of c.args.node.now) (tree_of c.deref-in-Define.result.now) is c.args.work.now c.check_sign.new.work signed depth refl c.go_below.new.context under (fit depth) c.restrict_node-in-Define.new.work (tool_fault c.in_err-inner-in-Define.field-0.0) (c.in_err-inner-in-Define.ensures.gives (depth + 1)))
 
 pub restrict_node-returns-in_ok-made-in-Define-clause-gives : goal.restrict_node-returns-in_ok-made-in-Define-clause-gives
 restrict_node-returns-in_ok-made-in-Define-clause-gives t c =
@@ -42,4 +43,4 @@ restrict_node-returns-in_ok-made-in-Define-clause-gives t c =
     let fit : (depth : ℕ) → IsTrue (all_fit (below_listed (visit_of c.check_sign.new.context depth) (quotient c.in-Define.form c.in-Define.den))) =
     λ depth. subst (λ (d : ℤ). IsTrue (all_fit (below_listed (visit_of c.check_sign.new.context depth) (quotient c.in-Define.form d)))) den (c.in_ok-go_below-in-Define.ensures.listed depth) in
     let tree : c.in_ok-made-in-Define.made.tree ≡ NewParm c.in-Define.form c.in-Define.den c.in_ok-inner-in-Define.inner.tree = search rules in
-    rw tree (λ depth. define_made c.args.context.now c.check_sign.new.context (search rules) c.in-Define.form c.in-Define.den (tree_of c.args.node.now) (tree_of c.deref-in-Define.result.now) is c.args.work.now c.check_sign.new.work signed depth c.go_below.new.context under (fit depth) c.restrict_node-in-Define.new.work c.in_ok-inner-in-Define.inner.tree (c.in_ok-inner-in-Define.ensures.gives (depth + 1)))
+    rw tree (λ depth. define_made restricting c.args.context.now c.check_sign.new.context (search rules) c.in-Define.form c.in-Define.den (tree_of c.args.node.now) (tree_of c.deref-in-Define.result.now) is c.args.work.now c.check_sign.new.work signed depth refl c.go_below.new.context under (fit depth) c.restrict_node-in-Define.new.work c.in_ok-inner-in-Define.inner.tree (c.in_ok-inner-in-Define.ensures.gives (depth + 1)))

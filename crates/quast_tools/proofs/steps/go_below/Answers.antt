@@ -1,4 +1,4 @@
-use Rattle.std.proofs.Common.{◌≡◌, ap, arith, rules, ◌+◌, ◌-◌, ◌≤◌, ℤ, List, length}
+use Rattle.std.proofs.Common.{◌≡◌, arith, rules, ◌-◌, length}
 use Rattle.pip_model.specs.Cuts.{lower_bound, upper_bound}
 use Rattle.quast_tools.proofs.Narrow.{lower_long, upper_long, quotient}
 use Rattle.quast_tools.proofs.steps.go_below.Goals as goal

@@ -1,0 +1,19 @@
+-- The numbers of a context's point.
+use Rattle.std.proofs.Common.{◌≡◌, ℕ, ◌==◌, List, ℤ, Option, Some, None, length, map, eqb-true}
+use Rattle.std.specs.Prelude.{IfSome}
+use Rattle.std.specs.List.{list_all}
+use Rattle.pip_model.specs.Contexts.{PointTells}
+use Rattle.pip_model.specs.Forms.{widen_to}
+use Rattle.pip_model.specs.Problem.{is_vector, all_nonneg}
+use Rattle.pip_model.specs.Numbers.{is_nonneg}
+use Rattle.pip_model.proofs.Tests.{both}
+
+-- it has one for each place
+abbrev pub HasPlaces : ℕ → Option (List ℤ) → Type 0
+HasPlaces w o = IfSome o (λ p. length p ≡ w)
+
+pub point_places : (w : ℕ) (K : List (List ℤ)) (o : Option (List ℤ)) → PointTells w K o → HasPlaces w o
+point_places w K None h = tt
+point_places w K (Some p) h =
+    let vector = (both (is_vector w p) (all_nonneg (map (widen_to w) K) p) h).0 in
+    eqb-true (length p) w (both (length p == w) (list_all is_nonneg p) vector).0

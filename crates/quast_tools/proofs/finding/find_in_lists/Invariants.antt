@@ -1,0 +1,10 @@
+use Rattle.std.proofs.Common.{◌≡◌, ℕ, drop}
+use Rattle.pip_model.specs.Tools.{same_lists}
+use Rattle.context.specs.Scoped.{IsKeptContext}
+use Rattle.quast_tools.specs.Visits.{visit_of}
+use Rattle.quast_tools.proofs.finding.find_in_lists.Given as goal
+
+abbrev pub invariant-loop-i : goal.invariant-loop-i
+invariant-loop-i l =
+    ((depth : ℕ) → same_lists l.reading.parameters (visit_of l.initial.context depth) l.first l.second l.initial.work ≡ same_lists l.reading.parameters (visit_of l.initial.context depth) (drop l.i l.first) (drop l.i l.second) l.work)
+    × IsKeptContext l.initial.context l.context

@@ -1,0 +1,51 @@
+-- The parts of a walk that looks for a difference.
+use Rattle.std.specs.Prelude.{◌≡◌, ℕ, ◌++◌, ℤ, pos, negsuc, ◌-ℤ◌, List, [], ◌∷◌, length, Option, Some, None, ⊤}
+use Rattle.pip_model.specs.Forms.{constant, plus, opposite}
+use Rattle.pip_model.specs.Listed.{opposite_listed}
+use Rattle.pip_model.specs.Tree.{Tree, Component, Solved}
+use Rattle.pip_model.specs.Run.{point, listed}
+use Rattle.pip_model.specs.Walks.{Walking, ◌>>=◌, ◌>>◌, make, by_run, Visit}
+use Rattle.pip_model.specs.Tools.{difference, difference_listed, first_numbers, same_leaves, same_second}
+use Rattle.quast.specs.Answers.{answer_of}
+use Rattle.quast_tools.specs.declared.reading.AtLeaf.{AtLeaf}
+use Rattle.quast_tools.specs.declared.reading.AtLeaf.TheVariants as at
+use Rattle.quast_tools.specs.Readings.{leaf_answer}
+
+-- the context's point where c is at least 0, cut to m numbers
+abbrev pub point_where : ℕ → Visit → List ℤ → Walking (Option (List ℤ))
+point_where m h c = do
+  some ← by_run (point h.places (h.context ++ c ∷ []))
+  make (first_numbers m some)
+
+-- such a point where e is at least 1; where it is at most -1
+abbrev pub point_above : ℕ → Visit → List ℤ → Walking (Option (List ℤ))
+point_above m h e = do
+  by_run (listed ((constant e -ℤ pos 1) ∷ []))
+  point_where m h (plus e (negsuc 0))
+
+abbrev pub point_below : ℕ → Visit → List ℤ → Walking (Option (List ℤ))
+point_below m h e = do
+  by_run (listed (opposite_listed e))
+  point_where m h (opposite e)
+
+-- the point that was found, else what comes next
+abbrev pub found_or : Option (List ℤ) → Walking (Option (List ℤ)) → Walking (Option (List ℤ))
+found_or None next = next
+found_or (Some p) next = make (Some p)
+
+-- where two components differ
+abbrev pub same_component : ℕ → Visit → Component → Component → Walking (Option (List ℤ))
+same_component m h c d = do
+  by_run (listed (difference_listed c d))
+  above ← point_above m h (difference c d)
+  found_or above (point_below m h (difference c d))
+
+-- what is done at a leaf of a tree: the second answer is walked, or a leaf of the first is met
+abbrev pub searched : ℕ → AtLeaf → Visit → Tree → Walking (Option (List ℤ))
+searched m (at.Second b) h t = same_second m (Solved t) h (answer_of b.now)
+searched m (at.Meet l) h t = same_leaves m h (leaf_answer l) (Solved t)
+
+-- a point that was found has m numbers
+abbrev pub HasNumbers : ℕ → Option (List ℤ) → Type 0
+HasNumbers m None = ⊤
+HasNumbers m (Some p) = length p ≡ m

@@ -1,0 +1,78 @@
+ghost use Rattle.std.specs.Prelude.{◌≡◌, ℕ, ◌≤◌, IsTrue, IfOk};
+ghost use Rattle.pip_model.specs.ToolAgreement.{AgreesWalked};
+ghost use Rattle.pip_model.specs.Tools.{same_leaves, spread_tree};
+ghost use Rattle.pip_model.specs.Tree as model;
+ghost use Rattle.pip_model.specs.Tree.{is_scoped};
+ghost use Rattle.context.specs.Scoped.{IsKeptContext};
+ghost use Rattle.quast_tools.specs.Faults.{tool_fault};
+ghost use Rattle.quast_tools.specs.Readings.{leaf_answer, leaf_tree, spread_answer, IsListWithin, IsWithin};
+ghost use Rattle.quast_tools.specs.Searches.{HasNumbers};
+ghost use Rattle.quast_tools.specs.Visits.{visit_of};
+
+use crate::finding::{find_here, find_in_lists};
+use crate::reading::{Leaf, Reading};
+use crate::refusal::ToolRefusal;
+use crate::spreading::{spread_list, widened_list};
+use context::{Context, Point, Work};
+use quast::Component;
+
+// The first point at which two lists differ: a list of the first tree, over no more places, and one of the second.
+fn find_between(
+    reading: &Reading,
+    first: &[Component],
+    second: &[Component],
+    context: &mut Context,
+    work: &mut Work,
+) -> Result<Option<Point>, ToolRefusal>
+    requires few { reading.now.parameters ≤ context.old.width }
+    requires first { IsListWithin context.old.width first.now }
+    requires second { IsTrue (is_scoped context.old.width
+        (spread_tree reading.now.parameters reading.now.between (model.Leaf second.now))) }
+    requires room { 1 ≤ context.old.spare }
+    ensures gives { (depth : ℕ) → AgreesWalked (λ o. o) tool_fault result work.new
+        (same_leaves reading.now.parameters (visit_of context.old depth) (model.Solved (model.Leaf first.now))
+        (model.Solved (spread_tree reading.now.parameters reading.now.between (model.Leaf second.now))) work.old) }
+    ensures kept { IfOk result (λ o. IsKeptContext context.old context.new) }
+    ensures numbers { IfOk result (HasNumbers reading.now.parameters) }
+{
+    if first.len() != second.len() {
+        return find_here(reading, context, work);
+    }
+    let wide = widened_list(reading.alloc, first, context.mark().width)?;
+    let other = spread_list(reading.alloc, second, reading.parameters, reading.between)?;
+    find_in_lists(reading, &wide, &other, context, work)
+}
+
+// The first point at which two leaves differ. Two of different kinds differ everywhere.
+pub(crate) fn find_at_leaves(
+    reading: &Reading,
+    first: Leaf,
+    second: Leaf,
+    context: &mut Context,
+    work: &mut Work,
+) -> Result<Option<Point>, ToolRefusal>
+    requires few { reading.now.parameters ≤ context.old.width }
+    requires first { IsWithin context.old.width first }
+    requires second { IsTrue (is_scoped context.old.width
+        (spread_tree reading.now.parameters reading.now.between (leaf_tree second))) }
+    requires room { 1 ≤ context.old.spare }
+    ensures gives { (depth : ℕ) → AgreesWalked (λ o. o) tool_fault result work.new
+        (same_leaves reading.now.parameters (visit_of context.old depth) (leaf_answer first.entry)
+        (spread_answer reading.now.parameters reading.now.between (leaf_answer second.entry)) work.old) }
+    ensures kept { IfOk result (λ o. IsKeptContext context.old context.new) }
+    ensures numbers { IfOk result (HasNumbers reading.now.parameters) }
+{
+    match (first, second) {
+        (Leaf::Void, Leaf::Void) => Ok(None),
+        (Leaf::Bottom, Leaf::Bottom) => Ok(None),
+        (Leaf::List(first), Leaf::List(second)) => find_between(
+            reading, first, second, context, work,
+        ),
+        (Leaf::Void, Leaf::Bottom) => find_here(reading, context, work),
+        (Leaf::Void, Leaf::List(_)) => find_here(reading, context, work),
+        (Leaf::Bottom, Leaf::Void) => find_here(reading, context, work),
+        (Leaf::Bottom, Leaf::List(_)) => find_here(reading, context, work),
+        (Leaf::List(_), Leaf::Void) => find_here(reading, context, work),
+        (Leaf::List(_), Leaf::Bottom) => find_here(reading, context, work),
+    }
+}

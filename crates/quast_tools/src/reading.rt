@@ -1,0 +1,28 @@
+use quast::{Answer, Component};
+use std::alloc::Global;
+
+// A leaf of an answer: `void`, a bottom, or a list.
+#[derive(Clone, Copy)]
+pub(crate) enum Leaf<'t> {
+    Void,
+    Bottom,
+    List(&'t [Component]),
+}
+
+// What is done at the leaves of a tree: the second answer is walked from each, or a leaf of the first is met.
+#[derive(Clone, Copy)]
+pub(crate) enum AtLeaf<'t> {
+    Second(&'t Answer),
+    Meet(Leaf<'t>),
+}
+
+// How a tree is read: the number of its parameters, the number of places that stand between these and its own new
+// parameters, what is done at its leaves, and how many nodes are above it in the tree that is made, if one is.
+#[derive(Clone, Copy)]
+pub(crate) struct Reading<'t> {
+    pub alloc: Global,
+    pub parameters: usize,
+    pub between: usize,
+    pub at_leaf: AtLeaf<'t>,
+    pub depth: u64,
+}
