@@ -29,6 +29,3 @@ pub use std_source::StdSource;
 pub use steady_sink::SteadySink;
 pub use steady_source::SteadySource;
 pub use window::{FillRefusal, Window};
-
-#[cfg(test)]
-mod tests;

@@ -7,8 +7,6 @@ mod limits;
 mod problem;
 mod reading;
 mod refusal;
-#[cfg(test)]
-mod tests;
 
 pub use affine_rows::{Bytes, MOST_PARAMETERS};
 pub use feasible::is_feasible;

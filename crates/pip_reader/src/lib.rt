@@ -8,8 +8,6 @@ mod header;
 mod problem;
 mod row;
 mod scan;
-#[cfg(test)]
-mod tests;
 
 pub use context::read_context;
 pub use problem::read_problem;

@@ -7,8 +7,6 @@ mod number;
 mod option;
 mod problem;
 mod row;
-#[cfg(test)]
-mod tests;
 mod word;
 
 pub use problem::read_matrices;

@@ -7,8 +7,6 @@ mod component;
 mod node;
 mod place;
 mod quast;
-#[cfg(test)]
-mod tests;
 
 pub use answer::Answer;
 pub use component::{Component, Components};

@@ -6,6 +6,3 @@ mod simplifier;
 mod unused;
 
 pub use simplifier::{simplify, simplify_answer};
-
-#[cfg(test)]
-mod tests;

@@ -6,8 +6,6 @@ mod fault;
 mod groups;
 mod lists;
 mod steps;
-#[cfg(test)]
-mod tests;
 
 pub use fault::{Reads, TextFault};
 pub use groups::group;

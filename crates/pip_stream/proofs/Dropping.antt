@@ -1,0 +1,105 @@
+-- Bytes that are dropped, and bytes that come: what is told of the input through each step.
+use Rattle.std.proofs.Common.{◌≡◌, refl, sym, ap, subst, ◌∙◌, ℕ, ◌+◌, ◌-◌, arith, List, ◌++◌, append_assoc, length, Bool, true, length-append, length-drop, take, drop}
+use Rattle.std.proofs.Math.Seq.{take-add}
+use Rattle.std.proofs.lemmas.List.{drop-drop, drop-append-le, take-append-le}
+use Rattle.std.proofs.lemmas.List.Folds.{list_all-append}
+use Rattle.std.specs.Prelude.{Option, Some, None, IfSome}
+use Rattle.std.specs.List.{list_all}
+use Rattle.std.specs.Io.KnownBytes.{Consumes, Keeps}
+use Rattle.pip_outside.specs.Windows.{HeldBytes}
+use Rattle.pip_model.specs.Moved.{is_closed}
+use Rattle.pip_stream.specs.Windows.{taken_by, bytes_from, Drops, Skips, Grows}
+use Rattle.pip_stream.specs.Open.{DropsClosed}
+
+abbrev Bytes : Type 0
+Bytes = List ℕ
+
+if-some : {X : Type 0} (P : X → Type 0) (o : Option X) (x : X) → o ≡ Some x → IfSome o P → P x
+if-some P (Some y) x e h = let same : y ≡ x = cc in subst P same h
+if-some P None x e h = absurd cc
+
+-- ---- a step that drops nothing
+
+pub drops-none : (w : HeldBytes) (left : Bytes) (o : Option Bytes) → o ≡ Some left → Drops w left w o 0
+drops-none w left o e = record { few = omega arith; base = omega arith; left_now = left; told = e; rest = refl }
+
+pub kept-drops : (w : HeldBytes) (o m : Option Bytes) → Keeps o m → IfSome o (λ left. Drops w left w m 0)
+kept-drops w None m h = tt
+kept-drops w (Some xs) None h = absurd h
+kept-drops w (Some xs) (Some ys) h = drops-none w xs (Some ys) (ap Some h)
+
+-- what comes is held
+pub grown-drops : (a b : HeldBytes) (n : ℕ) (o m : Option Bytes) (g : Grows a b n) → Consumes o m g.piece → IfSome o (λ left. Drops a left b m 0)
+grown-drops a b n None m g h = tt
+grown-drops a b n (Some xs) None g h = absurd h
+grown-drops a b n (Some xs) (Some ys) g h = record {
+  few = omega arith;
+  base = g.base ∙ omega arith;
+  left_now = ys;
+  told = refl;
+  rest = ap (λ s. s ++ ys) g.held ∙ append_assoc a.held g.piece ys ∙ ap (λ s. a.held ++ s) (sym h);
+}
+
+-- ---- one step after the other
+
+drops-then : (a b c : HeldBytes) (left : Bytes) (o m : Option Bytes) (n k : ℕ) (d : Drops a left b o n) → Drops b d.left_now c m k → Drops a left c m (n + k)
+drops-then a b c left o m n k d e =
+    let size : length (bytes_from b d.left_now) ≡ length (bytes_from a left) - n = ap length d.rest ∙ length-drop n (bytes_from a left) in
+    record {
+      few = omega (arith, size, d.few, e.few);
+      base = omega (arith, d.base, e.base);
+      left_now = e.left_now;
+      told = e.told;
+      rest = e.rest ∙ ap (drop k) d.rest ∙ drop-drop k n (bytes_from a left) ∙ ap (λ i. drop i (bytes_from a left)) (omega arith);
+    }
+
+pub drops-drops : (a b c : HeldBytes) (o m l : Option Bytes) → IfSome o (λ left. Drops a left b m 0) → IfSome m (λ left. Drops b left c l 0) → IfSome o (λ left. Drops a left c l 0)
+drops-drops a b c None m l h k = tt
+drops-drops a b c (Some left) m l h k = drops-then a b c left m l 0 0 h (if-some (λ x. Drops b x c l 0) m h.left_now h.told k)
+
+pub skips-nothing : (w : HeldBytes) (o : Option Bytes) → IfSome o (λ left. Skips w left w o)
+skips-nothing w None = tt
+skips-nothing w (Some left) = record { count = 0; drops = drops-none w left (Some left) refl; closed = refl }
+
+skipped : (a b c : HeldBytes) (left : Bytes) (m l : Option Bytes) (s : Skips a left b m) (k : ℕ) → Drops b s.drops.left_now c l k → list_all is_closed (take k (bytes_from b s.drops.left_now)) ≡ true → Skips a left c l
+skipped a b c left m l s k d h =
+    let all : take (s.count + k) (bytes_from a left) ≡ take s.count (bytes_from a left) ++ take k (bytes_from b s.drops.left_now) =
+    take-add s.count k (bytes_from a left) ∙ ap (λ x. take s.count (bytes_from a left) ++ take k x) (sym s.drops.rest) in
+    record {
+      count = s.count + k;
+      drops = drops-then a b c left m l s.count k s.drops d;
+      closed = ap (list_all is_closed) all ∙ list_all-append is_closed (take s.count (bytes_from a left)) (take k (bytes_from b s.drops.left_now)) ∙ rw (s.closed, h) refl;
+    }
+
+-- more bytes come, none is dropped
+pub skips-more : (a b c : HeldBytes) (o m l : Option Bytes) → IfSome o (λ left. Skips a left b m) → IfSome m (λ left. Drops b left c l 0) → IfSome o (λ left. Skips a left c l)
+skips-more a b c None m l h k = tt
+skips-more a b c (Some left) m l h k = skipped a b c left m l h 0 (if-some (λ x. Drops b x c l 0) m h.drops.left_now h.drops.told k) refl
+
+-- held bytes are dropped among which no item begins
+closed-drops : (b c : HeldBytes) (found : Bool) (left : Bytes) (m : Option Bytes) → m ≡ Some left → (d : DropsClosed b c found) → Drops b left c m d.count
+closed-drops b c found left m e d = record {
+  few = omega (arith, d.few, length-append b.held left);
+  base = ap (λ (w : HeldBytes). w.base) d.is;
+  left_now = left;
+  told = e;
+  rest = ap (λ (w : HeldBytes). w.held ++ left) d.is ∙ sym (drop-append-le d.count b.held left d.few);
+}
+
+pub skips-closed : (a b c : HeldBytes) (found : Bool) (o m : Option Bytes) → IfSome o (λ left. Skips a left b m) → DropsClosed b c found → IfSome o (λ left. Skips a left c m)
+skips-closed a b c found None m h d = tt
+skips-closed a b c found (Some left) m h d =
+    skipped a b c left m m h d.count (closed-drops b c found h.drops.left_now m h.drops.told d) (ap (list_all is_closed) (take-append-le d.count b.held h.drops.left_now d.few) ∙ d.closed)
+
+-- ---- how many are taken
+
+pub taken-closed : (b c : HeldBytes) (found : Bool) → DropsClosed b c found → taken_by c ≡ taken_by b
+taken-closed b c found d =
+    let held : length c.held ≡ length b.held - d.count = ap (λ (w : HeldBytes). length w.held) d.is ∙ length-drop d.count b.held in
+    let base : c.base ≡ b.base + d.count = ap (λ (w : HeldBytes). w.base) d.is in
+    omega (arith, held, base, d.few)
+
+pub taken-grown : (a b : HeldBytes) (n : ℕ) → Grows a b n → taken_by b ≡ taken_by a + n
+taken-grown a b n g =
+    let held : length b.held ≡ length a.held + n = ap length g.held ∙ length-append a.held g.piece ∙ ap (λ k. length a.held + k) g.count in
+    omega (arith, held, g.base)

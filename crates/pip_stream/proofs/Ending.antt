@@ -1,0 +1,85 @@
+-- The window where the search for the end of a group ends, and where it goes on.
+use Rattle.std.proofs.Common.{◌≡◌, refl, sym, ap, subst, ◌∙◌, ℕ, ◌+◌, ◌-◌, ◌<◌, ◌≤◌, inl, inr, arith, List, [], ◌∷◌, ◌++◌, length, length-append, length-take, take, drop}
+use Rattle.std.proofs.lemmas.List.{take-append-drop, take_at, append-nil}
+use Rattle.std.specs.Prelude.{Option, Some, None, IfSome, Ok, Err}
+use Rattle.pip_outside.specs.Windows.{HeldBytes}
+use Rattle.pip_model.specs.Limits.{most_input_bytes}
+use Rattle.pip_model.specs.Reading.{next_open}
+use Rattle.pip_reader.specs.Groups.{first_group_end, IsScanned, place_behind}
+use Rattle.pip_stream.specs.Windows.{taken_by, Drops, Grows, IsMore}
+use Rattle.pip_stream.specs.Ended.{HoldsItem, IsEnded}
+use Rattle.pip_stream.specs.declared.refusal.NextRefusal.{NextRefusal}
+use Rattle.pip_stream.specs.declared.refusal.NextRefusal.TheVariants as next
+use Rattle.pip_stream.proofs.Dropping.{drops-none}
+use Rattle.pip_stream.proofs.Groups.{group_end-ends}
+use Rattle.pip_stream.proofs.Scanned.{open-longer, ends-later}
+use Rattle.pip_stream.proofs.Steps.{some_more}
+
+pub drops-start : (w : HeldBytes) (o : Option (List ℕ)) → IfSome o (λ left. Drops w left w o 0)
+drops-start w None = tt
+drops-start w (Some left) = drops-none w left (Some left) refl
+
+-- ---- what a scan finds
+
+pub scan-end : (held piece : List ℕ) (seen after : ℕ) → seen ≤ length held → piece ≡ drop seen held → place_behind (length (take seen held)) (Some after) ≡ first_group_end (take seen held ++ piece) → first_group_end held ≡ Some (seen + after)
+scan-end held piece seen after low is e =
+    let size : length (take seen held) ≡ seen = simp length-take (omega arith) in
+    let all : take seen held ++ piece ≡ held = ap (λ x. take seen held ++ x) is ∙ take-append-drop seen held in
+    ap first_group_end (sym all) ∙ sym e ∙ ap (λ n. Some (n + after)) size
+
+pub scan-none : (held piece : List ℕ) (seen d : ℕ) → piece ≡ drop seen held → IsScanned (take seen held ++ piece) d → IsScanned held d
+scan-none held piece seen d is h = subst (λ x. IsScanned x d) (ap (λ x. take seen held ++ x) is ∙ take-append-drop seen held) h
+
+-- the group is ended
+pub holds-ended : (w : HeldBytes) (seen d after : ℕ) → IsScanned (take seen w.held) d → first_group_end w.held ≡ Some (seen + after) → length w.held ≤ seen + 4096 → w.peak ≤ seen + 4096 → taken_by w ≤ most_input_bytes → HoldsItem w (seen + after)
+holds-ended w seen d after h e few peak within =
+    let later = ends-later w.held seen (seen + after) h.not_ended e in
+    let at = group_end-ends w.held (seen + after) e in
+    record { item = inl e; few = at.high; behind = omega (arith, later, few); peak = omega (arith, later, peak); within = within }
+
+-- ---- more bytes
+
+module _ (w u : HeldBytes) where
+  -- the input ends
+  pub holds-rest : (n k d seen : ℕ) → IsScanned w.held d → IsMore w u (Ok k) → k ≡ 0 → n ≡ length w.held → seen < length w.held → w.peak ≤ seen + 4096 → HoldsItem u n
+  holds-rest n k d seen h m zero is some peak =
+      let s = some_more w u k m in
+      let none : length m.0.piece ≡ 0 = omega (arith, m.0.count, zero) in
+      let same : u.held ≡ w.held = m.0.held ∙ ap (λ x. w.held ++ x) (no_bytes m.0.piece none) ∙ append-nil w.held in
+      record {
+        item = inr (ap first_group_end same ∙ h.not_ended, is ∙ ap length (sym same));
+        few = omega (arith, is, ap length same);
+        behind = omega (arith, is, ap length same);
+        peak = s.peak_high (n + 4095) (omega (arith, peak, some, is)) (omega (arith, is, ap length same));
+        within = s.within;
+      }
+    where
+      no_bytes : (xs : List ℕ) → length xs ≡ 0 → xs ≡ []
+      no_bytes [] e = refl
+      no_bytes (x ∷ xs) e = absurd (omega (arith, e))
+
+  front : (n : ℕ) → Grows w u n → take (length w.held) u.held ≡ w.held
+  front n g = ap (take (length w.held)) g.held ∙ take_at w.held g.piece (length w.held) refl
+
+  -- bytes came
+  pub scanned-front : (n k d : ℕ) → IsScanned w.held d → IsMore w u (Ok k) → n ≡ length w.held → IsScanned (take n u.held) d
+  scanned-front n k d h m is = subst (λ x. IsScanned x d) (sym (ap (λ i. take i u.held) is ∙ front k m.0)) h
+
+  pub more-open : (k : ℕ) → next_open 0 w.held ≡ Some 0 → IsMore w u (Ok k) → next_open 0 u.held ≡ Some 0
+  more-open k h m = ap (next_open 0) m.0.held ∙ open-longer w.held m.0.piece h
+
+  -- no more came, or the one byte too many
+  pub err-open : (e : NextRefusal) → next_open 0 w.held ≡ Some 0 → IsMore w u (Err e) → next_open 0 u.held ≡ Some 0
+  err-open next.InputBytes h m = ap (next_open 0) m.0.held ∙ open-longer w.held m.0.piece h
+  err-open next.Failed h m = ap (λ (x : HeldBytes). next_open 0 x.held) m ∙ h
+  err-open next.WantOfMemory h m = ap (λ (x : HeldBytes). next_open 0 x.held) m ∙ h
+  err-open (next.Read e) h m = absurd m
+
+  pub ended-err : (e : NextRefusal) (d : ℕ) → IsScanned w.held d → taken_by w ≤ most_input_bytes → IsMore w u (Err e) → IsEnded u (Err e)
+  ended-err next.InputBytes d h within m =
+      let size : length u.held - 1 ≡ length w.held = omega (arith, ap length m.0.held, length-append w.held m.0.piece, m.0.count) in
+      (ap (λ i. first_group_end (take i u.held)) size ∙ ap first_group_end (front 1 m.0) ∙ h.not_ended, m.1)
+  ended-err next.Failed d h within m =
+      (ap (λ (x : HeldBytes). first_group_end x.held) m ∙ h.not_ended, omega (arith, ap (λ (x : HeldBytes). taken_by x) m, within))
+  ended-err next.WantOfMemory d h within m = omega (arith, ap (λ (x : HeldBytes). taken_by x) m, within)
+  ended-err (next.Read e) d h within m = absurd m

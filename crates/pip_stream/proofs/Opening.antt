@@ -1,0 +1,41 @@
+-- A window whose bytes before the first `(` are dropped.
+use Rattle.std.proofs.Common.{◌≡◌, refl, ap, ◌∙◌, ℕ, ◌+◌, arith, true, false, List, [], ◌∷◌, length, length-append, take, drop}
+use Rattle.std.proofs.Math.Seq.{take-length}
+use Rattle.std.proofs.lemmas.List.{take_at, drop_at}
+use Rattle.std.specs.Prelude.{Some, None}
+use Rattle.std.specs.List.{list_all}
+use Rattle.pip_outside.specs.Windows.{HeldBytes}
+use Rattle.pip_model.specs.Moved.{is_closed}
+use Rattle.pip_model.specs.Reading.{next_open}
+use Rattle.text_laws.proofs.Items.{next_open-none}
+use Rattle.pip_stream.specs.Open.{DropsClosed}
+use Rattle.pip_stream.proofs.Groups.{opened}
+
+pub drops-to_open : (w new : HeldBytes) (place : ℕ) → next_open 0 w.held ≡ Some place → new ≡ record w { held = drop place w.held; base = w.base + place } → DropsClosed w new true
+drops-to_open w new place h is =
+    let o = opened w.held place h in
+    let size : length w.held ≡ length o.before + length (40 ∷ o.tail) = ap length o.is ∙ length-append o.before (40 ∷ o.tail) in
+    let front : take place w.held ≡ o.before = ap (take place) o.is ∙ take_at o.before (40 ∷ o.tail) place o.count in
+    let behind : drop place w.held ≡ 40 ∷ o.tail = ap (drop place) o.is ∙ drop_at o.before (40 ∷ o.tail) place o.count in
+    record {
+      count = place;
+      few = omega (arith, size, o.count);
+      is = is;
+      closed = ap (list_all is_closed) front ∙ o.closed;
+      open_now = ap (λ (v : HeldBytes). next_open 0 v.held) is ∙ ap (next_open 0) behind;
+    }
+
+drop-length : (xs : List ℕ) → drop (length xs) xs ≡ []
+drop-length [] = refl
+drop-length (x ∷ xs) = drop-length xs
+
+pub drops-all : (w new : HeldBytes) (n : ℕ) → next_open 0 w.held ≡ None → n ≡ length w.held → new ≡ record w { held = drop n w.held; base = w.base + n } → DropsClosed w new false
+drops-all w new n h all is =
+    let front : take n w.held ≡ w.held = ap (λ k. take k w.held) all ∙ take-length w.held in
+    record {
+      count = n;
+      few = omega (arith, all);
+      is = is;
+      closed = ap (list_all is_closed) front ∙ next_open-none 0 w.held h;
+      open_now = ap (λ (v : HeldBytes). v.held) is ∙ ap (λ k. drop k w.held) all ∙ drop-length w.held;
+    }

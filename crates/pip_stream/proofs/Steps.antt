@@ -1,0 +1,108 @@
+-- Facts of a step that asks for more bytes, or drops some, as the loops need them.
+use Rattle.std.proofs.Common.{◌≡◌, refl, sym, ap, subst, ℕ, ◌+◌, ◌≤◌, arith, true, false, Bool, List, [], ◌∷◌, length, length-append, length-drop}
+use Rattle.std.specs.Prelude.{Option, Some, None, IfSome, Ok, Err, IsErrOf}
+use Rattle.pip_outside.specs.Faults.{HasRisen}
+use Rattle.pip_outside.specs.Windows.{HeldBytes}
+use Rattle.pip_model.specs.Limits.{most_input_bytes}
+use Rattle.pip_stream.specs.Windows.{taken_by, Drops, Skips, IsMore}
+use Rattle.pip_stream.specs.Open.{DropsClosed, IsOpened}
+use Rattle.pip_stream.specs.declared.refusal.NextRefusal.{NextRefusal}
+use Rattle.pip_stream.specs.declared.refusal.NextRefusal.TheVariants as next
+use Rattle.pip_stream.proofs.Dropping.{taken-grown}
+
+pub not_true : {P : Type 0} → true ≡ false → P
+not_true h = absurd cc
+
+pub if-told : (P : Type 0) (o : Option (List ℕ)) → P → IfSome o (λ _. P)
+if-told P None p = tt
+if-told P (Some x) p = p
+
+pub risen-from : (a b n : ℕ) → a ≡ b → HasRisen a n → HasRisen b n
+risen-from a b n e h = subst (λ k. HasRisen k n) e h
+
+-- the source failed, whatever else would be answered
+pub failed-as : {A B : Type 0} (x : NextRefusal) → IsErrOf {T = A} (Err x) next.Failed → IsErrOf {T = B} (Err x) next.Failed
+failed-as x e = let same : x ≡ next.Failed = cc in ap (λ y. Err y) same
+
+-- ---- how many were taken
+
+-- from another window that took as many
+pub counted-start : (o : Option (List ℕ)) (i k a c d : ℕ) → c ≡ a → IfSome o (λ _. k + c ≡ i + d) → IfSome o (λ _. k + a ≡ i + d)
+counted-start None i k a c d e h = tt
+counted-start (Some x) i k a c d e h = omega (arith, e, h)
+
+pub counted-same : (o : Option (List ℕ)) (i j a b c : ℕ) → IfSome o (λ _. j + a ≡ i + b) → c ≡ b → IfSome o (λ _. j + a ≡ i + c)
+counted-same None i j a b c h e = tt
+counted-same (Some x) i j a b c h e = omega (arith, h, e)
+
+pub counted-more : (o m : Option (List ℕ)) (i j k a b c d : ℕ) → IfSome o (λ _. (l : List ℕ) × (m ≡ Some l)) → IfSome o (λ _. j + a ≡ i + b) → c ≡ b → IfSome m (λ _. k + c ≡ j + d) → IfSome o (λ _. k + a ≡ i + d)
+counted-more None m i j k a b c d t h e f = tt
+counted-more (Some x) None i j k a b c d t h e f = absurd cc
+counted-more (Some x) (Some y) i j k a b c d t h e f = omega (arith, h, e, f)
+
+pub skips-told : (old new : HeldBytes) (o m : Option (List ℕ)) → IfSome o (λ left. Skips old left new m) → IfSome o (λ _. (l : List ℕ) × (m ≡ Some l))
+skips-told old new None m h = tt
+skips-told old new (Some x) m h = (h.drops.left_now, h.drops.told)
+
+pub drops-told : (old new : HeldBytes) (o m : Option (List ℕ)) → IfSome o (λ left. Drops old left new m 0) → IfSome o (λ _. (l : List ℕ) × (m ≡ Some l))
+drops-told old new None m h = tt
+drops-told old new (Some x) m h = (h.left_now, h.told)
+
+-- ---- dropped bytes before a `(`
+
+pub record Fewer (w v : HeldBytes) : Type 0 where
+  pub held : length v.held ≤ length w.held
+  pub base : w.base ≤ v.base
+  pub peak : v.peak ≡ w.peak
+
+pub fewer : (w v : HeldBytes) (found : Bool) → DropsClosed w v found → Fewer w v
+fewer w v found d = record {
+  held = omega (arith, ap (λ (x : HeldBytes). length x.held) d.is, length-drop d.count w.held);
+  base = omega (arith, ap (λ (x : HeldBytes). x.base) d.is);
+  peak = ap (λ (x : HeldBytes). x.peak) d.is;
+}
+
+-- ---- more bytes behind none
+
+pub record Some_ (v u : HeldBytes) (n : ℕ) : Type 0 where
+  pub held : length u.held ≡ length v.held + n
+  pub base : u.base ≡ v.base
+  pub few : n ≤ 4096
+  pub within : taken_by u ≤ most_input_bytes
+  pub taken : taken_by u ≡ taken_by v + n
+  pub peak_high : (m : ℕ) → v.peak ≤ m → length u.held ≤ m → u.peak ≤ m
+
+pub some_more : (v u : HeldBytes) (n : ℕ) → IsMore v u (Ok n) → Some_ v u n
+some_more v u n h =
+    let g = h.0 in
+    record {
+      held = omega (arith, ap length g.held, length-append v.held g.piece, g.count);
+      base = g.base;
+      few = h.1;
+      within = h.2;
+      taken = taken-grown v u n g;
+      peak_high = λ m low len. omega (arith, g.peak, low, len);
+    }
+
+pub err-base : (v u : HeldBytes) (e : NextRefusal) → IsMore v u (Err e) → u.base ≡ v.base
+err-base v u next.InputBytes h = h.0.base
+err-base v u next.Failed h = ap (λ (x : HeldBytes). x.base) h
+err-base v u next.WantOfMemory h = ap (λ (x : HeldBytes). x.base) h
+err-base v u (next.Read e) h = absurd h
+
+no_held : (xs : List ℕ) → length xs ≡ 0 → xs ≡ []
+no_held [] h = refl
+no_held (x ∷ xs) h = absurd (omega (arith, h))
+
+pub opened-err : (v u : HeldBytes) (e : NextRefusal) → v.held ≡ [] → taken_by v ≤ most_input_bytes → IsMore v u (Err e) → IsOpened u (Err e)
+opened-err v u next.InputBytes none within h =
+    let g = h.0 in (omega (arith, ap length g.held, length-append v.held g.piece, g.count, ap length none), h.1)
+opened-err v u next.Failed none within h = subst (λ (x : HeldBytes). (x.held ≡ []) × (taken_by x ≤ most_input_bytes)) (sym h) (none, within)
+opened-err v u next.WantOfMemory none within h = subst (λ (x : HeldBytes). (x.held ≡ []) × (taken_by x ≤ most_input_bytes)) (sym h) (none, within)
+opened-err v u (next.Read e) none within h = absurd h
+
+pub opened-end : (v u : HeldBytes) (n : ℕ) → v.held ≡ [] → v.peak ≤ 4096 → IsMore v u (Ok n) → n ≡ 0 → IsOpened u (Ok false)
+opened-end v u n none peak h zero =
+    let s = some_more v u n h in
+    let empty : length u.held ≡ 0 = omega (arith, s.held, ap length none, zero) in
+    (no_held u.held empty, omega (arith, empty), s.peak_high 4096 peak (omega (arith, empty)), s.within)

@@ -1,0 +1,86 @@
+-- The problem that is read of an item's bytes.
+use Rattle.std.proofs.Common.{◌≡◌, sym, ap, subst, ◌∙◌, ℕ, zero, suc, ◌+◌, ◌<◌, ◌≤◌, inl, inr, arith, List, ◌∷◌, length, take, drop}
+use Rattle.std.proofs.Math.Seq.{take-length}
+use Rattle.std.specs.Prelude.{Option, Some, None, IfOk, IfErr, IfSome, Result, Ok, Err}
+use Rattle.pip_outside.specs.Windows.{HeldBytes}
+use Rattle.pip_model.specs.Problem.{Problem}
+use Rattle.pip_model.specs.Moved.{Ended}
+use Rattle.pip_model.specs.Reading.{Fault, Syntax, Wide, next_open}
+use Rattle.pip_model.specs.NativeText.{read_native}
+use Rattle.pip_problem.specs.Faults.{read_fault}
+use Rattle.pip_problem.specs.declared.refusal.ReadRefusal.{ReadRefusal}
+use Rattle.pip_problem.specs.declared.refusal.ReadRefusal.TheVariants as read
+use Rattle.pip_reader.specs.Groups.{group_behind, first_group_end}
+use Rattle.text_laws.proofs.Items.{next_open-closed}
+use Rattle.text_laws.proofs.ReadProblems.{read_native-none}
+use Rattle.text_laws.proofs.EndedProblems.{read_native-ends}
+use Rattle.pip_stream.specs.Refusals.{place_told}
+use Rattle.pip_stream.specs.Ended.{IsItem, HoldsItem, IsRead}
+use Rattle.pip_stream.proofs.FaultPlaces.{FaultWithin, read_native-fault}
+use Rattle.pip_stream.proofs.Groups.{group_end-ends}
+use Rattle.pip_stream.proofs.Scanned.{begins, begins_some}
+
+-- ---- the place of a fault
+
+fault_of : {A : Type 0} (n : ℕ) (r : Result A Fault) (f : Fault) → IfErr r (FaultWithin n) → r ≡ Err f → FaultWithin n f
+fault_of n (Ok x) f h e = absurd cc
+fault_of n (Err g) f h e = let same : g ≡ f = cc in subst (FaultWithin n) same h
+
+pub place-within : (bytes : List ℕ) (e : ReadRefusal) → IfSome (read_fault e) (λ f. read_native bytes 0 ≡ Err f) → place_told e ≤ length bytes
+place-within bytes (read.Syntax place) h = fault_of (length bytes) (read_native bytes 0) (Syntax place) (read_native-fault bytes) h
+place-within bytes (read.Wide place) h = fault_of (length bytes) (read_native bytes 0) (Wide place) (read_native-fault bytes) h
+place-within bytes (read.Limit kind z) h = omega arith
+place-within bytes (read.BigParameter z) h = omega arith
+place-within bytes (read.OptionWord word) h = omega arith
+place-within bytes read.WantOfMemory h = omega arith
+
+-- ---- the end of what is read
+
+ended-by : (bytes : List ℕ) (x : Problem × ℕ) (r : Result (Option (Problem × ℕ)) Fault) → IfOk r (λ o. IfSome o (λ y. Ended bytes 0 y.1)) → r ≡ Ok (Some x) → first_group_end bytes ≡ Some x.1
+ended-by bytes x (Ok (Some y)) h e =
+    let same : y.1 ≡ x.1 = let s : y ≡ x = cc in ap (λ (z : Problem × ℕ). z.1) s in
+    ap (group_behind bytes) h.opened ∙ h.closed ∙ ap Some same
+ended-by bytes x (Ok None) h e = absurd cc
+ended-by bytes x (Err f) h e = absurd cc
+
+module _ (w : HeldBytes) (n : ℕ) (first : next_open 0 w.held ≡ Some 0) (h : HoldsItem w n) where
+  some : 0 < n
+  some = by_item h.item
+    where
+      by_item : IsItem w.held n → 0 < n
+      by_item (inl ended) = let e = group_end-ends w.held n ended in omega (arith, e.low)
+      by_item (inr open_still) = omega (arith, begins_some w.held first, open_still.1)
+
+  front : next_open 0 (take n w.held) ≡ Some 0
+  front = let b = begins w.held first in by_count n some b.tail b.is
+    where
+      by_count : (k : ℕ) → 0 < k → (tail : List ℕ) → w.held ≡ 40 ∷ tail → next_open 0 (take k w.held) ≡ Some 0
+      by_count zero low tail is = absurd (omega (arith, low))
+      by_count (suc k) low tail is = ap (λ x. next_open 0 (take (suc k) x)) is
+
+  none : read_native (take n w.held) 0 ≡ Ok None → ⊥
+  none e =
+      let closed = (read_native-none (take n w.held) 0).0 e in
+      let gone : next_open 0 (take n w.held) ≡ None = next_open-closed 0 (take n w.held) closed in
+      let here = front in
+      cc
+
+  ends : (x : Problem × ℕ) → read_native (take n w.held) 0 ≡ Ok (Some x) → (x.1 ≡ n) × (first_group_end w.held ≡ Some n)
+  ends x e = by_item h.item
+    where
+      group : first_group_end (take n w.held) ≡ Some x.1
+      group = ended-by (take n w.held) x (read_native (take n w.held) 0) (read_native-ends (take n w.held) 0) e
+
+      by_item : IsItem w.held n → (x.1 ≡ n) × (first_group_end w.held ≡ Some n)
+      by_item (inl ended) =
+          let there : Some x.1 ≡ Some n = sym group ∙ (group_end-ends w.held n ended).alone in
+          let same : x.1 ≡ n = cc in
+          (same, ended)
+      by_item (inr open_still) =
+          let all : take n w.held ≡ w.held = ap (λ k. take k w.held) open_still.1 ∙ take-length w.held in
+          let there : Some x.1 ≡ None = sym group ∙ ap first_group_end all ∙ open_still.0 in
+          absurd cc
+
+  pub taken : (new : HeldBytes) (o : Option (Problem × ℕ)) → read_native (take n w.held) 0 ≡ Ok o → new ≡ record w { held = drop n w.held; base = w.base + n } → IsRead w new n (Ok o)
+  taken new None e is = none e
+  taken new (Some x) e is = let k = ends x e in (k.0, k.1, e ∙ ap (λ p. Ok (Some (x.0, p))) k.0, is)

@@ -1,0 +1,25 @@
+use Rattle.std.proofs.Common.{◌≡◌, ◌+◌, ◌-◌, ◌<◌, ◌≤◌, length, take}
+use Rattle.std.specs.Prelude.{IfSome, Some}
+use Rattle.pip_model.specs.Limits.{most_input_bytes}
+use Rattle.pip_model.specs.Reading.{next_open}
+use Rattle.pip_reader.specs.Groups.{IsScanned}
+use Rattle.pip_stream.specs.Windows.{taken_by, Drops}
+use Rattle.pip_stream.proofs.end.find_end.Given as goal
+
+abbrev pub invariant-loop-scan : goal.invariant-loop-scan
+invariant-loop-scan g l = record {
+  scanned : IsScanned (take l.seen l.window.held) l.scan;
+  depth : l.scan ≤ l.seen;
+  some : l.seen < length l.window.held;
+  few : length l.window.held ≤ l.seen + 4096;
+  peak : l.window.peak ≤ l.seen + 4096;
+  within : taken_by l.window ≤ most_input_bytes;
+  base : l.window.base ≡ l.fn.window.base;
+  open_still : next_open 0 l.window.held ≡ Some 0;
+  drops : IfSome (g.S.Source.left l.fn.source) (λ left. Drops l.fn.window left l.window (g.S.Source.left l.source) 0);
+  counted : IfSome (g.S.Source.left l.fn.source) (λ _. g.S.Source.taken l.source + taken_by l.fn.window ≡ g.S.Source.taken l.fn.source + taken_by l.window);
+  quiet : g.S.Source.faults l.source ≡ g.S.Source.faults l.fn.source;
+}
+
+abbrev pub decreases-loop-scan : goal.decreases-loop-scan
+decreases-loop-scan g l = most_input_bytes - taken_by l.window

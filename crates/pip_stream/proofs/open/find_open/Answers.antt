@@ -1,0 +1,157 @@
+use Rattle.std.proofs.Common.{refl, ap, ℕ, Bool, ◌∙◌, ◌≤◌, arith, length}
+use Rattle.std.proofs.lemmas.Result.{err_from_is_err_and}
+use Rattle.pip_stream.specs.Windows.{taken_by}
+use Rattle.pip_stream.proofs.Dropping.{skips-nothing, skips-more, skips-closed, taken-closed}
+use Rattle.pip_stream.proofs.Steps.{not_true, if-told, risen-from, failed-as, counted-same, counted-more, skips-told, fewer, some_more, err-base, opened-err, opened-end}
+use Rattle.pip_stream.proofs.open.find_open.Goals as goal
+
+pub loop-window-init : goal.loop-window-init
+loop-window-init g c = record {
+  few = c.requires.few;
+  peak = c.requires.peak;
+  within = c.requires.within;
+  base = omega arith;
+  skips = skips-nothing c.args.window.now (g.S.Source.left c.args.source.now);
+  counted = if-told _ (g.S.Source.left c.args.source.now) refl;
+  quiet = refl;
+}
+
+pub skip_closed-requires : goal.skip_closed-requires
+skip_closed-requires g c = omega (arith, c.loop-window.invariant.within)
+
+pub more-requires : goal.more-requires
+more-requires g c = omega (arith, taken-closed c.loop-window.window c.skip_closed.new.window _ c.skip_closed.ensures, c.loop-window.invariant.within)
+
+-- ---- the source fails, or the input is too long
+
+pub returns-in_err-more-clause-window : goal.returns-in_err-more-clause-window
+returns-in_err-more-clause-window g c =
+    let p = err_from_is_err_and c.from_residual.result c.from_residual.ensures.1 in
+    let t = taken-closed c.loop-window.window c.skip_closed.new.window _ c.skip_closed.ensures in
+    rw (p.1, p.2) (opened-err c.skip_closed.new.window c.more.new.window _ c.loop-window-test.ensures.open_now (omega (arith, t, c.loop-window.invariant.within)) c.in_err-more.ensures.window)
+
+pub returns-in_err-more-clause-base : goal.returns-in_err-more-clause-base
+returns-in_err-more-clause-base g c =
+    let f = fewer c.loop-window.window c.skip_closed.new.window _ c.skip_closed.ensures in
+    omega (arith, f.base, err-base c.skip_closed.new.window c.more.new.window _ c.in_err-more.ensures.window, c.loop-window.invariant.base)
+
+pub returns-in_err-more-clause-bytes : goal.returns-in_err-more-clause-bytes
+returns-in_err-more-clause-bytes g c =
+    skips-more c.args.window.now c.skip_closed.new.window c.more.new.window (g.S.Source.left c.args.source.now) (g.S.Source.left c.loop-window.source) _
+    (skips-closed c.args.window.now c.loop-window.window c.skip_closed.new.window _ _ _ c.loop-window.invariant.skips c.skip_closed.ensures) c.more.ensures.bytes
+
+pub returns-in_err-more-clause-end : goal.returns-in_err-more-clause-end
+returns-in_err-more-clause-end g c = let p = err_from_is_err_and c.from_residual.result c.from_residual.ensures.1 in rw p.1 tt
+
+pub returns-in_err-more-clause-counted : goal.returns-in_err-more-clause-counted
+returns-in_err-more-clause-counted g c =
+    counted-more (g.S.Source.left c.args.source.now) (g.S.Source.left c.loop-window.source) _ (g.S.Source.taken c.loop-window.source) _ (taken_by c.args.window.now) (taken_by c.loop-window.window) (taken_by c.skip_closed.new.window) _
+    (skips-told c.args.window.now c.loop-window.window _ _ c.loop-window.invariant.skips) c.loop-window.invariant.counted (taken-closed c.loop-window.window c.skip_closed.new.window _ c.skip_closed.ensures) c.more.ensures.counted
+
+pub returns-in_err-more-clause-later : goal.returns-in_err-more-clause-later
+returns-in_err-more-clause-later g c = omega (arith, c.loop-window.invariant.quiet, c.more.ensures.later)
+
+pub returns-in_err-more-clause-quiet : goal.returns-in_err-more-clause-quiet
+returns-in_err-more-clause-quiet g c =
+    let p = err_from_is_err_and c.from_residual.result c.from_residual.ensures.1 in
+    rw (p.1, p.2) (λ other. c.in_err-more.ensures.quiet (λ e. other (failed-as {A = ℕ} {B = Bool} _ e)) ∙ c.loop-window.invariant.quiet)
+
+pub returns-in_err-more-clause-cause : goal.returns-in_err-more-clause-cause
+returns-in_err-more-clause-cause g c =
+    let p = err_from_is_err_and c.from_residual.result c.from_residual.ensures.1 in
+    rw (p.1, p.2) (λ failed. risen-from _ _ _ c.loop-window.invariant.quiet (c.in_err-more.ensures.cause (failed-as {A = Bool} {B = ℕ} _ failed)))
+
+-- ---- the input ends
+
+pub returns-then-branch-eq0-clause-window : goal.returns-then-branch-eq0-clause-window
+returns-then-branch-eq0-clause-window g c =
+    let f = fewer c.loop-window.window c.skip_closed.new.window _ c.skip_closed.ensures in
+    opened-end c.skip_closed.new.window c.more.new.window _ c.loop-window-test.ensures.open_now (omega (arith, f.peak, c.loop-window.invariant.peak)) c.in_ok-more.ensures.window c.if-branch-eq0.true
+
+pub returns-then-branch-eq0-clause-base : goal.returns-then-branch-eq0-clause-base
+returns-then-branch-eq0-clause-base g c =
+    let f = fewer c.loop-window.window c.skip_closed.new.window _ c.skip_closed.ensures in
+    let s = some_more c.skip_closed.new.window c.more.new.window _ c.in_ok-more.ensures.window in
+    omega (arith, f.base, s.base, c.loop-window.invariant.base)
+
+pub returns-then-branch-eq0-clause-bytes : goal.returns-then-branch-eq0-clause-bytes
+returns-then-branch-eq0-clause-bytes g c =
+    skips-more c.args.window.now c.skip_closed.new.window c.more.new.window (g.S.Source.left c.args.source.now) (g.S.Source.left c.loop-window.source) _
+    (skips-closed c.args.window.now c.loop-window.window c.skip_closed.new.window _ _ _ c.loop-window.invariant.skips c.skip_closed.ensures) c.more.ensures.bytes
+
+pub returns-then-branch-eq0-clause-end : goal.returns-then-branch-eq0-clause-end
+returns-then-branch-eq0-clause-end g c = λ _. c.in_ok-more.ensures.end c.if-branch-eq0.true
+
+pub returns-then-branch-eq0-clause-counted : goal.returns-then-branch-eq0-clause-counted
+returns-then-branch-eq0-clause-counted g c =
+    counted-more (g.S.Source.left c.args.source.now) (g.S.Source.left c.loop-window.source) _ (g.S.Source.taken c.loop-window.source) _ (taken_by c.args.window.now) (taken_by c.loop-window.window) (taken_by c.skip_closed.new.window) _
+    (skips-told c.args.window.now c.loop-window.window _ _ c.loop-window.invariant.skips) c.loop-window.invariant.counted (taken-closed c.loop-window.window c.skip_closed.new.window _ c.skip_closed.ensures) c.more.ensures.counted
+
+pub returns-then-branch-eq0-clause-later : goal.returns-then-branch-eq0-clause-later
+returns-then-branch-eq0-clause-later g c = omega (arith, c.loop-window.invariant.quiet, c.more.ensures.later)
+
+pub returns-then-branch-eq0-clause-quiet : goal.returns-then-branch-eq0-clause-quiet
+returns-then-branch-eq0-clause-quiet g c = λ _. c.in_ok-more.ensures.quiet (λ h. cc) ∙ c.loop-window.invariant.quiet
+
+pub returns-then-branch-eq0-clause-cause : goal.returns-then-branch-eq0-clause-cause
+returns-then-branch-eq0-clause-cause g c = λ h. cc
+
+-- ---- once more
+
+pub loop-window-smaller : goal.loop-window-smaller
+loop-window-smaller g c =
+    let t = taken-closed c.loop-window.window c.skip_closed.new.window _ c.skip_closed.ensures in
+    let s = some_more c.skip_closed.new.window c.more.new.window _ c.in_ok-more.ensures.window in
+    omega (arith, t, s.taken, s.within, c.if-branch-eq0.false)
+
+pub loop-window-preserved : goal.loop-window-preserved
+loop-window-preserved g c =
+    let f = fewer c.loop-window.window c.skip_closed.new.window _ c.skip_closed.ensures in
+    let s = some_more c.skip_closed.new.window c.more.new.window _ c.in_ok-more.ensures.window in
+    let few : length c.more.new.window.held ≤ 4096 = omega (arith, s.held, s.few, ap length c.loop-window-test.ensures.open_now) in
+    record {
+      few = few;
+      peak = s.peak_high 4096 (omega (arith, f.peak, c.loop-window.invariant.peak)) few;
+      within = s.within;
+      base = omega (arith, f.base, s.base, c.loop-window.invariant.base);
+      skips =
+          skips-more c.args.window.now c.skip_closed.new.window c.more.new.window (g.S.Source.left c.args.source.now) (g.S.Source.left c.loop-window.source) _
+          (skips-closed c.args.window.now c.loop-window.window c.skip_closed.new.window _ _ _ c.loop-window.invariant.skips c.skip_closed.ensures) c.more.ensures.bytes;
+      counted =
+          counted-more (g.S.Source.left c.args.source.now) (g.S.Source.left c.loop-window.source) _ (g.S.Source.taken c.loop-window.source) _ (taken_by c.args.window.now) (taken_by c.loop-window.window) (taken_by c.skip_closed.new.window) _
+          (skips-told c.args.window.now c.loop-window.window _ _ c.loop-window.invariant.skips) c.loop-window.invariant.counted (taken-closed c.loop-window.window c.skip_closed.new.window _ c.skip_closed.ensures) c.more.ensures.counted;
+      quiet = c.in_ok-more.ensures.quiet (λ h. cc) ∙ c.loop-window.invariant.quiet;
+    }
+
+-- ---- a `(` is found
+
+pub returns-clause-window : goal.returns-clause-window
+returns-clause-window g c =
+    let f = fewer c.loop-window.window c.skip_closed.new.window _ c.skip_closed.ensures in
+    let t = taken-closed c.loop-window.window c.skip_closed.new.window _ c.skip_closed.ensures in
+    let i = c.loop-window.invariant in
+    (c.loop-window-test.ensures.open_now, omega (arith, f.held, i.few), omega (arith, f.peak, i.peak), omega (arith, t, i.within))
+
+pub returns-clause-base : goal.returns-clause-base
+returns-clause-base g c =
+    let f = fewer c.loop-window.window c.skip_closed.new.window _ c.skip_closed.ensures in
+    omega (arith, f.base, c.loop-window.invariant.base)
+
+pub returns-clause-bytes : goal.returns-clause-bytes
+returns-clause-bytes g c = skips-closed c.args.window.now c.loop-window.window c.skip_closed.new.window _ _ _ c.loop-window.invariant.skips c.skip_closed.ensures
+
+pub returns-clause-end : goal.returns-clause-end
+returns-clause-end g c = λ h. not_true h
+
+pub returns-clause-counted : goal.returns-clause-counted
+returns-clause-counted g c =
+    counted-same (g.S.Source.left c.args.source.now) _ _ _ (taken_by c.loop-window.window) _ c.loop-window.invariant.counted (taken-closed c.loop-window.window c.skip_closed.new.window _ c.skip_closed.ensures)
+
+pub returns-clause-later : goal.returns-clause-later
+returns-clause-later g c = omega (arith, c.loop-window.invariant.quiet)
+
+pub returns-clause-quiet : goal.returns-clause-quiet
+returns-clause-quiet g c = λ _. c.loop-window.invariant.quiet
+
+pub returns-clause-cause : goal.returns-clause-cause
+returns-clause-cause g c = λ h. cc

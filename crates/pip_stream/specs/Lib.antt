@@ -1,0 +1,5 @@
+pub mod Refusals
+pub mod Windows
+pub mod Open
+pub mod Ended
+pub mod Next

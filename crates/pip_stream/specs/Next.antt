@@ -1,0 +1,63 @@
+-- The problem that is next in an input, of which a window holds the bytes that were taken and not yet dropped.
+use Rattle.std.specs.Prelude.{◌≡◌, ℕ, ◌+◌, ◌-◌, ◌≤◌, List, [], length, take, Option, Some, None, IfSome, Result, Ok, Err}
+use Rattle.pip_outside.specs.Windows.{HeldBytes}
+use Rattle.pip_model.specs.Limits.{most_input_bytes}
+use Rattle.pip_model.specs.Problem.{Problem}
+use Rattle.pip_model.specs.Reading.{Fault, next_open}
+use Rattle.pip_model.specs.NativeText.{read_native}
+use Rattle.pip_model.specs.Moved.{moved}
+use Rattle.pip_problem.specs.Faults.{read_fault}
+use Rattle.pip_reader.specs.Groups.{first_group_end}
+use Rattle.pip_stream.specs.Windows.{taken_by, bytes_from, Drops}
+use Rattle.pip_stream.specs.declared.refusal.NextRefusal.{NextRefusal}
+use Rattle.pip_stream.specs.declared.refusal.NextRefusal.TheVariants as next
+
+-- a window and what is left in its source before a call, and after it
+module _ (old : HeldBytes) (left : List ℕ) (new : HeldBytes) (now : Option (List ℕ)) where
+  -- The problem that is read of the input from the held bytes on. Its group has n bytes, which are dropped with those before it.
+  pub record ReadsNext (P : Problem) (n : ℕ) : Type 0 where
+    pub start : ℕ
+    pub opened : next_open 0 (bytes_from old left) ≡ Some start
+    pub ended : first_group_end (bytes_from old left) ≡ Some (start + n)
+    pub read : read_native (bytes_from old left) 0 ≡ Ok (Some (P, start + n))
+    pub drops : Drops old left new now (start + n)
+
+  -- No problem is left, and all bytes are dropped.
+  pub record ReadsNone : Type 0 where
+    pub read : read_native (bytes_from old left) 0 ≡ Ok None
+    pub drops : Drops old left new now (length (bytes_from old left))
+    pub end : now ≡ Some []
+
+  -- some bytes were dropped, and the others that were taken are held
+  abbrev pub HoldsRest : Type 0
+  HoldsRest = (n : ℕ) × Drops old left new now n
+
+  -- The next problem is refused; no piece came behind the end of its group.
+  pub record RefusesNext (f : Fault) : Type 0 where
+    pub read : moved old.base (read_native (bytes_from old left) 0) ≡ Err f
+    pub rest : HoldsRest
+    pub spared : (n : ℕ) → first_group_end (bytes_from old left) ≡ Some n → taken_by new ≤ old.base + n + 4095
+
+  -- The next group does not end within the first n bytes.
+  pub record StaysOpen (n : ℕ) : Type 0 where
+    pub open_still : first_group_end (take n (bytes_from old left)) ≡ None
+    pub rest : HoldsRest
+
+  -- What a call for the next problem finds; nothing is said of want of memory but that no byte is lost.
+  abbrev pub FindsNext : Result (Option (Problem × ℕ)) NextRefusal → Type 0
+  FindsNext (Ok (Some x)) = ReadsNext x.0 x.1
+  FindsNext (Ok None) = ReadsNone
+  FindsNext (Err (next.Read e)) = IfSome (read_fault e) RefusesNext
+  FindsNext (Err next.Failed) = StaysOpen (taken_by new - old.base)
+  FindsNext (Err next.InputBytes) = StaysOpen (most_input_bytes - old.base)
+  FindsNext (Err next.WantOfMemory) = HoldsRest
+
+-- the most that was held: the bytes of the item and a piece less one, or a piece where none is left
+abbrev pub IsPeak : HeldBytes → Option (Problem × ℕ) → Type 0
+IsPeak w (Some x) = w.peak ≤ 4095 + x.1
+IsPeak w None = w.peak ≤ 4096
+
+-- the window is as it was before the call, for the next one
+pub record IsReady (w : HeldBytes) : Type 0 where
+  pub few : length w.held ≤ 4095
+  pub within : taken_by w ≤ most_input_bytes

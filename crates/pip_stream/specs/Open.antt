@@ -1,0 +1,31 @@
+-- What a window holds once the bytes before the next `(` are dropped.
+use Rattle.std.specs.Prelude.{◌≡◌, ℕ, ◌+◌, ◌≤◌, Bool, true, false, [], length, take, drop, Some, Result, Ok, Err}
+use Rattle.std.specs.List.{list_all}
+use Rattle.pip_outside.specs.Windows.{HeldBytes}
+use Rattle.pip_model.specs.Limits.{most_input_bytes}
+use Rattle.pip_model.specs.Moved.{is_closed}
+use Rattle.pip_model.specs.Reading.{next_open}
+use Rattle.pip_stream.specs.Windows.{taken_by}
+use Rattle.pip_stream.specs.declared.refusal.NextRefusal.{NextRefusal}
+use Rattle.pip_stream.specs.declared.refusal.NextRefusal.TheVariants as next
+
+-- a `(` is the first byte, or no byte is held
+abbrev pub BeginsOpen : HeldBytes → Bool → Type 0
+BeginsOpen w true = next_open 0 w.held ≡ Some 0
+BeginsOpen w false = w.held ≡ []
+
+-- of the held bytes those before the first `(` were dropped, or all
+pub record DropsClosed (old new : HeldBytes) (found : Bool) : Type 0 where
+  pub count : ℕ
+  pub few : count ≤ length old.held
+  pub is : new ≡ record old { held = drop count old.held; base = old.base + count }
+  pub closed : list_all is_closed (take count old.held) ≡ true
+  pub open_now : BeginsOpen new found
+
+-- the window where the search for a `(` ends
+abbrev pub IsOpened : HeldBytes → Result Bool NextRefusal → Type 0
+IsOpened w (Ok found) = BeginsOpen w found × (length w.held ≤ 4096) × (w.peak ≤ 4096) × (taken_by w ≤ most_input_bytes)
+IsOpened w (Err next.InputBytes) = (length w.held ≡ 1) × (taken_by w ≡ most_input_bytes + 1)
+IsOpened w (Err next.Failed) = (w.held ≡ []) × (taken_by w ≤ most_input_bytes)
+IsOpened w (Err next.WantOfMemory) = (w.held ≡ []) × (taken_by w ≤ most_input_bytes)
+IsOpened w (Err (next.Read e)) = ⊥

@@ -1,0 +1,11 @@
+//! Native problems of an input, one after the other: each is read as soon as its group has ended.
+#![tactic(auto)]
+
+mod end;
+mod more;
+mod next;
+mod open;
+mod refusal;
+
+pub use next::{MOST_INPUT_BYTES, next_problem};
+pub use refusal::NextRefusal;

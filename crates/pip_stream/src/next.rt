@@ -1,0 +1,85 @@
+ghost use Rattle.std.specs.Prelude.{◌≡◌, ◌+◌, ◌<◌, ◌≤◌, ◌↔◌, Some, None, Ok, length, IfOk, IfSome, IsErrOf};
+ghost use Rattle.std.specs.Io.KnownBytes.{IsAtEnd};
+ghost use Rattle.pip_model.specs.Limits.{most_input_bytes};
+ghost use Rattle.pip_model.specs.Reading.{next_open};
+ghost use Rattle.pip_outside.specs.Faults.{HasRisen};
+ghost use Rattle.pip_stream.specs.Windows.{taken_by};
+ghost use Rattle.pip_stream.specs.Ended.{HoldsItem, IsRead};
+ghost use Rattle.pip_stream.specs.Next.{FindsNext, IsPeak, IsReady};
+
+use crate::end::find_end;
+use crate::open::find_open;
+use crate::refusal::{NextRefusal, behind};
+use pip_outside::{Source, Window};
+use pip_problem::Problem;
+use pip_reader::read_problem;
+use std::alloc::Global;
+
+/// The most bytes that an input may have.
+pub const MOST_INPUT_BYTES: usize = 1 << 24;
+
+// Reads the problem that the first n of the held bytes are, and drops them.
+fn take_item(
+    alloc: Global,
+    window: &mut Window,
+    n: usize,
+) -> Result<Option<(Problem, usize)>, NextRefusal>
+    requires open_first { next_open 0 window.old.held ≡ Some 0 }
+    requires item { HoldsItem window.old n }
+    ensures { IsRead window.old window.new n result }
+{
+    let base = window.base();
+    let (item, _) = window.held().split_at(n);
+    match read_problem(alloc, item, 0) {
+        Ok(found) => {
+            window.drop_front(n);
+            Ok(found)
+        }
+        Err(refusal) => Err(behind(base, refusal)),
+    }
+}
+
+/// The next problem of an input and the number of bytes of its group; none exactly at the end of the input with no `(`
+/// left.
+///
+/// The window holds the bytes that were taken and belong to no problem before. Bytes before a `(` are dropped at once.
+/// The problem is read as soon as its group has ended, before the source is asked again, and its bytes are dropped. What
+/// is read of the item's bytes alone is what is read of the whole input. After a refusal the window holds what it held
+/// then.
+#[tactic(none)]
+pub fn next_problem<S: Source>(
+    alloc: Global,
+    window: &mut Window,
+    source: &mut S,
+) -> Result<Option<(Problem, usize)>, NextRefusal>
+    requires held { length window.old.held ≤ 4095 }
+    requires taken { window.old.base + length window.old.held ≤ most_input_bytes }
+
+    // what is found, where the source tells its bytes
+    ensures finds { IfSome (S.left source.old) (λ left.
+        FindsNext window.old left window.new (S.left source.new) result) }
+
+    ensures end { result ≡ Ok None → IsAtEnd (S.left source.new) }
+
+    // the window, whatever the source tells
+    ensures ready { IfOk result (λ _. IsReady window.new) }
+    ensures peak { IfOk result (IsPeak window.new) }
+    ensures dropped { IfOk result (λ o. IfSome o (λ x. (0 < x.1) × (window.old.base + x.1 ≤ window.new.base))) }
+    ensures base { window.old.base ≤ window.new.base }
+    ensures bound { taken_by window.new ≤ most_input_bytes + 1 }
+    ensures limit { IsErrOf result NextRefusal.InputBytes ↔ (most_input_bytes < taken_by window.new) }
+
+    // the source
+    ensures counted { IfSome (S.left source.old) (λ _.
+        S.taken source.new + taken_by window.old ≡ S.taken source.old + taken_by window.new) }
+    ensures later { S.faults source.old ≤ S.faults source.new }
+    ensures quiet { ¬ IsErrOf result NextRefusal.Failed → S.faults source.new ≡ S.faults source.old }
+    ensures cause { IsErrOf result NextRefusal.Failed → HasRisen (S.faults source.old) (S.faults source.new) }
+{
+    window.restart();
+    if !find_open(window, source)? {
+        return Ok(None);
+    }
+    let n = find_end(window, source)?;
+    take_item(alloc, window, n)
+}

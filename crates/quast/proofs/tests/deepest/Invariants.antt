@@ -1,5 +1,0 @@
-use Rattle.std.proofs.Common.{◌≡◌}
-use Rattle.quast.proofs.tests.deepest.Given as goal
-
-abbrev pub invariant-loop : goal.invariant-loop
-invariant-loop l = l.tree.width ≡ 1
