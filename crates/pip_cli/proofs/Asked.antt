@@ -1,20 +1,20 @@
 -- A command that the words give may be asked for.
 use Rattle.std.proofs.Common.{◌≡◌, refl, arith, ℕ, ℤ, ◌-◌, ◌^◌, ◌≤◌, List, Option, Some, None, Bool, true, false, ◌&&◌, ◌==◌, not, nat_le, length}
 use Rattle.std.proofs.lemmas.Bool.{leb-true}
-use Rattle.std.specs.Prelude.{IfSome, if◌then◌else◌, codes}
+use Rattle.std.specs.Prelude.{IfSome, MatchBool, if◌then◌else◌, codes}
 use Rattle.std.specs.List.{list_all}
 use Rattle.std.specs.Str.{bytes_eq}
 use Rattle.std.specs.Option.{option_map}
 use Rattle.clap.specs.Words.{Row, Text, fault_of, subcommand_of, first_of, all_of}
 use Rattle.pip_model.specs.Tokens.{is_digit, natural_of}
 use Rattle.pip_model.specs.Limits.{most_params, most_pivots, most_cuts, most_splits, most_nesting}
-use Rattle.pip_model.specs.Run.{Budget, standard_budget}
-use Rattle.pip_model.specs.Commands.{Command, Eval, Simplify, Pieces, Restrict}
+use Rattle.pip_model.specs.Run.{Budget, IsBudget, standard_budget}
+use Rattle.pip_model.specs.Commands.{Command, Eval, Simplify, Pieces, Restrict, Same}
 use Rattle.pip_model.specs.Output.{MayBeAsked}
 use Rattle.pip_items.specs.Outputs.{IsWithin}
 use Rattle.pip_words.specs.Arguments.{pip_app}
 use Rattle.pip_words.specs.Numbers.{number_of, most_drawn}
-use Rattle.pip_words.specs.Words.{command_of, command_in, solve_of, budget_of, budget_by, walk_of, limit_of, number_or, needed_of, trial_of, is_accepted, parameters_of, texts_of, ◌>>=◌}
+use Rattle.pip_words.specs.Words.{command_of, command_in, solve_of, solve_with, flag_of, budget_of, budget_by, walk_of, limit_of, number_or, needed_of, trial_of, is_accepted, parameters_of, texts_of, ◌>>=◌}
 
 -- over each input within its limit
 abbrev pub IsAsked : Command → Type 0
@@ -46,23 +46,36 @@ limit_within : (most default : ℕ) (text : Option Text) → default ≤ most �
 limit_within most default None h = h
 limit_within most default (Some text) h = number_within most text
 
-budget_within : (rows : List Row) → IfSome (budget_of rows) (λ b. b.nesting ≤ most_nesting)
+budget_within : (rows : List Row) → IfSome (budget_of rows) IsBudget
 budget_within rows = go (limit_of (codes "pivots") most_pivots standard_budget.pivots rows)
     (limit_of (codes "cuts") most_cuts standard_budget.cuts rows)
     (limit_of (codes "splits") most_splits standard_budget.splits rows)
     (limit_of (codes "nesting") most_nesting standard_budget.nesting rows)
+    (limit_within most_pivots standard_budget.pivots (first_of (codes "pivots") rows) (omega arith))
+    (limit_within most_cuts standard_budget.cuts (first_of (codes "cuts") rows) (omega arith))
+    (limit_within most_splits standard_budget.splits (first_of (codes "splits") rows) (omega arith))
     (limit_within most_nesting standard_budget.nesting (first_of (codes "nesting") rows) (omega arith))
   where
-    go : (pivots cuts splits nesting : Option ℕ) → IfSome nesting (λ n. n ≤ most_nesting)
-        → IfSome (budget_by pivots cuts splits nesting) (λ b. b.nesting ≤ most_nesting)
-    go None cuts splits nesting h = tt
-    go (Some p) None splits nesting h = tt
-    go (Some p) (Some c) None nesting h = tt
-    go (Some p) (Some c) (Some s) None h = tt
-    go (Some p) (Some c) (Some s) (Some n) h = h
+    go : (pivots cuts splits nesting : Option ℕ) → IfSome pivots (λ n. n ≤ most_pivots) → IfSome cuts (λ n. n ≤ most_cuts)
+        → IfSome splits (λ n. n ≤ most_splits) → IfSome nesting (λ n. n ≤ most_nesting)
+        → IfSome (budget_by pivots cuts splits nesting) IsBudget
+    go None cuts splits nesting h k l o = tt
+    go (Some p) None splits nesting h k l o = tt
+    go (Some p) (Some c) None nesting h k l o = tt
+    go (Some p) (Some c) (Some s) None h k l o = tt
+    go (Some p) (Some c) (Some s) (Some n) h k l o = record { pivots = h; cuts = k; splits = l; nesting = o }
+
+-- a budget within its limits, with certificates or without
+solving_asked : (certificate : Bool) (b : Budget) → IsBudget b → MatchBool certificate (IsBudget b) (b.nesting ≤ most_nesting)
+solving_asked true b h = h
+solving_asked false b h = h.nesting
 
 solve_asked : (rows : List Row) → IfSome (solve_of rows) IsAsked
-solve_asked rows = then_asked (λ b. b.nesting ≤ most_nesting) (budget_of rows) _ (budget_within rows) (λ b h bytes within. h)
+solve_asked rows = chosen (flag_of (codes "simplify") rows && flag_of (codes "certificate") rows) _ _ tt (go (budget_of rows) (budget_within rows))
+  where
+    go : (b : Option Budget) → IfSome b IsBudget → IfSome (option_map (solve_with rows) b) IsAsked
+    go None h = tt
+    go (Some b) h = λ bytes within. solving_asked (flag_of (codes "certificate") rows) b h
 
 eval_asked : (u : Option (List ℤ)) → IfSome (option_map Eval u) IsAsked
 eval_asked None = tt
@@ -93,15 +106,19 @@ walk_within : (rows : List Row) → IfSome (walk_of rows) IsWalk
 walk_within rows = go (needed_of (codes "parameters") most_params rows) (budget_of rows)
     (needed_within most_params (first_of (codes "parameters") rows)) (budget_within rows)
   where
-    go : (m : Option ℕ) (b : Option Budget) → IfSome m (λ n. n ≤ most_params) → IfSome b (λ x. x.nesting ≤ most_nesting)
+    go : (m : Option ℕ) (b : Option Budget) → IfSome m (λ n. n ≤ most_params) → IfSome b IsBudget
         → IfSome (m >>= λ n. b >>= λ x. Some (n, x)) IsWalk
     go None b h k = tt
     go (Some n) None h k = tt
-    go (Some n) (Some x) h k = (h, k)
+    go (Some n) (Some x) h k = (h, k.nesting)
 
 restrict_asked : (w : Option (ℕ × Budget)) → IfSome w IsWalk → IfSome (option_map (λ x. Restrict x.0 x.1) w) IsAsked
 restrict_asked None h = tt
 restrict_asked (Some w) h = λ bytes within. h.0
+
+same_asked : (w : Option (ℕ × Budget)) → IfSome w IsWalk → IfSome (option_map (λ x. Same x.0 x.1) w) IsAsked
+same_asked None h = tt
+same_asked (Some w) h = λ bytes within. h.0
 
 in_asked : (found : Option (Text × List Row)) → IfSome (command_in found) IsAsked
 in_asked None = tt
@@ -110,9 +127,11 @@ in_asked (Some found) =
     (chosen (bytes_eq found.0 (codes "eval")) _ _ (eval_asked (parameters_of (texts_of (all_of (codes "parameter") found.1))))
     (chosen (bytes_eq found.0 (codes "simplify")) _ _ (simplify_asked (needed_of (codes "parameters") most_params found.1) (needed_within most_params (first_of (codes "parameters") found.1)))
     (chosen (bytes_eq found.0 (codes "check")) _ _ (λ bytes within. tt)
+    (chosen (bytes_eq found.0 (codes "share")) _ _ (λ bytes within. within tt)
     (chosen (bytes_eq found.0 (codes "trial")) _ _ (trial_asked found.1)
     (chosen (bytes_eq found.0 (codes "pieces")) _ _ (pieces_asked (needed_of (codes "parameters") most_params found.1) (needed_within most_params (first_of (codes "parameters") found.1)))
-    (chosen (bytes_eq found.0 (codes "restrict")) _ _ (restrict_asked (walk_of found.1) (walk_within found.1)) tt))))))
+    (chosen (bytes_eq found.0 (codes "restrict")) _ _ (restrict_asked (walk_of found.1) (walk_within found.1))
+    (chosen (bytes_eq found.0 (codes "same")) _ _ (same_asked (walk_of found.1) (walk_within found.1)) tt))))))))
 
 pub command-asked : (words : List Text) → IfSome (command_of words) IsAsked
 command-asked words = chosen (is_accepted (fault_of pip_app words)) _ _ (in_asked (subcommand_of pip_app words)) tt

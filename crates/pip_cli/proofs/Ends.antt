@@ -30,7 +30,7 @@ use Rattle.pip_cli.proofs.Asked.{IsAsked}
 -- ---- statuses
 
 -- the status of an item that is refused
-record IsItemStatus (status : ℕ) : Type 0 where
+pub record IsItemStatus (status : ℕ) : Type 0 where
   pub above_usage : 2 ≤ status
   pub no_read_fault : status ≢ 6
   pub no_write_fault : status ≢ 7
@@ -54,7 +54,7 @@ refusal_status (Splits n) = record { above_usage = omega arith; no_read_fault = 
 refusal_status (Nesting n) = record { above_usage = omega arith; no_read_fault = omega arith; no_write_fault = omega arith; no_memory = omega arith }
 
 -- an item's end, none where memory was refused
-abbrev IsItemEnd : Option Ending → Type 0
+abbrev pub IsItemEnd : Option Ending → Type 0
 IsItemEnd None = Unit {0}
 IsItemEnd (Some e) = IsItemStatus e.status
 
@@ -76,7 +76,7 @@ tool_end None = tt
 tool_end (Some r) = tool_status r
 
 -- the same of each refusal of an item
-item_end : (e : Refused) → IsOfItem e → IsItemEnd (told e)
+pub item_end : (e : Refused) → IsOfItem e → IsItemEnd (told e)
 item_end ending.WantOfMemory own = tt
 item_end (ending.Problem e) own = fault_end (read_fault e)
 item_end (ending.Answer e) own = fault_end (text_fault e)

@@ -1,5 +1,6 @@
 -- What the program promises of its status, its sink and its notes.
-use Rattle.std.specs.Prelude.{◌≡◌, ◌≢◌, ◌⊎◌, ℕ, List, Option, Some, None}
+use Rattle.std.specs.Prelude.{◌≡◌, ◌≢◌, ◌⊎◌, ℕ, ◌<◌, List, length, Option, Some, None, MatchBool}
+use Rattle.pip_model.specs.Limits.{most_input_bytes}
 use Rattle.std.specs.List.{concat}
 use Rattle.std.specs.Io.KnownBytes.{Appends, Keeps}
 use Rattle.pip_outside.specs.Bytes.{AppendsFront}
@@ -12,6 +13,7 @@ use Rattle.pip_model.specs.Output.{IsOutput, IsFirstOutput, IsRightOutput, IsRig
 use Rattle.pip_items.specs.Endings.{ending_of}
 use Rattle.pip_items.specs.Items.{Gained, GainedFront}
 use Rattle.pip_items.specs.Outputs.{IsWithin, IsTooLong}
+use Rattle.pip_items.specs.ByProblem.{reads_by_problem, AreEnded, AreAll}
 use Rattle.pip_items.specs.declared.ending.Ending.{Ending as Refused}
 
 -- ---- the status
@@ -93,3 +95,39 @@ module _ (c : Command) (bytes : List ℕ) (before after : Option (List ℕ)) whe
   Completes status =
       IsWithin c bytes → (ts : List (List ℕ)) → IsOutput c bytes ts finished →
       ((status ≡ all_done) × Appends before after (concat ts)) ⊎ (status ≡ memory_refused)
+
+-- ---- where native problems are read and answered one by one
+
+-- the texts of the problems whose groups end within the first n bytes, right ones
+abbrev pub AreFirstEnded : Command → List ℕ → ℕ → List (List ℕ) → Type 0
+AreFirstEnded c bytes n ts = AreEnded c bytes n ts × IsRightFirstOutput c bytes ts
+
+-- how a run ends that reads problem by problem, and took so many of an input's bytes
+module _ (c : Command) (bytes : List ℕ) (taken : ℕ) (before after : Option (List ℕ)) where
+  -- The sink gained all texts up to the end whose status and line these are, however long the input is. Behind the group
+  -- of a refused problem the source was not asked again.
+  pub record EndsByProblem (Noted : Ending → Type 0) (status : ℕ) : Type 0 where
+    pub texts : List (List ℕ)
+    pub ending : Ending
+    pub all : AreAll c bytes taken ending texts
+    pub right : IsRightOutput c bytes texts ending
+    pub written : Appends before after (concat texts)
+    pub status_is : status ≡ ending.status
+    pub noted : Noted ending
+
+  -- The byte past the limit came before the end: the texts are those of the problems that end within the limit.
+  pub record StopsAtLimit (Noted : Ending → Type 0) (status : ℕ) : Type 0 where
+    pub status_is : status ≡ past_limit
+    pub long : most_input_bytes < length bytes
+    pub noted : Noted input_ending
+    pub written : Gained (AreFirstEnded c bytes most_input_bytes) before after
+
+  pub record HasEndedByProblem (Noted : Ending → Type 0) (status : ℕ) : Type 0 where
+    pub end : IsOfItems status → EndsByProblem Noted status ⊎ StopsAtLimit Noted status
+    pub read_fault : status ≡ read_failed → Gained (AreFirstEnded c bytes taken) before after
+    pub write_fault : status ≡ write_failed → GainedFront (AreFirst c bytes) before after
+    pub want_of_memory : status ≡ memory_refused → Gained (AreFirst c bytes) before after
+
+  -- how a run of any command ends
+  abbrev pub EndsAs : (Ending → Type 0) → ℕ → Type 0
+  EndsAs Noted status = MatchBool (reads_by_problem c) (HasEndedByProblem Noted status) (HasEnded c bytes before after Noted status)

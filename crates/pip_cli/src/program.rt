@@ -1,11 +1,12 @@
-ghost use Rattle.std.specs.Prelude.{◌≡◌, ◌≢◌, ◌⊎◌, None, IsErrOf, IfSome};
+ghost use Rattle.std.specs.Prelude.{◌≡◌, ◌≢◌, ◌⊎◌, ◌-◌, None, Ok, IsErrOf, IfSome};
 ghost use Rattle.std.specs.Io.KnownBytes.{IsAtEnd};
 ghost use Rattle.pip_outside.specs.Faults.{HasRisen};
 ghost use Rattle.pip_model.specs.Endings.{all_done, wrong_words, read_failed, write_failed, memory_refused};
 ghost use Rattle.pip_words.specs.Words.{command_given};
-ghost use Rattle.pip_items.specs.Outputs.{WritesOutput, TakesInput, TakesInputAtMost, IsRead, EndsByFaults};
+ghost use Rattle.pip_items.specs.Outputs.{TakesInput, TakesInputAtMost, IsRead, EndsByFaults};
+ghost use Rattle.pip_items.specs.ByProblem.{WritesOf, ReadsWhole};
 ghost use Rattle.pip_cli.specs.Runs.{IsWordsEnding, WhereTold};
-ghost use Rattle.pip_cli.specs.Ends.{GainsLine, IsNoted, IsAfterInput, HasEnded, AnswersRight, Completes};
+ghost use Rattle.pip_cli.specs.Ends.{GainsLine, IsNoted, IsAfterInput, EndsAs, AnswersRight, Completes};
 
 use pip_items::{Ending, Status, write_output};
 use pip_outside::{Sink, Source};
@@ -22,14 +23,16 @@ fn run<S: Source, K: Sink>(
     ensures usage { IsErrOf result Ending.Usage → command_given words.now ≡ None }
     ensures refused { command_given words.now ≡ None → IsWordsEnding result }
     ensures untouched { command_given words.now ≡ None → (source.new ≡ source.old) × (sink.new ≡ sink.old) }
-    ensures end { IfSome (command_given words.now) TakesInput → IsRead result → IsAtEnd (S.left source.new) }
+    ensures end { IfSome (command_given words.now) ReadsWhole → IsRead result → IsAtEnd (S.left source.new) }
+    ensures done { IfSome (command_given words.now) TakesInput → result ≡ Ok tt → IsAtEnd (S.left source.new) }
     ensures spared { IfSome (command_given words.now) (λ c. ¬ TakesInput c → source.new ≡ source.old) }
     ensures taken { TakesInputAtMost (S.left source.old) (S.taken source.old) (S.taken source.new) }
     ensures faults { EndsByFaults (S.faults source.old) (S.faults source.new) (K.faults sink.old) (K.faults sink.new)
         result }
-    ensures unread { IsErrOf result Ending.ReadFault → sink.new ≡ sink.old }
+    ensures unread { IfSome (command_given words.now) ReadsWhole → IsErrOf result Ending.ReadFault →
+        sink.new ≡ sink.old }
     ensures output { WhereTold (command_given words.now) (S.left source.old) (λ c bytes.
-        WritesOutput c bytes (K.written sink.old) (K.written sink.new) result) }
+        WritesOf c bytes (S.taken source.new - S.taken source.old) (K.written sink.old) (K.written sink.new) result) }
 {
     let command = read_words(alloc, words)?;
     write_output(alloc, &command, source, sink)
@@ -37,9 +40,10 @@ fn run<S: Source, K: Sink>(
 
 /// Does all that the program does and answers its status.
 ///
-/// The words come first, then the whole input is read, but by the trial, and then each item is read, answered, printed
-/// and written, up to the first refusal. Its line goes to the notes; a write of it that fails changes neither the
-/// status nor the sink.
+/// The words come first. Native problems are read one by one: each is answered and its text written as soon as its
+/// group has ended, before the source is asked again. Every other input is read whole first; the trial reads none. Each
+/// item is read, answered, printed and written, up to the first refusal. Its line goes to the notes; a write of it that
+/// fails changes neither the status nor the sink.
 pub fn pip_main<S: Source, K: Sink, N: Sink>(
     alloc: Global,
     words: &Vec<String>,
@@ -54,7 +58,9 @@ pub fn pip_main<S: Source, K: Sink, N: Sink>(
 
     // what is read of the source, whatever it tells; the trial reads nothing
     ensures spared { IfSome (command_given words.now) (λ c. ¬ TakesInput c → source.new ≡ source.old) }
-    ensures read_to_end { IfSome (command_given words.now) TakesInput → IsAfterInput result →
+    ensures read_to_end { IfSome (command_given words.now) ReadsWhole → IsAfterInput result →
+        IsAtEnd (S.left source.new) }
+    ensures done_at_end { IfSome (command_given words.now) TakesInput → result ≡ all_done →
         IsAtEnd (S.left source.new) }
     ensures taken { TakesInputAtMost (S.left source.old) (S.taken source.old) (S.taken source.new) }
 
@@ -63,7 +69,8 @@ pub fn pip_main<S: Source, K: Sink, N: Sink>(
     ensures write_fault { result ≡ write_failed → HasRisen (K.faults sink.old) (K.faults sink.new) }
     ensures read_fault_ends { S.faults source.new ≢ S.faults source.old → result ≡ read_failed }
     ensures write_fault_ends { K.faults sink.new ≢ K.faults sink.old → result ≡ write_failed }
-    ensures nothing_at_read_fault { result ≡ read_failed → sink.new ≡ sink.old }
+    ensures nothing_at_read_fault { IfSome (command_given words.now) ReadsWhole → result ≡ read_failed →
+        sink.new ≡ sink.old }
 
     // the headline: each text is right for the item in its place
     ensures right { WhereTold (command_given words.now) (S.left source.old) (λ c bytes.
@@ -73,7 +80,8 @@ pub fn pip_main<S: Source, K: Sink, N: Sink>(
     ensures output { let line = GainsLine (N.written notes.old) (N.written notes.new)
         (N.faults notes.old) (N.faults notes.new) in
         WhereTold (command_given words.now) (S.left source.old) (λ c bytes.
-        HasEnded c bytes (K.written sink.old) (K.written sink.new) line result) }
+        EndsAs c bytes (S.taken source.new - S.taken source.old) (K.written sink.old) (K.written sink.new)
+        line result) }
     ensures notes { let line = GainsLine (N.written notes.old) (N.written notes.new)
         (N.faults notes.old) (N.faults notes.new) in IsNoted line result }
     ensures quiet_notes { result ≡ all_done → notes.new ≡ notes.old }

@@ -2,6 +2,9 @@ pub mod Lines
 pub mod Written
 pub mod Values
 pub mod Outputs
+pub mod ByProblem
 pub mod Triples
 pub mod Pieces
 pub mod Walked
+pub mod Certified
+pub mod Trios

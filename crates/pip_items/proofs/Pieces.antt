@@ -1,9 +1,9 @@
 -- The text of an answer's pieces, or its end.
-use Rattle.std.proofs.Common.{◌≡◌, refl, List, ℕ, true, false, IsTrue}
-use Rattle.std.specs.Prelude.{Ok, Err, IfSome, IsFalse}
+use Rattle.std.proofs.Common.{◌≡◌, refl, false, IsTrue}
+use Rattle.std.specs.Prelude.{Err, IfSome, IsFalse}
 use Rattle.pip_model.specs.Listed.{all_fit}
 use Rattle.pip_model.specs.ItemTexts.{pieces_text}
-use Rattle.pip_model.specs.PieceText.{answer_listed, spell_pieces}
+use Rattle.pip_model.specs.PieceText.{answer_listed}
 use Rattle.pip_model.specs.TreeText.{Spoken}
 use Rattle.pip_items.specs.Endings.{told, pieces_ending}
 use Rattle.quast_pieces.specs.Pieces.{is_pieces_overflow}

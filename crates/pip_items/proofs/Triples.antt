@@ -1,9 +1,10 @@
--- From what the check finds to the texts of check.
-use Rattle.std.proofs.Common.{◌≡◌, ap, refl, ℕ, List, codes}
-use Rattle.std.specs.Prelude.{Result, Ok, Err, IfSome, Option, Some, None}
+-- From what the check finds to the texts of check and share.
+use Rattle.std.proofs.Common.{◌≡◌}
+use Rattle.std.specs.Prelude.{Ok, Err, IfSome, Option, Some, None}
+use Rattle.pip_model.specs.Certificate.{Certificate}
 use Rattle.pip_model.specs.Check.{Checks}
 use Rattle.pip_model.specs.Endings as model
-use Rattle.pip_model.specs.ItemTexts.{verdict_text}
+use Rattle.pip_model.specs.ItemTexts.{verdict_text, certificate_text}
 use Rattle.pip_items.specs.Endings.{told}
 use Rattle.pip_items.specs.Triples.{verdict, IsFound}
 use Rattle.pip_items.specs.declared.ending.Ending.{Ending}
@@ -16,7 +17,16 @@ verdict_err : (found : Checks (Unit {0})) (e : model.Ending) → verdict found �
 verdict_err (Ok u) e h = cc
 verdict_err (Err f) e h = cc
 
--- where the check finds a fault, this is the end of check
+certificate_err : (found : Checks (Unit {0})) (c : Certificate) (e : model.Ending) → verdict found ≡ Err e
+    → certificate_text found c ≡ Err e
+certificate_err (Ok u) c e h = cc
+certificate_err (Err f) c e h = cc
+
+-- where the check finds a fault, this is the end of check and of share
 pub check_refused : (found : Checks (Unit {0})) (e : Ending) → IsFound (Err e) found
     → IfSome (told e) (λ f. verdict_text found ≡ Err f)
 check_refused found e h = where_some _ _ (told e) (verdict_err found) h
+
+pub share_refused : (found : Checks (Unit {0})) (c : Certificate) (e : Ending) → IsFound (Err e) found
+    → IfSome (told e) (λ f. certificate_text found c ≡ Err f)
+share_refused found c e h = where_some _ _ (told e) (certificate_err found c) h

@@ -5,7 +5,9 @@ pub mod Lines
 pub mod Inputs
 pub mod Items
 pub mod Outputs
+pub mod ByProblem
 pub mod Values
 pub mod Needed
 pub mod Triples
 pub mod Pairs
+pub mod Trios

@@ -1,12 +1,16 @@
 // One file a command: how it reads an item, and the text that it makes of it.
+mod certified;
 pub(crate) mod check;
 mod eval;
 mod needed;
 mod pair;
 mod pieces;
 pub(crate) mod restrict;
+pub(crate) mod same;
+pub(crate) mod share;
 mod simplify;
-mod solve;
+pub(crate) mod solve;
 mod trial;
+mod trio;
 mod triple;
 mod value;

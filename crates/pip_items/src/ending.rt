@@ -7,14 +7,16 @@ ghost use Rattle.pip_items.specs.Endings.{ending_of, pieces_ending};
 ghost use Rattle.pip_problem.specs.declared.refusal.Refusal.TheVariants as run;
 ghost use Rattle.pip_items.specs.declared.ending.Ending.TheVariants as ending;
 ghost use Rattle.pip_items.specs.Words.{words_ending};
+ghost use Rattle.pip_items.specs.Inputs.{unfilled_ending, next_ending};
 
 use crate::status::Status;
 use crate::told::tell;
 use affine_rows::Overflow;
 use certificate_check::Spot;
 use leaf_certificate::CertificateRefusal;
-use pip_outside::{Failed, Sink};
+use pip_outside::{Failed, FillRefusal, Sink};
 use pip_problem::{ReadRefusal, Refusal};
+use pip_stream::NextRefusal;
 use pip_words::WordsRefusal;
 use quast_pieces::PiecesRefusal;
 use quast_text::TextRefusal;
@@ -82,6 +84,30 @@ impl From<ReadRefusal> for Ending {
 
     fn from(refusal: ReadRefusal) -> Ending {
         Ending::Problem(refusal)
+    }
+}
+
+impl From<FillRefusal> for Ending {
+    ghost from_gives = { λ e r. r ≡ unfilled_ending e };
+
+    fn from(refusal: FillRefusal) -> Ending {
+        match refusal {
+            FillRefusal::Failed => Ending::ReadFault,
+            FillRefusal::WantOfMemory => Ending::WantOfMemory,
+        }
+    }
+}
+
+impl From<NextRefusal> for Ending {
+    ghost from_gives = { λ e r. r ≡ next_ending e };
+
+    fn from(refusal: NextRefusal) -> Ending {
+        match refusal {
+            NextRefusal::Read(refusal) => Ending::Problem(refusal),
+            NextRefusal::Failed => Ending::ReadFault,
+            NextRefusal::InputBytes => Ending::InputTooLong,
+            NextRefusal::WantOfMemory => Ending::WantOfMemory,
+        }
     }
 }
 

@@ -6,10 +6,8 @@ ghost use Rattle.pip_items.specs.Outputs.{TakesInputAtMost};
 
 use crate::ending::Ending;
 use pip_outside::Source;
+use pip_stream::MOST_INPUT_BYTES;
 use std::alloc::Global;
-
-/// The most bytes that an input may have.
-pub(crate) const MOST_INPUT_BYTES: usize = 1 << 24;
 
 /// All bytes that a source has left, up to the most that an input may have. No more is asked for than one byte past
 /// these.

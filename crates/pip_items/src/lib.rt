@@ -6,6 +6,7 @@ mod ending;
 mod input;
 mod items;
 mod output;
+mod problems;
 mod status;
 mod told;
 

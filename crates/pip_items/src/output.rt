@@ -1,14 +1,19 @@
-ghost use Rattle.std.specs.Prelude.{◌≡◌, IfSome, IsErrOf};
+ghost use Rattle.std.specs.Prelude.{◌≡◌, ◌-◌, Ok, IfSome, IsErrOf};
 ghost use Rattle.std.specs.Io.KnownBytes.{IsAtEnd};
 ghost use Rattle.pip_words.specs.Words.{meaning_of};
 ghost use Rattle.pip_items.specs.Items.{WritesItems};
-ghost use Rattle.pip_items.specs.Outputs.{WritesOver, WritesOutput, TakesInput, TakesInputAtMost, IsRead, EndsByFaults, bytes_read};
+ghost use Rattle.pip_items.specs.Outputs.{WritesOver, TakesInput, TakesInputAtMost, IsRead, EndsByFaults, bytes_read};
+ghost use Rattle.pip_items.specs.ByProblem.{WritesOf, ReadsWhole};
 
 use crate::commands::check::Check;
 use crate::commands::restrict::Restrict;
+use crate::commands::same::Same;
+use crate::commands::share::Share;
+use crate::commands::solve::Matrices;
 use crate::ending::Ending;
 use crate::input::read_input;
 use crate::items::{ItemTexts, write_items};
+use crate::problems::write_problems;
 use pip_outside::{Sink, Source};
 use pip_words::Command;
 use std::alloc::Global;
@@ -33,8 +38,8 @@ fn write_over_input<C: ItemTexts, S: Source, K: Sink>(
     write_items(alloc, command, &input, sink)
 }
 
-/// Writes the text that a command makes of each item, up to the first refusal. The whole input is read first; the trial
-/// reads none.
+/// Writes the text that a command makes of each item, up to the first refusal. Native problems are read and answered one
+/// by one; any other input is read whole first, and the trial reads none.
 pub fn write_output<S: Source, K: Sink>(
     alloc: Global,
     command: &Command,
@@ -42,22 +47,32 @@ pub fn write_output<S: Source, K: Sink>(
     sink: &mut K,
 ) -> Result<(), Ending>
     ensures output { IfSome (bytes_read (meaning_of command.now) (S.left source.old)) (λ bytes.
-        WritesOutput (meaning_of command.now) bytes (K.written sink.old) (K.written sink.new) result) }
+        WritesOf (meaning_of command.now) bytes (S.taken source.new - S.taken source.old)
+        (K.written sink.old) (K.written sink.new) result) }
     ensures words { ¬ IsErrOf result Ending.Usage }
-    ensures end { TakesInput (meaning_of command.now) → IsRead result → IsAtEnd (S.left source.new) }
+    ensures end { ReadsWhole (meaning_of command.now) → IsRead result → IsAtEnd (S.left source.new) }
+    ensures done { TakesInput (meaning_of command.now) → result ≡ Ok tt → IsAtEnd (S.left source.new) }
     ensures spared { ¬ TakesInput (meaning_of command.now) → source.new ≡ source.old }
     ensures taken { TakesInputAtMost (S.left source.old) (S.taken source.old) (S.taken source.new) }
     ensures faults { EndsByFaults (S.faults source.old) (S.faults source.new) (K.faults sink.old) (K.faults sink.new)
         result }
-    ensures unread { IsErrOf result Ending.ReadFault → sink.new ≡ sink.old }
+    ensures unread { ReadsWhole (meaning_of command.now) → IsErrOf result Ending.ReadFault → sink.new ≡ sink.old }
 {
     match command {
-        Command::Solve(options) => write_over_input(alloc, options, source, sink),
+        Command::Solve(options) => {
+            if options.polylib {
+                write_over_input(alloc, &Matrices(options), source, sink)
+            } else {
+                write_problems(alloc, options, source, sink)
+            }
+        }
         Command::Eval(params) => write_over_input(alloc, params, source, sink),
         Command::Simplify(options) => write_over_input(alloc, options, source, sink),
         Command::Check => write_over_input(alloc, &Check, source, sink),
+        Command::Share => write_over_input(alloc, &Share, source, sink),
         Command::Pieces(options) => write_over_input(alloc, options, source, sink),
         Command::Restrict(options) => write_over_input(alloc, &Restrict(options), source, sink),
+        Command::Same(options) => write_over_input(alloc, &Same(options), source, sink),
         Command::Trial(options) => write_items(alloc, options, b"", sink),
     }
 }

@@ -14,7 +14,6 @@ ghost use Rattle.pip_items.specs.Endings.{or_memory, read_ending, text_ending, c
 ghost use Rattle.pip_items.specs.Lines.{digits_of, numbered, with_count, front_said, place_said, words_of, line_of, ending_told};
 
 use crate::ending::Ending;
-use crate::input::MOST_INPUT_BYTES;
 use crate::status::Status;
 use affine_rows::MOST_NESTING;
 use certificate_check::Spot;
@@ -22,6 +21,7 @@ use itoa::Buffer;
 use leaf_certificate::CertificateRefusal;
 use pip_outside::{Failed, Sink, write_all};
 use pip_problem::{LimitKind, Option_, ReadRefusal, Refusal};
+use pip_stream::MOST_INPUT_BYTES;
 use quast_text::TextRefusal;
 use quast_tools::ToolRefusal;
 

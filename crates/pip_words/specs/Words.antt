@@ -1,13 +1,13 @@
 -- The command that the words of the command line give, over clap's definition of a simple command.
 use Rattle.std.specs.Prelude.{◌≡◌, ℕ, ◌-◌, ◌^◌, ℤ, Bool, true, false, List, [], ◌∷◌, map, Option, Some, None, option_map}
-use Rattle.std.specs.Prelude.{Result, Ok, Err, Vec, String, string_bytes, codes, if◌then◌else◌, nat_le, length, ⊤}
+use Rattle.std.specs.Prelude.{Result, Ok, Err, Vec, String, string_bytes, codes, if◌then◌else◌, ◌&&◌, nat_le, length, ⊤}
 use Rattle.std.specs.declared.alloc.Global.{Global}
 use Rattle.std.specs.Option.{option_map_or}
 use Rattle.std.specs.Str.{bytes_eq}
 use Rattle.clap.specs.Words.{Row, Text, Kinds, fault_of, subcommand_of, first_of, all_of}
 use Rattle.pip_model.specs.Limits.{most_params, most_pivots, most_cuts, most_splits, most_nesting}
 use Rattle.pip_model.specs.Run.{Budget, standard_budget}
-use Rattle.pip_model.specs.Commands.{SolveOptions, Command, Solve, Eval, Simplify, CheckAll, Trial, Pieces, Restrict}
+use Rattle.pip_model.specs.Commands.{SolveOptions, Command, Solve, Eval, Simplify, CheckAll, ShareAll, Trial, Pieces, Restrict, Same}
 use Rattle.pip_words.specs.Arguments.{pip_app}
 use Rattle.pip_words.specs.Numbers.{number_of, parameter_of, most_drawn}
 use Rattle.pip_words.specs.declared.command.Command.{Command as Given}
@@ -18,16 +18,18 @@ use Rattle.pip_words.specs.declared.refusal.WordsRefusal.TheVariants as refusal
 
 -- what the code's command is in the model
 abbrev pub options_of : GivenOptions → SolveOptions
-options_of o = record { polylib = o.polylib; simplify = o.simplify; certificate = false; budget = o.limits }
+options_of o = record { polylib = o.polylib; simplify = o.simplify; certificate = o.certificate; budget = o.limits }
 
 abbrev pub meaning_of : Given → Command
 meaning_of (given.Solve o) = Solve (options_of o)
 meaning_of (given.Eval u) = Eval u
 meaning_of (given.Simplify o) = Simplify o.params
 meaning_of given.Check = CheckAll
+meaning_of given.Share = ShareAll
 meaning_of (given.Trial o) = Trial o.seed o.count
 meaning_of (given.Pieces o) = Pieces o.params
 meaning_of (given.Restrict o) = Restrict o.params o.limits
+meaning_of (given.Same o) = Same o.params o.limits
 
 infixl 10 ◌>>=◌
 abbrev pub ◌>>=◌ : {A B : Type 0} → Option A → (A → Option B) → Option B
@@ -62,16 +64,19 @@ budget_of rows = budget_by (limit_of (codes "pivots") most_pivots standard_budge
     (limit_of (codes "splits") most_splits standard_budget.splits rows)
     (limit_of (codes "nesting") most_nesting standard_budget.nesting rows)
 
--- solve [--polylib] [--simplify], and a budget
+abbrev pub solve_with : List Row → Budget → Command
+solve_with rows budget = Solve (record {
+  polylib = flag_of (codes "polylib") rows;
+  simplify = flag_of (codes "simplify") rows;
+  certificate = flag_of (codes "certificate") rows;
+  budget = budget;
+})
+
+-- solve [--polylib] [--simplify] [--certificate], and a budget; what has a certificate is not simplified
 abbrev pub solve_of : List Row → Option Command
-solve_of rows = do
-  budget ← budget_of rows
-  Some (Solve (record {
-    polylib = flag_of (codes "polylib") rows;
-    simplify = flag_of (codes "simplify") rows;
-    certificate = false;
-    budget = budget;
-  }))
+solve_of rows =
+    if flag_of (codes "simplify") rows && flag_of (codes "certificate") rows then None
+    else option_map (solve_with rows) (budget_of rows)
 
 abbrev pub all_parameters : List Text → Option (List ℤ)
 all_parameters [] = Some []
@@ -125,6 +130,10 @@ walk_of rows = do
 abbrev pub restrict_of : List Row → Option Command
 restrict_of rows = option_map (λ w. Restrict w.0 w.1) (walk_of rows)
 
+-- same M, and a budget
+abbrev pub same_of : List Row → Option Command
+same_of rows = option_map (λ w. Same w.0 w.1) (walk_of rows)
+
 -- the command of this name
 abbrev pub command_named : Text → List Row → Option Command
 command_named name rows =
@@ -132,10 +141,12 @@ command_named name rows =
     else (if bytes_eq name (codes "eval") then eval_of rows
     else (if bytes_eq name (codes "simplify") then simplify_of rows
     else (if bytes_eq name (codes "check") then Some CheckAll
+    else (if bytes_eq name (codes "share") then Some ShareAll
     else (if bytes_eq name (codes "trial") then trial_of rows
     else (if bytes_eq name (codes "pieces") then pieces_of rows
     else (if bytes_eq name (codes "restrict") then restrict_of rows
-    else None))))))
+    else (if bytes_eq name (codes "same") then same_of rows
+    else None))))))))
 
 abbrev pub command_in : Option (Text × List Row) → Option Command
 command_in None = None

@@ -3,6 +3,7 @@ ghost use Rattle.clap.specs.Words.{app_of, shape_of, rule_of};
 ghost use Rattle.clap.specs.declared.builder.Command.TheViews.{out-Command};
 ghost use Rattle.pip_words.specs.Arguments.{rule_given, shape_given, with_argument, with_entry, pip_app};
 
+use crate::names;
 use clap::{Arg, ArgAction, Command};
 use std::alloc::{AllocError, Global};
 
@@ -76,42 +77,59 @@ pub(crate) fn pip<'a>(alloc: Global) -> Result<Command<'a>, AllocError>
         program,
         &[
             Entry {
-                name: "solve",
+                name: names::SOLVE,
                 arguments: &[
-                    Argument::Flag("polylib"),
-                    Argument::Flag("simplify"),
-                    Argument::Setting("pivots"),
-                    Argument::Setting("cuts"),
-                    Argument::Setting("splits"),
-                    Argument::Setting("nesting"),
+                    Argument::Flag(names::POLYLIB),
+                    Argument::Flag(names::SIMPLIFY),
+                    Argument::Flag(names::CERTIFICATE),
+                    Argument::Setting(names::PIVOTS),
+                    Argument::Setting(names::CUTS),
+                    Argument::Setting(names::SPLITS),
+                    Argument::Setting(names::NESTING),
                 ],
             },
             Entry {
-                name: "eval",
-                arguments: &[Argument::Values("parameter")],
+                name: names::EVAL,
+                arguments: &[Argument::Values(names::PARAMETER)],
             },
             Entry {
-                name: "simplify",
-                arguments: &[Argument::Needed("parameters")],
+                name: names::SIMPLIFY,
+                arguments: &[Argument::Needed(names::PARAMETERS)],
             },
             Entry {
-                name: "check",
+                name: names::CHECK,
                 arguments: &[],
             },
             Entry {
-                name: "trial",
-                arguments: &[Argument::Needed("seed"), Argument::Needed("count")],
+                name: names::SHARE,
+                arguments: &[],
             },
             Entry {
-                name: "pieces",
-                arguments: &[Argument::Needed("parameters")],
-            },
-            Entry {
-                name: "restrict",
+                name: names::TRIAL,
                 arguments: &[
-                    Argument::Needed("parameters"),
-                    Argument::Setting("pivots"),
-                    Argument::Setting("cuts"),
+                    Argument::Needed(names::SEED),
+                    Argument::Needed(names::COUNT),
+                ],
+            },
+            Entry {
+                name: names::PIECES,
+                arguments: &[Argument::Needed(names::PARAMETERS)],
+            },
+            Entry {
+                name: names::RESTRICT,
+                arguments: &[
+                    Argument::Needed(names::PARAMETERS),
+                    Argument::Setting(names::PIVOTS),
+                    Argument::Setting(names::CUTS),
+                ],
+            },
+            Entry {
+                name: names::SAME,
+                arguments: &[
+                    Argument::Needed(names::PARAMETERS),
+                    Argument::Setting(names::PIVOTS),
+                    Argument::Setting(names::CUTS),
+                    Argument::Setting(names::SPLITS),
                 ],
             },
         ],

@@ -12,9 +12,12 @@ pub enum Command {
     Simplify(SimplifyOptions),
     /// Whether certificates are accepted.
     Check,
+    /// The accepted certificates, with the steps that their refutations share written once.
+    Share,
     Trial(TrialOptions),
     Pieces(PiecesOptions),
     Restrict(WalkOptions),
+    Same(WalkOptions),
 }
 
 /// How problems are read and solved.
@@ -24,6 +27,8 @@ pub struct SolveOptions {
     pub polylib: bool,
     /// The answers are simplified.
     pub simplify: bool,
+    /// A certificate stands behind each answer; never where the answers are simplified.
+    pub certificate: bool,
     pub limits: Limits,
 }
 

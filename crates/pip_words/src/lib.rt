@@ -3,12 +3,11 @@
 
 mod arguments;
 mod command;
+mod names;
 mod number;
 mod parameter_vector;
 mod reading;
 mod refusal;
-#[cfg(test)]
-mod tests;
 
 pub use command::{
     Command, PiecesOptions, SimplifyOptions, SolveOptions, TrialOptions, WalkOptions,

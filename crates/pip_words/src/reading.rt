@@ -2,14 +2,14 @@ ghost use Rattle.std.specs.Prelude.{◌≡◌, ◌≤◌, IfOk, IfErr, IfSome, S
 ghost use Rattle.pip_model.specs.Limits.{most_params};
 ghost use Rattle.clap.specs.Words.{subcommand_rows_of, rows_of, found_of};
 ghost use Rattle.pip_words.specs.Words.{command_given, meaning_of, Gives, command_in, command_named, solve_of, eval_of, simplify_of};
-ghost use Rattle.pip_words.specs.Words.{pieces_of};
-ghost use Rattle.pip_words.specs.Words.{restrict_of, walk_of};
+ghost use Rattle.pip_words.specs.Words.{pieces_of, walk_of, restrict_of, same_of};
 ghost use Rattle.pip_words.specs.Words.{trial_of, budget_of, parameters_of, flag_of, limit_of, needed_of};
 
 use crate::arguments::pip;
 use crate::command::{
     Command, PiecesOptions, SimplifyOptions, SolveOptions, TrialOptions, WalkOptions,
 };
+use crate::names;
 use crate::number::{parameter, short_number};
 use crate::parameter_vector::ParameterVector;
 use crate::refusal::WordsRefusal;
@@ -59,20 +59,24 @@ fn command(alloc: Global, matches: &ArgMatches<'_>) -> Result<Command, WordsRefu
 fn named(alloc: Global, name: &str, matches: &ArgMatches<'_>) -> Result<Command, WordsRefusal>
     ensures { Gives meaning_of (command_named name.now (rows_of (found_of matches.now))) result }
 {
-    if name == "solve" {
+    if name == names::SOLVE {
         solve(matches)
-    } else if name == "eval" {
+    } else if name == names::EVAL {
         eval(alloc, matches)
-    } else if name == "simplify" {
+    } else if name == names::SIMPLIFY {
         simplify(matches)
-    } else if name == "check" {
+    } else if name == names::CHECK {
         Ok(Command::Check)
-    } else if name == "trial" {
+    } else if name == names::SHARE {
+        Ok(Command::Share)
+    } else if name == names::TRIAL {
         trial(matches)
-    } else if name == "pieces" {
+    } else if name == names::PIECES {
         pieces(matches)
-    } else if name == "restrict" {
+    } else if name == names::RESTRICT {
         restrict(matches)
+    } else if name == names::SAME {
+        same(matches)
     } else {
         Err(WordsRefusal::Usage)
     }
@@ -81,12 +85,17 @@ fn named(alloc: Global, name: &str, matches: &ArgMatches<'_>) -> Result<Command,
 fn solve(matches: &ArgMatches<'_>) -> Result<Command, WordsRefusal>
     ensures { Gives meaning_of (solve_of (rows_of (found_of matches.now))) result }
 {
-    let polylib = is_set(matches, "polylib");
-    let simplify = is_set(matches, "simplify");
+    let polylib = is_set(matches, names::POLYLIB);
+    let simplify = is_set(matches, names::SIMPLIFY);
+    let certificate = is_set(matches, names::CERTIFICATE);
+    if simplify && certificate {
+        return Err(WordsRefusal::Usage);
+    }
     match limits(matches) {
         Some(limits) => Ok(Command::Solve(SolveOptions {
             polylib,
             simplify,
+            certificate,
             limits,
         })),
         None => Err(WordsRefusal::Usage),
@@ -96,7 +105,7 @@ fn solve(matches: &ArgMatches<'_>) -> Result<Command, WordsRefusal>
 fn eval(alloc: Global, matches: &ArgMatches<'_>) -> Result<Command, WordsRefusal>
     ensures { Gives meaning_of (eval_of (rows_of (found_of matches.now))) result }
 {
-    match matches.get_strs("parameter") {
+    match matches.get_strs(names::PARAMETER) {
         Some(texts) => match parameters(alloc, texts) {
             Ok(vector) => Ok(Command::Eval(vector)),
             Err(refusal) => Err(refusal),
@@ -133,8 +142,8 @@ fn simplify(matches: &ArgMatches<'_>) -> Result<Command, WordsRefusal>
 fn trial(matches: &ArgMatches<'_>) -> Result<Command, WordsRefusal>
     ensures { Gives meaning_of (trial_of (rows_of (found_of matches.now))) result }
 {
-    let seed = needed(matches, "seed", u64::MAX);
-    let count = needed(matches, "count", MOST_DRAWN);
+    let seed = needed(matches, names::SEED, u64::MAX);
+    let count = needed(matches, names::COUNT, MOST_DRAWN);
     match (seed, count) {
         (Some(seed), Some(count)) => Ok(Command::Trial(TrialOptions {
             seed,
@@ -158,7 +167,7 @@ fn parameter_count(matches: &ArgMatches<'_>) -> Option<usize>
     ensures value { result ≡ needed_of (codes "parameters") most_params (rows_of (found_of matches.now)) }
     ensures few { IfSome result (λ n. n ≤ most_params) }
 {
-    match needed(matches, "parameters", MOST_PARAMETERS as u64) {
+    match needed(matches, names::PARAMETERS, MOST_PARAMETERS as u64) {
         Some(count) => Some(count as usize),
         None => None,
     }
@@ -183,15 +192,24 @@ fn restrict(matches: &ArgMatches<'_>) -> Result<Command, WordsRefusal>
     }
 }
 
+fn same(matches: &ArgMatches<'_>) -> Result<Command, WordsRefusal>
+    ensures { Gives meaning_of (same_of (rows_of (found_of matches.now))) result }
+{
+    match walk(matches) {
+        Some(options) => Ok(Command::Same(options)),
+        None => Err(WordsRefusal::Usage),
+    }
+}
+
 // The budgets of the options, each its standard where it is not given.
 fn limits(matches: &ArgMatches<'_>) -> Option<Limits>
     ensures { result ≡ budget_of (rows_of (found_of matches.now)) }
 {
     let standard = Limits::standard();
-    let pivots = limit(matches, "pivots", MOST_PIVOTS, standard.pivots());
-    let cuts = limit(matches, "cuts", MOST_CUTS, standard.cuts());
-    let splits = limit(matches, "splits", MOST_SPLITS, standard.splits());
-    let nesting = limit(matches, "nesting", MOST_NESTING, standard.nesting());
+    let pivots = limit(matches, names::PIVOTS, MOST_PIVOTS, standard.pivots());
+    let cuts = limit(matches, names::CUTS, MOST_CUTS, standard.cuts());
+    let splits = limit(matches, names::SPLITS, MOST_SPLITS, standard.splits());
+    let nesting = limit(matches, names::NESTING, MOST_NESTING, standard.nesting());
     match (pivots, cuts, splits, nesting) {
         (Some(pivots), Some(cuts), Some(splits), Some(nesting)) => {
             Some(Limits::new(pivots, cuts, splits, nesting))

@@ -1,19 +1,20 @@
-ghost use Rattle.std.specs.Prelude.{◌≡◌, ◌<◌, ◌≤◌, [], length, IfOk, IfSome, if◌then◌else◌};
+ghost use Rattle.std.specs.Prelude.{◌≡◌, ◌<◌, ◌≤◌, [], length, IfOk, IfErr, IfSome, if◌then◌else◌};
 ghost use Rattle.pip_model.specs.Agreement.{Agrees};
-ghost use Rattle.pip_model.specs.Commands.{Solve, item_text};
-ghost use Rattle.pip_model.specs.ItemKinds.{problem_item, matrix_item};
+ghost use Rattle.pip_model.specs.Commands.{Solve, text_of};
+ghost use Rattle.pip_model.specs.Items.{text_of_item};
+ghost use Rattle.pip_model.specs.ItemKinds.{matrix_item};
 ghost use Rattle.pip_model.specs.ItemTexts.{solved_text};
 ghost use Rattle.pip_model.specs.Simplified.{simplified};
 ghost use Rattle.pip_model.specs.Values.{simplified_by};
 ghost use Rattle.quast.specs.Answers.{answer_of};
 ghost use Rattle.pip_words.specs.Words.{options_of};
 ghost use Rattle.pip_items.specs.Items.{IsTextOfItem};
-ghost use Rattle.pip_items.specs.Endings.{read_ending};
+ghost use Rattle.pip_items.specs.Endings.{read_ending, IsOfItem};
 
+use super::certified::write_certified;
 use crate::ending::Ending;
 use crate::items::ItemTexts;
 use pip_problem::{Problem, ReadRefusal};
-use pip_reader::read_problem;
 use pip_solve::solve;
 use pip_words::SolveOptions;
 use polylib_reader::read_matrices;
@@ -34,19 +35,38 @@ fn simplified_if(simplify: bool, answer: Answer) -> Answer
 }
 
 // Puts the text of a problem's answer into `text`.
-fn write_solution(
+fn write_answer(
     alloc: Global,
     options: &SolveOptions,
     problem: &Problem,
     text: &mut Vec<u8>,
 ) -> Result<(), Ending>
     requires { text.old.items ≡ [] }
-    ensures { IsTextOfItem (solved_text options.now.simplify options.now.limits problem.now) result text.new.items }
+    ensures own { IfErr result IsOfItem }
+    ensures text { IsTextOfItem (solved_text options.now.simplify options.now.limits problem.now) result text.new.items }
 {
     let answer = solve(alloc, problem, &options.limits)?;
     let answer = simplified_if(options.simplify, answer);
     print_answer(problem.comment(), &answer, text)?;
     Ok(())
+}
+
+// Puts the text of a problem's answer into `text`, with its certificate where that is asked for.
+pub(crate) fn write_solution(
+    alloc: Global,
+    options: &SolveOptions,
+    problem: &Problem,
+    text: &mut Vec<u8>,
+) -> Result<(), Ending>
+    requires { text.old.items ≡ [] }
+    ensures own { IfErr result IsOfItem }
+    ensures text { IsTextOfItem (text_of (Solve (options_of options.now)) problem.now) result text.new.items }
+{
+    if options.certificate {
+        write_certified(alloc, &options.limits, problem, text)
+    } else {
+        write_answer(alloc, options, problem, text)
+    }
 }
 
 // The one problem of the matrices, at place 0.
@@ -65,10 +85,14 @@ fn matrices_at(
     Ok(Some((problem, 1)))
 }
 
-impl ItemTexts for SolveOptions {
-    ghost text_at = { λ o bytes place. item_text (Solve (options_of o)) bytes place };
+/// `solve` of the one PolyLib problem of an input.
+#[derive(Drop)]
+pub(crate) struct Matrices<'a>(pub &'a SolveOptions);
 
-    ghost last_place = { λ o bytes. if o.polylib then 1 else length bytes };
+impl ItemTexts for Matrices<'_> {
+    ghost text_at = { λ m bytes place. text_of_item (text_of (Solve (options_of m.0.now))) (matrix_item bytes place) };
+
+    ghost last_place = { λ _ bytes. 1 };
 
     fn write_text(
         &self,
@@ -77,14 +101,9 @@ impl ItemTexts for SolveOptions {
         at: usize,
         text: &mut Vec<u8>,
     ) -> Result<Option<usize>, Ending> {
-        let found = if self.polylib {
-            matrices_at(alloc, bytes, at)?
-        } else {
-            read_problem(alloc, bytes, at)?
-        };
-        match found {
+        match matrices_at(alloc, bytes, at)? {
             Some((problem, after)) => {
-                write_solution(alloc, self, &problem, text)?;
+                write_solution(alloc, self.0, &problem, text)?;
                 Ok(Some(after))
             }
             None => Ok(None),

@@ -1,11 +1,12 @@
-use Rattle.pip_model.specs.Commands.{Solve, Eval, Simplify, CheckAll, Pieces, Restrict}
+use Rattle.pip_model.specs.Commands.{Eval, Simplify, CheckAll, ShareAll, Pieces, Restrict, Same}
 use Rattle.pip_words.specs.Words.{options_of}
+use Rattle.pip_items.proofs.ByProblem.{output-matrices}
 use Rattle.pip_items.proofs.Outputs.{output-taken, output-trial}
 use Rattle.pip_items.proofs.output.write_output.Goals as goal
 
-pub returns-in-Solve-clause-output : goal.returns-in-Solve-clause-output
-returns-in-Solve-clause-output g c =
-    rw c.in-Solve.is (output-taken (Solve (options_of c.in-Solve.options)) tt (g.S.Source.left c.args.source.now) (g.K.Sink.written c.args.sink.now) _ c.write_over_input.result c.write_over_input.ensures.output)
+pub returns-then-options-clause-output : goal.returns-then-options-clause-output
+returns-then-options-clause-output g c =
+    rw c.in-Solve.is (output-matrices (options_of c.in-Solve.options) (g.S.Source.left c.args.source.now) _ (g.K.Sink.written c.args.sink.now) _ c.write_over_input.result c.if-options.true c.write_over_input.ensures.output)
 
 pub returns-in-Eval-clause-output : goal.returns-in-Eval-clause-output
 returns-in-Eval-clause-output g c =
@@ -20,6 +21,11 @@ returns-in-Check-clause-output g c =
     rw c.in-Check.is (output-taken CheckAll tt (g.S.Source.left c.args.source.now) (g.K.Sink.written c.args.sink.now)
     _ c.write_over_input-in-Check.result c.write_over_input-in-Check.ensures.output)
 
+pub returns-in-Share-clause-output : goal.returns-in-Share-clause-output
+returns-in-Share-clause-output g c =
+    rw c.in-Share.is (output-taken ShareAll tt (g.S.Source.left c.args.source.now) (g.K.Sink.written c.args.sink.now)
+    _ c.write_over_input-in-Share.result c.write_over_input-in-Share.ensures.output)
+
 pub returns-in-Pieces-clause-output : goal.returns-in-Pieces-clause-output
 returns-in-Pieces-clause-output g c =
     rw c.in-Pieces.is (output-taken (Pieces c.in-Pieces.options.params) tt (g.S.Source.left c.args.source.now) (g.K.Sink.written c.args.sink.now)
@@ -29,6 +35,11 @@ pub returns-in-Restrict-clause-output : goal.returns-in-Restrict-clause-output
 returns-in-Restrict-clause-output g c =
     rw c.in-Restrict.is (output-taken (Restrict c.in-Restrict.options.params c.in-Restrict.options.limits) tt (g.S.Source.left c.args.source.now) (g.K.Sink.written c.args.sink.now)
     _ c.write_over_input-in-Restrict.result c.write_over_input-in-Restrict.ensures.output)
+
+pub returns-in-Same-clause-output : goal.returns-in-Same-clause-output
+returns-in-Same-clause-output g c =
+    rw c.in-Same.is (output-taken (Same c.in-Same.options.params c.in-Same.options.limits) tt (g.S.Source.left c.args.source.now) (g.K.Sink.written c.args.sink.now)
+    _ c.write_over_input-in-Same.result c.write_over_input-in-Same.ensures.output)
 
 pub returns-in-Trial-clause-output : goal.returns-in-Trial-clause-output
 returns-in-Trial-clause-output g c =

@@ -1,0 +1,358 @@
+-- What the loop over the problems of an input has written so far, and what it is at each of its ends.
+use Rattle.std.proofs.Common.{◌≡◌, refl, sym, ap, subst, ◌∙◌, ℕ, ◌+◌, ◌-◌, ◌<◌, ◌≤◌, arith, Bool, true, false, not, List, [], ◌++◌, length, length-append, length-drop, take, drop}
+use Rattle.std.proofs.KnownBytes.{Appends-nil}
+use Rattle.std.proofs.lemmas.List.{drop-drop, drop-take}
+use Rattle.std.specs.Prelude.{Option, Some, None, IfSome, Result, Ok, Err, IsErrOf, MatchBool, if◌then◌else◌}
+use Rattle.std.specs.Option.{option_map}
+use Rattle.std.specs.List.{list_all}
+use Rattle.std.specs.Io.KnownBytes.{Appends}
+use Rattle.pip_outside.specs.Bytes.{AppendsFront}
+use Rattle.pip_outside.specs.Windows.{HeldBytes}
+use Rattle.pip_outside.specs.declared.window.FillRefusal.{FillRefusal}
+use Rattle.pip_outside.specs.declared.window.FillRefusal.TheVariants as fill
+use Rattle.pip_model.specs.Limits.{most_input_bytes}
+use Rattle.pip_model.specs.Problem.{Problem}
+use Rattle.pip_model.specs.Reading.{Fault, next_open}
+use Rattle.pip_model.specs.Moved.{moved, is_closed}
+use Rattle.pip_model.specs.NativeText.{read_native}
+use Rattle.pip_model.specs.Endings.{Ending, finished, fault_ending}
+use Rattle.pip_model.specs.ItemKinds.{matrix_item, problem_item}
+use Rattle.pip_model.specs.Items.{ItemAt, or_ending, text_with, text_of_item, FirstItems, IsItself, NoEnd, Ends}
+use Rattle.pip_model.specs.Commands.{SolveOptions, Solve, item_text, text_of}
+use Rattle.pip_model.specs.Output.{IsFirstOutput}
+use Rattle.text_laws.proofs.LocalProblems.{read_native-moved}
+use Rattle.text_laws.proofs.ReadProblems.{read_native-none}
+use Rattle.text_laws.proofs.Items.{next_open-closed}
+use Rattle.headline.proofs.FirstItems.{first_items-first, first_items-end}
+use Rattle.pip_problem.specs.Faults.{read_fault}
+use Rattle.pip_reader.specs.Groups.{group_behind, first_group_end}
+use Rattle.pip_stream.specs.Windows.{taken_by, bytes_from, Drops}
+use Rattle.pip_stream.specs.Next.{ReadsNext, ReadsNone, RefusesNext, StaysOpen, HoldsRest, FindsNext, IsReady}
+use Rattle.pip_stream.specs.declared.refusal.NextRefusal.{NextRefusal}
+use Rattle.pip_stream.specs.declared.refusal.NextRefusal.TheVariants as next
+use Rattle.pip_items.specs.Endings.{told, IsOfItem}
+use Rattle.pip_items.specs.Inputs.{unfilled_ending, next_ending}
+use Rattle.pip_items.specs.Items.{Gained, GainedFront}
+use Rattle.pip_outside.specs.Faults.{HasRisen}
+use Rattle.pip_items.specs.Outputs.{TakesInputAtMost, EndsByFaults, WritesOver, WritesOutput}
+use Rattle.pip_items.proofs.Outputs.{output-taken}
+use Rattle.pip_items.specs.ByProblem.{AreEnded, AreAll, WritesTillEnd, WritesByProblem, WritesOf}
+use Rattle.pip_items.specs.declared.ending.Ending.{Ending as Refused}
+use Rattle.pip_items.specs.declared.ending.Ending.TheVariants as ending
+use Rattle.pip_items.proofs.Written.{LeadTo, nothing, one_more, front_of_one}
+
+if-some : {X : Type 0} (P : X → Type 0) (o : Option X) (x : X) → o ≡ Some x → IfSome o P → P x
+if-some P (Some y) x e h = let same : y ≡ x = cc in subst P same h
+if-some P None x e h = absurd cc
+
+module _ (o : SolveOptions) (bytes : List ℕ) where
+  abbrev text : ℕ → ItemAt (List ℕ)
+  text = item_text (Solve o) bytes
+
+  -- the window stands behind the items whose texts were written
+  pub record Follows (w : HeldBytes) (now : Option (List ℕ)) (a b : Option (List ℕ)) : Type 0 where
+    pub texts : Gained (LeadTo (item_text (Solve o) bytes) w.base) a b
+    pub low : w.base ≤ length bytes
+    pub left_now : List ℕ
+    pub told : now ≡ Some left_now
+    pub rest : bytes_from w left_now ≡ drop w.base bytes
+
+module _ (o : SolveOptions) (native : o.polylib ≡ false) (bytes : List ℕ) where
+  -- the text at a place is of what is read of the bytes from there on
+  text-is : (at : ℕ) → at ≤ length bytes → text o bytes at ≡ text_of_item (text_of (Solve o)) (or_ending (moved at (read_native (drop at bytes) 0)))
+  text-is at low =
+      let here : at + 0 ≡ at = omega arith in
+      let within : at + 0 ≤ length bytes = omega arith in
+      ap (λ b. text_of_item (text_of (Solve o)) (if b then matrix_item bytes at else problem_item bytes at)) native
+      ∙ ap (λ r. text_of_item (text_of (Solve o)) (or_ending r)) (ap (read_native bytes) (sym here) ∙ read_native-moved bytes at 0 within)
+
+  pub follows-start : (w : HeldBytes) (a : Option (List ℕ)) → w ≡ record { held = []; base = 0; peak = 0 } → Follows o bytes w (Some bytes) a a
+  follows-start w a e =
+      subst (λ v. Follows o bytes v (Some bytes) a a) (sym e) (record { texts = nothing (text o bytes) a; low = omega arith; left_now = bytes; told = refl; rest = refl })
+
+  module _ (w : HeldBytes) (now : Option (List ℕ)) (a b : Option (List ℕ)) (f : Follows o bytes w now a b) where
+    size : length (bytes_from w f.left_now) ≡ length bytes - w.base
+    size = ap length f.rest ∙ length-drop w.base bytes
+
+    text-here : text o bytes w.base ≡ text_of_item (text_of (Solve o)) (or_ending (moved w.base (read_native (bytes_from w f.left_now) 0)))
+    text-here = text-is w.base f.low ∙ ap (λ x. text_of_item (text_of (Solve o)) (or_ending (moved w.base (read_native x 0)))) (sym f.rest)
+
+    -- ---- a problem is read
+
+    module _ (new : HeldBytes) (after : Option (List ℕ)) (P : Problem) (n : ℕ) (r : ReadsNext w f.left_now new after P n) where
+      text-read : text o bytes w.base ≡ text_of_item (text_of (Solve o)) (Ok (Some (P, new.base)))
+      text-read = text-here ∙ ap (λ x. text_of_item (text_of (Solve o)) (or_ending (moved w.base x))) r.read ∙ ap (λ p. text_of_item (text_of (Solve o)) (Ok (Some (P, p)))) (sym r.drops.base)
+
+      text-written : (t : List ℕ) → text_of (Solve o) P ≡ Ok t → text o bytes w.base ≡ Ok (Some (t, new.base))
+      text-written t e = text-read ∙ ap (λ x. text_with x new.base) e
+
+      pub follows-more : (c : Option (List ℕ)) (t : List ℕ) → text_of (Solve o) P ≡ Ok t → Appends b c t → Follows o bytes new after a c
+      follows-more c t e k = record {
+        texts = one_more (text o bytes) a b c w.base new.base t f.texts (text-written t e) k;
+        low = omega (arith, size, r.drops.few, r.drops.base, f.low);
+        left_now = r.drops.left_now;
+        told = r.drops.told;
+        rest = r.drops.rest ∙ ap (drop (r.start + n)) f.rest ∙ drop-drop (r.start + n) w.base bytes ∙ ap (λ i. drop i bytes) (omega (arith, r.drops.base));
+      }
+
+      pub front-written : (c : Option (List ℕ)) (t : List ℕ) → text_of (Solve o) P ≡ Ok t → AppendsFront b c t → GainedFront (IsFirstOutput (Solve o) bytes) a c
+      front-written c t e k = front_of_one (text o bytes) a b c w.base new.base t f.texts (text-written t e) k
+
+    -- ---- the run ends
+
+    first-written : Gained (IsFirstOutput (Solve o) bytes) a b
+    first-written = record { texts = f.texts.texts; are = first_items-first (text o bytes) IsItself f.texts.texts 0 w.base f.texts.are; gained = f.texts.gained }
+
+    all-written : (n : ℕ) (e : Ending) → Ends (text o bytes) IsItself NoEnd (text o bytes w.base) e → ((q : ℕ) → first_group_end (drop w.base bytes) ≡ Some q → n ≤ w.base + q + 4095) → Gained (AreAll (Solve o) bytes n e) a b
+    all-written n e h spared = record {
+      texts = f.texts.texts;
+      are = record { place = w.base; texts = f.texts.are; output = first_items-end (text o bytes) IsItself NoEnd f.texts.texts 0 w.base e f.texts.are h; spared = spared };
+      gained = f.texts.gained;
+    }
+
+    refused-written : (n : ℕ) (e : Ending) → text o bytes w.base ≡ Err e → ((q : ℕ) → first_group_end (drop w.base bytes) ≡ Some q → n ≤ w.base + q + 4095) → Gained (AreAll (Solve o) bytes n e) a b
+    refused-written n e h spared = all-written n e (subst (λ r. Ends (text o bytes) IsItself NoEnd r e) (sym h) refl) spared
+
+    -- no problem is left
+    pub none-written : (n : ℕ) (new : HeldBytes) (after : Option (List ℕ)) → ReadsNone w f.left_now new after → Gained (AreAll (Solve o) bytes n finished) a b
+    none-written n new after r =
+        let none : text o bytes w.base ≡ Ok None = text-here ∙ ap (λ x. text_of_item (text_of (Solve o)) (or_ending (moved w.base x))) r.read in
+        let closed : list_all is_closed (bytes_from w f.left_now) ≡ true = (read_native-none (bytes_from w f.left_now) 0).0 r.read in
+        let no_group : first_group_end (drop w.base bytes) ≡ None = ap first_group_end (sym f.rest) ∙ ap (group_behind (bytes_from w f.left_now)) (next_open-closed 0 (bytes_from w f.left_now) closed) in
+        all-written n finished (subst (λ x. Ends (text o bytes) IsItself NoEnd x finished) (sym none) refl) (λ q e. absurd (not_both q e no_group))
+      where
+        not_both : (q : ℕ) → first_group_end (drop w.base bytes) ≡ Some q → first_group_end (drop w.base bytes) ≡ None → ⊥
+        not_both q e k = cc
+
+    -- the calculation of a problem is refused
+    module _ (new : HeldBytes) (after : Option (List ℕ)) (P : Problem) (n : ℕ) (r : ReadsNext w f.left_now new after P n) (ready : IsReady new) where
+      run-spared : (q : ℕ) → first_group_end (drop w.base bytes) ≡ Some q → taken_by new ≤ w.base + q + 4095
+      run-spared q e =
+          let there : Some q ≡ Some (r.start + n) = sym e ∙ ap first_group_end (sym f.rest) ∙ r.ended in
+          let same : q ≡ r.start + n = cc in
+          omega (arith, same, r.drops.base, ready.few)
+
+      run-till : (o' : Option Ending) → IfSome o' (λ e. text_of (Solve o) P ≡ Err e) → WritesTillEnd (Solve o) bytes (taken_by new) a b o'
+      run-till None h = first-written
+      run-till (Some e) h = refused-written (taken_by new) e (text-read new after P n r ∙ ap (λ x. text_with x new.base) h) run-spared
+
+      pub run-refused : (e : Refused) → IsOfItem e → IfSome (told e) (λ k. text_of (Solve o) P ≡ Err k) → WritesByProblem (Solve o) bytes (taken_by new) a b (Err e)
+      run-refused ending.Usage own h = absurd own
+      run-refused ending.ReadFault own h = absurd own
+      run-refused ending.WriteFault own h = absurd own
+      run-refused ending.InputTooLong own h = absurd own
+      run-refused e own h = run-till (told e) h
+
+    -- the next problem is not read
+    module _ (new : HeldBytes) (after : Option (List ℕ)) where
+      fault-till : (fault : Option Fault) → IfSome fault (RefusesNext w f.left_now new after) → WritesTillEnd (Solve o) bytes (taken_by new) a b (option_map fault_ending fault)
+      fault-till None h = first-written
+      fault-till (Some e) h =
+          refused-written (taken_by new) (fault_ending e) (text-here ∙ ap (λ x. text_of_item (text_of (Solve o)) (or_ending x)) h.read) (λ q k. h.spared q (ap first_group_end f.rest ∙ k))
+
+      open-written : (n m : ℕ) → n ≡ w.base + m → StaysOpen w f.left_now new after m → Gained (AreEnded (Solve o) bytes n) a b
+      open-written n m e h = record {
+        texts = f.texts.texts;
+        are = record {
+          place = w.base;
+          texts = f.texts.are;
+          within = omega (arith, e);
+          open_still = ap (λ k. first_group_end (drop w.base (take k bytes))) e ∙ ap first_group_end (drop-take w.base m bytes) ∙ ap (λ x. first_group_end (take m x)) (sym f.rest) ∙ h.open_still;
+        };
+        gained = f.texts.gained;
+      }
+
+      held-few : HoldsRest w f.left_now new after → taken_by new ≤ length bytes
+      held-few h =
+          let d = h.1 in
+          let rest : length new.held + length d.left_now ≡ length (bytes_from w f.left_now) - h.0 = sym (length-append new.held d.left_now) ∙ ap length d.rest ∙ length-drop h.0 (bytes_from w f.left_now) in
+          omega (arith, rest, d.few, d.base, size, f.low)
+
+      pub next-refused : (e : NextRefusal) → IsReady w → (e ≡ next.InputBytes → most_input_bytes < taken_by new) → FindsNext w f.left_now new after (Err e) → WritesByProblem (Solve o) bytes (taken_by new) a b (Err (next_ending e))
+      next-refused (next.Read e) ready long h = fault-till (read_fault e) h
+      next-refused next.Failed ready long h =
+          let base = h.rest.1.base in
+          open-written (taken_by new) (taken_by new - w.base) (omega (arith, base)) h
+      next-refused next.InputBytes ready long h =
+          let few = held-few h.rest in
+          let more = long refl in
+          (omega arith, open-written most_input_bytes (most_input_bytes - w.base) (omega (arith, ready.within)) h)
+      next-refused next.WantOfMemory ready long h = first-written
+
+-- ---- where the source tells
+
+pub each : (o : SolveOptions) (input : Option (List ℕ)) (w : HeldBytes) (now a b : Option (List ℕ)) (P Q : List ℕ → Type 0) → IfSome input (λ bytes. Follows o bytes w now a b) → IfSome now P → ((bytes : List ℕ) (f : Follows o bytes w now a b) → P f.left_now → Q bytes) → IfSome input Q
+each o None w now a b P Q fs p k = tt
+each o (Some bytes) w now a b P Q fs p k = k bytes fs (if-some P now fs.left_now fs.told p)
+
+pub starts : (o : SolveOptions) (native : o.polylib ≡ false) (input : Option (List ℕ)) (w : HeldBytes) (a : Option (List ℕ)) → w ≡ record { held = []; base = 0; peak = 0 } → IfSome input (λ bytes. Follows o bytes w input a a)
+starts o native None w a e = tt
+starts o native (Some bytes) w a e = follows-start o native bytes w a e
+
+-- how many were taken: those that the window tells
+pub taken-by : (input : Option (List ℕ)) (Q : List ℕ → ℕ → Type 0) (i j n : ℕ) → IfSome input (λ _. j ≡ i + n) → IfSome input (λ bytes. Q bytes n) → IfSome input (λ bytes. Q bytes (j - i))
+taken-by None Q i j n e h = tt
+taken-by (Some bytes) Q i j n e h = let same : n ≡ j - i = omega (arith, e) in subst (Q bytes) same h
+
+pub counted-on : (o : SolveOptions) (input : Option (List ℕ)) (w : HeldBytes) (now a b : Option (List ℕ)) (i j k c d : ℕ) → IfSome input (λ bytes. Follows o bytes w now a b) → IfSome input (λ _. j ≡ i + c) → IfSome now (λ _. k + c ≡ j + d) → IfSome input (λ _. k ≡ i + d)
+counted-on o None w now a b i j k c d fs h e = tt
+counted-on o (Some bytes) w now a b i j k c d fs h e =
+    let f = if-some (λ _. k + c ≡ j + d) now fs.left_now fs.told e in omega (arith, h, f)
+
+-- no more is taken than a byte past the limit
+pub taken-few : (input : Option (List ℕ)) (i j n : ℕ) → IfSome input (λ _. j ≡ i + n) → n ≤ most_input_bytes + 1 → TakesInputAtMost input i j
+taken-few None i j n e h = tt
+taken-few (Some bytes) i j n e h = omega (arith, e, h)
+
+pub if-told : (P : Type 0) (o : Option (List ℕ)) → P → IfSome o (λ _. P)
+if-told P None p = tt
+if-told P (Some x) p = p
+
+pub risen-from : (a b n : ℕ) → a ≡ b → HasRisen a n → HasRisen b n
+risen-from a b n e h = subst (λ k. HasRisen k n) e h
+
+-- ---- refusals
+
+pub next-usage : (e : NextRefusal) → next_ending e ≡ ending.Usage → ⊥
+next-usage (next.Read e) h = cc
+next-usage next.Failed h = cc
+next-usage next.InputBytes h = cc
+next-usage next.WantOfMemory h = cc
+
+pub next-no_write : (e : NextRefusal) → next_ending e ≡ ending.WriteFault → ⊥
+next-no_write (next.Read e) h = cc
+next-no_write next.Failed h = cc
+next-no_write next.InputBytes h = cc
+next-no_write next.WantOfMemory h = cc
+
+pub next-fault : (e : NextRefusal) → next_ending e ≡ ending.ReadFault → e ≡ next.Failed
+next-fault (next.Read e) h = absurd cc
+next-fault next.Failed h = refl
+next-fault next.InputBytes h = absurd cc
+next-fault next.WantOfMemory h = absurd cc
+
+-- a refusal of an item is none of the outside
+pub own-not : (e : Refused) → IsOfItem e → (¬ (e ≡ ending.Usage)) × (¬ (e ≡ ending.ReadFault)) × (¬ (e ≡ ending.WriteFault))
+own-not ending.Usage own = absurd own
+own-not ending.ReadFault own = absurd own
+own-not ending.WriteFault own = absurd own
+own-not ending.InputTooLong own = absurd own
+own-not e own = (λ p. cc, λ p. cc, λ p. cc)
+
+err-same : {T : Type 0} (x y : Refused) → IsErrOf {T = T} (Err x) y → x ≡ y
+err-same x y h = cc
+
+next-same : {T : Type 0} (x y : NextRefusal) → IsErrOf {T = T} (Err x) y → x ≡ y
+next-same x y h = cc
+
+module _ (rb r0 ra wb w0 wa : ℕ) (read : r0 ≡ rb) (write : w0 ≡ wb) where
+  pub faults-none : EndsByFaults rb r0 wb w0 (Ok tt)
+  faults-none = record { read_fault = λ h. absurd cc; write_fault = λ h. absurd cc; read_quiet = λ h. read; write_quiet = λ h. write }
+
+  pub faults-next : (e : NextRefusal) → (¬ IsErrOf {T = Option (Problem × ℕ)} (Err e) next.Failed → ra ≡ r0) → (IsErrOf {T = Option (Problem × ℕ)} (Err e) next.Failed → HasRisen r0 ra) → EndsByFaults rb ra wb w0 (Err (next_ending e))
+  faults-next e quiet cause = record {
+    read_fault = λ h. risen-from r0 rb ra read (cause (ap Err (next-fault e (err-same _ _ h))));
+    write_fault = λ h. absurd (next-no_write e (err-same _ _ h));
+    read_quiet = λ h. quiet (λ k. h (ap (λ x. Err (next_ending x)) (next-same e next.Failed k))) ∙ read;
+    write_quiet = λ h. write;
+  }
+
+  pub faults-own : (e : Refused) → IsOfItem e → EndsByFaults rb r0 wb w0 (Err e)
+  faults-own e own =
+      let n = own-not e own in
+      record {
+        read_fault = λ h. absurd (n.1 (err-same _ _ h));
+        write_fault = λ h. absurd (n.2 (err-same _ _ h));
+        read_quiet = λ h. read;
+        write_quiet = λ h. write;
+      }
+
+  pub faults-write : HasRisen w0 wa → EndsByFaults rb r0 wb wa (Err ending.WriteFault)
+  faults-write risen = record {
+    read_fault = λ h. absurd cc;
+    write_fault = λ h. risen-from w0 wb wa write risen;
+    read_quiet = λ h. read;
+    write_quiet = λ h. absurd (h refl);
+  }
+
+-- no window is made, for want of memory
+unmade_memory : (o : SolveOptions) (input a : Option (List ℕ)) (n : ℕ) → IfSome input (λ bytes. WritesByProblem (Solve o) bytes n a a (Err ending.WantOfMemory))
+unmade_memory o None a n = tt
+unmade_memory o (Some bytes) a n = record { texts = []; are = tt; gained = Appends-nil a }
+
+pub unmade : (o : SolveOptions) (input a : Option (List ℕ)) (n : ℕ) (e : FillRefusal) → e ≡ fill.WantOfMemory → IfSome input (λ bytes. WritesByProblem (Solve o) bytes n a a (Err (unfilled_ending e)))
+unmade o input a n e w = subst (λ x. IfSome input (λ bytes. WritesByProblem (Solve o) bytes n a a (Err (unfilled_ending x)))) (sym w) (unmade_memory o input a n)
+
+pub none-taken : (input : Option (List ℕ)) (i : ℕ) → TakesInputAtMost input i i
+none-taken input i = taken-few input i i 0 (if-told _ input (omega arith)) (omega arith)
+
+-- ---- what `solve` writes, by how it reads
+
+module _ (o : SolveOptions) (left : Option (List ℕ)) (n : ℕ) (a b : Option (List ℕ)) (r : Result (Unit {0}) Refused) where
+  as_of : (t : Bool) → o.polylib ≡ t → IfSome left (λ bytes. MatchBool (not t) (WritesByProblem (Solve o) bytes n a b r) (WritesOutput (Solve o) bytes a b r)) → IfSome left (λ bytes. WritesOf (Solve o) bytes n a b r)
+  as_of t e h = subst (λ s. IfSome left (λ bytes. MatchBool (not s) (WritesByProblem (Solve o) bytes n a b r) (WritesOutput (Solve o) bytes a b r))) (sym e) h
+
+  pub output-matrices : o.polylib ≡ true → IfSome left (λ bytes. WritesOver (λ xs place. text_of_item (text_of (Solve o)) (matrix_item xs place)) bytes a b r) → IfSome left (λ bytes. WritesOf (Solve o) bytes n a b r)
+  output-matrices e h =
+      let k : IfSome left (λ bytes. WritesOver (item_text (Solve o)) bytes a b r)
+      = subst (λ t. IfSome left (λ bytes. WritesOver (λ xs place. text_of_item (text_of (Solve o)) (if t then matrix_item xs place else problem_item xs place)) bytes a b r)) (sym e) h in
+      as_of true e (output-taken (Solve o) tt left a b r k)
+
+  pub output-problems : o.polylib ≡ false → IfSome left (λ bytes. WritesByProblem (Solve o) bytes n a b r) → IfSome left (λ bytes. WritesOf (Solve o) bytes n a b r)
+  output-problems e h = as_of false e h
+
+-- ---- the ends of the loop
+
+module _ (o : SolveOptions) (native : o.polylib ≡ false) (input : Option (List ℕ)) (w : HeldBytes) (now a b : Option (List ℕ)) (i j : ℕ)
+    (fs : IfSome input (λ bytes. Follows o bytes w now a b)) (counted : IfSome input (λ _. j ≡ i + taken_by w))
+    (new : HeldBytes) (after : Option (List ℕ)) (k : ℕ) (more : IfSome now (λ _. k + taken_by w ≡ j + taken_by new)) where
+  pub counts : IfSome input (λ _. k ≡ i + taken_by new)
+  counts = counted-on o input w now a b i j k (taken_by w) (taken_by new) fs counted more
+
+  pub taken-at_most : taken_by new ≤ most_input_bytes + 1 → TakesInputAtMost input i k
+  taken-at_most h = taken-few input i k (taken_by new) counts h
+
+  -- what is written where so many were taken as the window tells
+  pub told-by : (c : Option (List ℕ)) (P : List ℕ → Type 0) (r : Result (Unit {0}) Refused) → IfSome now P → ((bytes : List ℕ) (f : Follows o bytes w now a b) → P f.left_now → WritesByProblem (Solve o) bytes (taken_by new) a c r) → IfSome input (λ bytes. WritesByProblem (Solve o) bytes (k - i) a c r)
+  told-by c P r p h =
+      taken-by input (λ bytes n. WritesByProblem (Solve o) bytes n a c r) i k (taken_by new) counts (each o input w now a b P (λ bytes. WritesByProblem (Solve o) bytes (taken_by new) a c r) fs p h)
+
+  pub next-output : (e : NextRefusal) → IsReady w → (e ≡ next.InputBytes → most_input_bytes < taken_by new) → IfSome now (λ left. FindsNext w left new after (Err e)) → IfSome input (λ bytes. WritesByProblem (Solve o) bytes (k - i) a b (Err (next_ending e)))
+  next-output e ready long finds =
+      told-by b (λ left. FindsNext w left new after (Err e)) (Err (next_ending e)) finds (λ bytes f h. next-refused o native bytes w now a b f new after e ready long h)
+
+  pub none-output : IfSome now (λ left. ReadsNone w left new after) → IfSome input (λ bytes. WritesByProblem (Solve o) bytes (k - i) a b (Ok tt))
+  none-output finds = told-by b (λ left. ReadsNone w left new after) (Ok tt) finds (λ bytes f h. none-written o native bytes w now a b f (taken_by new) new after h)
+
+  module _ (P : Problem) (n : ℕ) (reads : IfSome now (λ left. ReadsNext w left new after P n)) where
+    pub run-output : IsReady new → (e : Refused) → IsOfItem e → IfSome (told e) (λ x. text_of (Solve o) P ≡ Err x) → IfSome input (λ bytes. WritesByProblem (Solve o) bytes (k - i) a b (Err e))
+    run-output ready e own h =
+        told-by b (λ left. ReadsNext w left new after P n) (Err e) reads (λ bytes f r. run-refused o native bytes w now a b f new after P n r ready e own h)
+
+    pub write-output : (c : Option (List ℕ)) (t : List ℕ) → text_of (Solve o) P ≡ Ok t → AppendsFront b c t → IfSome input (λ bytes. WritesByProblem (Solve o) bytes (k - i) a c (Err ending.WriteFault))
+    write-output c t e h =
+        told-by c (λ left. ReadsNext w left new after P n) (Err ending.WriteFault) reads (λ bytes f r. front-written o native bytes w now a b f new after P n r c t e h)
+
+    pub more-follows : (c : Option (List ℕ)) (t : List ℕ) → text_of (Solve o) P ≡ Ok t → Appends b c t → IfSome input (λ bytes. Follows o bytes new after a c)
+    more-follows c t e h =
+        each o input w now a b (λ left. ReadsNext w left new after P n) (λ bytes. Follows o bytes new after a c) fs reads (λ bytes f r. follows-more o native bytes w now a b f new after P n r c t e h)
+
+pub unmade-faults : (r w : ℕ) (e : FillRefusal) → e ≡ fill.WantOfMemory → EndsByFaults r r w w (Err (unfilled_ending e))
+unmade-faults r w e h = subst (λ x. EndsByFaults r r w w (Err (unfilled_ending x))) (sym h) (faults-own r r r w w w refl refl ending.WantOfMemory tt)
+
+pub unmade-usage : (e : FillRefusal) → ¬ IsErrOf {T = Unit {0}} (Err (unfilled_ending e)) ending.Usage
+unmade-usage fill.Failed h = cc
+unmade-usage fill.WantOfMemory h = cc
+
+pub next-words : (e : NextRefusal) → ¬ IsErrOf {T = Unit {0}} (Err (next_ending e)) ending.Usage
+next-words e h = next-usage e (err-same _ _ h)
+
+pub own-words : (e : Refused) → IsOfItem e → ¬ IsErrOf {T = Unit {0}} (Err e) ending.Usage
+own-words e own h = (own-not e own).0 (err-same _ _ h)
+
+pub err-not_done : {E : Type 0} (r : Result (Unit {0}) E) (e : E) {P : Type 0} → r ≡ Err e → r ≡ Ok tt → P
+err-not_done r e h k = absurd (let both : Err e ≡ Ok tt = sym h ∙ k in cc)
+
+pub none-left : {X : Type 0} (o : Option X) → ((x : X) → ¬ (o ≡ Some x)) → o ≡ None
+none-left None h = refl
+none-left (Some x) h = absurd (h x refl)

@@ -1,0 +1,59 @@
+-- What `solve` writes of native problems, which it reads one by one.
+use Rattle.std.specs.Prelude.{◌≡◌, ℕ, ◌+◌, ◌<◌, ◌≤◌, Bool, true, false, not, ⊤, MatchBool, List, length, take, drop, Option, Some, None, Result, Ok, Err}
+use Rattle.pip_model.specs.Limits.{most_input_bytes}
+use Rattle.pip_model.specs.Commands.{Command, Solve, Trial, item_text}
+use Rattle.pip_model.specs.Endings as model
+use Rattle.pip_model.specs.Items.{FirstItemsTo, IsItself}
+use Rattle.pip_model.specs.Output.{IsOutput, IsFirstOutput}
+use Rattle.pip_reader.specs.Groups.{first_group_end}
+use Rattle.pip_items.specs.Endings.{told}
+use Rattle.pip_items.specs.Items.{Gained, GainedFront}
+use Rattle.pip_items.specs.Outputs.{WritesOutput}
+use Rattle.pip_items.specs.declared.ending.Ending.{Ending}
+use Rattle.pip_items.specs.declared.ending.Ending.TheVariants as ending
+
+-- whether a command reads problem by problem: each other one that takes an input reads it whole first
+abbrev pub reads_by_problem : Command → Bool
+reads_by_problem (Solve o) = not o.polylib
+reads_by_problem c = false
+
+-- the command reads its whole input before it answers an item of it
+abbrev pub ReadsWhole : Command → Type 0
+ReadsWhole (Solve o) = o.polylib ≡ true
+ReadsWhole (Trial seed count) = ⊥
+ReadsWhole c = ⊤
+
+module _ (c : Command) (bytes : List ℕ) (n : ℕ) where
+  -- The texts are those of the problems whose groups end within the first n bytes.
+  pub record AreEnded (ts : List (List ℕ)) : Type 0 where
+    pub place : ℕ
+    pub texts : FirstItemsTo (item_text c bytes) IsItself 0 ts place
+    pub within : place ≤ n
+    pub open_still : first_group_end (drop place (take n bytes)) ≡ None
+
+  -- The texts are all up to an end. Where a problem is refused whose group ends, the n bytes that were taken are at most a
+  -- piece less one more than lead to that: the source was not asked again.
+  pub record AreAll (e : model.Ending) (ts : List (List ℕ)) : Type 0 where
+    pub place : ℕ
+    pub texts : FirstItemsTo (item_text c bytes) IsItself 0 ts place
+    pub output : IsOutput c bytes ts e
+    pub spared : (q : ℕ) → first_group_end (drop place bytes) ≡ Some q → n ≤ place + q + 4095
+
+-- what a run writes that took so many bytes of an input
+module _ (c : Command) (bytes : List ℕ) (taken : ℕ) (before after : Option (List ℕ)) where
+  -- all texts up to this end, or first texts where memory was refused
+  abbrev pub WritesTillEnd : Option model.Ending → Type 0
+  WritesTillEnd (Some e) = Gained (AreAll c bytes taken e) before after
+  WritesTillEnd None = Gained (IsFirstOutput c bytes) before after
+
+  abbrev pub WritesByProblem : Result (Unit {0}) Ending → Type 0
+  WritesByProblem (Ok u) = WritesTillEnd (Some model.finished)
+  WritesByProblem (Err ending.Usage) = ⊥
+  WritesByProblem (Err ending.ReadFault) = Gained (AreEnded c bytes taken) before after
+  WritesByProblem (Err ending.WriteFault) = GainedFront (IsFirstOutput c bytes) before after
+  WritesByProblem (Err ending.InputTooLong) = (most_input_bytes < length bytes) × Gained (AreEnded c bytes most_input_bytes) before after
+  WritesByProblem (Err e) = WritesTillEnd (told e)
+
+  -- the same of any command
+  abbrev pub WritesOf : Result (Unit {0}) Ending → Type 0
+  WritesOf r = MatchBool (reads_by_problem c) (WritesByProblem r) (WritesOutput c bytes before after r)

@@ -1,0 +1,70 @@
+ghost use Rattle.std.specs.Prelude.{◌≡◌, ◌≤◌, length, IfOk, IfErr, IfSome, Some};
+ghost use Rattle.pip_model.specs.Agreement.{Agrees};
+ghost use Rattle.pip_model.specs.Limits.{most_params};
+ghost use Rattle.pip_model.specs.ItemKinds as kinds;
+ghost use Rattle.pip_items.specs.Endings.{told, IsOfItem};
+ghost use Rattle.pip_items.specs.Items.{IsBehind};
+ghost use Rattle.pip_items.specs.Trios.{IsTrio, trio_of, trio_found};
+
+use super::needed::needed_answer;
+use crate::ending::Ending;
+use affine_rows::Forms;
+use pip_reader::read_context;
+use quast_text::Spoken;
+use std::alloc::Global;
+
+/// A context and two answers over as many parameters.
+#[derive(Drop)]
+pub(super) struct Trio {
+    pub(super) rows: Forms,
+    pub(super) first: Spoken,
+    pub(super) second: Spoken,
+}
+
+// The two answers behind a context, and the place behind these.
+fn rest_of_trio(
+    alloc: Global,
+    bytes: &[u8],
+    rows: Forms,
+    at: usize,
+    params: usize,
+) -> Result<(Trio, usize), Ending>
+    requires place { at ≤ length bytes.now }
+    requires few { params ≤ most_params }
+    requires width { rows.width ≡ params }
+    ensures agrees { Agrees (λ x. Some (trio_of x.0, x.1)) told result
+        (kinds.trio_by bytes.now params (Some (rows.forms, at))) }
+    ensures own { IfErr result IsOfItem }
+    ensures trio { IfOk result (λ x. IsTrio params x.0) }
+    ensures after { IfOk result (λ x. IsBehind at (length bytes.now) x.1) }
+{
+    let (first, at) = needed_answer(alloc, bytes, at, params)?;
+    let (second, after) = needed_answer(alloc, bytes, at, params)?;
+    let trio = Trio {
+        rows,
+        first,
+        second,
+    };
+    Ok((trio, after))
+}
+
+/// The context and the two answers of which the first begins with the first `(` at or behind a place, and the place
+/// behind them; none exactly where there is no `(`.
+pub(super) fn trio_at(
+    alloc: Global,
+    bytes: &[u8],
+    at: usize,
+    params: usize,
+) -> Result<Option<(Trio, usize)>, Ending>
+    requires place { at ≤ length bytes.now }
+    requires few { params ≤ most_params }
+    ensures agrees { Agrees trio_found told result (kinds.trio bytes.now params at) }
+    ensures own { IfErr result IsOfItem }
+    ensures trio { IfOk result (λ found. IfSome found (λ x. IsTrio params x.0)) }
+    ensures after { IfOk result (λ found. IfSome found (λ x. IsBehind at (length bytes.now) x.1)) }
+{
+    match read_context(alloc, bytes, at, params)? {
+        Some((rows, at)) => Ok(Some(rest_of_trio(alloc, bytes, rows, at, params)?)),
+        None => Ok(None),
+    }
+}
