@@ -62,6 +62,22 @@ fn examples_are_answered(rt: HostRuntime) -> Result<(), Fail> {
             notes: "",
             status: 0,
         },
+        Row {
+            name: "the first turn of full tiles",
+            words: "pip restrict 2",
+            input: "(#[1 0 -1] #[-4 1 -5])\n((a stencil over 1 .. N-2 in tiles of 4: the first turn i of tile number T, if there is one)\n(if #[ -1 0 0]\n(list\n#[ 0 0 1]\n)\n(if #[ -4 1 -2]\n(list\n#[ 4 0 0]\n)\n()\n)\n)\n)\n",
+            output: "((a stencil over 1 .. N-2 in tiles of 4: the first turn i of tile number T, if there is one)\n(list\n#[ 4 0 0]\n)\n)\n",
+            notes: "",
+            status: 0,
+        },
+        Row {
+            name: "a half rounded up, and a half",
+            words: "pip same 1",
+            input: "() ((up) (if #[-1 0] (list #[0 0]) (newparm 1 (div #[1 0] 2)) (list #[1 -1 0])))\n         ((half) (list #[1/2 0]))\n",
+            output: "differ #[ 1]\n",
+            notes: "",
+            status: 0,
+        },
     ];
     for row in rows.iter() {
         check(&rt, alloc, row)?;

@@ -4,11 +4,15 @@
 #[cfg(test)]
 mod certificates;
 #[cfg(test)]
+mod certified;
+#[cfg(test)]
 mod drawing;
 #[cfg(test)]
 mod examples;
 #[cfg(test)]
 mod faults;
+#[cfg(test)]
+mod hostile;
 #[cfg(test)]
 mod library;
 #[cfg(test)]
@@ -18,6 +22,8 @@ mod pieces;
 #[cfg(test)]
 mod points;
 #[cfg(test)]
+mod reading;
+#[cfg(test)]
 mod refusing;
 #[cfg(test)]
 mod row;
@@ -25,6 +31,8 @@ mod row;
 mod simplifying;
 #[cfg(test)]
 mod solving;
+#[cfg(test)]
+mod trials;
 #[cfg(test)]
 mod valuing;
 #[cfg(test)]

@@ -184,7 +184,7 @@ fn refused(rt: HostRuntime) -> Result<(), Fail> {
         },
         Row {
             name: "a flag that is not known",
-            words: "pip solve --certificate",
+            words: "pip solve --certificates",
             input: "((a) 1 0 1 0 -1 1 (#[1 -3]) ())",
             output: "",
             notes: "pip: usage\n",
