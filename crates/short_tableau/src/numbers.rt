@@ -13,7 +13,7 @@ fn is_half(z: i64) -> bool
 }
 
 // The product of numbers of 32 bits.
-#[tactic(auto, using(tableau::proofs::ShortRows::half_bound))]
+#[tactic(auto, using(tableau_row::proofs::ShortRows::half_bound))]
 fn exact_half_product(a: i64, b: i64) -> i64
     requires a { unsigned_abs a < 2 ^ 31 }
     requires b { unsigned_abs b < 2 ^ 31 }
@@ -23,7 +23,7 @@ fn exact_half_product(a: i64, b: i64) -> i64
 }
 
 // The product of numbers of 32 bits, and its bound.
-#[tactic(auto, using(tableau::proofs::ShortRows::half_bound))]
+#[tactic(auto, using(tableau_row::proofs::ShortRows::half_bound))]
 fn half_product(a: i64, b: i64) -> i64
     requires a { unsigned_abs a < 2 ^ 31 }
     requires b { unsigned_abs b < 2 ^ 31 }
@@ -44,7 +44,7 @@ fn half_difference(a: i64, b: i64) -> i64
 }
 
 // The product of short numbers.
-#[tactic(auto, using(tableau::proofs::ShortRows::product_bound))]
+#[tactic(auto, using(tableau_row::proofs::ShortRows::product_bound))]
 fn exact_product(a: i64, b: i64) -> i128
     requires a { IsShort a }
     requires b { IsShort b }
@@ -54,7 +54,7 @@ fn exact_product(a: i64, b: i64) -> i128
 }
 
 // The product of short numbers, and its bound.
-#[tactic(auto, using(tableau::proofs::ShortRows::product_bound))]
+#[tactic(auto, using(tableau_row::proofs::ShortRows::product_bound))]
 pub fn product(a: i64, b: i64) -> i128
     requires a { IsShort a }
     requires b { IsShort b }

@@ -8,16 +8,17 @@ use Rattle.std.proofs.Math.Nat.{add-mul}
 use Rattle.std.proofs.lemmas.Int.{ints}
 use Rattle.affine_rows.specs.Checks.{Fits}
 use Rattle.pip_model.specs.Rows.{Row, unit_row}
-use Rattle.tableau.specs.Tableaus.{IsRow, IsReduced}
-use Rattle.tableau.specs.Flat.{numbers_of, row_of_numbers, is_unit_row, flat_numbers}
-use Rattle.tableau.specs.Short.{IsShort, IsShortRow}
+use Rattle.tableau_row.specs.Rows.{IsRow, IsReduced}
+use Rattle.tableau_row.specs.Flat.{numbers_of, row_of_numbers, is_unit_row}
+use Rattle.tableau.specs.KeptRows.{flat_numbers}
+use Rattle.tableau_row.specs.Short.{IsShort, IsShortRow}
 use Rattle.tableau.specs.KeptRows.{IsPlace, IsKnown, IsPlain, IsFlat, IsUnsealed, row_length, row_kept, rows_kept}
 use Rattle.tableau.specs.declared.kept.Kept.{Kept}
 use Rattle.tableau.specs.declared.kept.Kept.TheVariants as kept
 use Rattle.tableau.specs.declared.kept.Place.{Place}
-use Rattle.tableau.proofs.Contents.{content-one}
-use Rattle.tableau.proofs.Numbers.{row_again}
-use Rattle.tableau.proofs.UnitRows.{unit_is}
+use Rattle.tableau_row.proofs.Contents.{content-one}
+use Rattle.tableau_row.proofs.Numbers.{row_again}
+use Rattle.tableau_row.proofs.UnitRows.{unit_is}
 
 -- ---- numbers behind the others
 

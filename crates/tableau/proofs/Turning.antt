@@ -9,13 +9,13 @@ use Rattle.pip_model.specs.Forms.{entry, scale, width}
 use Rattle.pip_model.specs.Listed.{all_fit}
 use Rattle.pip_model.specs.Rows.{Row, row_at, form_row, unit_row, eliminated, eliminated_listed, pivot, pivot_listed}
 use Rattle.tableau.specs.KeptRows.{KeptRows, IsSpare, SameShape, with_more, with_rows}
-use Rattle.tableau.specs.Tableaus.{IsRow}
-use Rattle.tableau.proofs.Contents.{content-one}
+use Rattle.tableau_row.specs.Rows.{IsRow}
+use Rattle.tableau_row.proofs.Contents.{content-one}
 use Rattle.tableau.proofs.Flat.{unit_fits}
-use Rattle.tableau.proofs.Substituting.{eliminated_none, checked_sides}
-use Rattle.tableau.proofs.Places.{set_parts}
-use Rattle.tableau.proofs.Unchanged.{eliminated_listed-none, all_fit-append, any_zero, by_one}
-use Rattle.tableau.proofs.UnitRows.{unit_parts}
+use Rattle.tableau_row.proofs.Substituting.{eliminated_none, checked_sides}
+use Rattle.tableau_row.proofs.Places.{set_parts}
+use Rattle.tableau_row.proofs.Unchanged.{eliminated_listed-none, all_fit-append, any_zero, by_one}
+use Rattle.tableau_row.proofs.UnitRows.{unit_parts}
 
 -- ---- the row of another column
 

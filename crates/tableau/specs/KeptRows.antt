@@ -1,9 +1,9 @@
 -- Rows as they are kept: the row of a column by the column, any other by the place of its numbers.
-use Rattle.std.specs.Prelude.{◌≡◌, ℕ, ◌+◌, ◌*◌, ◌<◌, ◌≤◌, ℤ, pos, Bool, true, false, IsTrue, List, [], ◌∷◌, ◌++◌, length, take, drop, map, max, replicate, All}
+use Rattle.std.specs.Prelude.{◌≡◌, ℕ, ◌+◌, ◌*◌, ◌<◌, ◌≤◌, ℤ, pos, Bool, true, false, not, IsTrue, List, [], ◌∷◌, ◌++◌, length, take, drop, map, filter, flat_map, max, replicate, All}
 use Rattle.pip_model.specs.Rows.{Row, unit_row}
-use Rattle.tableau.specs.Short.{IsShortRow}
-use Rattle.tableau.specs.Tableaus.{IsRow, IsReduced}
-use Rattle.tableau.specs.Flat.{row_of_numbers, is_unit_row, flat_numbers}
+use Rattle.tableau_row.specs.Short.{IsShortRow}
+use Rattle.tableau_row.specs.Rows.{IsRow, IsReduced}
+use Rattle.tableau_row.specs.Flat.{numbers_of, row_of_numbers, is_unit_row}
 use Rattle.tableau.specs.declared.kept.Lent.{Lent}
 use Rattle.tableau.specs.declared.kept.Kept.{Kept}
 use Rattle.tableau.specs.declared.kept.Kept.TheVariants as kept
@@ -61,6 +61,10 @@ IsPlain n w numbers (kept.At p) = is_unit_row (row_from_place n w numbers p.firs
 
 abbrev pub IsPlainLent : Lent → Kept → Type 0
 IsPlainLent v k = IsPlain v.unknowns v.width v.numbers.now k
+
+-- the rows that are not the row of a column, number after number
+abbrev pub flat_numbers : List Row → List ℤ
+flat_numbers rows = flat_map numbers_of (filter (λ r. not (is_unit_row r)) rows)
 
 -- the numbers are those of the rows that are not kept as columns
 pub record IsFlat (n w : ℕ) (numbers : List ℤ) (ks : List Kept) : Type 0 where

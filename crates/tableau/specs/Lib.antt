@@ -1,6 +1,7 @@
-pub mod Flat
 pub mod KeptRows
 pub mod Refusals
-pub mod Short
 pub mod Tableaus
-pub mod Views
+pub use Rattle.tableau_row.specs.Flat
+pub use Rattle.tableau_row.specs.Rows
+pub use Rattle.tableau_row.specs.Short
+pub use Rattle.tableau_row.specs.Views

@@ -1,12 +1,12 @@
 ghost use Rattle.std.specs.Prelude.{◌≡◌, ◌+◌, ◌<◌, ◌≤◌, ◌++◌, length, IfOk, vec_len, vec_capacity};
 ghost use Rattle.tableau.specs.KeptRows.{IsPlace, IsKnownLent, IsPlainLent, lent_row, with_more};
-ghost use Rattle.tableau.specs.Tableaus.{IsRow, IsReduced};
+ghost use Rattle.tableau_row.specs.Rows.{IsRow, IsReduced};
 
-use crate::append::append;
 use crate::flat_rows::FlatRows;
 use crate::kept::{Kept, Lent};
 use affine_rows::WantOfMemory;
 use std::alloc::Global;
+use tableau_row::append_entries;
 
 // Appends the kept rows, for which there is room.
 fn append_all_kept(kept: &mut Vec<Kept>, others: &[Kept])
@@ -21,7 +21,7 @@ fn append_all_kept(kept: &mut Vec<Kept>, others: &[Kept])
 }
 
 // Adds a kept row that is lent.
-pub fn copy_kept(next: &mut FlatRows, lent: &Lent<'_>, one: Kept)
+pub(crate) fn copy_kept(next: &mut FlatRows, lent: &Lent<'_>, one: Kept)
     requires room { length next.old.rows < next.old.most }
     requires unknowns { next.old.unknowns ≡ lent.now.unknowns }
     requires width { next.old.width ≡ lent.now.width }
@@ -49,11 +49,11 @@ impl FlatRows {
         copy.kept.clear();
         copy.numbers.clear();
         append_all_kept(&mut copy.kept, self.kept.as_slice());
-        append(&mut copy.numbers, self.numbers.as_slice());
+        append_entries(&mut copy.numbers, self.numbers.as_slice());
     }
 
     // The same rows, with room for two more.
-    pub fn try_clone(&self, alloc: Global) -> Result<FlatRows, WantOfMemory>
+    pub(crate) fn try_clone(&self, alloc: Global) -> Result<FlatRows, WantOfMemory>
         ensures unknowns { IfOk result (λ t. t.unknowns ≡ self.now.unknowns) }
         ensures width { IfOk result (λ t. t.width ≡ self.now.width) }
         ensures rows { IfOk result (λ t. t.rows ≡ self.now.rows) }

@@ -4,15 +4,14 @@ ghost use Rattle.pip_model.specs.Rows as model;
 ghost use Rattle.pip_model.specs.Agreement.{IsChecked};
 ghost use Rattle.affine_rows.specs.Checks.{is_overflow};
 ghost use Rattle.tableau.specs.KeptRows.{IsFlat, IsPlace, IsKnownLent, IsPlainLent, SameShape, lent_row, lent_rows, with_more, with_rows, unit_run};
-ghost use Rattle.tableau.specs.Tableaus.{IsRow, IsOwnRow, IsReduced};
-ghost use Rattle.tableau.specs.Views.{row_of};
+ghost use Rattle.tableau_row.specs.Rows.{IsRow, IsOwnRow, IsReduced};
+ghost use Rattle.tableau_row.specs.Views.{row_of};
 
 use crate::copying::copy_kept;
-use crate::elimination::check_eliminated;
 use crate::flat_rows::FlatRows;
 use crate::kept::{Kept, Lent};
-use crate::view::RowView;
 use affine_rows::Overflow;
+use tableau_row::{RowView, check_eliminated};
 
 // Checks the numbers of a row with row p, solved for column c, put in. They fit where both rows are short, and where
 // the row stays as it is under an entry of 1.
@@ -167,7 +166,7 @@ fn turn_all(
 
 impl FlatRows {
     // Makes of the next rows these after the pivot on row r and column c.
-    pub fn turn(
+    pub(crate) fn turn(
         &self,
         units: &[i128],
         r: usize,
@@ -197,7 +196,7 @@ impl FlatRows {
     }
 
     // Makes of the next rows these with row p, solved for the quantity of column c, put into each.
-    pub fn put_in(
+    pub(crate) fn put_in(
         &self,
         units: &[i128],
         p: &RowView<'_>,

@@ -1,21 +1,21 @@
 ghost use Rattle.std.specs.Prelude.{◌≡◌, ◌*◌, ◌^◌, ◌<◌, ◌≤◌, [], length, IfOk, OnOk};
 ghost use Rattle.pip_model.specs.Rows as model;
-ghost use Rattle.tableau.specs.Flat.{flat_numbers};
+ghost use Rattle.tableau.specs.KeptRows.{flat_numbers};
 ghost use Rattle.tableau.specs.KeptRows.{row_length, unit_run};
-ghost use Rattle.tableau.specs.Tableaus.{IsRow, IsReduced};
-ghost use Rattle.tableau.specs.Views.{row_of};
+ghost use Rattle.tableau_row.specs.Rows.{IsRow, IsReduced};
+ghost use Rattle.tableau_row.specs.Views.{row_of};
 
 use crate::kept::{Kept, Lent};
-use crate::view::RowView;
 use affine_rows::WantOfMemory;
 use std::alloc::Global;
 use std::cmp::max;
 use std::marker::Model;
+use tableau_row::RowView;
 
 // Rows: those of columns by the columns, the others by their numbers, one row after the other. There is room for
 // `most` rows.
 #[derive(Drop)]
-pub struct FlatRows {
+pub(crate) struct FlatRows {
     pub(crate) unknowns: usize,
     pub(crate) width: usize,
     pub(crate) most: usize,
@@ -52,7 +52,7 @@ fn count_numbers(unknowns: usize, width: usize, rows: usize) -> Result<usize, Wa
 
 impl FlatRows {
     // No rows, and no room for any. It takes no memory.
-    pub fn new(alloc: Global, unknowns: usize, width: usize) -> FlatRows
+    pub(crate) fn new(alloc: Global, unknowns: usize, width: usize) -> FlatRows
         ensures { result ≡ record { unknowns = unknowns; width = width; most = 0; rows = [] } }
     {
         FlatRows {
@@ -65,21 +65,21 @@ impl FlatRows {
     }
 
     // The number of columns.
-    pub fn unknowns(&self) -> usize
+    pub(crate) fn unknowns(&self) -> usize
         ensures { result ≡ self.now.unknowns }
     {
         self.unknowns
     }
 
     // The number of places of a constant form.
-    pub fn width(&self) -> usize
+    pub(crate) fn width(&self) -> usize
         ensures { result ≡ self.now.width }
     {
         self.width
     }
 
     // The number of rows.
-    pub fn len(&self) -> usize
+    pub(crate) fn len(&self) -> usize
         ensures value { result ≡ length self.now.rows }
         ensures bound { result < 2 ^ 63 }
     {
@@ -87,19 +87,19 @@ impl FlatRows {
     }
 
     // The allocator that the rows keep.
-    pub fn allocator(&self) -> Global {
+    pub(crate) fn allocator(&self) -> Global {
         *self.kept.allocator()
     }
 
     // The numbers of the rows that are not those of columns.
-    pub fn numbers(&self) -> &[i128]
+    pub(crate) fn numbers(&self) -> &[i128]
         ensures { result.now ≡ flat_numbers self.now.rows }
     {
         self.numbers.as_slice()
     }
 
     // Row i, lent from the run of the columns' rows.
-    pub fn row<'t>(&'t self, units: &'t [i128], i: usize) -> RowView<'t>
+    pub(crate) fn row<'t>(&'t self, units: &'t [i128], i: usize) -> RowView<'t>
         requires place { i < length self.now.rows }
         requires units { units.now ≡ unit_run self.now.unknowns self.now.width }
         ensures value { row_of result ≡ model.row_at self.now.rows i }
@@ -116,7 +116,7 @@ impl FlatRows {
     }
 
     // Makes room for so many rows; where there is not enough, for half as many more than now at least.
-    pub fn reserve(&mut self, most: usize) -> Result<(), WantOfMemory>
+    pub(crate) fn reserve(&mut self, most: usize) -> Result<(), WantOfMemory>
         ensures unknowns { self.new.unknowns ≡ self.old.unknowns }
         ensures width { self.new.width ≡ self.old.width }
         ensures rows { self.new.rows ≡ self.old.rows }
@@ -135,7 +135,7 @@ impl FlatRows {
     }
 
     // No rows, and room for so many.
-    pub fn with_room(
+    pub(crate) fn with_room(
         alloc: Global,
         unknowns: usize,
         width: usize,
@@ -152,7 +152,7 @@ impl FlatRows {
     }
 
     // Drops all rows; the room stays.
-    pub fn clear(&mut self)
+    pub(crate) fn clear(&mut self)
         ensures { self.new ≡ record self.old { rows = [] } }
     {
         self.kept.clear();

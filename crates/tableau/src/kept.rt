@@ -1,39 +1,38 @@
 ghost use Rattle.std.specs.Prelude.{◌≡◌, ◌+◌, ◌<◌, ◌≤◌, length, take, drop, IsTrue, IfSome};
 ghost use Rattle.pip_model.specs.Rows.{unit_row};
-ghost use Rattle.tableau.specs.Flat.{numbers_of};
+ghost use Rattle.tableau_row.specs.Flat.{numbers_of};
 ghost use Rattle.tableau.specs.KeptRows.{IsPlace, IsKnownLent, lent_row, row_length, row_from_place, row_kept, unit_run};
-ghost use Rattle.tableau.specs.Short.{IsShortRow};
-ghost use Rattle.tableau.specs.Views.{row_of};
+ghost use Rattle.tableau_row.specs.Short.{IsShortRow};
+ghost use Rattle.tableau_row.specs.Views.{row_of};
 
-use crate::row::view_of;
-use crate::view::RowView;
+use tableau_row::{RowView, view_of};
 
 // The place of a row's first number, and whether all numbers of the row are known to lie from -(2^63 - 1) to 2^63 - 1.
 #[derive(Clone, Copy)]
-pub struct Place {
-    pub first: usize,
-    pub short: bool,
+pub(crate) struct Place {
+    pub(crate) first: usize,
+    pub(crate) short: bool,
 }
 
 // How a row is kept: that of a column by the column, any other by its place.
 #[derive(Clone, Copy)]
-pub enum Kept {
+pub(crate) enum Kept {
     Unit(usize),
     At(Place),
 }
 
 // What rows are lent from: the numbers of the rows, and one run of zeros with a 1 for the rows of columns.
 #[derive(Clone, Copy)]
-pub struct Lent<'t> {
-    pub unknowns: usize,
-    pub width: usize,
-    pub numbers: &'t [i128],
-    pub units: &'t [i128],
+pub(crate) struct Lent<'t> {
+    pub(crate) unknowns: usize,
+    pub(crate) width: usize,
+    pub(crate) numbers: &'t [i128],
+    pub(crate) units: &'t [i128],
 }
 
 impl<'t> Lent<'t> {
     // The row of column c.
-    #[tactic(auto, using(crate::proofs::UnitRows::lent_unit))]
+    #[tactic(auto, using(crate::proofs::UnitRun::lent_unit))]
     fn unit(&self, c: usize) -> RowView<'t>
         requires column { c < self.now.unknowns }
         requires units { self.now.units.now ≡ unit_run self.now.unknowns self.now.width }
@@ -52,7 +51,7 @@ impl<'t> Lent<'t> {
     }
 
     // The numbers of the row whose first number stands at a place.
-    pub fn numbers_at(&self, first: usize) -> &'t [i128]
+    pub(crate) fn numbers_at(&self, first: usize) -> &'t [i128]
         requires { first + row_length self.now.unknowns self.now.width ≤ length self.now.numbers.now }
         ensures value { result.now ≡ take (row_length self.now.unknowns self.now.width)
             (drop first self.now.numbers.now) }
@@ -75,7 +74,7 @@ impl<'t> Lent<'t> {
 
     // The numbers of a row that is kept by them.
     #[tactic(auto, using(crate::proofs::Flat::numbers_again))]
-    pub fn run(&self, kept: Kept) -> Option<&'t [i128]>
+    pub(crate) fn run(&self, kept: Kept) -> Option<&'t [i128]>
         requires { IsPlace self.now.unknowns self.now.width (length self.now.numbers.now) kept }
         ensures { IfSome result (λ s. s.now ≡ numbers_of (lent_row self.now kept)) }
     {
@@ -86,7 +85,7 @@ impl<'t> Lent<'t> {
     }
 
     // A row.
-    pub fn row(&self, kept: Kept) -> RowView<'t>
+    pub(crate) fn row(&self, kept: Kept) -> RowView<'t>
         requires place { IsPlace self.now.unknowns self.now.width (length self.now.numbers.now) kept }
         requires short { IsKnownLent self.now kept }
         requires units { self.now.units.now ≡ unit_run self.now.unknowns self.now.width }

@@ -5,20 +5,19 @@ ghost use Rattle.pip_model.specs.Rows as model;
 ghost use Rattle.pip_model.specs.Cuts.{rounded, rounded_listed};
 ghost use Rattle.pip_model.specs.Agreement.{IsChecked};
 ghost use Rattle.affine_rows.specs.Checks.{is_overflow};
-ghost use Rattle.tableau.specs.Flat.{numbers_of, row_of_numbers, is_unit_row};
+ghost use Rattle.tableau_row.specs.Flat.{numbers_of, row_of_numbers, is_unit_row};
 ghost use Rattle.tableau.specs.KeptRows.{IsFlat, IsUnsealed, row_length, rows_kept, with_more};
-ghost use Rattle.tableau.specs.Short.{IsShortRow};
-ghost use Rattle.tableau.specs.Tableaus.{IsRow, IsReduced};
-ghost use Rattle.tableau.specs.Views.{row_of};
+ghost use Rattle.tableau_row.specs.Short.{IsShortRow};
+ghost use Rattle.tableau_row.specs.Rows.{IsRow, IsReduced};
+ghost use Rattle.tableau_row.specs.Views.{row_of};
 
-use crate::append::{
-    append, append_divided, append_eliminated, append_rounded, append_row, append_widened,
-};
 use crate::flat_rows::FlatRows;
 use crate::kept::{Kept, Place};
-use crate::row::{unit_column, view_of};
-use crate::view::RowView;
 use affine_rows::Overflow;
+use tableau_row::{
+    RowView, append_divided, append_eliminated, append_entries, append_rounded, append_row,
+    append_widened, unit_column, view_of,
+};
 
 // Appends the kept row, for which there is room.
 fn append_kept(kept: &mut Vec<Kept>, one: Kept)
@@ -54,7 +53,7 @@ fn seal(kept: &mut Vec<Kept>, numbers: &mut Vec<i128>, last: Place, unknowns: us
 
 impl FlatRows {
     // Adds the row of column c.
-    pub fn push_unit(&mut self, c: usize)
+    pub(crate) fn push_unit(&mut self, c: usize)
         requires room { length self.old.rows < self.old.most }
         requires column { c < self.old.unknowns }
         ensures { self.new ≡ with_more self.old (model.unit_row self.old.unknowns self.old.width c) }
@@ -63,7 +62,7 @@ impl FlatRows {
     }
 
     // Adds the row of these numbers, which is not that of a column.
-    pub fn push_plain(&mut self, numbers: &[i128], short: bool)
+    pub(crate) fn push_plain(&mut self, numbers: &[i128], short: bool)
         requires room { length self.old.rows < self.old.most }
         requires length { length numbers.now ≡ row_length self.old.unknowns self.old.width }
         requires row { IsRow self.old.unknowns self.old.width (row_of_numbers self.old.unknowns numbers.now) }
@@ -73,12 +72,12 @@ impl FlatRows {
         ensures { self.new ≡ with_more self.old (row_of_numbers self.old.unknowns numbers.now) }
     {
         let first = self.numbers.len();
-        append(&mut self.numbers, numbers);
+        append_entries(&mut self.numbers, numbers);
         append_kept(&mut self.kept, Kept::At(Place { first, short }));
     }
 
     // Adds a row.
-    pub fn push_row(&mut self, row: &RowView<'_>)
+    pub(crate) fn push_row(&mut self, row: &RowView<'_>)
         requires room { length self.old.rows < self.old.most }
         requires row { IsRow self.old.unknowns self.old.width (row_of row.now) }
         requires reduced { IsReduced (row_of row.now) }
@@ -100,7 +99,7 @@ impl FlatRows {
     }
 
     // Adds a row, divided by the greatest common divisor of all its numbers.
-    pub fn push_divided(&mut self, row: &RowView<'_>)
+    pub(crate) fn push_divided(&mut self, row: &RowView<'_>)
         requires room { length self.old.rows < self.old.most }
         requires row { IsRow self.old.unknowns self.old.width (row_of row.now) }
         ensures { self.new ≡ with_more self.old (model.divided (row_of row.now)) }
@@ -118,7 +117,7 @@ impl FlatRows {
     }
 
     // Adds what the row is after the pivot on row p and column c; the run has its numbers.
-    pub fn push_eliminated(
+    pub(crate) fn push_eliminated(
         &mut self,
         p: &RowView<'_>,
         c: usize,
@@ -147,7 +146,7 @@ impl FlatRows {
     }
 
     // Adds the row rounded by the quotient at place q; a refusal leaves all as it was.
-    pub fn push_rounded(&mut self, row: &RowView<'_>, q: usize) -> Result<(), Overflow>
+    pub(crate) fn push_rounded(&mut self, row: &RowView<'_>, q: usize) -> Result<(), Overflow>
         requires room { length self.old.rows < self.old.most }
         requires row { IsRow self.old.unknowns self.old.width (row_of row.now) }
         requires place { q < self.old.width }
@@ -169,7 +168,7 @@ impl FlatRows {
     }
 
     // Adds the row, of one place less, with a 0 before the constant of its constant form.
-    pub fn push_widened(&mut self, row: &RowView<'_>)
+    pub(crate) fn push_widened(&mut self, row: &RowView<'_>)
         requires room { length self.old.rows < self.old.most }
         requires width { 0 < self.old.width }
         requires row { IsRow self.old.unknowns (self.old.width - 1) (row_of row.now) }

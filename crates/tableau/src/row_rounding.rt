@@ -4,7 +4,7 @@ ghost use Rattle.pip_model.specs.Cuts.{rounded, rounded_listed};
 ghost use Rattle.pip_model.specs.Agreement.{IsChecked};
 ghost use Rattle.affine_rows.specs.Checks.{is_overflow};
 ghost use Rattle.tableau.specs.KeptRows.{IsFlat, IsPlace, IsKnownLent, IsPlainLent, SameShape, lent_row, lent_rows, with_rows, unit_run};
-ghost use Rattle.tableau.specs.Tableaus.{IsRow, IsReduced};
+ghost use Rattle.tableau_row.specs.Rows.{IsRow, IsReduced};
 
 use crate::copying::copy_kept;
 use crate::flat_rows::FlatRows;
@@ -63,7 +63,7 @@ fn round_all(
 
 impl FlatRows {
     // Makes of the next rows these, but for row r rounded by the quotient at place q.
-    pub fn round(
+    pub(crate) fn round(
         &self,
         units: &[i128],
         r: usize,

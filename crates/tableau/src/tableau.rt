@@ -4,19 +4,19 @@ ghost use Rattle.pip_model.specs.Rows as model;
 ghost use Rattle.pip_model.specs.Cuts.{rounded_listed};
 ghost use Rattle.pip_model.specs.Agreement.{IsChecked};
 ghost use Rattle.affine_rows.specs.Checks.{is_overflow};
-ghost use Rattle.tableau.specs.Flat.{numbers_of, is_unit_row};
+ghost use Rattle.tableau_row.specs.Flat.{numbers_of, is_unit_row};
 ghost use Rattle.tableau.specs.KeptRows.{IsSpare, unit_run};
-ghost use Rattle.tableau.specs.Tableaus.{IsRow, row_from, with_row, with_rounded};
-ghost use Rattle.tableau.specs.Views.{row_of};
+ghost use Rattle.tableau_row.specs.Rows.{IsRow, row_from};
+ghost use Rattle.tableau.specs.Tableaus.{with_row, with_rounded};
+ghost use Rattle.tableau_row.specs.Views.{row_of};
 
 use crate::flat_rows::FlatRows;
-use crate::short::is_short_row;
 use crate::unit_run::make_run;
-use crate::view::RowView;
 use affine_rows::{Form, Overflow, WantOfMemory};
 use std::alloc::Global;
 use std::marker::Model;
 use std::mem::swap;
+use tableau_row::{RowView, is_short_row};
 
 /// Rows over the same columns, one for each unknown, whose constant forms stand over the same places: the
 /// parameters, and then the quotients of a path. Each number of a row fits, and each denominator is at least 1.

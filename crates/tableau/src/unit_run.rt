@@ -20,7 +20,11 @@ fn unit_run(alloc: Global, unknowns: usize, width: usize) -> Result<Vec<i128>, W
 }
 
 // Makes the run, where there is none yet.
-pub fn make_run(units: &mut Vec<i128>, unknowns: usize, width: usize) -> Result<(), WantOfMemory>
+pub(crate) fn make_run(
+    units: &mut Vec<i128>,
+    unknowns: usize,
+    width: usize,
+) -> Result<(), WantOfMemory>
     requires run { 0 < length units.old.items → units.old.items ≡ model.unit_run unknowns width }
     ensures run { 0 < length units.new.items → units.new.items ≡ model.unit_run unknowns width }
     ensures ok { OnOk result (units.new.items ≡ model.unit_run unknowns width) }

@@ -1,7 +1,7 @@
 ghost use Rattle.std.specs.Prelude.{◌≡◌, ◌+◌, ◌<◌, ◌≤◌, length, map, All};
 ghost use Rattle.pip_model.specs.Rows as model;
 ghost use Rattle.tableau.specs.KeptRows.{IsPlace, IsKnownLent, lent_row, with_more, with_rows, unit_run};
-ghost use Rattle.tableau.specs.Tableaus.{IsRow, IsReduced};
+ghost use Rattle.tableau_row.specs.Rows.{IsRow, IsReduced};
 
 use crate::flat_rows::FlatRows;
 use crate::kept::{Kept, Lent};
@@ -43,7 +43,7 @@ fn widen_rows(next: &mut FlatRows, lent: &Lent<'_>, kept: &[Kept])
 
 impl FlatRows {
     // Adds to rows of one place more these, each with a 0 before the constant of its constant form.
-    pub fn widen(&self, units: &[i128], next: &mut FlatRows)
+    pub(crate) fn widen(&self, units: &[i128], next: &mut FlatRows)
         requires units { 0 < length self.now.rows → units.now ≡ unit_run self.now.unknowns self.now.width }
         requires unknowns { next.old.unknowns ≡ self.now.unknowns }
         requires width { next.old.width ≡ self.now.width + 1 }

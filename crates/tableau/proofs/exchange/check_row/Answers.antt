@@ -1,8 +1,8 @@
 use Rattle.std.proofs.Common.{◌≡◌, pos, rules, arith}
 use Rattle.pip_model.specs.Forms.{entry}
-use Rattle.tableau.specs.Views.{row_of}
-use Rattle.tableau.proofs.Unchanged.{eliminated_listed_one}
-use Rattle.tableau.proofs.ShortRows.{short_eliminated}
+use Rattle.tableau_row.specs.Views.{row_of}
+use Rattle.tableau_row.proofs.Unchanged.{eliminated_listed_one}
+use Rattle.tableau_row.proofs.ShortRows.{short_eliminated}
 use Rattle.tableau.proofs.exchange.check_row.Goals as goal
 
 pub returns-then-row-c-eq0 : goal.returns-then-row-c-eq0

@@ -4,8 +4,8 @@ use Rattle.std.proofs.lemmas.List.{length-map}
 use Rattle.pip_model.specs.Forms.{entry}
 use Rattle.pip_model.specs.Rows.{Row, row_at}
 use Rattle.tableau.specs.KeptRows.{row_kept, rows_kept}
-use Rattle.tableau.specs.Tableaus.{IsRow, IsReduced}
-use Rattle.tableau.specs.Views.{row_of}
+use Rattle.tableau_row.specs.Rows.{IsRow, IsReduced}
+use Rattle.tableau_row.specs.Views.{row_of}
 use Rattle.tableau.proofs.Turning.{turned_sides, turned_pivot, front_all, back_all, row_is, row_formed}
 use Rattle.tableau.proofs.exchange.turn_all.Goals as goal
 

@@ -3,7 +3,7 @@ use Rattle.std.specs.Prelude.{IsTrue}
 use Rattle.pip_model.specs.Listed.{all_fit}
 use Rattle.pip_model.specs.Rows.{unit_row, eliminated, eliminated_listed}
 use Rattle.tableau.specs.KeptRows.{lent_row, with_more}
-use Rattle.tableau.specs.Views.{row_of}
+use Rattle.tableau_row.specs.Views.{row_of}
 use Rattle.tableau.specs.declared.kept.Kept.{Kept}
 use Rattle.tableau.proofs.Turning.{unit_listed, unit_turned}
 use Rattle.tableau.proofs.exchange.turn_kept.Goals as goal

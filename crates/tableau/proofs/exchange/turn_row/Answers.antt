@@ -2,8 +2,8 @@ use Rattle.std.proofs.Common.{rules, ap, ◌≡◌, ◌∙◌, pos, subst}
 use Rattle.pip_model.specs.Forms.{entry}
 use Rattle.pip_model.specs.Rows.{Row}
 use Rattle.tableau.specs.KeptRows.{lent_row, with_more}
-use Rattle.tableau.specs.Views.{row_of}
-use Rattle.tableau.proofs.Substituting.{eliminated_none}
+use Rattle.tableau_row.specs.Views.{row_of}
+use Rattle.tableau_row.proofs.Substituting.{eliminated_none}
 use Rattle.tableau.proofs.exchange.turn_row.Goals as goal
 
 pub returns-then-row-c-eq0-clause-ok : goal.returns-then-row-c-eq0-clause-ok

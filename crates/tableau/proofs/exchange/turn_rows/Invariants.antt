@@ -2,7 +2,7 @@ use Rattle.std.proofs.Common.{◌≡◌, map, flat_map, take, drop}
 use Rattle.pip_model.specs.Listed.{all_fit}
 use Rattle.pip_model.specs.Rows.{eliminated, eliminated_listed}
 use Rattle.tableau.specs.KeptRows.{row_kept, with_rows}
-use Rattle.tableau.specs.Views.{row_of}
+use Rattle.tableau_row.specs.Views.{row_of}
 use Rattle.tableau.proofs.exchange.turn_rows.Given as goal
 
 abbrev pub invariant-loop-one : goal.invariant-loop-one

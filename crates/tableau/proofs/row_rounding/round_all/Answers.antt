@@ -5,8 +5,8 @@ use Rattle.pip_model.specs.Listed.{all_fit}
 use Rattle.pip_model.specs.Rows.{Row, row_at}
 use Rattle.pip_model.specs.Cuts.{rounded, rounded_listed}
 use Rattle.tableau.specs.KeptRows.{KeptRows, with_more, row_kept, rows_kept, with_rows}
-use Rattle.tableau.specs.Tableaus.{IsRow, IsReduced}
-use Rattle.tableau.specs.Views.{row_of}
+use Rattle.tableau_row.specs.Rows.{IsRow, IsReduced}
+use Rattle.tableau_row.specs.Views.{row_of}
 use Rattle.tableau.proofs.Turning.{joined_rows, replaced_row, front_all, back_all, row_is, row_formed}
 use Rattle.tableau.proofs.row_rounding.round_all.Goals as goal
 

@@ -1,8 +1,8 @@
 use Rattle.std.proofs.Common.{rules, subst, sym}
 use Rattle.pip_model.specs.Rows.{divided}
-use Rattle.tableau.specs.Tableaus.{IsRow}
+use Rattle.tableau_row.specs.Rows.{IsRow}
 use Rattle.tableau.specs.KeptRows.{KeptRows}
-use Rattle.tableau.specs.Views.{row_of}
+use Rattle.tableau_row.specs.Views.{row_of}
 use Rattle.tableau.proofs.Flat.{unsealed}
 use Rattle.tableau.proofs.flat_rows.FlatRows.push_divided.Goals as goal
 

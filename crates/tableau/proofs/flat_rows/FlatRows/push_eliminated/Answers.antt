@@ -1,9 +1,9 @@
 use Rattle.std.proofs.Common.{rules, ap, ◌≡◌, subst, sym, List, refl}
 use Rattle.pip_model.specs.Rows.{Row, eliminated}
-use Rattle.tableau.proofs.Numbers.{row_over}
-use Rattle.tableau.specs.Tableaus.{IsRow}
+use Rattle.tableau_row.proofs.Numbers.{row_over}
+use Rattle.tableau_row.specs.Rows.{IsRow}
 use Rattle.tableau.specs.KeptRows.{KeptRows, rows_kept, with_more}
-use Rattle.tableau.specs.Views.{row_of}
+use Rattle.tableau_row.specs.Views.{row_of}
 use Rattle.tableau.proofs.Flat.{unsealed, more_rows}
 use Rattle.tableau.proofs.flat_rows.FlatRows.push_eliminated.Goals as goal
 

@@ -2,9 +2,9 @@ use Rattle.std.proofs.Common.{rules, arith, ap, ◌≡◌, subst, sym, List, len
 use Rattle.std.specs.Prelude.{IsTrue}
 use Rattle.std.proofs.lemmas.Grind.{common_steps}
 use Rattle.pip_model.specs.Rows.{Row}
-use Rattle.tableau.specs.Tableaus.{IsRow, IsReduced}
-use Rattle.tableau.specs.Flat.{row_of_numbers, is_unit_row}
-use Rattle.tableau.specs.Short.{IsShortRow}
+use Rattle.tableau_row.specs.Rows.{IsRow, IsReduced}
+use Rattle.tableau_row.specs.Flat.{row_of_numbers, is_unit_row}
+use Rattle.tableau_row.specs.Short.{IsShortRow}
 use Rattle.tableau.specs.KeptRows.{KeptRows, row_length, rows_kept, with_more}
 use Rattle.tableau.specs.declared.kept.Place.{Place}
 use Rattle.tableau.proofs.Flat.{with_plain, rows_more}
@@ -23,7 +23,7 @@ invariant_of-self c =
     (subst (λ (t : KeptRows). IsReduced (row_of_numbers t.unknowns xs)) back c.requires.reduced)
     (subst (λ (t : KeptRows). IsTrue c.args.short → IsShortRow (row_of_numbers t.unknowns xs)) back c.requires.short)
     (subst (λ (t : KeptRows). is_unit_row (row_of_numbers t.unknowns xs) ≡ false) back c.requires.plain) in
-    (rw (c.append.ensures.items, c.append_kept.ensures.items) whole, record { few = grind (arith, common_steps); kept = search rules; numbers = search rules })
+    (rw (c.append_entries.ensures.items, c.append_kept.ensures.items) whole, record { few = grind (arith, common_steps); kept = search rules; numbers = search rules })
 
 pub returns : goal.returns
 returns c =
@@ -32,6 +32,6 @@ returns c =
     let last : Place = record { first = c.len-first.result; short = c.args.short } in
     let long = subst (λ (t : KeptRows). length xs ≡ row_length t.unknowns t.width) (sym c.self.view_is) c.requires.length in
     let rows = rows_more s.unknowns s.width s.numbers.items xs s.kept.items last c.self.invariant.0.places (search rules) long in
-    subst (λ (t : KeptRows). record { unknowns = s.unknowns; width = s.width; most = s.most; rows = rows_kept s.unknowns s.width c.append.new.numbers.items c.append_kept.new.kept.items } ≡ with_more t (row_of_numbers t.unknowns xs)) c.self.view_is
+    subst (λ (t : KeptRows). record { unknowns = s.unknowns; width = s.width; most = s.most; rows = rows_kept s.unknowns s.width c.append_entries.new.numbers.items c.append_kept.new.kept.items } ≡ with_more t (row_of_numbers t.unknowns xs)) c.self.view_is
     (ap (λ (rs : List Row). record { unknowns = s.unknowns; width = s.width; most = s.most; rows = rs })
-    (rw (c.append.ensures.items, c.append_kept.ensures.items) rows))
+    (rw (c.append_entries.ensures.items, c.append_kept.ensures.items) rows))

@@ -1,11 +1,11 @@
 use Rattle.std.proofs.Common.{rules, arith, ap, ◌≡◌, ◌∙◌, ◌+◌, ◌-◌, ◌<◌, subst, sym, List}
 use Rattle.pip_model.specs.Rows.{Row, widened}
-use Rattle.tableau.specs.Tableaus.{IsRow}
+use Rattle.tableau_row.specs.Rows.{IsRow}
 use Rattle.tableau.specs.KeptRows.{KeptRows, rows_kept, with_more}
-use Rattle.tableau.specs.Views.{row_of}
+use Rattle.tableau_row.specs.Views.{row_of}
 use Rattle.tableau.proofs.Flat.{unsealed, more_rows}
-use Rattle.tableau.proofs.RowLaws.{widened_is_row, widened_content}
-use Rattle.tableau.proofs.ShortRows.{widened_short}
+use Rattle.tableau_row.proofs.RowLaws.{widened_is_row, widened_content}
+use Rattle.tableau_row.proofs.ShortRows.{widened_short}
 use Rattle.tableau.proofs.flat_rows.FlatRows.push_widened.Goals as goal
 
 pub seal-requires-clause-unsealed : goal.seal-requires-clause-unsealed

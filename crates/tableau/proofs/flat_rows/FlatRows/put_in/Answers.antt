@@ -4,8 +4,8 @@ use Rattle.pip_model.specs.Agreement.{IsChecked}
 use Rattle.pip_model.specs.Rows.{Row, eliminated, eliminated_listed}
 use Rattle.affine_rows.specs.Checks.{is_overflow}
 use Rattle.tableau.specs.KeptRows.{KeptRows, row_kept, with_rows}
-use Rattle.tableau.specs.Tableaus.{IsRow, IsReduced}
-use Rattle.tableau.specs.Views.{row_of}
+use Rattle.tableau_row.specs.Rows.{IsRow, IsReduced}
+use Rattle.tableau_row.specs.Views.{row_of}
 use Rattle.tableau.proofs.Turning.{all_kept, map_twice, flat_map-map}
 use Rattle.tableau.proofs.flat_rows.FlatRows.put_in.Goals as goal
 

@@ -3,8 +3,8 @@ use Rattle.std.specs.Prelude.{All}
 use Rattle.std.proofs.lemmas.Grind.{common_steps}
 use Rattle.pip_model.specs.Rows.{row_at, form_row}
 use Rattle.tableau.specs.KeptRows.{KeptRows}
-use Rattle.tableau.specs.Tableaus.{IsRow, IsReduced}
-use Rattle.tableau.specs.Views.{row_of}
+use Rattle.tableau_row.specs.Rows.{IsRow, IsReduced}
+use Rattle.tableau_row.specs.Views.{row_of}
 use Rattle.tableau.proofs.flat_rows.FlatRows.row.Goals as goal
 
 pub returns-clause-row : goal.returns-clause-row

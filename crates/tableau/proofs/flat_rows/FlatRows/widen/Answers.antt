@@ -1,7 +1,7 @@
 use Rattle.std.proofs.Common.{◌≡◌, ◌∙◌, ap, sym, map}
 use Rattle.pip_model.specs.Rows.{widened}
 use Rattle.tableau.specs.KeptRows.{KeptRows, row_kept, with_rows}
-use Rattle.tableau.specs.Tableaus.{IsRow, IsReduced}
+use Rattle.tableau_row.specs.Rows.{IsRow, IsReduced}
 use Rattle.tableau.proofs.Turning.{all_kept, map_twice}
 use Rattle.tableau.proofs.flat_rows.FlatRows.widen.Goals as goal
 

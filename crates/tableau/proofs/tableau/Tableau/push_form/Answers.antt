@@ -1,7 +1,7 @@
 use Rattle.std.proofs.Common.{refl}
-use Rattle.tableau.specs.Tableaus.{row_from}
+use Rattle.tableau_row.specs.Rows.{row_from}
 use Rattle.std.proofs.Common.{pos}
-use Rattle.tableau.proofs.Contents.{content-one}
+use Rattle.tableau_row.proofs.Contents.{content-one}
 use Rattle.tableau.proofs.tableau.Tableau.push_form.Goals as goal
 
 pub push_row-requires-clause-reduced : goal.push_row-requires-clause-reduced

@@ -1,0 +1,55 @@
+-- The run from which the rows of columns are lent.
+use Rattle.std.proofs.Common.{◌≡◌, refl, ap, sym, ◌∙◌, ℕ, zero, suc, ◌+◌, ◌-◌, ◌<◌, ◌≤◌, ℤ, pos, List, [], ◌∷◌, ◌++◌, length, take, drop, replicate, arith, max, length-append}
+use Rattle.std.specs.Prelude.{slice_set}
+use Rattle.std.proofs.lemmas.List.{drop-append-le, drop-replicate, take-replicate, length-replicate, drop_at, length_push}
+use Rattle.pip_model.specs.Rows.{unit_row}
+use Rattle.tableau.specs.KeptRows.{unit_run}
+use Rattle.tableau_row.proofs.UnitRows.{unit_parts}
+
+take_add : {X : Type 0} (xs ys : List X) (a b : ℕ) → length xs ≡ a → take (a + b) (xs ++ ys) ≡ xs ++ take b ys
+take_add [] ys zero b e = let g : zero + b ≡ b = omega arith in rw g refl
+take_add [] ys (suc a) b e = absurd (omega arith)
+take_add (x ∷ xs) ys zero b e = absurd (omega arith)
+take_add (x ∷ xs) ys (suc a) b e =
+    let g : suc a + b ≡ suc (a + b) = omega arith in
+    rw (g, take_add xs ys a b (omega arith)) refl
+
+-- from n - c on the run has the coefficients of column c
+pub lent_coefs : (n w c : ℕ) → c < n → take n (drop (n - c) (unit_run n w)) ≡ slice_set (replicate n (pos 0)) c (pos 1)
+lent_coefs n w c h =
+    let zs = replicate (max n (w + 1)) (pos 0) in
+    let short : n - c ≤ length (replicate n (pos 0)) = simp length-replicate (omega arith) in
+    let left : n - (n - c) ≡ c = omega arith in
+    let begun : drop (n - c) (unit_run n w) ≡ replicate c (pos 0) ++ pos 1 ∷ zs
+    = drop-append-le (n - c) (replicate n (pos 0)) (pos 1 ∷ zs) short ∙ ap (λ (xs : List ℤ). xs ++ pos 1 ∷ zs) (drop-replicate (n - c) n (pos 0) ∙ ap (λ k. replicate k (pos 0)) left) in
+    let whole : n ≡ c + suc (n - (c + 1)) = omega arith in
+    let tail : take (n - (c + 1)) zs ≡ replicate (n - (c + 1)) (pos 0) = take-replicate (n - (c + 1)) (max n (w + 1)) (pos 0) (omega arith) in
+    ap (take n) begun
+    ∙ ap (λ k. take k (replicate c (pos 0) ++ pos 1 ∷ zs)) whole
+    ∙ take_add (replicate c (pos 0)) (pos 1 ∷ zs) c (suc (n - (c + 1))) (length-replicate c (pos 0))
+    ∙ ap (λ (xs : List ℤ). replicate c (pos 0) ++ pos 1 ∷ xs) tail
+    ∙ sym (unit_parts n c h)
+
+-- behind the 1 are the entries of a constant form of zeros
+pub lent_constant : (n w : ℕ) → take (w + 1) (drop (n + 1) (unit_run n w)) ≡ replicate (w + 1) (pos 0)
+lent_constant n w =
+    let zs = replicate (max n (w + 1)) (pos 0) in
+    let long : length (replicate n (pos 0) ++ pos 1 ∷ []) ≡ n + 1 = length_push (replicate n (pos 0)) (pos 1) ∙ ap (λ k. k + 1) (length-replicate n (pos 0)) in
+    ap (take (w + 1)) (ap (drop (n + 1)) (sym (append_one (replicate n (pos 0)) (pos 1) zs)) ∙ drop_at (replicate n (pos 0) ++ pos 1 ∷ []) zs (n + 1) long)
+    ∙ take-replicate (w + 1) (max n (w + 1)) (pos 0) (omega arith)
+  where
+    append_one : (xs : List ℤ) (x : ℤ) (ys : List ℤ) → (xs ++ x ∷ []) ++ ys ≡ xs ++ x ∷ ys
+    append_one [] x ys = refl
+    append_one (z ∷ xs) x ys = ap (λ (rest : List ℤ). z ∷ rest) (append_one xs x ys)
+
+pub length_run : (n w : ℕ) → length (unit_run n w) ≡ n + suc (max n (w + 1))
+length_run n w = simp (length-append, length-replicate) refl
+
+pub lent_unit : (n w c : ℕ) (coefs constant : List ℤ) → c < n → coefs ≡ take n (drop (n - c) (unit_run n w)) → constant ≡ take (w + 1) (drop (n + 1) (unit_run n w))
+    → record { den = pos 1; coefs = coefs; constant = constant } ≡ unit_row n w c
+lent_unit n w c coefs constant h e f = rw (e, f, lent_coefs n w c h, lent_constant n w) refl
+
+pub run_made : (n w k : ℕ) (zs : List ℤ) → zs ≡ replicate k (pos 0) → k ≡ n + 1 + max n (w + 1) → slice_set zs n (pos 1) ≡ unit_run n w
+run_made n w k zs e f =
+    let left : k - (n + 1) ≡ max n (w + 1) = omega arith in
+    ap (λ (xs : List ℤ). slice_set xs n (pos 1)) e ∙ unit_parts k n (omega arith) ∙ ap (λ j. replicate n (pos 0) ++ pos 1 ∷ replicate j (pos 0)) left

@@ -1,9 +1,0 @@
-use Rattle.std.proofs.Common.{◌≡◌}
-use Rattle.std.specs.Prelude.{All}
-use Rattle.pip_model.specs.Numbers.{floor_div}
-use Rattle.tableau.specs.Short.{IsShort}
-use Rattle.affine_rows.proofs.Mapped.{mapped}
-use Rattle.tableau.proofs.narrow.divide_all_short.Given as goal
-
-abbrev pub invariant-loop-entry : goal.invariant-loop-entry
-invariant-loop-entry l = (l.entries ≡ mapped (λ x. floor_div x l.d) l.entry-index l.fn.entries) × All IsShort l.entries

@@ -1,0 +1,12 @@
+pub mod Combining
+pub mod Contents
+pub mod Dividing
+pub mod Numbers
+pub mod Places
+pub mod Quotients
+pub mod Rounding
+pub mod RowLaws
+pub mod ShortRows
+pub mod Substituting
+pub mod Unchanged
+pub mod UnitRows

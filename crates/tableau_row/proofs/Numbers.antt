@@ -1,0 +1,27 @@
+-- The numbers of a row.
+use Rattle.std.proofs.Common.{◌≡◌, refl, ap, sym, ◌∙◌, subst, ℕ, ◌-◌, ◌<◌, ℤ, List, [], ◌∷◌, ◌++◌, length, take, drop, arith}
+use Rattle.std.specs.Prelude.{slice_set}
+use Rattle.std.proofs.lemmas.List.{take_at, drop_at}
+use Rattle.pip_model.specs.Rows.{Row}
+use Rattle.tableau_row.specs.Flat.{numbers_of, row_of_numbers}
+use Rattle.tableau_row.specs.Rows.{IsRow, row_from}
+
+-- the numbers that a row's parts make
+pub made : (zs coefs constant : List ℤ) (d : ℤ) (r : Row) → 0 < length zs → row_from d coefs constant ≡ r → slice_set (take 1 zs) 0 d ++ (coefs ++ constant) ≡ numbers_of r
+made [] coefs constant d r h e = absurd (omega arith)
+made (z ∷ zs) coefs constant d r h e = ap numbers_of e
+
+pub row_again : (n : ℕ) (r : Row) → length r.coefs ≡ n → row_of_numbers n (numbers_of r) ≡ r
+row_again n r e = rw (take_at r.coefs r.constant n e, drop_at r.coefs r.constant n e) refl
+
+-- a row over the columns and places of another
+pub row_over : (n w : ℕ) (r made s : Row) (coefs constant : List ℤ) → coefs ≡ r.coefs → constant ≡ r.constant → made ≡ s
+    → IsRow (length coefs) (length constant - 1) made → IsRow n w r → IsRow n w s
+row_over n w r made s coefs constant e f g h given =
+    let one : length coefs ≡ n = ap length e ∙ given.coefs in
+    let two : length constant - 1 ≡ w = omega (arith, ap length f, given.constant) in
+    subst (λ k. IsRow k w s) one (subst (λ k. IsRow (length coefs) k s) two (subst (IsRow (length coefs) (length constant - 1)) g h))
+
+-- the row whose numbers stand behind the others
+pub lent_last : (zs last : List ℤ) (start : ℕ) (r : Row) → last ≡ drop start (zs ++ numbers_of r) → start ≡ length zs → row_of_numbers (length r.coefs) last ≡ r
+lent_last zs last start r e f = ap (row_of_numbers (length r.coefs)) (e ∙ drop_at zs (numbers_of r) start (sym f)) ∙ row_again (length r.coefs) r refl

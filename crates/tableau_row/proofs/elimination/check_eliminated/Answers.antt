@@ -1,0 +1,19 @@
+use Rattle.std.proofs.Common.{rules, arith, ◌∙◌}
+use Rattle.std.proofs.lemmas.Grind.{common_steps}
+use Rattle.tableau_row.specs.Views.{row_of}
+use Rattle.tableau_row.proofs.Places.{eliminated_parts}
+use Rattle.tableau_row.proofs.elimination.check_eliminated.Goals as goal
+
+pub returns-in_err-check_but : goal.returns-in_err-check_but
+returns-in_err-check_but c =
+    let parts = eliminated_parts (row_of c.args.p.now) c.args.c (row_of c.args.row.now) in
+    grind (arith, common_steps, parts)
+
+pub returns-in_err-check_combined : goal.returns-in_err-check_combined
+returns-in_err-check_combined c =
+    let parts = eliminated_parts (row_of c.args.p.now) c.args.c (row_of c.args.row.now) in
+    grind (arith, common_steps, parts)
+
+pub returns : goal.returns
+returns c =
+    eliminated_parts (row_of c.args.p.now) c.args.c (row_of c.args.row.now) ∙ search rules

@@ -1,0 +1,24 @@
+use Rattle.std.proofs.Common.{rules, refl, ◌≡◌}
+use Rattle.pip_model.specs.Forms.{add, negate, width}
+use Rattle.pip_model.specs.Cuts.{rounded, rounding, residue_of}
+use Rattle.tableau_row.specs.Flat.{row_of_numbers}
+use Rattle.tableau_row.specs.Rows.{row_from}
+use Rattle.tableau_row.proofs.Contents.{content-divided}
+use Rattle.tableau_row.proofs.Numbers.{row_over}
+use Rattle.tableau_row.proofs.row.round.Goals as goal
+
+pub returns-in_err-made-clause-listed : goal.returns-in_err-made-clause-listed
+returns-in_err-made-clause-listed c =
+    let refused = c.in_err-made.ensures.listed refl in
+    search (rules, refused)
+
+pub returns-clause-row : goal.returns-clause-row
+returns-clause-row c = λ n w given.
+    let r = row_of_numbers c.args.unknowns c.args.numbers.now in
+    let same : row_from c.in_ok-made.made c.round_parts.new.coefs c.round_parts.new.constant ≡ rounded r c.args.q = search rules in
+    row_over n w r _ (rounded r c.args.q) c.split_at_mut-coefs.result.0.now c.split_at_mut-coefs.result.1.now (search rules) (search rules) same (search rules) given
+
+pub returns-clause-reduced : goal.returns-clause-reduced
+returns-clause-reduced c =
+    let r = row_of_numbers c.args.unknowns c.args.numbers.now in
+    content-divided (row_from r.den r.coefs (add r.constant (negate (rounding (width r.constant) c.args.q (residue_of r))))) c.requires.row.positive

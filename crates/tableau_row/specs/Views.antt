@@ -1,0 +1,6 @@
+-- The row that a view lends.
+use Rattle.pip_model.specs.Rows.{Row}
+use Rattle.tableau_row.specs.declared.view.RowView.{RowView}
+
+abbrev pub row_of : RowView → Row
+row_of v = record { den = v.den; coefs = v.coefs.now; constant = v.constant.now }

@@ -1,0 +1,156 @@
+ghost use Rattle.std.specs.Prelude.{◌≡◌, ℕ, ◌+◌, ◌-◌, ◌<◌, ◌≤◌, pos, ◌≤ℤ◌, [], ◌∷◌, ◌++◌, length, IsTrue, IfOk, IfSome, OnErr, OnOk, vec_len, vec_capacity};
+ghost use Rattle.pip_model.specs.Forms.{entry};
+ghost use Rattle.pip_model.specs.Listed.{all_fit};
+ghost use Rattle.pip_model.specs.Rows as model;
+ghost use Rattle.pip_model.specs.Cuts.{rounded, rounded_listed};
+ghost use Rattle.pip_model.specs.Agreement.{IsChecked};
+ghost use Rattle.affine_rows.specs.Checks.{is_overflow};
+ghost use Rattle.tableau_row.specs.Flat.{numbers_of};
+ghost use Rattle.tableau_row.specs.Short.{IsShortRow};
+ghost use Rattle.tableau_row.specs.Rows.{IsRow, IsOwnRow, IsReduced, row_from};
+ghost use Rattle.tableau_row.specs.Views.{row_of};
+
+use crate::row::{divide, eliminate_long, eliminate_short, round};
+use crate::short::both;
+use crate::view::RowView;
+use affine_rows::Overflow;
+
+/// Appends the entries, for which there is room. It takes no memory, like all that append here.
+pub fn append_entries(numbers: &mut Vec<i128>, entries: &[i128])
+    requires room { vec_len numbers.old + length entries.now ≤ vec_capacity numbers.old }
+    ensures items { numbers.new.items ≡ numbers.old.items ++ entries.now }
+    ensures length { vec_len numbers.new ≡ vec_len numbers.old + length entries.now }
+    ensures room { vec_capacity numbers.old ≤ vec_capacity numbers.new }
+{
+    match numbers.extend_from_slice(entries) {
+        Ok(()) => {}
+        Err(_) => unreachable!(),
+    }
+}
+
+// Appends the number, for which there is room.
+fn append_one(numbers: &mut Vec<i128>, number: i128)
+    requires room { vec_len numbers.old < vec_capacity numbers.old }
+    ensures items { numbers.new.items ≡ numbers.old.items ++ number ∷ [] }
+    ensures length { vec_len numbers.new ≡ vec_len numbers.old + 1 }
+    ensures room { vec_capacity numbers.old ≤ vec_capacity numbers.new }
+{
+    numbers.push_reserved(number);
+}
+
+/// Appends the numbers of a row: its denominator, its coefficients, the entries of its constant form.
+pub fn append_row(numbers: &mut Vec<i128>, row: &RowView<'_>)
+    requires room { vec_len numbers.old + length (numbers_of (row_of row.now)) ≤ vec_capacity numbers.old }
+    ensures items { numbers.new.items ≡ numbers.old.items ++ numbers_of (row_of row.now) }
+    ensures room { vec_capacity numbers.old ≤ vec_capacity numbers.new }
+{
+    append_one(numbers, row.den);
+    append_entries(numbers, row.coefs);
+    append_entries(numbers, row.constant);
+}
+
+// The same, in one piece where the numbers stand in one run.
+fn append_run(numbers: &mut Vec<i128>, row: &RowView<'_>, run: Option<&[i128]>)
+    requires room { vec_len numbers.old + length (numbers_of (row_of row.now)) ≤ vec_capacity numbers.old }
+    requires run { IfSome run (λ s. s.now ≡ numbers_of (row_of row.now)) }
+    ensures items { numbers.new.items ≡ numbers.old.items ++ numbers_of (row_of row.now) }
+    ensures room { vec_capacity numbers.old ≤ vec_capacity numbers.new }
+{
+    match run {
+        Some(run) => append_entries(numbers, run),
+        None => append_row(numbers, row),
+    }
+}
+
+/// Appends the numbers of the row divided by their greatest common divisor; whether they are known to be short.
+pub fn append_divided(numbers: &mut Vec<i128>, row: &RowView<'_>) -> bool
+    requires room { vec_len numbers.old + length (numbers_of (row_of row.now)) ≤ vec_capacity numbers.old }
+    requires row { IsOwnRow (row_of row.now) }
+    ensures items { numbers.new.items ≡ numbers.old.items ++ numbers_of (model.divided (row_of row.now)) }
+    ensures row { (n w : ℕ) → IsRow n w (row_of row.now) → IsRow n w (model.divided (row_of row.now)) }
+    ensures reduced { IsReduced (model.divided (row_of row.now)) }
+    ensures short { IsTrue result → IsShortRow (model.divided (row_of row.now)) }
+    ensures room { vec_capacity numbers.old ≤ vec_capacity numbers.new }
+{
+    let start = numbers.len();
+    append_row(numbers, row);
+    let (_, last) = numbers.split_at_mut(start);
+    divide(last, row.coefs.len(), row.short)
+}
+
+/// Appends the numbers of what the row is after the pivot on row p and column c, which are known to fit; whether they
+/// are known to be short. The run, if any, has the numbers of the row.
+pub fn append_eliminated(
+    numbers: &mut Vec<i128>,
+    p: &RowView<'_>,
+    c: usize,
+    row: &RowView<'_>,
+    run: Option<&[i128]>,
+) -> bool
+    requires room { vec_len numbers.old + length (numbers_of (row_of row.now)) ≤ vec_capacity numbers.old }
+    requires p { IsOwnRow (row_of p.now) }
+    requires row { IsRow (length p.now.coefs.now) (length p.now.constant.now - 1) (row_of row.now) }
+    requires run { IfSome run (λ s. s.now ≡ numbers_of (row_of row.now)) }
+    requires column { c < length p.now.coefs.now }
+    requires positive { pos 1 ≤ℤ entry p.now.coefs.now c }
+    requires listed { IsTrue (all_fit (model.eliminated_listed (row_of p.now) c (row_of row.now))) }
+    ensures items { numbers.new.items
+        ≡ numbers.old.items ++ numbers_of (model.eliminated (row_of p.now) c (row_of row.now)) }
+    ensures row { IsRow (length p.now.coefs.now) (length p.now.constant.now - 1)
+        (model.eliminated (row_of p.now) c (row_of row.now)) }
+    ensures reduced { IsReduced (model.eliminated (row_of p.now) c (row_of row.now)) }
+    ensures short { IsTrue result → IsShortRow (model.eliminated (row_of p.now) c (row_of row.now)) }
+    ensures room { vec_capacity numbers.old ≤ vec_capacity numbers.new }
+{
+    let start = numbers.len();
+    append_run(numbers, row, run);
+    let (_, last) = numbers.split_at_mut(start);
+    if both(p.short, row.short) {
+        eliminate_short(last, p, c)
+    } else {
+        eliminate_long(last, p, c)
+    }
+}
+
+/// Appends the numbers of the row rounded by the quotient at place q, and says whether they are short; a refusal leaves
+/// all as it was.
+pub fn append_rounded(
+    numbers: &mut Vec<i128>,
+    row: &RowView<'_>,
+    q: usize,
+) -> Result<bool, Overflow>
+    requires room { vec_len numbers.old + length (numbers_of (row_of row.now)) ≤ vec_capacity numbers.old }
+    requires row { IsOwnRow (row_of row.now) }
+    requires place { q + 1 < length row.now.constant.now }
+    ensures listed { IsChecked is_overflow (rounded_listed (row_of row.now) q) result }
+    ensures items { OnOk result (numbers.new.items ≡ numbers.old.items ++ numbers_of (rounded (row_of row.now) q)) }
+    ensures row { OnOk result ((n w : ℕ) → IsRow n w (row_of row.now) → IsRow n w (rounded (row_of row.now) q)) }
+    ensures reduced { OnOk result (IsReduced (rounded (row_of row.now) q)) }
+    ensures short { IfOk result (λ s. IsTrue s → IsShortRow (rounded (row_of row.now) q)) }
+    ensures err { OnErr result (numbers.new.items ≡ numbers.old.items) }
+    ensures room { vec_capacity numbers.old ≤ vec_capacity numbers.new }
+{
+    let start = numbers.len();
+    append_row(numbers, row);
+    let (_, last) = numbers.split_at_mut(start);
+    let rounded = round(last, row.coefs.len(), q);
+    if rounded.is_err() {
+        numbers.truncate(start);
+    }
+    rounded
+}
+
+/// Appends the numbers of the row with a 0 before the constant of its constant form.
+pub fn append_widened(numbers: &mut Vec<i128>, narrow: &RowView<'_>)
+    requires room { vec_len numbers.old + length (numbers_of (row_of narrow.now)) < vec_capacity numbers.old }
+    requires constant { 0 < length narrow.now.constant.now }
+    ensures items { numbers.new.items ≡ numbers.old.items ++ numbers_of (model.widened (row_of narrow.now)) }
+    ensures room { vec_capacity numbers.old ≤ vec_capacity numbers.new }
+{
+    let (coefficients, last) = narrow.constant.split_at(narrow.constant.len() - 1);
+    append_one(numbers, narrow.den);
+    append_entries(numbers, narrow.coefs);
+    append_entries(numbers, coefficients);
+    append_one(numbers, 0);
+    append_entries(numbers, last);
+}

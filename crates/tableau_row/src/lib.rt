@@ -1,0 +1,19 @@
+//! A row of a tableau by its numbers: as it is lent, and what a step makes of it, in 64 bits where the numbers allow.
+#![tactic(auto)]
+
+mod append;
+mod divisor;
+mod elimination;
+mod narrow;
+mod row;
+mod short;
+mod view;
+
+pub use append::{
+    append_divided, append_eliminated, append_entries, append_rounded, append_row, append_widened,
+};
+pub use elimination::check_eliminated;
+pub use narrow::{short_floor_div, short_gcd};
+pub use row::{unit_column, view_of};
+pub use short::is_short_row;
+pub use view::RowView;

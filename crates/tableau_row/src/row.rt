@@ -1,0 +1,196 @@
+ghost use Rattle.std.specs.Prelude.{◌≡◌, ℕ, ◌+◌, ◌-◌, ◌<◌, pos, ◌≤ℤ◌, ◌++◌, ◌&&◌, false, length, take, drop, All, IsTrue, IfOk, IfSome, IfNone, OnErr, OnOk, MatchOption, replicate, slice_set};
+ghost use Rattle.std.specs.List.{list_all};
+ghost use Rattle.pip_model.specs.Numbers.{is_zero, same_number};
+ghost use Rattle.pip_model.specs.Forms.{entry};
+ghost use Rattle.pip_model.specs.Listed.{all_fit};
+ghost use Rattle.pip_model.specs.Rows as model;
+ghost use Rattle.pip_model.specs.Cuts.{rounded, rounded_listed};
+ghost use Rattle.pip_model.specs.Agreement.{IsChecked};
+ghost use Rattle.affine_rows.specs.Checks.{is_overflow};
+ghost use Rattle.tableau_row.specs.Flat.{numbers_of, row_of_numbers, is_unit, is_unit_row};
+ghost use Rattle.tableau_row.specs.Short.{IsShortRow};
+ghost use Rattle.tableau_row.specs.Rows.{IsRow, IsOwnRow, IsReduced, row_from};
+ghost use Rattle.tableau_row.specs.Views.{row_of};
+
+use crate::elimination::{divide_parts, eliminate_long_parts, eliminate_short_parts};
+use crate::short::is_short_row;
+use crate::view::RowView;
+use affine_rows::{Overflow, divide_all, floor_div, gcd_with, round_form};
+
+/// The row of these numbers over so many columns: its denominator, its coefficients, the entries of its constant form.
+pub fn view_of(numbers: &[i128], unknowns: usize, short: bool) -> RowView<'_>
+    requires length { unknowns < length numbers.now }
+    requires short { IsTrue short → IsShortRow (row_of_numbers unknowns numbers.now) }
+    ensures { row_of result ≡ row_of_numbers unknowns numbers.now }
+{
+    let (den, parts) = numbers.split_at(1);
+    let (coefs, constant) = parts.split_at(unknowns);
+    RowView {
+        den: den[0],
+        coefs,
+        constant,
+        short,
+    }
+}
+
+// Whether all entries are 0.
+fn all_zero(entries: &[i128]) -> bool
+    ensures { result ≡ list_all is_zero entries.now }
+{
+    entries.iter().all(|entry| *entry == 0)
+}
+
+// Whether the first entry is 1, and all behind it are 0.
+fn is_one(entries: &[i128]) -> bool
+    requires { 0 < length entries.now }
+    ensures { result ≡ (same_number (entry entries.now 0) (pos 1) && list_all is_zero (drop 1 entries.now)) }
+{
+    let (first, rest) = entries.split_at(1);
+    first[0] == 1 && all_zero(rest)
+}
+
+// The column whose coefficients these are.
+fn unit_of(coefs: &[i128]) -> Option<usize>
+    ensures some { IfSome result (λ c. c < length coefs.now) }
+    ensures value { IfSome result (λ c. coefs.now ≡ slice_set (replicate (length coefs.now) (pos 0)) c (pos 1)) }
+    ensures none { IfNone result (is_unit coefs.now ≡ false) }
+{
+    for i in 0..coefs.len() {
+        if coefs[i] != 0 {
+            let (_, rest) = coefs.split_at(i);
+            return if is_one(rest) { Some(i) } else { None };
+        }
+    }
+    None
+}
+
+/// The column whose row this is, none of any other row.
+pub fn unit_column(row: &RowView<'_>) -> Option<usize>
+    requires { 0 < length row.now.constant.now }
+    ensures some { IfSome result (λ c. c < length row.now.coefs.now) }
+    ensures value { IfSome result (λ c.
+        row_of row.now ≡ model.unit_row (length row.now.coefs.now) (length row.now.constant.now - 1) c) }
+    ensures none { IfNone result (is_unit_row (row_of row.now) ≡ false) }
+{
+    if row.den != 1 {
+        return None;
+    }
+    if all_zero(row.constant) {
+        unit_of(row.coefs)
+    } else {
+        None
+    }
+}
+
+// Makes of a row's numbers those of the row divided by their greatest common divisor; whether they are known to be
+// short, as before where nothing is divided.
+pub(crate) fn divide(numbers: &mut [i128], unknowns: usize, short: bool) -> bool
+    requires length { unknowns < length numbers.old }
+    requires row { IsOwnRow (row_of_numbers unknowns numbers.old) }
+    requires short { IsTrue short → IsShortRow (row_of_numbers unknowns numbers.old) }
+    ensures value { numbers.new ≡ numbers_of (model.divided (row_of_numbers unknowns numbers.old)) }
+    ensures row { (n w : ℕ) → IsRow n w (row_of_numbers unknowns numbers.old)
+        → IsRow n w (model.divided (row_of_numbers unknowns numbers.old)) }
+    ensures reduced { IsReduced (model.divided (row_of_numbers unknowns numbers.old)) }
+    ensures short { IsTrue result → IsShortRow (model.divided (row_of_numbers unknowns numbers.old)) }
+{
+    let (den, parts) = numbers.split_at_mut(1);
+    let (coefs, constant) = parts.split_at_mut(unknowns);
+    let (made, made_short) = divide_parts(den[0], coefs, constant, short);
+    den[0] = made;
+    made_short
+}
+
+// Makes of a row's numbers those of what the row is after the pivot on row p and column c; whether they are short.
+pub(crate) fn eliminate_long(numbers: &mut [i128], p: &RowView<'_>, c: usize) -> bool
+    requires length { length p.now.coefs.now < length numbers.old }
+    requires p { IsOwnRow (row_of p.now) }
+    requires row { IsRow (length p.now.coefs.now) (length p.now.constant.now - 1)
+        (row_of_numbers (length p.now.coefs.now) numbers.old) }
+    requires column { c < length p.now.coefs.now }
+    requires positive { pos 1 ≤ℤ entry p.now.coefs.now c }
+    requires listed { IsTrue (all_fit
+        (model.eliminated_listed (row_of p.now) c (row_of_numbers (length p.now.coefs.now) numbers.old))) }
+    ensures value { numbers.new
+        ≡ numbers_of (model.eliminated (row_of p.now) c (row_of_numbers (length p.now.coefs.now) numbers.old)) }
+    ensures row { IsRow (length p.now.coefs.now) (length p.now.constant.now - 1)
+        (model.eliminated (row_of p.now) c (row_of_numbers (length p.now.coefs.now) numbers.old)) }
+    ensures short { IsTrue result → IsShortRow
+        (model.eliminated (row_of p.now) c (row_of_numbers (length p.now.coefs.now) numbers.old)) }
+{
+    let (den, parts) = numbers.split_at_mut(1);
+    let (coefs, constant) = parts.split_at_mut(p.coefs.len());
+    let (made, short) = eliminate_long_parts(p, c, den[0], coefs, constant);
+    den[0] = made;
+    short
+}
+
+// The same for rows whose numbers are short.
+pub(crate) fn eliminate_short(numbers: &mut [i128], p: &RowView<'_>, c: usize) -> bool
+    requires length { length p.now.coefs.now < length numbers.old }
+    requires p { IsOwnRow (row_of p.now) }
+    requires row { IsRow (length p.now.coefs.now) (length p.now.constant.now - 1)
+        (row_of_numbers (length p.now.coefs.now) numbers.old) }
+    requires column { c < length p.now.coefs.now }
+    requires positive { pos 1 ≤ℤ entry p.now.coefs.now c }
+    requires p_short { IsShortRow (row_of p.now) }
+    requires row_short { IsShortRow (row_of_numbers (length p.now.coefs.now) numbers.old) }
+    ensures value { numbers.new
+        ≡ numbers_of (model.eliminated (row_of p.now) c (row_of_numbers (length p.now.coefs.now) numbers.old)) }
+    ensures row { IsRow (length p.now.coefs.now) (length p.now.constant.now - 1)
+        (model.eliminated (row_of p.now) c (row_of_numbers (length p.now.coefs.now) numbers.old)) }
+    ensures short { IsTrue result → IsShortRow
+        (model.eliminated (row_of p.now) c (row_of_numbers (length p.now.coefs.now) numbers.old)) }
+{
+    let (den, parts) = numbers.split_at_mut(1);
+    let (coefs, constant) = parts.split_at_mut(p.coefs.len());
+    let (made, short) = eliminate_short_parts(p, c, den[0], coefs, constant);
+    den[0] = made;
+    short
+}
+
+// The parts of the row rounded by the quotient at place q, and its new denominator; a refusal leaves the parts as they
+// were.
+fn round_parts(
+    den: i128,
+    coefs: &mut [i128],
+    constant: &mut [i128],
+    q: usize,
+) -> Result<i128, Overflow>
+    requires row { IsOwnRow (row_from den coefs.old constant.old) }
+    requires place { q + 1 < length constant.old }
+    ensures listed { IsChecked is_overflow (rounded_listed (row_from den coefs.old constant.old) q) result }
+    ensures ok { IfOk result (λ d.
+        row_from d coefs.new constant.new ≡ rounded (row_from den coefs.old constant.old) q) }
+    ensures row { IfOk result (λ d.
+        IsRow (length coefs.old) (length constant.old - 1) (row_from d coefs.new constant.new)) }
+    ensures reduced { IfOk result (λ d. IsReduced (row_from d coefs.new constant.new)) }
+    ensures err { OnErr result ((coefs.new ≡ coefs.old) × (constant.new ≡ constant.old)) }
+{
+    round_form(den, constant, q)?;
+    let divisor = gcd_with(gcd_with(den, coefs), constant);
+    divide_all(coefs, divisor);
+    divide_all(constant, divisor);
+    Ok(floor_div(den, divisor))
+}
+
+// Makes of a row's numbers those of the row rounded by the quotient at place q, and says whether they are short; a
+// refusal leaves them as they were.
+pub(crate) fn round(numbers: &mut [i128], unknowns: usize, q: usize) -> Result<bool, Overflow>
+    requires length { unknowns < length numbers.old }
+    requires row { IsOwnRow (row_of_numbers unknowns numbers.old) }
+    requires place { q + unknowns + 2 < length numbers.old }
+    ensures listed { IsChecked is_overflow (rounded_listed (row_of_numbers unknowns numbers.old) q) result }
+    ensures ok { OnOk result (numbers.new ≡ numbers_of (rounded (row_of_numbers unknowns numbers.old) q)) }
+    ensures row { OnOk result ((n w : ℕ) → IsRow n w (row_of_numbers unknowns numbers.old)
+        → IsRow n w (rounded (row_of_numbers unknowns numbers.old) q)) }
+    ensures reduced { OnOk result (IsReduced (rounded (row_of_numbers unknowns numbers.old) q)) }
+    ensures short { IfOk result (λ s. IsTrue s → IsShortRow (rounded (row_of_numbers unknowns numbers.old) q)) }
+    ensures err { OnErr result (numbers.new ≡ numbers.old) }
+{
+    let (den, parts) = numbers.split_at_mut(1);
+    let (coefs, constant) = parts.split_at_mut(unknowns);
+    let made = round_parts(den[0], coefs, constant, q)?;
+    den[0] = made;
+    Ok(is_short_row(made, coefs, constant))
+}

@@ -1,0 +1,36 @@
+ghost use Rattle.std.specs.Prelude.{◌<◌, ◌*ℤ◌, length, IsTrue};
+ghost use Rattle.pip_model.specs.Forms.{entry};
+ghost use Rattle.affine_rows.specs.Checks.{IsFitted};
+ghost use Rattle.tableau_row.specs.Short.{IsShortRow};
+ghost use Rattle.tableau_row.specs.Rows.{row_from};
+
+use crate::short::short_product;
+use affine_rows::{Overflow, times};
+
+/// A row `(D, a, t)`: D times its quantity is the sum of the a_k times the columns' quantities, plus the form t.
+#[derive(Clone, Copy)]
+pub struct RowView<'t> {
+    /// D, at least 1.
+    pub den: i128,
+    /// The a_k, one for each column.
+    pub coefs: &'t [i128],
+    /// The entries of t: the coefficients of the parameters and quotients, and then the constant.
+    pub constant: &'t [i128],
+    /// Whether each number is known to lie from `-(2^63 - 1)` to `2^63 - 1`.
+    pub short: bool,
+    ghost short_numbers: { IsTrue short → IsShortRow (row_from den coefs.now constant.now) },
+}
+
+impl RowView<'_> {
+    /// Its coefficient k times the other row's coefficient b. It overflows exactly where that does not fit.
+    pub fn product(&self, k: usize, other: &RowView<'_>, b: usize) -> Result<i128, Overflow>
+        requires k { k < length self.now.coefs.now }
+        requires b { b < length other.now.coefs.now }
+        ensures { IsFitted (entry self.now.coefs.now k *ℤ entry other.now.coefs.now b) result }
+    {
+        if self.short && other.short {
+            return Ok(short_product(self.coefs[k], other.coefs[b]));
+        }
+        times(self.coefs[k], other.coefs[b])
+    }
+}
