@@ -10,3 +10,9 @@ pub mod Pointed
 pub mod Restricted
 pub mod Compared
 pub mod Readied
+pub mod LesserSteps
+pub mod RestSteps
+pub mod LesserNodes
+pub mod Listing
+pub mod LesserLeaves
+pub mod Lessened

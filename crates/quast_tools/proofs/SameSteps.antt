@@ -11,7 +11,7 @@ use Rattle.pip_model.specs.Walks.{ToolRefusal, Walked, Made, Stopped, Walking, w
 use Rattle.pip_model.specs.Tools.{difference, difference_listed, first_numbers, differ_or, same_lists}
 use Rattle.context.specs.Scoped.{ScopedForms, IsKeptContext}
 use Rattle.quast_tools.proofs.Defining.{listed_goes}
-use Rattle.quast_tools.proofs.Walking.{kept_visit}
+use Rattle.quast_tools.proofs.Walking.{kept_visit, in_two}
 use Rattle.quast_tools.specs.Visits.{visit_of}
 use Rattle.quast_tools.specs.Searches.{point_where, point_above, point_below, found_or, same_component}
 
@@ -25,10 +25,6 @@ two_parts : (o : Walked (Option (List ℤ))) (second next : Walking (Option (Lis
 two_parts (Made None w) second next = refl
 two_parts (Made (Some p) w) second next = refl
 two_parts (Stopped e w) second next = refl
-
-in_two : {A B C : Type 0} (part : Walked A) (f : A → Walking B) (rest : B → Walking C) → walk_on part (λ x. f x >>= rest) ≡ walk_on (walk_on part f) rest
-in_two (Made x w) f rest = refl
-in_two (Stopped e w) f rest = refl
 
 module _ (m : ℕ) (h : Visit) (c d : Component) (cs ds : List Component) where
   abbrev e : List ℤ

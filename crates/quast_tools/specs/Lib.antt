@@ -3,3 +3,4 @@ pub mod Visits
 pub mod Readings
 pub mod Searches
 pub mod Samenesses
+pub mod Choices

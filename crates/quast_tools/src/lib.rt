@@ -1,13 +1,18 @@
-//! Selection trees under a context: a tree restricted to it, whether two trees agree on it.
+//! Selection trees under a context: a tree restricted to it, whether two trees agree on it, the lesser of two.
 #![tactic(auto)]
 
+mod choosing;
 mod comparing;
 mod differences;
 mod finding;
 mod leaves;
+mod lesser_leaves;
+mod lesser_lists;
+mod lesser_nodes;
 mod lists;
 mod reading;
 mod refusal;
+mod rest;
 mod restricting;
 mod sameness;
 mod searching;
@@ -15,6 +20,7 @@ mod spreading;
 mod starting;
 mod steps;
 
+pub use choosing::least;
 pub use comparing::same;
 pub use refusal::ToolRefusal;
 pub use restricting::restrict;

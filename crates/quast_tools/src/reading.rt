@@ -1,3 +1,5 @@
+ghost use Rattle.std.specs.Prelude.{◌≡◌, ◌+◌, ◌-◌, ◌^◌, ◌<◌};
+
 use quast::{Answer, Component};
 use std::alloc::Global;
 
@@ -25,4 +27,18 @@ pub(crate) struct Reading<'t> {
     pub between: usize,
     pub at_leaf: AtLeaf<'t>,
     pub depth: u64,
+}
+
+// The same reading one node down.
+pub(crate) fn deeper<'t>(reading: &Reading<'t>) -> Reading<'t>
+    requires { reading.now.depth < 2 ^ 64 - 1 }
+    ensures { result ≡ record reading.now { depth = reading.now.depth + 1 } }
+{
+    Reading {
+        alloc: reading.alloc,
+        parameters: reading.parameters,
+        between: reading.between,
+        at_leaf: reading.at_leaf,
+        depth: reading.depth + 1,
+    }
 }

@@ -1,0 +1,26 @@
+-- What the lesser of two answers is, and why it is refused.
+use Rattle.std.proofs.Common.{ℕ, List, ℤ, Result, Ok, Err}
+use Rattle.std.specs.Prelude.{IfOk, IfErr, IfSome}
+use Rattle.pip_model.specs.Agreement.{Agrees}
+use Rattle.pip_model.specs.Contexts.{IsContext}
+use Rattle.pip_model.specs.Run.{Budget, start_work}
+use Rattle.pip_model.specs.Tree as model
+use Rattle.pip_model.specs.Tools.{least}
+use Rattle.pip_model.specs.ToolAgreement.{without_counts}
+use Rattle.pip_model.specs.ToolLaws.{IsLeastAnswer, IsLeastRefusal}
+use Rattle.pip_model.specs.WellFormed.{IsWellFormedAnswer}
+use Rattle.walk_laws.proofs.Choosing.{least-gives, least-refuses}
+use Rattle.quast.specs.Answers.{answer_of}
+use Rattle.quast.specs.declared.answer.Answer.{Answer}
+use Rattle.quast_tools.specs.Faults.{tool_fault}
+use Rattle.quast_tools.specs.declared.refusal.ToolRefusal.{ToolRefusal}
+use Rattle.quast_tools.proofs.Restricted.{made_of, refusal_tells}
+
+module _ (m : ℕ) (rows : List (List ℤ)) (a b : model.Answer) (k : Budget) (context : IsContext m rows) (first : IsWellFormedAnswer m a) (second : IsWellFormedAnswer m b) where
+  pub is_least : (r : Result Answer ToolRefusal) → Agrees answer_of tool_fault r (without_counts (least m rows a b (start_work k))) → IfOk r (λ s. IsLeastAnswer m rows a b (answer_of s))
+  is_least (Ok s) h = let p = made_of (least m rows a b (start_work k)) (answer_of s) h in least-gives m rows a b (answer_of s) (start_work k) p.0 context first second p.1
+  is_least (Err e) h = tt
+
+  pub is_least_refusal : (r : Result Answer ToolRefusal) → Agrees answer_of tool_fault r (without_counts (least m rows a b (start_work k))) → IfErr r (λ e. IfSome (tool_fault e) (IsLeastRefusal m rows a b))
+  is_least_refusal (Ok s) h = tt
+  is_least_refusal (Err e) h = refusal_tells (IsLeastRefusal m rows a b) (least m rows a b (start_work k)) (λ f w is. least-refuses m rows a b f (start_work k) w context first second is) (tool_fault e) h
