@@ -1,11 +1,6 @@
-pub mod Sums
-pub mod Steps
-pub mod Making
-pub mod Smaller
-pub mod Owned
-pub mod Refuted
 pub mod Numbers
 pub mod Walks
 pub mod Shares
 pub mod Commons
 pub mod Indices
+pub use Rattle.leaf_check.proofs.Owned

@@ -15,9 +15,10 @@ use Rattle.check_laws.proofs.CheckLoops.{check_leaves-if}
 use Rattle.check_laws.proofs.Paths.{length-leaf_cases}
 use Rattle.check_laws.proofs.Refutations.{then_ok, holds_ok}
 use Rattle.check_laws.proofs.ShareReadable.{length-places}
-use Rattle.certificate_check.specs.Paths.{goal_count, no_proofs}
+use Rattle.leaf_check.specs.Leaves.{goal_count}
+use Rattle.certificate_check.specs.Paths.{no_proofs}
 use Rattle.certificate_check.specs.Sharing.{counts_from, own_sizes, sized, share_sized, share_at, share_below, IsCounted, IsCountedAt}
-use Rattle.certificate_check.proofs.Owned.{own_goals}
+use Rattle.leaf_check.proofs.Owned.{own_goals}
 
 -- a leaf's proofs that are checked are as many as there are to be
 count_checked : (shares : Bool) (l w : ℕ) (start : Premises) (own : List Premises) (p : LeafProofs) → check_proofs shares l w start own p ≡ Ok tt → length p.refutations ≡ length own

@@ -15,11 +15,12 @@ use Rattle.pip_model.specs.Check.{Spot, spot, CheckFault, Rejected, Unfit, Check
 use Rattle.pip_model.proofs.Tests.{both}
 use Rattle.pip_model.proofs.Fitting.{fit_never}
 use Rattle.check_laws.proofs.CheckLoops.{check_leaves-if}
-use Rattle.certificate_check.specs.Paths.{PathForms, first_list, goal_count, path_fault, no_proofs}
+use Rattle.leaf_check.specs.Leaves.{goal_count}
+use Rattle.certificate_check.specs.Paths.{PathForms, first_list, path_fault, no_proofs}
 use Rattle.certificate_check.specs.Walks.{below, IsAt}
 use Rattle.certificate_check.specs.declared.walk.Walk.{Walk}
 use Rattle.certificate_check.proofs.Numbers.{leaves_same}
-use Rattle.certificate_check.proofs.Owned.{own_goals, whole_count}
+use Rattle.leaf_check.proofs.Owned.{own_goals, whole_count}
 
 -- ---- tests of a list
 

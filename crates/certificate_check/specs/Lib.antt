@@ -1,7 +1,7 @@
-pub mod Faults
-pub mod Known
-pub mod Leaves
 pub mod Verdicts
 pub mod Paths
 pub mod Walks
 pub mod Sharing
+pub use Rattle.leaf_check.specs.Faults
+pub use Rattle.leaf_check.specs.Known
+pub use Rattle.leaf_check.specs.Leaves

@@ -1,9 +1,10 @@
 -- The path to a node of a tree, and the leaves below the node.
-use Rattle.std.specs.Prelude.{ℕ, ◌+◌, ℤ, Bool, ◌&&◌, ◌==◌, List, [], length, Option, Some, None, if◌then◌else◌}
+use Rattle.std.specs.Prelude.{ℕ, ℤ, Bool, List, [], Option, Some, None, if◌then◌else◌}
 use Rattle.pip_model.specs.Problem.{Problem}
 use Rattle.pip_model.specs.Tree.{Tree, Bottom, Leaf, If, NewParm, Component}
 use Rattle.pip_model.specs.Certificate.{LeafProofs}
-use Rattle.pip_model.specs.Check.{CheckFault, Rejected, Unfit, spot, is_whole_list}
+use Rattle.pip_model.specs.Check.{CheckFault, Rejected, Unfit, spot}
+use Rattle.leaf_check.specs.Leaves.{has_shape}
 
 -- the number of parameters and quotients in scope at the path's end, and its forms
 pub record PathForms : Type 0 where
@@ -16,15 +17,6 @@ first_list Bottom = None
 first_list (Leaf cs) = Some cs
 first_list (If v a b) = first_list a
 first_list (NewParm v d a) = first_list a
-
--- how many refutations a leaf has
-abbrev pub goal_count : Problem → Option (List Component) → ℕ
-goal_count P None = 1
-goal_count P (Some cs) = length P.rows + length cs + length cs
-
--- a list is whole, and there are as many refutations as there are to be
-abbrev pub has_shape : Problem → Option (List Component) → LeafProofs → Bool
-has_shape P list p = is_whole_list P.unknowns list && (length p.refutations == goal_count P list)
 
 -- the fault of leaf l where a number of its path does not fit
 abbrev pub path_fault : Problem → Bool → ℕ → Option (List Component) → LeafProofs → CheckFault

@@ -5,7 +5,8 @@ use Rattle.pip_model.specs.Tree.{Tree, Bottom, Leaf, If, NewParm, Component, lea
 use Rattle.pip_model.specs.Certificate.{LeafProofs}
 use Rattle.pip_model.specs.Check.{Premises}
 use Rattle.pip_model.specs.Share.{lowered, moved_index, shared_by, after_shared}
-use Rattle.certificate_check.specs.Paths.{goal_count, no_proofs}
+use Rattle.leaf_check.specs.Leaves.{goal_count}
+use Rattle.certificate_check.specs.Paths.{no_proofs}
 use Rattle.certificate_check.specs.declared.numbering.Renumbering.{Renumbering}
 use Rattle.certificate_check.specs.declared.numbering.Renumbering.TheVariants as by
 

@@ -9,7 +9,7 @@ use Rattle.certificate_check.specs.declared.verdict.Verdict.{Verdict}
 use Rattle.certificate_check.specs.declared.verdict.Verdict.TheVariants as verdict
 use Rattle.certificate_check.specs.declared.verdict.CheckRefusal.{CheckRefusal}
 use Rattle.certificate_check.specs.declared.verdict.CheckRefusal.TheVariants as refusal
-use Rattle.certificate_check.specs.Faults.{spot_of}
+use Rattle.leaf_check.specs.Faults.{spot_of}
 
 -- the answer is what the definition's check finds; nothing is said of want of memory
 abbrev pub IsVerdict : Result Verdict CheckRefusal → model.Checks (Unit {0}) → Type 0

@@ -6,16 +6,15 @@ ghost use Rattle.pip_model.specs.Check as model;
 ghost use Rattle.affine_rows.specs.Checks.{Fits};
 ghost use Rattle.quast.specs.Answers.{answer_of, IsOver};
 ghost use Rattle.quast.specs.Trees.{IsQuast};
-ghost use Rattle.certificate_check.specs.Faults.{fault_of};
+ghost use Rattle.leaf_check.specs.Faults.{fault_of};
 ghost use Rattle.certificate_check.specs.Verdicts.{IsVerdict, vector_checked, leaves_checked};
 
-use crate::fault::Fault;
 use crate::path::Path;
 use crate::vector::{START, check_context, is_vector};
 use crate::verdict::{CheckRefusal, Verdict};
-use crate::void::check_void;
 use crate::walk::{Walk, leaves};
 use leaf_certificate::Certificate;
+use leaf_check::{Fault, check_void};
 use pip_problem::Problem;
 use quast::{Answer, Quast};
 use std::alloc::Global;

@@ -1,4 +1,4 @@
-use crate::fault::Spot;
+use leaf_check::Spot;
 use thiserror::Error;
 
 /// What a check answers: the certificate is accepted, or the place of its first condition that is false.

@@ -8,7 +8,7 @@ use Rattle.pip_outside.proofs.Parts.{front_longer, front_after, writes_after}
 use Rattle.std.proofs.KnownBytes.{Appends-trans}
 use Rattle.pip_model.specs.Endings.{Ending, notes_of, spot_text}
 use Rattle.certificate_check.specs.Faults.{spot_of}
-use Rattle.certificate_check.specs.declared.fault.Spot.{Spot}
+use Rattle.leaf_check.specs.declared.fault.Spot.{Spot}
 use Rattle.pip_items.specs.Lines.{with_count, second_said, lengths_said, digits_of, place_said, words_of, line_of}
 use Rattle.pip_items.specs.declared.told.Line.{Line}
 use Rattle.pip_items.specs.declared.told.Line.TheVariants as line

@@ -2,7 +2,7 @@
 use Rattle.std.specs.Prelude.{ℤ, ℕ, List, [], ◌++◌, codes, decimal, Option, Some, None}
 use Rattle.std.specs.Fmt.{signed_decimal}
 use Rattle.pip_model.specs.Endings.{Ending}
-use Rattle.certificate_check.specs.declared.fault.Spot.{Spot}
+use Rattle.leaf_check.specs.declared.fault.Spot.{Spot}
 use Rattle.pip_items.specs.Statuses.{number_of}
 use Rattle.pip_items.specs.declared.told.Told.{Told}
 use Rattle.pip_items.specs.declared.told.Line.{Line}

@@ -6,7 +6,7 @@ use Rattle.pip_model.specs.Forms.{opposite, constant}
 use Rattle.pip_model.specs.Cuts.{Quotient, lower_bound, upper_bound}
 use Rattle.affine_rows.specs.Checks.{is_form_overflow}
 use Rattle.quast.specs.Trees.{tree_of}
-use Rattle.certificate_check.specs.Faults.{fault_of}
+use Rattle.leaf_check.specs.Faults.{fault_of}
 use Rattle.certificate_check.specs.Paths.{PathForms}
 use Rattle.certificate_check.proofs.Walks.{back_is, back_within, choice_stop, choice_place, choice_next, choice_unfit, definition_place, definition_next, definition_stop, definition_unfit, if_some_along}
 use Rattle.certificate_check.proofs.walk.Walk.+check_node.Goals as goal

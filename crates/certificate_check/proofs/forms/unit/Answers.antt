@@ -1,6 +1,0 @@
-use Rattle.std.proofs.Common.{rules}
-use Rattle.certificate_check.proofs.Making.{unit_made}
-use Rattle.certificate_check.proofs.forms.unit.Goals as goal
-
-pub returns : goal.returns
-returns c = search (rules, unit_made)

@@ -1,8 +1,0 @@
-use Rattle.std.proofs.Common.{◌≡◌, ◌++◌, take, map}
-use Rattle.pip_model.specs.Check.{row_form}
-use Rattle.certificate_check.proofs.known.Known.push_rows.Given as goal
-
-abbrev pub invariant-loop-row : goal.invariant-loop-row
-invariant-loop-row l =
-    (l.self.forms ≡ l.fn.self.forms ++ map (row_form l.unknowns l.scope) (take l.row-index l.rows))
-    × (l.self.width ≡ l.fn.self.width)

@@ -1,9 +1,0 @@
-use Rattle.std.proofs.Common.{rules}
-use Rattle.std.specs.Prelude.{option_copied}
-use Rattle.certificate_check.specs.Leaves.{case_of}
-use Rattle.certificate_check.proofs.Owned.{own_place}
-use Rattle.certificate_check.proofs.leaf.Leaf.push_goal.Goals as goal
-
-pub push_list_goal-requires-clause-place : goal.push_list_goal-requires-clause-place
-push_list_goal-requires-clause-place c =
-    own_place c.args.self.now.problem.now (case_of c.args.self.now) (option_copied c.args.self.now.list) c.in-Some.components.now c.args.r (search rules) c.requires.place

@@ -1,0 +1,6 @@
+pub mod Sums
+pub mod Steps
+pub mod Making
+pub mod Smaller
+pub mod Owned
+pub mod Refuted

@@ -1,0 +1,16 @@
+use Rattle.std.proofs.Common.{◌≡◌, ap, ◌-◌, arith, rules, length}
+use Rattle.leaf_check.specs.Leaves.{case_of}
+use Rattle.leaf_check.proofs.Owned.{own_least}
+use Rattle.leaf_check.proofs.leaf.Leaf.push_list_goal.Goals as goal
+
+pub returns-clause-listed : goal.returns-clause-listed
+returns-clause-listed c =
+    let same : length c.rows-rows.result.now ≡ length c.args.self.now.problem.now.rows = ap length c.rows-rows.ensures.value in
+    rw (own_least c.args.self.now.problem.now (case_of c.args.self.now) c.args.components.now c.args.r (c.args.r - length c.args.self.now.problem.now.rows - length c.args.components.now) c.split_at.result.0.now (omega arith) (omega arith) (search rules))
+    c.push_least_goal.ensures.listed
+
+pub returns-clause-ok : goal.returns-clause-ok
+returns-clause-ok c =
+    let same : length c.rows-rows.result.now ≡ length c.args.self.now.problem.now.rows = ap length c.rows-rows.ensures.value in
+    rw (own_least c.args.self.now.problem.now (case_of c.args.self.now) c.args.components.now c.args.r (c.args.r - length c.args.self.now.problem.now.rows - length c.args.components.now) c.split_at.result.0.now (omega arith) (omega arith) (search rules))
+    c.push_least_goal.ensures.ok

@@ -1,0 +1,27 @@
+use Rattle.std.proofs.Common.{◌≡◌, ◌∙◌, rules, arith, get_or}
+use Rattle.std.specs.Prelude.{option_copied}
+use Rattle.std.proofs.lemmas.Result.{err_from_is_err_and}
+use Rattle.pip_model.specs.Check.{leaf_premises}
+use Rattle.leaf_check.specs.Faults.{fault_of}
+use Rattle.leaf_check.specs.Leaves.{case_of}
+use Rattle.leaf_check.proofs.Refuted.{bare, refutations_next, refutations_stop}
+use Rattle.leaf_check.proofs.leaf.Leaf.refute_all.Goals as goal
+
+pub returns-in_err-refute_goal : goal.returns-in_err-refute_goal
+returns-in_err-refute_goal c =
+    let p = err_from_is_err_and c.from_residual.result c.from_residual.ensures.1 in
+    let own = leaf_premises c.args.self.now.problem.now (case_of c.args.self.now) (option_copied c.args.self.now.list) in
+    let same : c.as_slice.result.now ≡ get_or c.args.refutations.now c.loop-r.r c.index-refutations-r.result = search rules in
+    rw (p.1, p.2)
+    (refutations_stop c.args.self.now.number c.loop-r.r c.args.known.now.width (bare c.args.known.now.forms) own c.args.refutations.now c.index-refutations-r.result (omega (arith, c.requires.count)) (omega arith)
+    (fault_of c.in_err-refute_goal.field-0.0) c.loop-r.invariant.1 (rw (c.loop-r.invariant.0, same) at c.in_err-refute_goal.ensures.gives))
+
+pub loop-r-preserved : goal.loop-r-preserved
+loop-r-preserved c =
+    let own = leaf_premises c.args.self.now.problem.now (case_of c.args.self.now) (option_copied c.args.self.now.list) in
+    let same : c.as_slice.result.now ≡ get_or c.args.refutations.now c.loop-r.r c.index-refutations-r.result = search rules in (
+      search rules,
+      c.loop-r.invariant.1
+          ∙ refutations_next c.args.self.now.number c.loop-r.r c.args.known.now.width (bare c.args.known.now.forms) own c.args.refutations.now c.index-refutations-r.result (omega (arith, c.requires.count)) (omega arith)
+          (rw (c.loop-r.invariant.0, same) at c.in_ok-refute_goal.ensures.gives),
+    )

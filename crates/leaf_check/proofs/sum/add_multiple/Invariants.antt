@@ -1,0 +1,14 @@
+use Rattle.std.proofs.Common.{◌≡◌, ◌++◌, drop, take, length}
+use Rattle.std.specs.Prelude.{All}
+use Rattle.pip_model.specs.Check.{plus_term}
+use Rattle.pip_model.specs.Listed.{all_fit}
+use Rattle.affine_rows.specs.Checks.{Fits}
+use Rattle.leaf_check.proofs.Sums.{entries_listed}
+use Rattle.leaf_check.proofs.sum.add_multiple.Given as goal
+
+abbrev pub invariant-loop-i : goal.invariant-loop-i
+invariant-loop-i l =
+    (all_fit (entries_listed (drop l.i l.sum) l.m (drop l.i l.c)) ≡ all_fit (entries_listed l.fn.sum l.m l.c))
+    × (take l.i l.sum ++ plus_term (drop l.i l.sum) l.m (drop l.i l.c) ≡ plus_term l.fn.sum l.m l.c)
+    × All Fits l.sum
+    × (length l.sum ≡ length l.c)

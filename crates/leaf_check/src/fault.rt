@@ -1,0 +1,61 @@
+ghost use Rattle.std.specs.Prelude.{◌≡◌};
+ghost use Rattle.leaf_check.specs.declared.fault.Fault.TheVariants as fault;
+
+use affine_rows::WantOfMemory;
+use std::alloc::{AllocError, AllocFailed};
+use std::fmt;
+
+/// A place in a certificate: a leaf, a refutation of it and a step of that, each counted from 1. 0 stands for what
+/// comes before the first; refutation 0 has the shared steps.
+#[derive(Clone, Copy, Debug, PartialEq, Eq)]
+pub struct Spot {
+    pub leaf: usize,
+    pub refutation: usize,
+    pub step: usize,
+}
+
+impl fmt::Display for Spot {
+    fn fmt<W: fmt::Write>(&self, f: &mut fmt::Formatter<W>) -> fmt::Result {
+        let Spot {
+            leaf,
+            refutation,
+            step,
+        } = *self;
+        write!(f, "leaf {leaf} refutation {refutation} step {step}")
+    }
+}
+
+/// Why a check ends before all conditions are met.
+#[derive(Clone, Copy, Debug, PartialEq, Eq)]
+pub enum Fault {
+    /// The condition at this place is false.
+    Rejected(Spot),
+    /// A number at this place does not fit.
+    Overflow(Spot),
+    /// An allocation was refused.
+    WantOfMemory,
+}
+
+impl From<WantOfMemory> for Fault {
+    ghost from_gives = { λ _ e. e ≡ fault.WantOfMemory };
+
+    fn from(_: WantOfMemory) -> Fault {
+        Fault::WantOfMemory
+    }
+}
+
+impl From<AllocError> for Fault {
+    ghost from_gives = { λ _ e. e ≡ fault.WantOfMemory };
+
+    fn from(_: AllocError) -> Fault {
+        Fault::WantOfMemory
+    }
+}
+
+impl<T: Drop> From<AllocFailed<T>> for Fault {
+    ghost from_gives = { λ _ e. e ≡ fault.WantOfMemory };
+
+    fn from(_: AllocFailed<T>) -> Fault {
+        Fault::WantOfMemory
+    }
+}

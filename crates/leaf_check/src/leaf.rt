@@ -1,0 +1,337 @@
+ghost use Rattle.std.specs.Prelude.{◌≡◌, ◌^◌, ◌+◌, ◌-◌, ◌≤◌, ◌<◌, ◌++◌, [], ◌∷◌, true, pos, Some, length, map, take, All, IfOk, OnOk, IsTrue, slice_index_or, option_copied};
+ghost use Rattle.std.specs.List.{list_all};
+ghost use Rattle.pip_model.specs.Numbers.{same_number};
+ghost use Rattle.pip_model.specs.Tree.{Component};
+ghost use Rattle.pip_model.specs.Agreement.{IsChecked, Agrees};
+ghost use Rattle.pip_model.specs.Check as model;
+ghost use Rattle.affine_rows.specs.Checks.{is_form_overflow};
+ghost use Rattle.leaf_check.specs.Faults.{fault_of, spot_of};
+ghost use Rattle.leaf_check.specs.Leaves.{case_of, own_premises, AreWide, IsLeaf, nothing, goal_count, has_shape as has_shape_of};
+
+use crate::fault::{Fault, Spot};
+use crate::goals::{row_goal, sign_goal};
+use crate::known::Known;
+use affine_rows::{Form, FormRefusal, WantOfMemory};
+use leaf_certificate::{LeafProofs, Refutation, Step};
+use pip_problem::Problem;
+use quast::Component;
+use std::alloc::Global;
+
+/// A leaf of a tree: its number, the problem, the parameters and quotients in scope, the forms of its path, and the
+/// components of a list, none for a bottom.
+#[derive(Drop)]
+pub struct Leaf<'a> {
+    pub number: usize,
+    pub problem: &'a Problem,
+    pub scope: usize,
+    pub path: &'a [Form],
+    pub list: Option<&'a [Component]>,
+}
+
+// Whether the denominator is 1.
+fn is_whole_component(component: &Component) -> bool
+    ensures { result ≡ same_number component.now.den (pos 1) }
+{
+    component.den() == 1
+}
+
+// Whether all denominators are 1.
+fn are_whole(components: &[Component]) -> bool
+    ensures { result ≡ list_all (λ (c : Component). same_number c.den (pos 1)) components.now }
+{
+    components
+        .iter()
+        .all(|component| is_whole_component(component))
+}
+
+// Whether a list has one component for each unknown, all of denominator 1.
+fn is_whole(problem: &Problem, list: Option<&[Component]>) -> bool
+    ensures { result ≡ model.is_whole_list problem.now.unknowns (option_copied list.entry) }
+{
+    match list {
+        Some(components) => components.len() == problem.unknowns() && are_whole(components),
+        None => true,
+    }
+}
+
+/// How many refutations a leaf has: one at a bottom; of a list one for each row, and two for each unknown.
+pub fn refutation_count(problem: &Problem, list: Option<&[Component]>) -> usize
+    requires { IsTrue (model.is_whole_list problem.now.unknowns (option_copied list)) }
+    ensures { result ≡ goal_count problem.now (option_copied list.entry) }
+{
+    match list {
+        Some(_) => problem.rows().len() + 2 * problem.unknowns(),
+        None => 1,
+    }
+}
+
+/// Whether a list is whole, one component of denominator 1 for each unknown, and the proofs have as many refutations
+/// as there are to be.
+pub fn has_shape(problem: &Problem, list: Option<&[Component]>, proofs: &LeafProofs) -> bool
+    ensures { result ≡ has_shape_of problem.now (option_copied list.entry) proofs.now }
+{
+    is_whole(problem, list) && proofs.as_slice().len() == refutation_count(problem, list)
+}
+
+impl Leaf<'_> {
+    /// The forms that each refutation of the leaf starts from: the parameters, the context rows, the path.
+    pub fn start(&self, alloc: Global) -> Result<Known, WantOfMemory>
+        requires { IsLeaf self.now.problem.now (case_of self.now) }
+        ensures { IfOk result (λ k. k ≡ record {
+          width = self.now.scope + self.now.problem.now.unknowns;
+          forms = model.scope_forms self.now.problem.now (case_of self.now);
+        }) }
+    {
+        let Some(width) = self.scope.checked_add(self.problem.unknowns()) else {
+            return Err(WantOfMemory);
+        };
+        let mut known = Known::new(alloc, width);
+        known.push_places(alloc, 0, self.problem.params())?;
+        known.push_widened(alloc, self.problem.context())?;
+        known.push_widened(alloc, self.path)?;
+        Ok(known)
+    }
+
+    // Puts the unknowns and the tableau's rows behind the forms.
+    fn push_unknowns(&self, alloc: Global, known: &mut Known) -> Result<(), WantOfMemory>
+        requires leaf { IsLeaf self.now.problem.now (case_of self.now) }
+        requires width { known.old.width ≡ self.now.scope + self.now.problem.now.unknowns }
+        ensures { OnOk result (known.new ≡ record known.old {
+          forms = known.old.forms ++ model.unknown_forms self.now.problem.now (case_of self.now);
+        }) }
+    {
+        let unknowns = self.problem.unknowns();
+        known.push_places(alloc, self.scope, unknowns)?;
+        known.push_rows(alloc, unknowns, self.scope, self.problem.rows())?;
+        Ok(())
+    }
+
+    // Puts the goal that a tableau row fails behind the forms.
+    fn push_row_goal(
+        &self,
+        alloc: Global,
+        known: &mut Known,
+        components: &[Component],
+        row: &Form,
+    ) -> Result<(), FormRefusal>
+        requires width { known.old.width ≡ self.now.scope + self.now.problem.now.unknowns }
+        requires count { length components.now ≤ self.now.problem.now.unknowns }
+        requires widths { AreWide self.now.scope components.now }
+        requires some { self.now.problem.now.unknowns < length row.now }
+        requires within { length row.now ≤ self.now.problem.now.unknowns + self.now.scope + 1 }
+        ensures listed { IsChecked is_form_overflow
+            (model.row_premises self.now.problem.now (case_of self.now) components.now row.now).listed result }
+        ensures ok { OnOk result (known.new ≡ record known.old {
+          forms = known.old.forms
+              ++ (model.row_premises self.now.problem.now (case_of self.now) components.now row.now).known;
+        }) }
+    {
+        let form = row_goal(alloc, self.problem.unknowns(), self.scope, row, components)?;
+        known.push(form)?;
+        Ok(())
+    }
+
+    // Puts the goal that a component is below 0 behind the forms.
+    fn push_sign_goal(
+        &self,
+        alloc: Global,
+        known: &mut Known,
+        component: &Component,
+    ) -> Result<(), FormRefusal>
+        requires width { known.old.width ≡ self.now.scope + self.now.problem.now.unknowns }
+        requires wide { length component.now.form ≡ self.now.scope + 1 }
+        ensures listed { IsChecked is_form_overflow
+            (model.sign_premises self.now.problem.now (case_of self.now) component.now).listed result }
+        ensures ok { OnOk result (known.new ≡ record known.old {
+          forms = known.old.forms ++ (model.sign_premises self.now.problem.now (case_of self.now) component.now).known;
+        }) }
+    {
+        let form = sign_goal(alloc, known.width(), component)?;
+        known.push(form)?;
+        Ok(())
+    }
+
+    // Puts the unknowns, the tableau's rows and the goal of a smaller point behind the forms: it agrees with the
+    // components but for the last, which is smaller.
+    fn push_least_goal(
+        &self,
+        alloc: Global,
+        known: &mut Known,
+        front: &[Component],
+    ) -> Result<(), FormRefusal>
+        requires leaf { IsLeaf self.now.problem.now (case_of self.now) }
+        requires width { known.old.width ≡ self.now.scope + self.now.problem.now.unknowns }
+        requires some { 0 < length front.now }
+        requires count { length front.now ≤ self.now.problem.now.unknowns }
+        requires widths { AreWide self.now.scope front.now }
+        ensures listed { IsChecked is_form_overflow
+            (model.least_premises self.now.problem.now (case_of self.now) front.now).listed result }
+        ensures ok { OnOk result (known.new ≡ record known.old {
+          forms = known.old.forms ++ (model.least_premises self.now.problem.now (case_of self.now) front.now).known;
+        }) }
+    {
+        self.push_unknowns(alloc, known)?;
+        known.push_smaller(alloc, self.scope, front)?;
+        Ok(())
+    }
+
+    // Puts the forms of a list's refutation, from 0, behind the others: of a row, of a sign, or of a smaller point.
+    fn push_list_goal(
+        &self,
+        alloc: Global,
+        known: &mut Known,
+        components: &[Component],
+        r: usize,
+    ) -> Result<(), FormRefusal>
+        requires leaf { IsLeaf self.now.problem.now (case_of self.now) }
+        requires width { known.old.width ≡ self.now.scope + self.now.problem.now.unknowns }
+        requires count { length components.now ≡ self.now.problem.now.unknowns }
+        requires widths { AreWide self.now.scope components.now }
+        requires place { r < length self.now.problem.now.rows + length components.now + length components.now }
+        ensures listed { IsChecked is_form_overflow (slice_index_or
+            (model.leaf_premises self.now.problem.now (case_of self.now) (Some components.now)) r nothing).listed
+            result }
+        ensures ok { OnOk result (known.new ≡ record known.old {
+          forms = known.old.forms ++ (slice_index_or
+              (model.leaf_premises self.now.problem.now (case_of self.now) (Some components.now)) r nothing).known;
+        }) }
+    {
+        let rows = self.problem.rows();
+        if r < rows.len() {
+            return self.push_row_goal(alloc, known, components, &rows[r]);
+        }
+        let sign = r - rows.len();
+        if sign < components.len() {
+            return self.push_sign_goal(alloc, known, &components[sign]);
+        }
+        let (front, _) = components.split_at(sign - components.len() + 1);
+        self.push_least_goal(alloc, known, front)
+    }
+
+    /// Puts the forms of a refutation, from 0, behind the others.
+    pub fn push_goal(&self, alloc: Global, known: &mut Known, r: usize) -> Result<(), FormRefusal>
+        requires leaf { IsLeaf self.now.problem.now (case_of self.now) }
+        requires whole { IsTrue (model.is_whole_list self.now.problem.now.unknowns (option_copied self.now.list)) }
+        requires width { known.old.width ≡ self.now.scope + self.now.problem.now.unknowns }
+        requires place { r < length (own_premises self.now) }
+        ensures listed { IsChecked is_form_overflow (slice_index_or
+            (own_premises self.now) r nothing).listed result }
+        ensures ok { OnOk result (known.new ≡ record known.old {
+          forms = known.old.forms ++ (slice_index_or
+              (own_premises self.now) r nothing).known;
+        }) }
+    {
+        match self.list {
+            Some(components) => self.push_list_goal(alloc, known, components, r),
+            None => {
+                self.push_unknowns(alloc, known)?;
+                Ok(())
+            }
+        }
+    }
+
+    // The same, with the place of the refutation.
+    fn push_goal_at(&self, alloc: Global, known: &mut Known, r: usize) -> Result<(), Fault>
+        requires leaf { IsLeaf self.now.problem.now (case_of self.now) }
+        requires whole { IsTrue (model.is_whole_list self.now.problem.now.unknowns (option_copied self.now.list)) }
+        requires width { known.old.width ≡ self.now.scope + self.now.problem.now.unknowns }
+        requires place { r < length (own_premises self.now) }
+        requires small { r + 1 < 2 ^ 64 }
+        ensures listed { Agrees (λ _. tt) fault_of result
+            (model.fit (model.spot self.now.number (r + 1) 0)
+            (slice_index_or (own_premises self.now) r nothing).listed) }
+        ensures ok { OnOk result (known.new ≡ record known.old {
+          forms = known.old.forms ++ (slice_index_or
+              (own_premises self.now) r nothing).known;
+        }) }
+    {
+        match self.push_goal(alloc, known, r) {
+            Ok(()) => Ok(()),
+            Err(FormRefusal::Overflow) => Err(Fault::Overflow(Spot {
+                leaf: self.number,
+                refutation: r + 1,
+                step: 0,
+            })),
+            Err(FormRefusal::WantOfMemory) => Err(Fault::WantOfMemory),
+        }
+    }
+
+    // Checks a refutation, from 0, behind the leaf's known forms, which are as they were where it succeeds.
+    fn refute_goal(
+        &self,
+        alloc: Global,
+        known: &mut Known,
+        r: usize,
+        steps: &[Step],
+    ) -> Result<(), Fault>
+        requires leaf { IsLeaf self.now.problem.now (case_of self.now) }
+        requires whole { IsTrue (model.is_whole_list self.now.problem.now.unknowns (option_copied self.now.list)) }
+        requires width { known.old.width ≡ self.now.scope + self.now.problem.now.unknowns }
+        requires place { r < length (own_premises self.now) }
+        requires small { r + 1 < 2 ^ 64 }
+        ensures gives { Agrees (λ _. tt) fault_of result (model.check_refutation self.now.number (r + 1) known.old.width
+            (model.joined (record { known = known.old.forms; listed = [] }) (slice_index_or
+            (own_premises self.now) r nothing)) steps.now) }
+        ensures ok { OnOk result (known.new ≡ known.old) }
+    {
+        let before = known.len();
+        self.push_goal_at(alloc, known, r)?;
+        known.refute(alloc, self.number, r + 1, steps)?;
+        known.truncate(before);
+        Ok(())
+    }
+
+    // Checks the refutations in order, behind the leaf's known forms.
+    fn refute_all(
+        &self,
+        alloc: Global,
+        known: &mut Known,
+        refutations: &[Refutation],
+    ) -> Result<(), Fault>
+        requires leaf { IsLeaf self.now.problem.now (case_of self.now) }
+        requires whole { IsTrue (model.is_whole_list self.now.problem.now.unknowns (option_copied self.now.list)) }
+        requires width { known.old.width ≡ self.now.scope + self.now.problem.now.unknowns }
+        requires count { length refutations.now
+            ≡ length (own_premises self.now) }
+        ensures { Agrees (λ _. tt) fault_of result (model.check_refutations self.now.number 1 known.old.width
+            (map (model.joined (record { known = known.old.forms; listed = [] }))
+            (own_premises self.now)) refutations.now) }
+    {
+        for r in 0..refutations.len() {
+            self.refute_goal(alloc, known, r, refutations[r].as_slice())?;
+        }
+        Ok(())
+    }
+
+    // Checks the shared steps and the refutations, of which there are as many as the leaf has.
+    fn check_proofs(&self, alloc: Global, proofs: &LeafProofs) -> Result<(), Fault>
+        requires leaf { IsLeaf self.now.problem.now (case_of self.now) }
+        requires whole { IsTrue (model.is_whole_list self.now.problem.now.unknowns (option_copied self.now.list)) }
+        requires count { length proofs.now.refutations
+            ≡ length (own_premises self.now) }
+        ensures { Agrees (λ _. tt) fault_of result (model.check_proofs true self.now.number
+            (self.now.scope + self.now.problem.now.unknowns) (model.leaf_forms self.now.problem.now (case_of self.now))
+            (own_premises self.now) proofs.now) }
+    {
+        let mut known = self.start(alloc)?;
+        known.add_steps(alloc, self.number, 0, proofs.shared().as_slice())?;
+        self.refute_all(alloc, &mut known, proofs.as_slice())
+    }
+
+    /// Checks the leaf by its proofs: a list is whole, there are as many refutations as there are to be, and each
+    /// succeeds behind the shared steps. It ends at the first condition that is false or number that does not fit.
+    pub fn check(&self, alloc: Global, proofs: &LeafProofs) -> Result<(), Fault>
+        requires { IsLeaf self.now.problem.now (case_of self.now) }
+        ensures { Agrees (λ _. tt) fault_of result
+            (model.check_leaf self.now.problem.now true self.now.number (case_of self.now) proofs.now) }
+    {
+        if !has_shape(self.problem, self.list, proofs) {
+            return Err(Fault::Rejected(Spot {
+                leaf: self.number,
+                refutation: 0,
+                step: 0,
+            }));
+        }
+        self.check_proofs(alloc, proofs)
+    }
+}
