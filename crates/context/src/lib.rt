@@ -23,4 +23,4 @@ pub use point::Point;
 pub use positive_terms::push_positive;
 pub use refusal::of_step;
 pub use steps::{count_and_cut, enter_and_pivot};
-pub use work::Work;
+pub use work::{Counts, Work};

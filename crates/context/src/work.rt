@@ -1,9 +1,9 @@
-ghost use Rattle.std.specs.Prelude.{◌≡◌, ◌≤◌, OnOk};
+ghost use Rattle.std.specs.Prelude.{◌≡◌, ◌-◌, ◌≤◌, ◌↔◌, OnOk, IsTrue, if◌then◌else◌};
 ghost use Rattle.pip_model.specs.Run as model;
 ghost use Rattle.pip_model.specs.Run.{IsBudget, start_work};
 ghost use Rattle.pip_model.specs.Agreement.{AgreesCounted};
 ghost use Rattle.pip_problem.specs.Faults.{run_fault};
-ghost use Rattle.context.specs.Counts.{IsCountedRun};
+ghost use Rattle.context.specs.Counts.{IsCountedRun, HasRoomFor, counted_more};
 
 use pip_problem::{Limits, Refusal};
 use std::marker::Model;
@@ -20,7 +20,7 @@ pub struct Work {
     splits: u64,
 }
 
-// What was counted of pivots, cuts and splits.
+/// What was counted of pivots, cuts and splits.
 #[derive(Clone, Copy)]
 pub struct Counts {
     pub pivots: u64,
@@ -82,8 +82,8 @@ impl Work {
         self.splits
     }
 
-    // What is counted so far.
-    pub(crate) fn counts(&self) -> Counts
+    /// What is counted so far.
+    pub fn counts(&self) -> Counts
         ensures pivots { result.pivots ≡ self.now.pivots }
         ensures cuts { result.cuts ≡ self.now.cuts }
         ensures splits { result.splits ≡ self.now.splits }
@@ -93,6 +93,39 @@ impl Work {
             cuts: self.cuts,
             splits: self.splits,
         }
+    }
+
+    /// What is counted since it was so much.
+    pub fn counts_since(&self, before: Counts) -> Counts
+        requires pivots { before.pivots ≤ self.now.pivots }
+        requires cuts { before.cuts ≤ self.now.cuts }
+        requires splits { before.splits ≤ self.now.splits }
+        ensures pivots { result.pivots ≡ self.now.pivots - before.pivots }
+        ensures cuts { result.cuts ≡ self.now.cuts - before.cuts }
+        ensures splits { result.splits ≡ self.now.splits - before.splits }
+    {
+        Counts {
+            pivots: self.pivots - before.pivots,
+            cuts: self.cuts - before.cuts,
+            splits: self.splits - before.splits,
+        }
+    }
+
+    /// Counts so much more, where all of it has room in the budget; else nothing.
+    pub fn count_again(&mut self, counts: Counts) -> bool
+        ensures room { IsTrue result ↔ HasRoomFor self.old counts }
+        ensures counted { self.new ≡ (if result then counted_more self.old counts else self.old) }
+    {
+        if counts.pivots > self.most_pivots - self.pivots
+            || counts.cuts > self.most_cuts - self.cuts
+            || counts.splits > self.most_splits - self.splits
+        {
+            return false;
+        }
+        self.pivots += counts.pivots;
+        self.cuts += counts.cuts;
+        self.splits += counts.splits;
+        true
     }
 
     // Counts no more than before.
