@@ -4,6 +4,7 @@ pub mod Handing
 pub mod Popping
 pub mod Turned
 pub mod Scanning
+pub mod Knowing
 pub mod Cutting
 pub mod Paths
 pub mod Answered

@@ -1,4 +1,5 @@
 pub mod Frames
+pub mod Known
 pub mod Nodes
 pub mod Signs
 pub mod Starts

@@ -3,6 +3,7 @@
 
 mod closing;
 mod cut;
+mod known;
 mod node;
 mod path;
 mod pending;

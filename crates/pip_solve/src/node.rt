@@ -1,4 +1,4 @@
-ghost use Rattle.std.specs.Prelude.{◌≡◌, ℕ, ◌+◌, ◌*◌, ◌-◌, ◌^◌, ◌<◌, ◌≤◌, None, [], ◌∷◌, ◌++◌, map, length, IfOk, OnOk};
+ghost use Rattle.std.specs.Prelude.{◌≡◌, ◌≢◌, ℕ, ◌+◌, ◌*◌, ◌-◌, ◌^◌, ◌<◌, ◌≤◌, None, [], ◌∷◌, ◌++◌, map, length, IfOk, OnOk};
 ghost use Rattle.pip_model.specs.Rows.{row_at, widened};
 ghost use Rattle.pip_model.specs.Cuts as cuts;
 ghost use Rattle.pip_model.specs.Run.{Work as Counts};
@@ -13,6 +13,7 @@ ghost use Rattle.pip_solve.specs.Frames.{whole_run, turned_run, next_run, IsRunn
 ghost use Rattle.pip_solve.specs.declared.turn.Turn.TheVariants as turned;
 
 use crate::closing::{Next, close};
+use crate::known::KnownForms;
 use crate::path::Path;
 use crate::pending::{Frame, Pending};
 use crate::turn::{Turn, take_turn};
@@ -122,6 +123,17 @@ fn define_below(
     Ok(Next::Node(rows))
 }
 
+// The forms that are known stay known where the turn leaves the context as it is.
+fn keep_known(known: &mut KnownForms, turn: &Turn)
+    ensures again { turn.now ≡ turned.Again → known.new.forms.items ≡ known.old.forms.items }
+    ensures other { (turn.now ≢ turned.Again) → known.new.forms.items ≡ [] }
+{
+    match turn {
+        Turn::Again => {}
+        _ => known.forget(),
+    }
+}
+
 // What is in hand after a turn.
 fn follow(
     turn: Turn,
@@ -133,6 +145,7 @@ fn follow(
     ensures gives { IfOk result (λ next. (w : Counts) → turned_run rows path.old pending.old.frames turn w
         ≡ next_run path.new pending.new.frames next w) }
     ensures next { IfOk result (IsNext (weight turn) path.old pending.old path.new pending.new) }
+    ensures again { turn ≡ turned.Again → path.new ≡ path.old }
 {
     match turn {
         Turn::Closed(tree) => close(rows.allocator(), tree, path, pending),
@@ -156,8 +169,10 @@ pub(crate) fn run(
     ensures width { IfOk result (λ tree. tree.width ≡ path.old.quotients.params) }
 {
     let mut rows = node;
+    let mut known = KnownForms::new(rows.allocator());
     loop {
-        let turn = take_turn(&mut rows, path, work)?;
+        let turn = take_turn(&mut rows, path, &mut known, work)?;
+        keep_known(&mut known, &turn);
         match follow(turn, rows, path, pending)? {
             Next::Node(next) => rows = next,
             Next::Tree(tree) => return Ok(tree),

@@ -1,17 +1,21 @@
-ghost use Rattle.std.specs.Prelude.{◌≡◌, ℕ, ◌<◌, ◌≤◌, IfOk, IfSome, length};
+ghost use Rattle.std.specs.Prelude.{◌≡◌, ℕ, ℤ, ◌+◌, ◌<◌, ◌≤◌, List, IfOk, IfSome, IsTrue, false, length};
 ghost use Rattle.pip_model.specs.Rows.{row_at};
 ghost use Rattle.pip_model.specs.Run as model;
-ghost use Rattle.pip_model.specs.Run.{AllPlus};
+ghost use Rattle.pip_model.specs.Run.{AllPlus, Done, Plus};
+ghost use Rattle.affine_rows.specs.Forms.{IsForm};
 ghost use Rattle.pip_problem.specs.Faults.{run_fault};
-ghost use Rattle.context.specs.Counts.{IsCountedRun};
+ghost use Rattle.context.specs.Counts.{IsCountedRun, HasCounted};
 ghost use Rattle.context.specs.Scoped.{IsKeptContext};
-ghost use Rattle.sign_split.specs.Classes.{class_of};
+ghost use Rattle.sign_split.specs.Classes.{class_of, ConditionIs};
+ghost use Rattle.pip_solve.specs.Known.{AreKnown};
 ghost use Rattle.pip_solve.specs.Signs.{signs_of, kept_signs, keep_class, scanned, IsCondition, ClassIs, SignsAre};
 
+use crate::known::KnownForms;
 use affine_rows::Form;
 use context::{Context, Work};
 use pip_problem::Refusal;
 use sign_split::{Class, class_of_entries, is_nowhere_below};
+use std::alloc::Global;
 use tableau::Tableau;
 
 // The signs of a node's rows: no row is below 0 or of both signs, or the first row below 0, or else the condition of
@@ -23,25 +27,72 @@ pub enum Signs {
     UnknownBy(Form),
 }
 
+// Whether the form of these entries is known. What was counted for it is counted again then; where that has no room,
+// it is as if it were not known.
+fn is_known_again(known: &KnownForms, entries: &[i128], work: &mut Work) -> bool
+    ensures known { (K : List (List ℤ)) (w : ℕ) → AreKnown K w work.old.budget known.now → IsTrue result
+        → model.class K w entries.now work.old ≡ Done Plus work.new }
+    ensures counted { HasCounted work.old work.new }
+    ensures unknown { result ≡ false → work.new ≡ work.old }
+{
+    match known.find(entries) {
+        Some(counts) => work.count_again(counts),
+        None => false,
+    }
+}
+
+// The class of the form of these entries, by the context. It is known from then on if it is at least 0.
+fn class_anew(
+    alloc: Global,
+    context: &mut Context,
+    known: &mut KnownForms,
+    entries: &[i128],
+    work: &mut Work,
+) -> Result<Class, Refusal>
+    requires form { IsForm entries.now }
+    requires narrow { length entries.now ≤ context.old.width + 1 }
+    requires known { AreKnown context.old.forms context.old.width work.old.budget known.old }
+    ensures gives { IsCountedRun class_of run_fault result work.old work.new
+        (model.class context.old.forms context.old.width entries.now) }
+    ensures condition { IfOk result (ConditionIs (length entries.now)) }
+    ensures kept { IsKeptContext context.old context.new }
+    ensures known { AreKnown context.old.forms context.old.width work.old.budget known.new }
+{
+    let before = work.counts();
+    match class_of_entries(alloc, context, entries, work)? {
+        Class::Plus => {
+            known.add(alloc, entries, work.counts_since(before));
+            Ok(Class::Plus)
+        }
+        class => Ok(class),
+    }
+}
+
 // The class of the constant form of row i.
 fn class_of_row(
     rows: &Tableau,
     i: usize,
     context: &mut Context,
+    known: &mut KnownForms,
     work: &mut Work,
 ) -> Result<Class, Refusal>
     requires row { i < length rows.now.rows }
     requires scope { context.old.width ≡ rows.now.width }
+    requires known { AreKnown context.old.forms context.old.width work.old.budget known.old }
     ensures gives { IsCountedRun class_of run_fault result work.old work.new
         (model.class context.old.forms context.old.width (row_at rows.now.rows i).constant) }
     ensures class { IfOk result (ClassIs rows.now.width) }
     ensures kept { IsKeptContext context.old context.new }
+    ensures known { AreKnown context.old.forms context.old.width work.old.budget known.new }
 {
     let row = rows.row(i);
     if is_nowhere_below(row.constant) {
         return Ok(Class::Plus);
     }
-    class_of_entries(rows.allocator(), context, row.constant, work)
+    if is_known_again(known, row.constant, work) {
+        return Ok(Class::Plus);
+    }
+    class_anew(rows.allocator(), context, known, row.constant, work)
 }
 
 // The condition kept, which is the first of an unknown sign.
@@ -55,18 +106,25 @@ fn with_class(kept: Option<Form>, class: Class) -> Option<Form>
     }
 }
 
-// The rows are classed in order. The scan ends at the first row below 0, and the condition of the first of both signs
-// is kept.
-pub(crate) fn scan(rows: &Tableau, context: &mut Context, work: &mut Work) -> Result<Signs, Refusal>
+// The rows are classed in order; of a known form only the counts are made again. The scan ends at the first row below
+// 0, and the condition of the first of both signs is kept.
+pub(crate) fn scan(
+    rows: &Tableau,
+    context: &mut Context,
+    known: &mut KnownForms,
+    work: &mut Work,
+) -> Result<Signs, Refusal>
     requires scope { context.old.width ≡ rows.now.width }
+    requires known { AreKnown context.old.forms context.old.width work.old.budget known.old }
     ensures gives { IsCountedRun signs_of run_fault result work.old work.new
         (scanned context.old.forms context.old.width 0 AllPlus rows.now.rows) }
     ensures signs { IfOk result (SignsAre (length rows.now.rows) rows.now.width) }
     ensures kept { IsKeptContext context.old context.new }
+    ensures known { AreKnown context.old.forms context.old.width work.old.budget known.new }
 {
     let mut kept = None;
     for i in 0..rows.rows() {
-        match class_of_row(rows, i, context, work)? {
+        match class_of_row(rows, i, context, known, work)? {
             Class::Minus => return Ok(Signs::MinusAt(i)),
             class => kept = with_class(kept, class),
         }

@@ -8,11 +8,13 @@ ghost use Rattle.pip_problem.specs.Faults.{run_fault};
 ghost use Rattle.context.specs.Counts.{IsCountedRun};
 ghost use Rattle.gomory_cut.specs.Fractions.{IsFractionOf};
 ghost use Rattle.quast.specs.Components.{IsComponent};
+ghost use Rattle.pip_solve.specs.Known.{AreKnown};
 ghost use Rattle.pip_solve.specs.Nodes.{node_of, setting_of, IsNode, IsKept};
 ghost use Rattle.pip_solve.specs.Signs.{signs_of, SignsAre};
 ghost use Rattle.pip_solve.specs.Turns.{turn_of, counted_split, TurnIs};
 
 use crate::cut::cut_turn;
+use crate::known::KnownForms;
 use crate::path::Path;
 use crate::scan::{Signs, scan};
 use affine_rows::{Form, WantOfMemory};
@@ -146,14 +148,17 @@ fn act(signs: Signs, rows: &mut Tableau, path: &mut Path, work: &mut Work) -> Re
 pub(crate) fn take_turn(
     rows: &mut Tableau,
     path: &mut Path,
+    known: &mut KnownForms,
     work: &mut Work,
 ) -> Result<Turn, Refusal>
-    requires { IsNode rows.old path.old }
+    requires node { IsNode rows.old path.old }
+    requires known { AreKnown path.old.context.forms path.old.context.width work.old.budget known.old }
     ensures gives { IsCountedRun (turn_of rows.new path.old) run_fault result work.old work.new
         (model.turn (setting_of rows.old path.old) (node_of rows.old path.old)) }
     ensures turn { IfOk result (TurnIs rows.old rows.new path.old work.new.budget.nesting) }
     ensures path { IsKept path.old path.new }
+    ensures known { AreKnown path.old.context.forms path.old.context.width work.old.budget known.new }
 {
-    let signs = scan(rows, &mut path.context, work)?;
+    let signs = scan(rows, &mut path.context, known, work)?;
     act(signs, rows, path, work)
 }

@@ -8,6 +8,7 @@ use Rattle.context.proofs.Counting.{counted_on, kept_on}
 use Rattle.sign_split.specs.Classes.{class_of}
 use Rattle.pip_solve.specs.Signs.{kept_signs}
 use Rattle.pip_solve.proofs.Scanning.{scanned_on, scanned_minus, refused_from, not_minus}
+use Rattle.pip_solve.proofs.Knowing.{known_on, at_start}
 use Rattle.pip_solve.proofs.scan.scan.Goals as goal
 
 pub returns-in_err-class-clause-gives : goal.returns-in_err-class-clause-gives
@@ -33,4 +34,8 @@ loop-i-preserved c =
       counted = counted_on c.args.work.now c.loop-i.work c.class_of_row.new.work c.loop-i.invariant.counted c.class_of_row.ensures.gives.counted;
       same = rw c.with_class-kept.ensures.kept (sym step ∙ c.loop-i.invariant.same);
       condition = c.with_class-kept.ensures.condition c.args.rows.now.width c.loop-i.invariant.condition (search rules);
+      known = at_start c.args.context.now c.loop-i.context c.args.work.now.budget c.loop-i.work.budget c.class_of_row.new.known c.loop-i.invariant.kept c.loop-i.invariant.counted.budget c.class_of_row.ensures.known;
     }
+
+pub class_of_row-requires-clause-known : goal.class_of_row-requires-clause-known
+class_of_row-requires-clause-known c = known_on c.args.context.now c.loop-i.context c.args.work.now.budget c.loop-i.work.budget c.loop-i.known c.loop-i.invariant.kept c.loop-i.invariant.counted.budget c.loop-i.invariant.known

@@ -18,7 +18,7 @@ returns-in_err-signs-clause-gives c =
     let path = c.args.path.now in
     let S = setting_of c.args.rows.now path in
     let N = node_of c.args.rows.now path in
-    let wide : path.context.width ≡ size path.quotients = c.requires.context ∙ c.requires.scope in
+    let wide : path.context.width ≡ size path.quotients = c.requires.node.context ∙ c.requires.node.scope in
     let told = subst (λ n. IfSome (run_fault c.in_err-signs.field-0.0) (λ f. scanned path.context.forms n 0 AllPlus c.args.rows.now.rows c.args.work.now ≡ Refused f c.scan.new.work)) wide c.in_err-signs.ensures.gives.agrees in
     let fault = turn_refused S N refl c.args.work.now c.scan.new.work (run_fault c.in_err-signs.field-0.0) told in
     record { agrees = grind (arith, common_steps, fault); counted = c.scan.ensures.gives.counted }
@@ -30,7 +30,7 @@ returns-clause-gives c =
     let S = setting_of c.args.rows.now path in
     let N = node_of c.args.rows.now path in
     let signs = signs_of c.in_ok-signs.signs in
-    let wide : path.context.width ≡ size path.quotients = c.requires.context ∙ c.requires.scope in
+    let wide : path.context.width ≡ size path.quotients = c.requires.node.context ∙ c.requires.node.scope in
     let told = subst (λ n. scanned path.context.forms n 0 AllPlus c.args.rows.now.rows c.args.work.now ≡ Done signs c.scan.new.work) wide c.in_ok-signs.ensures.gives.agrees in
     let on = turn_on S N refl c.args.work.now c.scan.new.work signs told in
     let same = ap (λ (fs : List (List ℤ)). turn_by S (record N { context = fs }) signs c.scan.new.work) c.scan.ensures.kept.forms in

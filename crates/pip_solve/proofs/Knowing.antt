@@ -1,0 +1,49 @@
+-- The forms that are known stay known while the context stays.
+use Rattle.std.proofs.Common.{◌≡◌, ◌≢◌, refl, ap, ◌⊎◌, inl, inr, ℕ, ℤ, ◌-◌, List, [], ◌∷◌, ◌++◌, length, arith}
+use Rattle.std.proofs.lemmas.List.Elements.{All-push, All-same}
+use Rattle.pip_model.specs.Run.{Work, Budget, Done, Plus, class}
+use Rattle.run_laws.proofs.CountedAgain.{class-again}
+use Rattle.context.specs.declared.work.Counts.{Counts}
+use Rattle.context.specs.Scoped.{ScopedForms, IsKeptContext}
+use Rattle.pip_solve.specs.declared.known.KnownForm.{KnownForm}
+use Rattle.pip_solve.specs.declared.known.KnownForms.{KnownForms}
+use Rattle.pip_solve.specs.declared.path.Path.{Path}
+use Rattle.pip_solve.specs.declared.turn.Turn.{Turn}
+use Rattle.pip_solve.specs.declared.turn.Turn.TheVariants as code
+use Rattle.pip_solve.specs.Known.{IsKnownForm, AreKnown}
+use Rattle.pip_solve.specs.Nodes.{IsKept}
+
+-- a form whose class was Plus is known with what was counted
+pub found_known : (K : List (List ℤ)) (w : ℕ) (entries : List ℤ) (before after : Work) (counts : Counts) → class K w entries before ≡ Done Plus after
+    → counts.pivots ≡ after.pivots - before.pivots → counts.cuts ≡ after.cuts - before.cuts → counts.splits ≡ after.splits - before.splits → IsKnownForm K w before.budget (record { form = entries; counts = counts })
+found_known K w entries before after counts e pivots cuts splits = record {
+  again = λ v same room. rw (pivots, cuts, splits) (class-again K w entries Plus before after v e same
+      (omega (arith, pivots, room.pivots)) (omega (arith, cuts, room.cuts)) (omega (arith, splits, room.splits)));
+}
+
+module _ (K : List (List ℤ)) (w : ℕ) (b : Budget) where
+  pub known_none : (now : KnownForms) → now.forms.items ≡ [] → AreKnown K w b now
+  known_none now e = λ k d h. absurd (omega (arith, ap (λ (xs : List KnownForm). length xs) e))
+
+  pub known_same : (old now : KnownForms) → now.forms.items ≡ old.forms.items → AreKnown K w b old → AreKnown K w b now
+  known_same old now e h = All-same (IsKnownForm K w b) now.forms.items old.forms.items e h
+
+  pub known_more : (old now : KnownForms) (more : KnownForm) → (now.forms.items ≡ old.forms.items ++ more ∷ []) ⊎ (now.forms.items ≡ old.forms.items) → AreKnown K w b old → IsKnownForm K w b more → AreKnown K w b now
+  known_more old now more (inl e) h k = All-same (IsKnownForm K w b) now.forms.items (old.forms.items ++ more ∷ []) e (All-push (IsKnownForm K w b) old.forms.items more h k)
+  known_more old now more (inr e) h k = known_same old now e h
+
+-- on the same context with the same budget
+pub known_on : (k now : ScopedForms) (b c : Budget) (known : KnownForms) → IsKeptContext k now → c ≡ b → AreKnown k.forms k.width b known → AreKnown now.forms now.width c known
+known_on k now b c known kept e h = rw (kept.forms, kept.width, e) h
+
+pub at_start : (k now : ScopedForms) (b c : Budget) (known : KnownForms) → IsKeptContext k now → c ≡ b → AreKnown now.forms now.width c known → AreKnown k.forms k.width b known
+at_start k now b c known kept e h = rw (← kept.forms, ← kept.width, ← e) h
+
+-- after a turn, and what follows it
+pub known_after : (T : Turn) (path later there : Path) (b c : Budget) (known now : KnownForms) → AreKnown path.context.forms path.context.width b known → IsKept path later → c ≡ b
+    → (T ≡ code.Again → now.forms.items ≡ known.forms.items) → (T ≢ code.Again → now.forms.items ≡ []) → (T ≡ code.Again → there ≡ later) → AreKnown there.context.forms there.context.width c now
+known_after (code.Closed t) path later there b c known now h kept e again other same = known_none there.context.forms there.context.width c now (other (λ x. cc))
+known_after (code.Split f) path later there b c known now h kept e again other same = known_none there.context.forms there.context.width c now (other (λ x. cc))
+known_after (code.Below i k) path later there b c known now h kept e again other same = known_none there.context.forms there.context.width c now (other (λ x. cc))
+known_after code.Again path later there b c known now h kept e again other same =
+    rw (same refl) (known_on path.context later.context b c now kept.context e (known_same path.context.forms path.context.width b known now (again refl) h))

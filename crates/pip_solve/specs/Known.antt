@@ -1,0 +1,14 @@
+-- The forms that are known to be at least 0 on a context.
+use Rattle.std.specs.Prelude.{◌≡◌, ℕ, ℤ, List, All}
+use Rattle.pip_model.specs.Run as run
+use Rattle.pip_model.specs.Run.{Budget, Work, Done}
+use Rattle.context.specs.Counts.{HasRoomFor, counted_more}
+use Rattle.pip_solve.specs.declared.known.KnownForm.{KnownForm}
+use Rattle.pip_solve.specs.declared.known.KnownForms.{KnownForms}
+
+-- after any work of the budget that has room for its counts, the form's class on a context of w places is Plus, with these counts
+pub record IsKnownForm (K : List (List ℤ)) (w : ℕ) (b : Budget) (known : KnownForm) : Type 0 where
+  pub again : (v : Work) → v.budget ≡ b → HasRoomFor v known.counts → run.class K w known.form v ≡ Done run.Plus (counted_more v known.counts)
+
+abbrev pub AreKnown : List (List ℤ) → ℕ → Budget → KnownForms → Type 0
+AreKnown K w b known = All (IsKnownForm K w b) known.forms.items
