@@ -1,5 +1,5 @@
 -- The run without parameters of some rows, remembered, and what it makes of further rows behind them.
-use Rattle.std.specs.Prelude.{◌≡◌, ℕ, ◌<◌, ◌≤◌, ℤ, pos, ◌≤ℤ◌, Bool, true, false, ◌&&◌, Option, is_none, is_some, IfSome, List, [], ◌∷◌, ◌++◌, length, map, flat_map, get_or}
+use Rattle.std.specs.Prelude.{◌≡◌, ℕ, ◌<◌, ◌≤◌, ℤ, pos, ◌≤ℤ◌, Bool, true, false, ◌&&◌, is_none, is_some, IsTrue, List, [], ◌∷◌, ◌++◌, length, map, flat_map, get_or}
 use Rattle.pip_model.specs.Contexts.{IsContext}
 use Rattle.pip_model.specs.Forms.{entry, widen_to}
 use Rattle.pip_model.specs.Tree.{Tree, Bottom}
@@ -85,10 +85,10 @@ pub record IsRemembered (n : ℕ) (K : List (List ℤ)) (m : Remembered) : Type 
   pub stopped : IsStopped m
   pub replay : IsReplay (first_rows n K) m.run
 
--- narrow forms, and nothing remembered but their run
-pub record IsKnown (n : ℕ) (K : List (List ℤ)) (kept : Option Remembered) : Type 0 where
+-- narrow forms, and their run where one is known
+pub record IsKnown (n : ℕ) (K : List (List ℤ)) (is_known : Bool) (run : Remembered) : Type 0 where
   pub context : IsContext n K
-  pub known : IfSome kept (IsRemembered n K)
+  pub known : IsTrue is_known → IsRemembered n K run
 
 -- where a run shows a point, it ends at once with these rows behind its own, with a point or without one
 abbrev pub EndsWith : List Row → Bool → Type 0

@@ -8,13 +8,14 @@ ghost use Rattle.context.specs.Stops.{stop_fault};
 ghost use Rattle.context.specs.Remembered.{IsFormed, IsStopped, turned, replayed, asked, finds_point, first_rows, EndsWith};
 
 use crate::point_run::run_on;
+use crate::question::Question;
 use crate::remembered::{Remembered, Replay};
 use crate::rows::{push_form, start_rows};
 use crate::short_rows::push_short;
 use crate::short_run::run_short;
 use crate::stop::Stop;
 use crate::work::Work;
-use affine_rows::{Form, WantOfMemory};
+use affine_rows::Form;
 use pip_problem::Refusal;
 use short_tableau::ShortTableau;
 use std::alloc::Global;
@@ -51,19 +52,22 @@ fn replay(m: &Replay, rows: &mut ShortTableau, work: &mut Work) -> Result<(), St
     Ok(())
 }
 
-// Goes on from the last rows of a run with the only row of another tableau behind them.
-fn go_on(alloc: Global, m: &Replay, row: &ShortTableau, work: &mut Work) -> Result<bool, Stop>
+// Goes on from the last rows of a run with the only row of another tableau behind them, in the room of these rows.
+fn go_on(
+    m: &Replay,
+    row: &ShortTableau,
+    rows: &mut ShortTableau,
+    work: &mut Work,
+) -> Result<bool, Stop>
     requires formed { IsFormed m.now }
     requires unknowns { row.now.unknowns ≡ m.now.end.unknowns }
     requires number { length row.now.rows ≡ 1 }
     ensures gives { IsCountedRun (λ b. b) stop_fault result work.old work.new
         (finds_point m.now.end.unknowns (m.now.end.rows ++ row.now.rows)) }
 {
-    let rows = m.end.rows().checked_add(1).ok_or(WantOfMemory)?;
-    let mut t = ShortTableau::with_room(alloc, m.end.unknowns(), rows)?;
-    t.copy_from(&m.end)?;
-    t.push_copy(row, 0)?;
-    run_short(&mut t, work)
+    rows.copy_from(&m.end)?;
+    rows.push_copy(row, 0)?;
+    run_short(rows, work)
 }
 
 // Whether a point is found, where a run that shows one ends with the only row of this tableau behind its own: the row is
@@ -83,27 +87,27 @@ fn ends_at(row: &ShortTableau) -> Option<bool>
 
 // Whether a remembered run with the form's row behind it finds a point: the row is turned by the remembered pivots, and
 // the run goes on where it does not end there.
-pub(crate) fn ask(alloc: Global, m: &Remembered, form: &Form, work: &mut Work) -> Result<bool, Stop>
+fn ask(m: &Remembered, question: &mut Question, form: &Form, work: &mut Work) -> Result<bool, Stop>
     requires stopped { IsStopped m.now }
     requires narrow { length form.now ≤ m.now.run.end.unknowns + 1 }
     ensures gives { IsCountedRun (λ b. b) stop_fault result work.old work.new
         (asked m.now (form_row m.now.run.end.unknowns (widen_to m.now.run.end.unknowns form.now) ∷ [])) }
 {
-    let mut row = ShortTableau::with_room(alloc, m.run.end.unknowns(), 1)?;
-    push_short(&mut row, form)?;
-    replay(&m.run, &mut row, work)?;
+    question.row.restart(m.run.end.unknowns());
+    push_short(&mut question.row, form)?;
+    replay(&m.run, &mut question.row, work)?;
     if m.at_end {
-        if let Some(found) = ends_at(&row) {
+        if let Some(found) = ends_at(&question.row) {
             return Ok(found);
         }
     }
-    go_on(alloc, &m.run, &row, work)
+    go_on(&m.run, &question.row, &mut question.run, work)
 }
 
 // The same; None where a number is not short, and nothing is counted then.
 pub(crate) fn ask_shortly(
-    alloc: Global,
     m: &Remembered,
+    question: &mut Question,
     form: &Form,
     work: &mut Work,
 ) -> Option<Result<bool, Refusal>>
@@ -114,7 +118,7 @@ pub(crate) fn ask_shortly(
     ensures none { IfNone result (work.new ≡ work.old) }
 {
     let before = work.counts();
-    match ask(alloc, m, form, work) {
+    match ask(m, question, form, work) {
         Ok(found) => Some(Ok(found)),
         Err(Stop::Refused(refusal)) => Some(Err(refusal)),
         Err(Stop::Long) => {

@@ -12,6 +12,7 @@ ghost use Rattle.context.specs.Scoped.{IsKeptContext};
 use crate::asking::{ask_plainly, ask_shortly};
 use crate::point::Point;
 use crate::point_run::find_point;
+use crate::question::Question;
 use crate::refute::refute_forms;
 use crate::remembered::{Remembered, remember};
 use crate::work::Work;
@@ -26,14 +27,18 @@ use std::marker::Model;
 /// at which no form is below 0. Contracts see the width, the forms in order, and the room that is left for more.
 ///
 /// From one question with a form more to the next a context keeps the first pivots of its own forms' run, no more
-/// than it has places and forms, and the rows that they made, until its forms or its width change.
+/// than it has places and forms, and the rows that they made, until its forms or its width change. Their room stays
+/// then, and so does that of a question's rows.
 #[derive(Drop)]
 pub struct Context {
     width: usize,
     forms: Vec<Form>,
-    known: Option<Remembered>,
+    // The run of these forms, where it is known, and else nothing but its room.
+    run: Remembered,
+    is_known: bool,
     // Whether it was tried to make the run of these forms.
     is_tried: bool,
+    question: Question,
 }
 
 /// How many forms a context had, and its width: where it can go back to.
@@ -54,7 +59,7 @@ impl Model for Context {
     ghost view = { λ k.
         record { width = k.width; forms = k.forms.items; spare = vec_capacity k.forms - vec_len k.forms } };
 
-    ghost invariant = { λ k. IsKnown k.width k.forms.items k.known };
+    ghost invariant = { λ k. IsKnown k.width k.forms.items k.is_known k.run };
 }
 
 impl Context {
@@ -66,8 +71,10 @@ impl Context {
         Ok(Context {
             width,
             forms: Vec::new(alloc),
-            known: None,
+            run: Remembered::new(alloc),
+            is_known: false,
             is_tried: false,
+            question: Question::new(alloc),
         })
     }
 
@@ -91,7 +98,7 @@ impl Context {
     {
         let _ = f.width();
         self.forms.push(f).unwrap();
-        self.known = None;
+        self.is_known = false;
         self.is_tried = false;
     }
 
@@ -103,7 +110,7 @@ impl Context {
         ensures spare { self.old.spare ≤ self.new.spare }
     {
         self.width += 1;
-        self.known = None;
+        self.is_known = false;
         self.is_tried = false;
     }
 
@@ -130,7 +137,7 @@ impl Context {
     {
         self.forms.truncate(mark.forms);
         self.width = mark.width;
-        self.known = None;
+        self.is_known = false;
         self.is_tried = false;
     }
 
@@ -170,35 +177,29 @@ impl Context {
     }
 
     // Makes the run of the forms alone, where that was not tried before.
-    fn recall(&mut self, alloc: Global)
+    fn recall(&mut self)
         ensures kept { IsKeptContext self.old self.new }
     {
         if self.is_tried {
             return;
         }
         self.is_tried = true;
-        if let Ok(known) = remember(alloc, self.width, &self.forms) {
-            self.known = Some(known);
-        }
+        self.is_known = remember(&mut self.run, self.width, &self.forms).is_ok();
     }
 
     // Whether the context with one form more has a point, by the remembered run; None where there is none, or a number
     // is not short, and nothing is counted then.
-    fn ask_known(
-        &self,
-        alloc: Global,
-        form: &Form,
-        work: &mut Work,
-    ) -> Option<Result<bool, Refusal>>
-        requires narrow { length form.now ≤ self.now.width + 1 }
+    fn ask_known(&mut self, form: &Form, work: &mut Work) -> Option<Result<bool, Refusal>>
+        requires narrow { length form.now ≤ self.old.width + 1 }
         ensures gives { IfSome result (λ r. IsCountedRun (λ b. b) run_fault r work.old work.new
-            (has_point self.now.width (self.now.forms ++ form.now ∷ []))) }
+            (has_point self.old.width (self.old.forms ++ form.now ∷ []))) }
         ensures none { IfNone result (work.new ≡ work.old) }
+        ensures kept { IsKeptContext self.old self.new }
     {
-        let Some(known) = &self.known else {
+        if !self.is_known {
             return None;
-        };
-        ask_shortly(alloc, known, form, work)
+        }
+        ask_shortly(&self.run, &mut self.question, form, work)
     }
 
     /// Whether the context with one form more has a point, as `point` would find it; the form is no wider than the
@@ -216,8 +217,8 @@ impl Context {
             (has_point self.old.width (self.old.forms ++ form.now ∷ [])) }
         ensures kept { IsKeptContext self.old self.new }
     {
-        self.recall(alloc);
-        if let Some(answer) = self.ask_known(alloc, form, work) {
+        self.recall();
+        if let Some(answer) = self.ask_known(form, work) {
             return answer;
         }
         ask_plainly(alloc, self.width, &self.forms, form, work)

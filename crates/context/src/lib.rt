@@ -7,6 +7,7 @@ mod point;
 mod point_run;
 mod point_turn;
 mod positive_terms;
+mod question;
 mod refusal;
 mod refute;
 mod remembered;

@@ -27,19 +27,29 @@ pub struct Remembered {
     pub at_end: bool,
 }
 
-// No pivot yet.
-fn first(alloc: Global, places: usize, forms: &[Form]) -> Result<Replay, Stop>
+impl Remembered {
+    // No run yet. It takes no memory.
+    pub(crate) fn new(alloc: Global) -> Remembered {
+        let run = Replay {
+            pivots: ShortTableau::new(alloc, 0),
+            columns: Vec::new(alloc),
+            end: ShortTableau::new(alloc, 0),
+        };
+        Remembered { run, at_end: false }
+    }
+}
+
+// Starts again with no pivot.
+fn restart(m: &mut Replay, places: usize, forms: &[Form]) -> Result<(), Stop>
     requires { IsContext places forms.now }
-    ensures formed { IfOk result IsFormed }
-    ensures unknowns { IfOk result (λ m. m.end.unknowns ≡ places) }
-    ensures replay { IfOk result (IsReplay (first_rows places forms.now)) }
+    ensures formed { OnOk result (IsFormed m.new) }
+    ensures unknowns { OnOk result (m.new.end.unknowns ≡ places) }
+    ensures replay { OnOk result (IsReplay (first_rows places forms.now) m.new) }
 {
-    let end = start_short(alloc, places, forms)?;
-    Ok(Replay {
-        pivots: ShortTableau::new(alloc, places),
-        columns: Vec::new(alloc),
-        end,
-    })
+    m.pivots.restart(places);
+    m.columns.clear();
+    start_short(&mut m.end, places, forms)?;
+    Ok(())
 }
 
 // Adds a column.
@@ -96,13 +106,14 @@ fn shows_point(rows: &ShortTableau) -> bool
     first_below(rows).is_none() && rows.first_fraction().is_none()
 }
 
-// The run of the forms as rows up to its first cut or its end, but no more pivots than it has rows. Nothing is counted.
-pub(crate) fn remember(alloc: Global, places: usize, forms: &[Form]) -> Result<Remembered, Stop>
+// The run of the forms as rows up to its first cut or its end, but no more pivots than it has rows, in the room of the
+// run before it. Nothing is counted.
+pub(crate) fn remember(m: &mut Remembered, places: usize, forms: &[Form]) -> Result<(), Stop>
     requires { IsContext places forms.now }
-    ensures { IfOk result (IsRemembered places forms.now) }
+    ensures { OnOk result (IsRemembered places forms.now m.new) }
 {
-    let mut run = first(alloc, places, forms)?;
-    run_up(&mut run)?;
-    let at_end = shows_point(&run.end);
-    Ok(Remembered { run, at_end })
+    restart(&mut m.run, places, forms)?;
+    run_up(&mut m.run)?;
+    m.at_end = shows_point(&m.run.end);
+    Ok(())
 }

@@ -1,4 +1,4 @@
-ghost use Rattle.std.specs.Prelude.{◌≡◌, ◌+◌, ◌<◌, ◌≤◌, None, [], ◌∷◌, ◌++◌, length, map, IfOk, IfErr, IfSome, OnOk};
+ghost use Rattle.std.specs.Prelude.{◌≡◌, ◌+◌, ◌<◌, ◌≤◌, None, [], ◌∷◌, ◌++◌, length, map, IfErr, IfSome, OnOk};
 ghost use Rattle.pip_model.specs.Contexts.{IsContext};
 ghost use Rattle.pip_model.specs.Forms.{widen_to};
 ghost use Rattle.pip_model.specs.Rows as model;
@@ -9,7 +9,6 @@ ghost use Rattle.context.specs.Turns.{negative_from};
 use crate::stop::Stop;
 use affine_rows::{Form, WantOfMemory};
 use short_tableau::ShortTableau;
-use std::alloc::Global;
 
 // Adds the row of one form, whose numbers have to be short.
 pub(crate) fn push_short(rows: &mut ShortTableau, form: &Form) -> Result<(), Stop>
@@ -25,36 +24,37 @@ pub(crate) fn push_short(rows: &mut ShortTableau, form: &Form) -> Result<(), Sto
     Ok(())
 }
 
-// The rows of the columns alone, with room for so many more.
-fn start_columns(alloc: Global, places: usize, more: usize) -> Result<ShortTableau, WantOfMemory>
-    ensures { IfOk result (λ rows. rows
+// Starts again with the rows of the columns alone, and room for so many more.
+fn start_columns(rows: &mut ShortTableau, places: usize, more: usize) -> Result<(), WantOfMemory>
+    ensures { OnOk result (rows.new
         ≡ record { unknowns = places; width = 0; rows = map (model.unit_row places 0) (count_from 0 places) }) }
 {
     let room = places.checked_add(more).ok_or(WantOfMemory)?;
-    let mut rows = ShortTableau::with_room(alloc, places, room)?;
+    rows.restart(places);
+    rows.reserve(room)?;
     for c in 0..places {
         rows.push_unit(c)?;
     }
-    Ok(rows)
+    Ok(())
 }
 
-// The forms as rows over the unknowns alone: one column for each place, and no parameters.
+// Starts again with the forms as rows over the unknowns alone: one column for each place, and no parameters.
 #[tactic(auto, using(crate::proofs::Pointing::length_start))]
 pub(crate) fn start_short(
-    alloc: Global,
+    rows: &mut ShortTableau,
     places: usize,
     forms: &[Form],
-) -> Result<ShortTableau, Stop>
+) -> Result<(), Stop>
     requires { IsContext places forms.now }
-    ensures value { IfOk result (λ rows. rows
+    ensures value { OnOk result (rows.new
         ≡ record { unknowns = places; width = 0; rows = model.start places 0 (map (widen_to places) forms.now) }) }
-    ensures rows { IfOk result (λ rows. places ≤ length rows.rows) }
+    ensures rows { OnOk result (places ≤ length rows.new.rows) }
 {
-    let mut rows = start_columns(alloc, places, forms.len())?;
+    start_columns(rows, places, forms.len())?;
     for form in forms {
-        push_short(&mut rows, form)?;
+        push_short(rows, form)?;
     }
-    Ok(rows)
+    Ok(())
 }
 
 // The first row whose constant is below 0.

@@ -68,6 +68,16 @@ impl ShortTableau {
         })
     }
 
+    /// Makes room for so many more rows. All stays as it was.
+    pub fn reserve(&mut self, rows: usize) -> Result<(), WantOfMemory>
+        ensures { self.new ≡ self.old }
+    {
+        let size = self.unknowns.checked_add(2).ok_or(WantOfMemory)?;
+        let room = size.checked_mul(rows).ok_or(WantOfMemory)?;
+        self.numbers.reserve(room)?;
+        Ok(())
+    }
+
     /// Drops all rows, and has so many columns from now on. The room stays.
     pub fn restart(&mut self, unknowns: usize)
         ensures { self.new ≡ record { unknowns = unknowns; width = 0; rows = [] } }

@@ -1,4 +1,4 @@
 pub mod ClassMeaning
-pub mod OppositeLengths
+pub mod Opposites
 pub mod TightSigns
 pub mod Widening

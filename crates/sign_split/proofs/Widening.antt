@@ -1,30 +1,24 @@
 -- A form that is read over more places has the class that it has.
 use Rattle.std.proofs.Common.{◌≡◌, refl, ap, sym, subst, ◌∙◌, ℕ, zero, suc, ◌+◌, ◌-◌, ◌≤◌, ℤ, pos, negsuc, ◌-ℤ◌, neg_ℤ, arith, Bool, true, false, ◌&&◌, Option, Some, None, List, [], ◌∷◌, ◌++◌, length, map, replicate, length-append}
-use Rattle.std.specs.Prelude.{if◌then◌else◌, slice_set}
+use Rattle.std.specs.Prelude.{if◌then◌else◌}
 use Rattle.std.specs.List.{list_all}
 use Rattle.std.proofs.lemmas.Int.{ints}
 use Rattle.std.proofs.lemmas.List.{map-append}
 use Rattle.std.proofs.lemmas.List.Folds.{list_all-append}
-use Rattle.std.proofs.Math.Seq.{set-append_seam}
 use Rattle.pip_model.specs.Numbers.{is_nonneg, is_zero, floor_div, gcd_of}
 use Rattle.pip_model.specs.Forms.{coefficients, constant, width, floor_divided, tighten, negate, opposite, widen_to}
 use Rattle.pip_model.specs.Listed.{opposite_listed}
 use Rattle.pip_model.specs.Run.{Work, Outcome, Counted, Done, Refused, Class, Plus, Minus, go_on, ◌>>=◌, give, listed, root, run_from, point_setting, numbers_of, point, point_run, class, class_of, class_above, class_below, class_by_points}
 use Rattle.pip_model.proofs.Division.{form-parts, gcd_of-natural}
 use Rattle.run_laws.proofs.Lengths.{length_map, length_tighten}
-use Rattle.run_laws.proofs.Scopes.{entry_end, coefficients-end, constant-end, length-widen_to}
-use Rattle.affine_rows.proofs.Opposites.{opposite_set}
+use Rattle.run_laws.proofs.Scopes.{coefficients-end, constant-end, length-widen_to}
 use Rattle.affine_rows.proofs.Units.{widen_same}
 use Rattle.sign_split.specs.Classes.{widened_class}
-use Rattle.sign_split.proofs.OppositeLengths.{opposite_length}
+use Rattle.sign_split.proofs.Opposites.{form_of, opposite_form, opposite_length}
 use Rattle.sign_split.proofs.TightSigns.{not_positive, is_below}
 
 abbrev zeros : ℕ → List ℤ
 zeros n = replicate n (pos 0)
-
--- coefficients, and a constant
-abbrev form_of : List ℤ → ℤ → List ℤ
-form_of cs k = cs ++ k ∷ []
 
 -- ---- zeros
 
@@ -90,17 +84,6 @@ tight_widened w cs k =
     let g = gcd_of-natural cs in
     ap tighten (widen_form w cs k)
     ∙ rw (coefficients-end (cs ++ zeros (w - length cs)) k, coefficients-end cs k, gcd_zeros cs (w - length cs)) (tight_by (gcd_of cs) g.0 w cs k g.1)
-
-opposite_form : (cs : List ℤ) (k : ℤ) → opposite (form_of cs k) ≡ form_of (negate cs) (neg_ℤ k -ℤ pos 1)
-opposite_form cs k =
-    let less = neg_ℤ k -ℤ pos 1 in
-    let n : length (form_of cs k) ≡ length cs + 1 = simp length-append refl in
-    let m : length (negate cs) ≡ length cs = length_map neg_ℤ cs in
-    sym (opposite_set (form_of cs k) (length cs) n)
-    ∙ ap (λ (x : ℤ). slice_set (negate (form_of cs k)) (length cs) (neg_ℤ x -ℤ pos 1)) (entry_end cs k [])
-    ∙ ap (λ (xs : List ℤ). slice_set xs (length cs) less) (map-append neg_ℤ cs (k ∷ []))
-    ∙ ap (λ l. slice_set (form_of (negate cs) (neg_ℤ k)) l less) (sym m)
-    ∙ set-append_seam (negate cs) (neg_ℤ k) [] less
 
 opposite_widened : (w : ℕ) (cs : List ℤ) (k : ℤ) → opposite (widen_to w (form_of cs k)) ≡ widen_to w (opposite (form_of cs k))
 opposite_widened w cs k =

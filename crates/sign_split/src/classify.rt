@@ -15,24 +15,27 @@ use context::{Context, Work};
 use pip_problem::Refusal;
 use std::alloc::Global;
 
-// The class of a tightened form by points: with its opposite, and with itself.
+// The class of a tightened form by points: with its opposite, which is then turned back, and with itself.
 fn class_by_points(
     alloc: Global,
     context: &mut Context,
     form: Form,
     work: &mut Work,
 ) -> Result<Class, Refusal>
-    requires narrow { length form ≤ context.old.width + 1 }
+    requires { length form ≤ context.old.width + 1 }
     ensures gives { IsCountedRun class_of run_fault result work.old work.new
         (model.class_by_points context.old.width context.old.forms form) }
     ensures kept { IsKeptContext context.old context.new }
     ensures condition { IfOk result (ConditionIs (length form)) }
 {
-    let mut below = form.try_clone(alloc)?;
+    let _ = form.as_slice();
+    let mut below = form;
     below.opposite()?;
     if !context.point_with(alloc, &below, work)? {
         return Ok(Class::Plus);
     }
+    let mut form = below;
+    form.opposite()?;
     if !context.point_with(alloc, &form, work)? {
         return Ok(Class::Minus);
     }

@@ -7,5 +7,5 @@ pub returns-clause-gives : goal.returns-clause-gives
 returns-clause-gives c =
     let width : c.self.inside.width ≡ c.args.self.now.width = search rules in
     let forms : c.self.inside.forms.items ≡ c.args.self.now.forms = search rules in
-    let is : IsRemembered c.self.inside.width c.self.inside.forms.items c.in-Some.known = search rules in
-    rw (← width, ← forms) (known_tells c.self.inside.width c.self.inside.forms.items c.args.form.now c.args.work.now c.ask_shortly.new.work c.in-Some.known is c.ask_shortly.result c.ask_shortly.ensures.gives)
+    let is : IsRemembered c.self.inside.width c.self.inside.forms.items c.self.inside.run = search rules in
+    rw (← width, ← forms) (known_tells c.self.inside.width c.self.inside.forms.items c.args.form.now c.args.work.now c.ask_shortly.new.work c.self.inside.run is c.ask_shortly.result c.ask_shortly.ensures.gives)
