@@ -105,7 +105,7 @@ impl Window {
         self.start += n;
         let left = self.bytes.len() - self.start;
         if left <= self.start {
-            self.bytes.rotate_left(self.start);
+            self.bytes.copy_within(self.start.., 0);
             self.bytes.truncate(left);
             self.start = 0;
         }
