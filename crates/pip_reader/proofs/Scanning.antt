@@ -59,6 +59,14 @@ end_here depth now i xs h e some ended = rw (drop-cons xs i 0 h, add-one) (step_
 pub fold_more : (start now i : ℕ) (xs : List ℕ) → i < length xs → now ≡ open_after (fold open_after start (take i xs)) (slice_index xs i) → now ≡ fold open_after start (take (i + 1) xs)
 fold_more start now i xs h e = rw (take_more xs i 0 h, fold-append open_after start (take i xs) (slice_index xs i ∷ [])) e
 
+-- a byte that is no bracket leaves the depth
+pub other_byte : (depth b : ℕ) → b ≢ 40 → b ≢ 41 → depth ≡ open_after depth b
+other_byte depth b not_open not_closed = rw (ne_eqb b 40 not_open, ne_eqb b 41 not_closed) refl
+
+pub none_or_some : (n : ℕ) → (n ≡ 0) ⊎ (n ≢ 0)
+none_or_some zero = inl refl
+none_or_some (suc n) = inr (λ e. omega (arith, e))
+
 -- behind bytes that hold no end
 end-append : (depth place : ℕ) (xs ys : List ℕ) → group_end_from depth place xs ≡ None → group_end_from depth place (xs ++ ys) ≡ group_end_from (fold open_after depth xs) (place + length xs) ys
 end-append depth place [] ys h = let e : place + 0 ≡ place = omega arith in rw e refl

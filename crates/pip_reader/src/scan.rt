@@ -37,13 +37,17 @@ impl GroupScan {
         ensures bound { IfSome result (λ after. after ≤ length bytes.now) }
         ensures few { self.new ≤ self.old + length bytes.now }
     {
+        let mut depth = self.depth;
         for (i, byte) in bytes.iter().enumerate() {
-            let before = self.depth;
-            self.depth = open_after(before, *byte);
-            if before > 0 && self.depth == 0 {
-                return Some(i + 1);
+            if *byte == b'(' || *byte == b')' {
+                let before = depth;
+                depth = open_after(before, *byte);
+                if before > 0 && depth == 0 {
+                    return Some(i + 1);
+                }
             }
         }
+        self.depth = depth;
         None
     }
 
