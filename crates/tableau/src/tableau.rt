@@ -39,6 +39,9 @@ impl Model for Tableau {
     ghost invariant = { λ t. IsSpare t.rows t.next t.units.items };
 }
 
+// How many more rows than those of its start a tableau has room for, so that the first cuts move none.
+const SPARE: usize = 4;
+
 // Makes room for one more row, and the run.
 fn make_room(
     rows: &mut FlatRows,
@@ -79,7 +82,7 @@ impl Tableau {
             next: FlatRows::new(alloc, unknowns, width),
             units: Vec::new(alloc),
         };
-        t.reserve(unknowns.checked_add(rows.len()).ok_or(WantOfMemory)?)?;
+        t.reserve(unknowns.saturating_add(rows.len()).saturating_add(SPARE))?;
         for c in 0..unknowns {
             t.push_unit(c)?;
         }
