@@ -3,3 +3,4 @@ pub mod Bytes
 pub mod Plans
 pub mod Views
 pub mod Windows
+pub mod Calls

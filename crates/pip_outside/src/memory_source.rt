@@ -59,6 +59,8 @@ impl Source for MemorySource {
 
     ghost faults = { λ s. s.faults };
 
+    ghost calls = { λ s t. t.plan ≡ after_call s.plan };
+
     fn read(&mut self, buf: &mut [u8]) -> Result<usize, Failed>
         ensures bound { ReadsAtMost result buf.new }
         ensures bytes { ReadConsumes (Some self.old.left) (Some self.new.left) result buf.new }

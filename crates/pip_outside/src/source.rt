@@ -17,6 +17,9 @@ pub trait Source {
     /// How often a read has failed, up to `2^64 - 1`.
     ghost faults: { Self → ℕ };
 
+    /// One call of `read` may lead from a state to another; any may where the source tells no more.
+    ghost calls: { Self → Self → Type 0 } = { λ _ _. Unit {0} };
+
     /// Puts the next bytes into the front of `buf` and answers how many.
     ///
     /// `Ok(0)` with room in `buf` is the end of the input, and comes only with nothing left where the source tells.
@@ -26,5 +29,6 @@ pub trait Source {
         ensures bytes { ReadConsumes (left self.old) (left self.new) result buf.new }
         ensures counted { IfSome (left self.old) (λ _. taken self.new ≡ taken self.old + count_of result) }
         ensures cause { CountsFaults (faults self.old) (faults self.new) result }
-        ensures quiet { OnOk result (faults self.new ≡ faults self.old) };
+        ensures quiet { OnOk result (faults self.new ≡ faults self.old) }
+        ensures step { calls self.old self.new };
 }

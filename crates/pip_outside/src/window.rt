@@ -1,5 +1,6 @@
 ghost use Rattle.std.specs.Prelude.{◌≡◌, ◌+◌, ◌<◌, ◌≤◌, ◌^◌, [], length, drop, IfOk, IfErr, IfSome, OnErr};
 ghost use Rattle.pip_outside.specs.Bytes.{count_of};
+ghost use Rattle.pip_outside.specs.Calls.{CallsOnce};
 ghost use Rattle.pip_outside.specs.Windows.{FillsFrom, IsFilled, IsWant};
 
 use crate::failed::Failed;
@@ -130,6 +131,7 @@ impl Window {
         // the source
         ensures counted { IfSome (S.left source.old) (λ _. S.taken source.new ≡ S.taken source.old + count_of result) }
         ensures cause { IsFilled (S.faults source.old) (S.faults source.new) result }
+        ensures asked { CallsOnce S.calls source.old source.new result }
     {
         self.bytes.reserve(PIECE)?;
         let mut piece = [0; PIECE];

@@ -14,7 +14,7 @@ use Rattle.pip_stream.specs.Open.{DropsClosed}
 abbrev Bytes : Type 0
 Bytes = List ℕ
 
-if-some : {X : Type 0} (P : X → Type 0) (o : Option X) (x : X) → o ≡ Some x → IfSome o P → P x
+pub if-some : {X : Type 0} (P : X → Type 0) (o : Option X) (x : X) → o ≡ Some x → IfSome o P → P x
 if-some P (Some y) x e h = let same : y ≡ x = cc in subst P same h
 if-some P None x e h = absurd cc
 

@@ -44,7 +44,7 @@ module _ (old : HeldBytes) (left : List ℕ) (w : HeldBytes) (now : Option (List
   whole = sym (take-append-drop s.count input) ∙ ap (λ x. take s.count input ++ x) (sym s.drops.rest)
 
   -- the end of the group of the input, by that of the held bytes
-  group-behind : first_group_end input ≡ place_behind s.count (first_group_end rest)
+  pub group-behind : first_group_end input ≡ place_behind s.count (first_group_end rest)
   group-behind = ap first_group_end whole ∙ group_end-behind (take s.count input) rest s.closed ∙ ap (λ n. place_behind n (first_group_end rest)) front-size
 
   front-is : (n : ℕ) → n ≤ length w.held → take (s.count + n) input ≡ take s.count input ++ take n w.held

@@ -8,3 +8,4 @@ pub mod Steps
 pub mod Ending
 pub mod Taking
 pub mod Nexting
+pub mod Asking

@@ -3,3 +3,4 @@ pub mod Windows
 pub mod Open
 pub mod Ended
 pub mod Next
+pub mod Asked

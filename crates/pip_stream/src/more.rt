@@ -1,4 +1,4 @@
-ghost use Rattle.std.specs.Prelude.{◌≡◌, ◌+◌, ◌≤◌, IfOk, IfSome, IsErrOf};
+ghost use Rattle.std.specs.Prelude.{◌≡◌, ◌⊎◌, ◌+◌, ◌≤◌, IfOk, IfSome, IsErrOf};
 ghost use Rattle.std.specs.Io.KnownBytes.{IsAtEnd};
 ghost use Rattle.pip_model.specs.Limits.{most_input_bytes};
 ghost use Rattle.pip_outside.specs.Faults.{HasRisen};
@@ -22,6 +22,7 @@ pub(crate) fn more<S: Source>(window: &mut Window, source: &mut S) -> Result<usi
     ensures later { S.faults source.old ≤ S.faults source.new }
     ensures quiet { ¬ IsErrOf result NextRefusal.Failed → S.faults source.new ≡ S.faults source.old }
     ensures cause { IsErrOf result NextRefusal.Failed → HasRisen (S.faults source.old) (S.faults source.new) }
+    ensures asked { (source.new ≡ source.old) ⊎ S.calls source.old source.new }
 {
     let taken = window.base() + window.held().len();
     let room = MOST_INPUT_BYTES - taken;

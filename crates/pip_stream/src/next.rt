@@ -1,8 +1,10 @@
-ghost use Rattle.std.specs.Prelude.{◌≡◌, ◌+◌, ◌<◌, ◌≤◌, ◌↔◌, Some, None, Ok, length, IfOk, IfSome, IsErrOf};
+ghost use Rattle.std.specs.Prelude.{◌≡◌, ◌≢◌, ◌+◌, ◌<◌, ◌≤◌, ◌↔◌, Some, None, Ok, length, IfOk, IfSome, IsErrOf};
 ghost use Rattle.std.specs.Io.KnownBytes.{IsAtEnd};
 ghost use Rattle.pip_model.specs.Limits.{most_input_bytes};
 ghost use Rattle.pip_model.specs.Reading.{next_open};
 ghost use Rattle.pip_outside.specs.Faults.{HasRisen};
+ghost use Rattle.pip_reader.specs.Groups.{first_group_end};
+ghost use Rattle.pip_stream.specs.Asked.{AsksWhileOpen};
 ghost use Rattle.pip_stream.specs.Windows.{taken_by};
 ghost use Rattle.pip_stream.specs.Ended.{HoldsItem, IsRead};
 ghost use Rattle.pip_stream.specs.Next.{FindsNext, IsPeak, IsReady};
@@ -75,6 +77,11 @@ pub fn next_problem<S: Source>(
     ensures later { S.faults source.old ≤ S.faults source.new }
     ensures quiet { ¬ IsErrOf result NextRefusal.Failed → S.faults source.new ≡ S.faults source.old }
     ensures cause { IsErrOf result NextRefusal.Failed → HasRisen (S.faults source.old) (S.faults source.new) }
+
+    // it is not called again once the group has ended, and not at all where that is held
+    ensures asked { IfSome (S.left source.old)
+        (AsksWhileOpen S.calls S.taken source.old source.new window.old) }
+    ensures untouched { first_group_end window.old.held ≢ None → source.new ≡ source.old }
 {
     window.restart();
     if !find_open(window, source)? {

@@ -1,7 +1,9 @@
-ghost use Rattle.std.specs.Prelude.{◌≡◌, ◌+◌, ◌<◌, ◌≤◌, ◌^◌, false, length, IfOk, IfSome, IsErrOf};
+ghost use Rattle.std.specs.Prelude.{◌≡◌, ◌≢◌, ◌+◌, ◌<◌, ◌≤◌, ◌^◌, true, false, None, length, IfOk, IfSome, IsErrOf};
 ghost use Rattle.std.specs.Io.KnownBytes.{IsAtEnd};
 ghost use Rattle.pip_model.specs.Limits.{most_input_bytes};
+ghost use Rattle.pip_model.specs.Reading.{next_open};
 ghost use Rattle.pip_outside.specs.Faults.{HasRisen};
+ghost use Rattle.pip_stream.specs.Asked.{AsksWhileOpen};
 ghost use Rattle.pip_stream.specs.Windows.{taken_by, Skips};
 ghost use Rattle.pip_stream.specs.Open.{DropsClosed, IsOpened};
 
@@ -45,6 +47,10 @@ pub(crate) fn find_open<S: Source>(window: &mut Window, source: &mut S) -> Resul
     ensures later { S.faults source.old ≤ S.faults source.new }
     ensures quiet { ¬ IsErrOf result NextRefusal.Failed → S.faults source.new ≡ S.faults source.old }
     ensures cause { IsErrOf result NextRefusal.Failed → HasRisen (S.faults source.old) (S.faults source.new) }
+    ensures asked { IfSome (S.left source.old)
+        (AsksWhileOpen S.calls S.taken source.old source.new window.old) }
+    ensures untouched { next_open 0 window.old.held ≢ None →
+        (source.new ≡ source.old) × DropsClosed window.old window.new true }
 {
     while !skip_closed(window) {
         if more(window, source)? == 0 {

@@ -1,7 +1,10 @@
 use Rattle.std.proofs.Common.{◌≡◌, refl, sym, ap, ◌∙◌, ◌+◌, ◌≤◌, arith, length, length-drop, take, drop}
 use Rattle.std.proofs.lemmas.Result.{err_from_is_err_and}
 use Rattle.std.specs.Prelude.{Some, None}
+use Rattle.pip_outside.specs.Windows.{HeldBytes}
+use Rattle.pip_reader.specs.Groups.{first_group_end}
 use Rattle.pip_stream.specs.Windows.{taken_by}
+use Rattle.pip_stream.proofs.Asking.{drops-skips, asked-start, asked-more}
 use Rattle.pip_stream.proofs.Dropping.{drops-drops}
 use Rattle.pip_stream.proofs.Scanned.{begins_some}
 use Rattle.pip_stream.proofs.Steps.{if-told, risen-from, counted-more, drops-told, some_more, err-base}
@@ -20,6 +23,8 @@ loop-scan-init g c = record {
   open_still = c.requires.open_first;
   drops = drops-start c.args.window.now (g.S.Source.left c.args.source.now);
   counted = if-told _ (g.S.Source.left c.args.source.now) refl;
+  asked = asked-start g.S.Source.calls g.S.Source.taken c.args.source.now c.args.window.now (g.S.Source.left c.args.source.now);
+  untouched = λ some. (refl, refl);
   quiet = refl;
 }
 
@@ -74,6 +79,14 @@ returns-in-Some-clause-quiet g c = λ _. c.loop-scan.invariant.quiet
 pub returns-in-Some-clause-cause : goal.returns-in-Some-clause-cause
 returns-in-Some-clause-cause g c = λ h. cc
 
+pub returns-in-Some-clause-asked : goal.returns-in-Some-clause-asked
+returns-in-Some-clause-asked g c =
+    c.loop-scan.invariant.asked
+
+pub returns-in-Some-clause-untouched : goal.returns-in-Some-clause-untouched
+returns-in-Some-clause-untouched g c some =
+    (c.loop-scan.invariant.untouched some).0
+
 -- ---- the source fails, or the input is too long
 
 pub more-requires : goal.more-requires
@@ -117,6 +130,19 @@ returns-in_err-more-clause-cause g c =
     let p = err_from_is_err_and c.from_residual.result c.from_residual.ensures.1 in
     rw (p.1, p.2) (λ failed. risen-from _ _ _ c.loop-scan.invariant.quiet (c.in_err-more.ensures.cause failed))
 
+pub returns-in_err-more-clause-asked : goal.returns-in_err-more-clause-asked
+returns-in_err-more-clause-asked g c =
+    let h = scan-none c.loop-scan.window.held c.split_at.result.1.now c.loop-scan.seen _ (c.split_at.ensures.back ∙ ap (drop c.loop-scan.seen) c.held.ensures.value) (c.in-None.ensures.open (take c.loop-scan.seen c.loop-scan.window.held) c.loop-scan.invariant.scanned) in
+    asked-more g.S.Source.calls g.S.Source.taken c.args.source.now c.loop-scan.source c.more.new.source c.args.window.now c.loop-scan.window (g.S.Source.left c.args.source.now) (g.S.Source.left c.loop-scan.source)
+    (drops-skips c.args.window.now c.loop-scan.window _ _ c.loop-scan.invariant.drops) h.not_ended
+    c.loop-scan.invariant.counted c.loop-scan.invariant.asked c.more.ensures.asked
+
+pub returns-in_err-more-clause-untouched : goal.returns-in_err-more-clause-untouched
+returns-in_err-more-clause-untouched g c some =
+    let h = scan-none c.loop-scan.window.held c.split_at.result.1.now c.loop-scan.seen _ (c.split_at.ensures.back ∙ ap (drop c.loop-scan.seen) c.held.ensures.value) (c.in-None.ensures.open (take c.loop-scan.seen c.loop-scan.window.held) c.loop-scan.invariant.scanned) in
+    let u = c.loop-scan.invariant.untouched some in
+    absurd (some (ap (λ (x : HeldBytes). first_group_end x.held) (sym u.1) ∙ h.not_ended))
+
 -- ---- the input ends
 
 pub returns-then-branch-eq0-clause-window : goal.returns-then-branch-eq0-clause-window
@@ -153,6 +179,19 @@ returns-then-branch-eq0-clause-quiet g c = λ _. c.in_ok-more.ensures.quiet (λ 
 pub returns-then-branch-eq0-clause-cause : goal.returns-then-branch-eq0-clause-cause
 returns-then-branch-eq0-clause-cause g c = λ h. cc
 
+pub returns-then-branch-eq0-clause-asked : goal.returns-then-branch-eq0-clause-asked
+returns-then-branch-eq0-clause-asked g c =
+    let h = scan-none c.loop-scan.window.held c.split_at.result.1.now c.loop-scan.seen _ (c.split_at.ensures.back ∙ ap (drop c.loop-scan.seen) c.held.ensures.value) (c.in-None.ensures.open (take c.loop-scan.seen c.loop-scan.window.held) c.loop-scan.invariant.scanned) in
+    asked-more g.S.Source.calls g.S.Source.taken c.args.source.now c.loop-scan.source c.more.new.source c.args.window.now c.loop-scan.window (g.S.Source.left c.args.source.now) (g.S.Source.left c.loop-scan.source)
+    (drops-skips c.args.window.now c.loop-scan.window _ _ c.loop-scan.invariant.drops) h.not_ended
+    c.loop-scan.invariant.counted c.loop-scan.invariant.asked c.more.ensures.asked
+
+pub returns-then-branch-eq0-clause-untouched : goal.returns-then-branch-eq0-clause-untouched
+returns-then-branch-eq0-clause-untouched g c some =
+    let h = scan-none c.loop-scan.window.held c.split_at.result.1.now c.loop-scan.seen _ (c.split_at.ensures.back ∙ ap (drop c.loop-scan.seen) c.held.ensures.value) (c.in-None.ensures.open (take c.loop-scan.seen c.loop-scan.window.held) c.loop-scan.invariant.scanned) in
+    let u = c.loop-scan.invariant.untouched some in
+    absurd (some (ap (λ (x : HeldBytes). first_group_end x.held) (sym u.1) ∙ h.not_ended))
+
 -- ---- once more
 
 pub loop-scan-smaller : goal.loop-scan-smaller
@@ -179,5 +218,12 @@ loop-scan-preserved g c =
       counted =
           counted-more (g.S.Source.left c.args.source.now) (g.S.Source.left c.loop-scan.source) _ (g.S.Source.taken c.loop-scan.source) _ (taken_by c.args.window.now) (taken_by c.loop-scan.window) (taken_by c.loop-scan.window) _
           (drops-told c.args.window.now c.loop-scan.window _ _ i.drops) i.counted refl c.more.ensures.counted;
+      asked =
+          asked-more g.S.Source.calls g.S.Source.taken c.args.source.now c.loop-scan.source c.more.new.source c.args.window.now c.loop-scan.window (g.S.Source.left c.args.source.now) (g.S.Source.left c.loop-scan.source)
+          (drops-skips c.args.window.now c.loop-scan.window _ _ c.loop-scan.invariant.drops) h.not_ended
+          c.loop-scan.invariant.counted c.loop-scan.invariant.asked c.more.ensures.asked;
+      untouched = λ some.
+          let u = c.loop-scan.invariant.untouched some in
+          absurd (some (ap (λ (x : HeldBytes). first_group_end x.held) (sym u.1) ∙ h.not_ended));
       quiet = c.in_ok-more.ensures.quiet (λ h. cc) ∙ i.quiet;
     }

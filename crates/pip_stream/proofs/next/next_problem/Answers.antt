@@ -3,7 +3,9 @@ use Rattle.std.proofs.lemmas.Result.{err_from_is_err_and}
 use Rattle.std.specs.Prelude.{Option, None, Ok, Err}
 use Rattle.pip_outside.specs.Windows.{HeldBytes}
 use Rattle.pip_model.specs.Problem.{Problem}
+use Rattle.pip_reader.specs.Groups.{first_group_end}
 use Rattle.pip_stream.specs.Windows.{taken_by}
+use Rattle.pip_stream.proofs.Asking.{asked-restart, asked-then, held-opens, held-ends}
 use Rattle.pip_stream.specs.Open.{IsOpened}
 use Rattle.pip_stream.proofs.Dropping.{skips-more}
 use Rattle.pip_stream.proofs.Steps.{risen-from, failed-as, counted-start, counted-same, counted-more, skips-told}
@@ -77,6 +79,16 @@ returns-in_err-find_open-clause-cause g c =
     let p = err_from_is_err_and c.from_residual.result c.from_residual.ensures.1 in
     rw (p.1, p.2) (λ failed. c.in_err-find_open.ensures.cause (failed-as {A = Option (Problem × ℕ)} {B = Bool} _ failed))
 
+pub returns-in_err-find_open-clause-asked : goal.returns-in_err-find_open-clause-asked
+returns-in_err-find_open-clause-asked g c =
+    asked-restart g.S.Source.calls g.S.Source.taken c.args.source.now c.find_open.new.source c.args.window.now c.restart.new.self _ (g.S.Source.left c.args.source.now) c.restart.ensures c.find_open.ensures.asked
+
+pub returns-in_err-find_open-clause-untouched : goal.returns-in_err-find_open-clause-untouched
+returns-in_err-find_open-clause-untouched g c some =
+    let start : ¬ (first_group_end c.restart.new.self.held ≡ None) = λ none. some (ap (λ (x : HeldBytes). first_group_end x.held) (sym c.restart.ensures) ∙ none) in
+    let o = c.find_open.ensures.untouched (held-opens c.restart.new.self start) in
+    o.0
+
 -- ---- the input ends without one
 
 pub returns-then-not-branch-clause-finds : goal.returns-then-not-branch-clause-finds
@@ -134,6 +146,16 @@ returns-then-not-branch-clause-quiet g c =
 pub returns-then-not-branch-clause-cause : goal.returns-then-not-branch-clause-cause
 returns-then-not-branch-clause-cause g c =
     λ e. cc
+
+pub returns-then-not-branch-clause-asked : goal.returns-then-not-branch-clause-asked
+returns-then-not-branch-clause-asked g c =
+    asked-restart g.S.Source.calls g.S.Source.taken c.args.source.now c.find_open.new.source c.args.window.now c.restart.new.self _ (g.S.Source.left c.args.source.now) c.restart.ensures c.find_open.ensures.asked
+
+pub returns-then-not-branch-clause-untouched : goal.returns-then-not-branch-clause-untouched
+returns-then-not-branch-clause-untouched g c some =
+    let start : ¬ (first_group_end c.restart.new.self.held ≡ None) = λ none. some (ap (λ (x : HeldBytes). first_group_end x.held) (sym c.restart.ensures) ∙ none) in
+    let o = c.find_open.ensures.untouched (held-opens c.restart.new.self start) in
+    o.0
 
 -- ---- the group does not end
 
@@ -214,6 +236,19 @@ returns-in_err-n-clause-cause g c =
     let p = err_from_is_err_and c.from_residual-in_err-n.result c.from_residual-in_err-n.ensures.1 in
     rw (p.1, p.2) (λ failed. risen-from _ _ _ (c.in_ok-find_open.ensures.quiet (λ e. cc)) (c.in_err-n.ensures.cause (failed-as {A = Option (Problem × ℕ)} {B = ℕ} _ failed)))
 
+pub returns-in_err-n-clause-asked : goal.returns-in_err-n-clause-asked
+returns-in_err-n-clause-asked g c =
+    asked-then g.S.Source.calls g.S.Source.taken c.args.source.now c.find_open.new.source c.find_end.new.source c.args.window.now c.find_open.new.window (g.S.Source.left c.args.source.now) (g.S.Source.left c.find_open.new.source)
+    (skips-restart c.args.window.now c.restart.new.self c.find_open.new.window _ (g.S.Source.left c.args.source.now) _ c.restart.ensures c.find_open.ensures.bytes)
+    (counted-start (g.S.Source.left c.args.source.now) _ _ _ _ _ (ap (λ (x : HeldBytes). taken_by x) c.restart.ensures) c.find_open.ensures.counted)
+    (asked-restart g.S.Source.calls g.S.Source.taken c.args.source.now c.find_open.new.source c.args.window.now c.restart.new.self _ (g.S.Source.left c.args.source.now) c.restart.ensures c.find_open.ensures.asked) c.find_end.ensures.asked
+
+pub returns-in_err-n-clause-untouched : goal.returns-in_err-n-clause-untouched
+returns-in_err-n-clause-untouched g c some =
+    let start : ¬ (first_group_end c.restart.new.self.held ≡ None) = λ none. some (ap (λ (x : HeldBytes). first_group_end x.held) (sym c.restart.ensures) ∙ none) in
+    let o = c.find_open.ensures.untouched (held-opens c.restart.new.self start) in
+    c.find_end.ensures.untouched (held-ends c.restart.new.self c.find_open.new.window o.1 start) ∙ o.0
+
 -- ---- the item is read
 
 pub take_item-requires-clause-open_first : goal.take_item-requires-clause-open_first
@@ -275,3 +310,16 @@ returns-clause-quiet g c =
 pub returns-clause-cause : goal.returns-clause-cause
 returns-clause-cause g c =
     λ failed. absurd (item-not_failed c.find_end.new.window c.take_item.new.window _ c.in_ok-n.ensures.window c.take_item.result c.take_item.ensures failed)
+
+pub returns-clause-asked : goal.returns-clause-asked
+returns-clause-asked g c =
+    asked-then g.S.Source.calls g.S.Source.taken c.args.source.now c.find_open.new.source c.find_end.new.source c.args.window.now c.find_open.new.window (g.S.Source.left c.args.source.now) (g.S.Source.left c.find_open.new.source)
+    (skips-restart c.args.window.now c.restart.new.self c.find_open.new.window _ (g.S.Source.left c.args.source.now) _ c.restart.ensures c.find_open.ensures.bytes)
+    (counted-start (g.S.Source.left c.args.source.now) _ _ _ _ _ (ap (λ (x : HeldBytes). taken_by x) c.restart.ensures) c.find_open.ensures.counted)
+    (asked-restart g.S.Source.calls g.S.Source.taken c.args.source.now c.find_open.new.source c.args.window.now c.restart.new.self _ (g.S.Source.left c.args.source.now) c.restart.ensures c.find_open.ensures.asked) c.find_end.ensures.asked
+
+pub returns-clause-untouched : goal.returns-clause-untouched
+returns-clause-untouched g c some =
+    let start : ¬ (first_group_end c.restart.new.self.held ≡ None) = λ none. some (ap (λ (x : HeldBytes). first_group_end x.held) (sym c.restart.ensures) ∙ none) in
+    let o = c.find_open.ensures.untouched (held-opens c.restart.new.self start) in
+    c.find_end.ensures.untouched (held-ends c.restart.new.self c.find_open.new.window o.1 start) ∙ o.0

@@ -1,6 +1,11 @@
-use Rattle.std.proofs.Common.{refl, ap, ℕ, Bool, ◌∙◌, ◌≤◌, arith, length}
+use Rattle.std.proofs.Common.{refl, sym, ap, subst, ℕ, Bool, true, ◌∙◌, ◌≤◌, arith, length}
+use Rattle.pip_outside.specs.Windows.{HeldBytes}
+use Rattle.pip_model.specs.Reading.{next_open}
+use Rattle.pip_reader.specs.Groups.{first_group_end}
 use Rattle.std.proofs.lemmas.Result.{err_from_is_err_and}
 use Rattle.pip_stream.specs.Windows.{taken_by}
+use Rattle.pip_stream.specs.Open.{DropsClosed}
+use Rattle.pip_stream.proofs.Asking.{asked-start, asked-more, closed-none}
 use Rattle.pip_stream.proofs.Dropping.{skips-nothing, skips-more, skips-closed, taken-closed}
 use Rattle.pip_stream.proofs.Steps.{not_true, if-told, risen-from, failed-as, counted-same, counted-more, skips-told, fewer, some_more, err-base, opened-err, opened-end}
 use Rattle.pip_stream.proofs.open.find_open.Goals as goal
@@ -13,6 +18,8 @@ loop-window-init g c = record {
   base = omega arith;
   skips = skips-nothing c.args.window.now (g.S.Source.left c.args.source.now);
   counted = if-told _ (g.S.Source.left c.args.source.now) refl;
+  asked = asked-start g.S.Source.calls g.S.Source.taken c.args.source.now c.args.window.now (g.S.Source.left c.args.source.now);
+  untouched = λ some. (refl, refl);
   quiet = refl;
 }
 
@@ -61,6 +68,18 @@ returns-in_err-more-clause-cause g c =
     let p = err_from_is_err_and c.from_residual.result c.from_residual.ensures.1 in
     rw (p.1, p.2) (λ failed. risen-from _ _ _ c.loop-window.invariant.quiet (c.in_err-more.ensures.cause (failed-as {A = Bool} {B = ℕ} _ failed)))
 
+pub returns-in_err-more-clause-asked : goal.returns-in_err-more-clause-asked
+returns-in_err-more-clause-asked g c =
+    asked-more g.S.Source.calls g.S.Source.taken c.args.source.now c.loop-window.source c.more.new.source c.args.window.now c.skip_closed.new.window (g.S.Source.left c.args.source.now) (g.S.Source.left c.loop-window.source)
+    (skips-closed c.args.window.now c.loop-window.window c.skip_closed.new.window _ _ _ c.loop-window.invariant.skips c.skip_closed.ensures) (ap first_group_end c.loop-window-test.ensures.open_now)
+    (counted-same (g.S.Source.left c.args.source.now) _ _ _ (taken_by c.loop-window.window) _ c.loop-window.invariant.counted (taken-closed c.loop-window.window c.skip_closed.new.window _ c.skip_closed.ensures))
+    c.loop-window.invariant.asked c.more.ensures.asked
+
+pub returns-in_err-more-clause-untouched : goal.returns-in_err-more-clause-untouched
+returns-in_err-more-clause-untouched g c some =
+    let u = c.loop-window.invariant.untouched some in
+    absurd (some (ap (λ (x : HeldBytes). next_open 0 x.held) (sym u.1) ∙ closed-none c.loop-window.window c.skip_closed.new.window c.loop-window-test.ensures))
+
 -- ---- the input ends
 
 pub returns-then-branch-eq0-clause-window : goal.returns-then-branch-eq0-clause-window
@@ -96,6 +115,18 @@ returns-then-branch-eq0-clause-quiet g c = λ _. c.in_ok-more.ensures.quiet (λ 
 pub returns-then-branch-eq0-clause-cause : goal.returns-then-branch-eq0-clause-cause
 returns-then-branch-eq0-clause-cause g c = λ h. cc
 
+pub returns-then-branch-eq0-clause-asked : goal.returns-then-branch-eq0-clause-asked
+returns-then-branch-eq0-clause-asked g c =
+    asked-more g.S.Source.calls g.S.Source.taken c.args.source.now c.loop-window.source c.more.new.source c.args.window.now c.skip_closed.new.window (g.S.Source.left c.args.source.now) (g.S.Source.left c.loop-window.source)
+    (skips-closed c.args.window.now c.loop-window.window c.skip_closed.new.window _ _ _ c.loop-window.invariant.skips c.skip_closed.ensures) (ap first_group_end c.loop-window-test.ensures.open_now)
+    (counted-same (g.S.Source.left c.args.source.now) _ _ _ (taken_by c.loop-window.window) _ c.loop-window.invariant.counted (taken-closed c.loop-window.window c.skip_closed.new.window _ c.skip_closed.ensures))
+    c.loop-window.invariant.asked c.more.ensures.asked
+
+pub returns-then-branch-eq0-clause-untouched : goal.returns-then-branch-eq0-clause-untouched
+returns-then-branch-eq0-clause-untouched g c some =
+    let u = c.loop-window.invariant.untouched some in
+    absurd (some (ap (λ (x : HeldBytes). next_open 0 x.held) (sym u.1) ∙ closed-none c.loop-window.window c.skip_closed.new.window c.loop-window-test.ensures))
+
 -- ---- once more
 
 pub loop-window-smaller : goal.loop-window-smaller
@@ -120,6 +151,14 @@ loop-window-preserved g c =
       counted =
           counted-more (g.S.Source.left c.args.source.now) (g.S.Source.left c.loop-window.source) _ (g.S.Source.taken c.loop-window.source) _ (taken_by c.args.window.now) (taken_by c.loop-window.window) (taken_by c.skip_closed.new.window) _
           (skips-told c.args.window.now c.loop-window.window _ _ c.loop-window.invariant.skips) c.loop-window.invariant.counted (taken-closed c.loop-window.window c.skip_closed.new.window _ c.skip_closed.ensures) c.more.ensures.counted;
+      asked =
+          asked-more g.S.Source.calls g.S.Source.taken c.args.source.now c.loop-window.source c.more.new.source c.args.window.now c.skip_closed.new.window (g.S.Source.left c.args.source.now) (g.S.Source.left c.loop-window.source)
+          (skips-closed c.args.window.now c.loop-window.window c.skip_closed.new.window _ _ _ c.loop-window.invariant.skips c.skip_closed.ensures) (ap first_group_end c.loop-window-test.ensures.open_now)
+          (counted-same (g.S.Source.left c.args.source.now) _ _ _ (taken_by c.loop-window.window) _ c.loop-window.invariant.counted (taken-closed c.loop-window.window c.skip_closed.new.window _ c.skip_closed.ensures))
+          c.loop-window.invariant.asked c.more.ensures.asked;
+      untouched = λ some.
+          let u = c.loop-window.invariant.untouched some in
+          absurd (some (ap (λ (x : HeldBytes). next_open 0 x.held) (sym u.1) ∙ closed-none c.loop-window.window c.skip_closed.new.window c.loop-window-test.ensures));
       quiet = c.in_ok-more.ensures.quiet (λ h. cc) ∙ c.loop-window.invariant.quiet;
     }
 
@@ -155,3 +194,12 @@ returns-clause-quiet g c = λ _. c.loop-window.invariant.quiet
 
 pub returns-clause-cause : goal.returns-clause-cause
 returns-clause-cause g c = λ h. cc
+
+pub returns-clause-asked : goal.returns-clause-asked
+returns-clause-asked g c =
+    c.loop-window.invariant.asked
+
+pub returns-clause-untouched : goal.returns-clause-untouched
+returns-clause-untouched g c some =
+    let u = c.loop-window.invariant.untouched some in
+    (u.0, subst (λ x. DropsClosed x c.skip_closed.new.window true) u.1 c.loop-window-test.ensures)
