@@ -41,12 +41,12 @@ use Rattle.pip_items.specs.declared.ending.Ending.{Ending as Refused}
 use Rattle.pip_items.specs.declared.ending.Ending.TheVariants as ending
 use Rattle.pip_items.proofs.Written.{LeadTo, nothing, one_more, front_of_one}
 
-if-some : {X : Type 0} (P : X → Type 0) (o : Option X) (x : X) → o ≡ Some x → IfSome o P → P x
+pub if-some : {X : Type 0} (P : X → Type 0) (o : Option X) (x : X) → o ≡ Some x → IfSome o P → P x
 if-some P (Some y) x e h = let same : y ≡ x = cc in subst P same h
 if-some P None x e h = absurd cc
 
 module _ (o : SolveOptions) (bytes : List ℕ) where
-  abbrev text : ℕ → ItemAt (List ℕ)
+  abbrev pub text : ℕ → ItemAt (List ℕ)
   text = item_text (Solve o) bytes
 
   -- the window stands behind the items whose texts were written
@@ -59,7 +59,7 @@ module _ (o : SolveOptions) (bytes : List ℕ) where
 
 module _ (o : SolveOptions) (native : o.polylib ≡ false) (bytes : List ℕ) where
   -- the text at a place is of what is read of the bytes from there on
-  text-is : (at : ℕ) → at ≤ length bytes → text o bytes at ≡ text_of_item (text_of (Solve o)) (or_ending (moved at (read_native (drop at bytes) 0)))
+  pub text-is : (at : ℕ) → at ≤ length bytes → text o bytes at ≡ text_of_item (text_of (Solve o)) (or_ending (moved at (read_native (drop at bytes) 0)))
   text-is at low =
       let here : at + 0 ≡ at = omega arith in
       let within : at + 0 ≤ length bytes = omega arith in

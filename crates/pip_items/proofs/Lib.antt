@@ -8,3 +8,4 @@ pub mod Pieces
 pub mod Walked
 pub mod Certified
 pub mod Trios
+pub mod Asked

@@ -1,5 +1,6 @@
 -- What `solve` writes of native problems, which it reads one by one.
 use Rattle.std.specs.Prelude.{◌≡◌, ℕ, ◌+◌, ◌<◌, ◌≤◌, Bool, true, false, not, ⊤, MatchBool, List, length, take, drop, Option, Some, None, Result, Ok, Err}
+use Rattle.pip_outside.specs.Calls.{CallsWithin}
 use Rattle.pip_model.specs.Limits.{most_input_bytes}
 use Rattle.pip_model.specs.Commands.{Command, Solve, Trial, item_text}
 use Rattle.pip_model.specs.Endings as model
@@ -57,3 +58,18 @@ module _ (c : Command) (bytes : List ℕ) (taken : ℕ) (before after : Option (
   -- the same of any command
   abbrev pub WritesOf : Result (Unit {0}) Ending → Type 0
   WritesOf r = MatchBool (reads_by_problem c) (WritesByProblem r) (WritesOutput c bytes before after r)
+
+-- ---- when the source is called
+
+-- The item at a place is refused; those before it are not.
+pub record IsRefusedAt (c : Command) (bytes : List ℕ) (place : ℕ) : Type 0 where
+  pub texts : List (List ℕ)
+  pub before : FirstItemsTo (item_text c bytes) IsItself 0 texts place
+  pub ending : model.Ending
+  pub refused : item_text c bytes place ≡ Err ending
+
+-- A command that reads problem by problem does not call the source again once the group of a refused problem has ended.
+abbrev pub StopsAtRefused : {S : Type 0} → (S → S → Type 0) → (S → ℕ) → S → S → Command → List ℕ → Type 0
+StopsAtRefused Calls taken old new c bytes =
+    reads_by_problem c ≡ true → (place n : ℕ) → IsRefusedAt c bytes place → first_group_end (drop place bytes) ≡ Some n →
+    CallsWithin Calls taken old new 0 (place + n)

@@ -3,7 +3,7 @@ ghost use Rattle.std.specs.Io.KnownBytes.{IsAtEnd};
 ghost use Rattle.pip_words.specs.Words.{meaning_of};
 ghost use Rattle.pip_items.specs.Items.{WritesItems};
 ghost use Rattle.pip_items.specs.Outputs.{WritesOver, TakesInput, TakesInputAtMost, IsRead, EndsByFaults, bytes_read};
-ghost use Rattle.pip_items.specs.ByProblem.{WritesOf, ReadsWhole};
+ghost use Rattle.pip_items.specs.ByProblem.{WritesOf, ReadsWhole, StopsAtRefused};
 
 use crate::commands::check::Check;
 use crate::commands::restrict::Restrict;
@@ -53,6 +53,8 @@ pub fn write_output<S: Source, K: Sink>(
     ensures end { ReadsWhole (meaning_of command.now) → IsRead result → IsAtEnd (S.left source.new) }
     ensures done { TakesInput (meaning_of command.now) → result ≡ Ok tt → IsAtEnd (S.left source.new) }
     ensures spared { ¬ TakesInput (meaning_of command.now) → source.new ≡ source.old }
+    ensures asked { IfSome (bytes_read (meaning_of command.now) (S.left source.old))
+        (StopsAtRefused S.calls S.taken source.old source.new (meaning_of command.now)) }
     ensures taken { TakesInputAtMost (S.left source.old) (S.taken source.old) (S.taken source.new) }
     ensures faults { EndsByFaults (S.faults source.old) (S.faults source.new) (K.faults sink.old) (K.faults sink.new)
         result }

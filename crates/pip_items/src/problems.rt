@@ -4,7 +4,7 @@ ghost use Rattle.pip_outside.specs.Faults.{HasRisen};
 ghost use Rattle.pip_model.specs.Commands.{Solve};
 ghost use Rattle.pip_words.specs.Words.{options_of};
 ghost use Rattle.pip_items.specs.Outputs.{TakesInputAtMost, EndsByFaults};
-ghost use Rattle.pip_items.specs.ByProblem.{WritesByProblem};
+ghost use Rattle.pip_items.specs.ByProblem.{WritesByProblem, StopsAtRefused};
 
 use crate::commands::solve::write_solution;
 use crate::ending::Ending;
@@ -27,6 +27,8 @@ pub(crate) fn write_problems<S: Source, K: Sink>(
         (S.taken source.new - S.taken source.old) (K.written sink.old) (K.written sink.new) result) }
     ensures words { ¬ IsErrOf result Ending.Usage }
     ensures end { result ≡ Ok tt → IsAtEnd (S.left source.new) }
+    ensures asked { IfSome (S.left source.old)
+        (StopsAtRefused S.calls S.taken source.old source.new (Solve (options_of options.now))) }
     ensures taken { TakesInputAtMost (S.left source.old) (S.taken source.old) (S.taken source.new) }
     ensures faults { EndsByFaults (S.faults source.old) (S.faults source.new) (K.faults sink.old) (K.faults sink.new)
         result }

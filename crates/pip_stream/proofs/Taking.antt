@@ -36,7 +36,7 @@ place-within bytes read.WantOfMemory h = omega arith
 
 -- ---- the end of what is read
 
-ended-by : (bytes : List ℕ) (x : Problem × ℕ) (r : Result (Option (Problem × ℕ)) Fault) → IfOk r (λ o. IfSome o (λ y. Ended bytes 0 y.1)) → r ≡ Ok (Some x) → first_group_end bytes ≡ Some x.1
+pub ended-by : (bytes : List ℕ) (x : Problem × ℕ) (r : Result (Option (Problem × ℕ)) Fault) → IfOk r (λ o. IfSome o (λ y. Ended bytes 0 y.1)) → r ≡ Ok (Some x) → first_group_end bytes ≡ Some x.1
 ended-by bytes x (Ok (Some y)) h e =
     let same : y.1 ≡ x.1 = let s : y ≡ x = cc in ap (λ (z : Problem × ℕ). z.1) s in
     ap (group_behind bytes) h.opened ∙ h.closed ∙ ap Some same

@@ -5,6 +5,8 @@ use Rattle.pip_outside.specs.Windows.{HeldBytes}
 use Rattle.pip_words.specs.Words.{options_of}
 use Rattle.pip_stream.specs.Windows.{taken_by}
 use Rattle.pip_items.proofs.ByProblem.{starts, if-told, none-taken, unmade, unmade-faults, unmade-usage, next-words, own-words, err-not_done, counts, taken-at_most, next-output, none-output, run-output, write-output, more-follows, faults-none, faults-next, faults-own, faults-write, none-left}
+use Rattle.pip_model.specs.Commands.{Solve}
+use Rattle.pip_items.proofs.Asked.{stops-start, stops-next}
 use Rattle.pip_items.proofs.problems.write_problems.Goals as goal
 
 -- ---- no window is made
@@ -22,6 +24,9 @@ pub returns-in_err-window-clause-end : goal.returns-in_err-window-clause-end
 returns-in_err-window-clause-end g c h =
     let p = err_from_is_err_and c.from_residual.result c.from_residual.ensures.1 in err-not_done _ _ p.1 h
 
+pub returns-in_err-window-clause-asked : goal.returns-in_err-window-clause-asked
+returns-in_err-window-clause-asked g c = stops-start g.S.Source.calls g.S.Source.taken c.args.source.now (Solve (options_of c.args.options.now)) (g.S.Source.left c.args.source.now)
+
 pub returns-in_err-window-clause-taken : goal.returns-in_err-window-clause-taken
 returns-in_err-window-clause-taken g c = none-taken (g.S.Source.left c.args.source.now) _
 
@@ -38,6 +43,7 @@ loop-text-init g c =
       empty = search rules;
       follows = starts (options_of c.args.options.now) c.requires (g.S.Source.left c.args.source.now) c.in_ok-window.window (g.K.Sink.written c.args.sink.now) is;
       counted = if-told _ (g.S.Source.left c.args.source.now) (omega (arith, ap (λ (x : HeldBytes). taken_by x) is));
+      asked = stops-start g.S.Source.calls g.S.Source.taken c.args.source.now (Solve (options_of c.args.options.now)) (g.S.Source.left c.args.source.now);
       read_quiet = refl;
       write_quiet = refl;
     }
@@ -64,6 +70,12 @@ returns-in_err-problem-clause-words g c =
 pub returns-in_err-problem-clause-end : goal.returns-in_err-problem-clause-end
 returns-in_err-problem-clause-end g c h =
     let p = err_from_is_err_and c.from_residual-in_err-problem.result c.from_residual-in_err-problem.ensures.1 in err-not_done _ _ p.1 h
+
+pub returns-in_err-problem-clause-asked : goal.returns-in_err-problem-clause-asked
+returns-in_err-problem-clause-asked g c =
+    let i = c.loop-text.invariant in
+    stops-next g.S.Source.calls g.S.Source.taken (options_of c.args.options.now) c.requires c.args.source.now c.loop-text.source c.next_problem.new.source c.loop-text.window (g.S.Source.left c.loop-text.source) (g.K.Sink.written c.args.sink.now) (g.K.Sink.written c.loop-text.sink) (g.S.Source.left c.args.source.now)
+    i.follows i.counted i.asked c.next_problem.ensures.asked
 
 pub returns-in_err-problem-clause-taken : goal.returns-in_err-problem-clause-taken
 returns-in_err-problem-clause-taken g c =
@@ -98,6 +110,12 @@ pub returns-in_err-write_solution-clause-end : goal.returns-in_err-write_solutio
 returns-in_err-write_solution-clause-end g c h =
     let p = err_from_is_err_and c.from_residual-in_err-write_solution.result c.from_residual-in_err-write_solution.ensures.1 in err-not_done _ _ p.1 h
 
+pub returns-in_err-write_solution-clause-asked : goal.returns-in_err-write_solution-clause-asked
+returns-in_err-write_solution-clause-asked g c =
+    let i = c.loop-text.invariant in
+    stops-next g.S.Source.calls g.S.Source.taken (options_of c.args.options.now) c.requires c.args.source.now c.loop-text.source c.next_problem.new.source c.loop-text.window (g.S.Source.left c.loop-text.source) (g.K.Sink.written c.args.sink.now) (g.K.Sink.written c.loop-text.sink) (g.S.Source.left c.args.source.now)
+    i.follows i.counted i.asked c.next_problem.ensures.asked
+
 pub returns-in_err-write_solution-clause-taken : goal.returns-in_err-write_solution-clause-taken
 returns-in_err-write_solution-clause-taken g c =
     let i = c.loop-text.invariant in
@@ -126,6 +144,12 @@ returns-in_err-write_all-clause-words g c =
 pub returns-in_err-write_all-clause-end : goal.returns-in_err-write_all-clause-end
 returns-in_err-write_all-clause-end g c h =
     let p = err_from_is_err_and c.from_residual-in_err-write_all.result c.from_residual-in_err-write_all.ensures.1 in err-not_done _ _ p.1 h
+
+pub returns-in_err-write_all-clause-asked : goal.returns-in_err-write_all-clause-asked
+returns-in_err-write_all-clause-asked g c =
+    let i = c.loop-text.invariant in
+    stops-next g.S.Source.calls g.S.Source.taken (options_of c.args.options.now) c.requires c.args.source.now c.loop-text.source c.next_problem.new.source c.loop-text.window (g.S.Source.left c.loop-text.source) (g.K.Sink.written c.args.sink.now) (g.K.Sink.written c.loop-text.sink) (g.S.Source.left c.args.source.now)
+    i.follows i.counted i.asked c.next_problem.ensures.asked
 
 pub returns-in_err-write_all-clause-taken : goal.returns-in_err-write_all-clause-taken
 returns-in_err-write_all-clause-taken g c =
@@ -156,6 +180,9 @@ loop-text-preserved g c =
       empty = search rules;
       follows = more-follows (options_of c.args.options.now) c.requires (g.S.Source.left c.args.source.now) c.loop-text.window (g.S.Source.left c.loop-text.source) (g.K.Sink.written c.args.sink.now) (g.K.Sink.written c.loop-text.sink) (g.S.Source.taken c.args.source.now) (g.S.Source.taken c.loop-text.source) i.follows i.counted c.next_problem.new.window (g.S.Source.left c.next_problem.new.source) (g.S.Source.taken c.next_problem.new.source) n.counted _ _ (rw c.in-Some.is at n.finds) _ _ c.in_ok-write_solution.ensures.text (rw c.deref.ensures.value at c.in_ok-write_all.ensures.bytes);
       counted = counts (options_of c.args.options.now) c.requires (g.S.Source.left c.args.source.now) c.loop-text.window (g.S.Source.left c.loop-text.source) (g.K.Sink.written c.args.sink.now) (g.K.Sink.written c.loop-text.sink) (g.S.Source.taken c.args.source.now) (g.S.Source.taken c.loop-text.source) i.follows i.counted c.next_problem.new.window (g.S.Source.left c.next_problem.new.source) (g.S.Source.taken c.next_problem.new.source) n.counted;
+      asked =
+          stops-next g.S.Source.calls g.S.Source.taken (options_of c.args.options.now) c.requires c.args.source.now c.loop-text.source c.next_problem.new.source c.loop-text.window (g.S.Source.left c.loop-text.source) (g.K.Sink.written c.args.sink.now) (g.K.Sink.written c.loop-text.sink) (g.S.Source.left c.args.source.now)
+          i.follows i.counted i.asked c.next_problem.ensures.asked;
       read_quiet = n.quiet (λ e. cc) ∙ i.read_quiet;
       write_quiet = c.in_ok-write_all.ensures.quiet ∙ i.write_quiet;
     }
@@ -173,6 +200,12 @@ returns-clause-words g c = λ h. cc
 
 pub returns-clause-end : goal.returns-clause-end
 returns-clause-end g c h = c.in_ok-problem.ensures.end (ap Ok (none-left _ c.in_default.not-Some))
+
+pub returns-clause-asked : goal.returns-clause-asked
+returns-clause-asked g c =
+    let i = c.loop-text.invariant in
+    stops-next g.S.Source.calls g.S.Source.taken (options_of c.args.options.now) c.requires c.args.source.now c.loop-text.source c.next_problem.new.source c.loop-text.window (g.S.Source.left c.loop-text.source) (g.K.Sink.written c.args.sink.now) (g.K.Sink.written c.loop-text.sink) (g.S.Source.left c.args.source.now)
+    i.follows i.counted i.asked c.next_problem.ensures.asked
 
 pub returns-clause-taken : goal.returns-clause-taken
 returns-clause-taken g c =

@@ -1,6 +1,8 @@
 use Rattle.std.proofs.Common.{◌≡◌, ◌+◌, ◌-◌, []}
 use Rattle.std.specs.Prelude.{IfSome}
 use Rattle.pip_model.specs.Limits.{most_input_bytes}
+use Rattle.pip_model.specs.Commands.{Solve}
+use Rattle.pip_items.specs.ByProblem.{StopsAtRefused}
 use Rattle.pip_words.specs.Words.{options_of}
 use Rattle.pip_stream.specs.Windows.{taken_by}
 use Rattle.pip_stream.specs.Next.{IsReady}
@@ -13,6 +15,7 @@ invariant-loop-text g l = record {
   empty : l.text.items ≡ [];
   follows : IfSome (g.S.Source.left l.fn.source) (λ bytes. Follows (options_of l.options) bytes l.window (g.S.Source.left l.source) (g.K.Sink.written l.fn.sink) (g.K.Sink.written l.sink));
   counted : IfSome (g.S.Source.left l.fn.source) (λ _. g.S.Source.taken l.source ≡ g.S.Source.taken l.fn.source + taken_by l.window);
+  asked : IfSome (g.S.Source.left l.fn.source) (StopsAtRefused g.S.Source.calls g.S.Source.taken l.fn.source l.source (Solve (options_of l.options)));
   read_quiet : g.S.Source.faults l.source ≡ g.S.Source.faults l.fn.source;
   write_quiet : g.K.Sink.faults l.sink ≡ g.K.Sink.faults l.fn.sink;
 }
