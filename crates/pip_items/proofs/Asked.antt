@@ -1,6 +1,6 @@
 -- That the source is not called again once the group of a refused problem has ended.
-use Rattle.std.proofs.Common.{◌≡◌, refl, sym, ap, subst, ◌∙◌, ℕ, ◌+◌, ◌-◌, ◌<◌, ◌≤◌, inl, inr, arith, true, false, List, [], ◌∷◌, length, length-drop, drop}
-use Rattle.std.specs.Prelude.{◌⊎◌, Option, Some, None, IfSome, Result, Ok, Err}
+use Rattle.std.proofs.Common.{◌≡◌, refl, sym, ap, subst, ◌∙◌, ℕ, ◌+◌, ◌≤◌, inl, inr, arith, true, false, List, [], ◌∷◌, length, length-drop, drop}
+use Rattle.std.specs.Prelude.{Option, Some, None, IfSome, Result, Ok, Err}
 use Rattle.pip_outside.specs.Calls.{CallsWithin}
 use Rattle.pip_outside.specs.Windows.{HeldBytes}
 use Rattle.pip_model.specs.Problem.{Problem}
@@ -12,11 +12,11 @@ use Rattle.pip_model.specs.Items.{ItemAt, Gives, FirstItemsTo, IsItself, or_endi
 use Rattle.pip_model.specs.Commands.{Command, SolveOptions, Solve, text_of}
 use Rattle.text_laws.proofs.EndedProblems.{read_native-ends}
 use Rattle.pip_reader.specs.Groups.{first_group_end}
-use Rattle.pip_stream.specs.Windows.{taken_by, bytes_from}
+use Rattle.pip_stream.specs.Windows.{taken_by}
 use Rattle.pip_stream.specs.Asked.{AsksWhileOpen}
 use Rattle.pip_stream.proofs.Groups.{group_end-ends}
 use Rattle.pip_stream.proofs.Taking.{ended-by}
-use Rattle.pip_items.specs.ByProblem.{reads_by_problem, IsRefusedAt, StopsAtRefused}
+use Rattle.pip_items.specs.ByProblem.{reads_by_problem, StopsAtRefused}
 use Rattle.pip_items.proofs.ByProblem.{if-some, text, text-is, Follows}
 
 -- ---- items one after the other

@@ -1,5 +1,5 @@
 -- What the loop over the problems of an input has written so far, and what it is at each of its ends.
-use Rattle.std.proofs.Common.{◌≡◌, refl, sym, ap, subst, ◌∙◌, ℕ, ◌+◌, ◌-◌, ◌<◌, ◌≤◌, arith, Bool, true, false, not, List, [], ◌++◌, length, length-append, length-drop, take, drop}
+use Rattle.std.proofs.Common.{◌≡◌, refl, sym, ap, subst, ◌∙◌, ℕ, ◌+◌, ◌-◌, ◌<◌, ◌≤◌, arith, Bool, true, false, not, List, [], length, length-append, length-drop, take, drop}
 use Rattle.std.proofs.KnownBytes.{Appends-nil}
 use Rattle.std.proofs.lemmas.List.{drop-drop, drop-take}
 use Rattle.std.specs.Prelude.{Option, Some, None, IfSome, Result, Ok, Err, IsErrOf, MatchBool, if◌then◌else◌}
@@ -12,12 +12,12 @@ use Rattle.pip_outside.specs.declared.window.FillRefusal.{FillRefusal}
 use Rattle.pip_outside.specs.declared.window.FillRefusal.TheVariants as fill
 use Rattle.pip_model.specs.Limits.{most_input_bytes}
 use Rattle.pip_model.specs.Problem.{Problem}
-use Rattle.pip_model.specs.Reading.{Fault, next_open}
+use Rattle.pip_model.specs.Reading.{Fault}
 use Rattle.pip_model.specs.Moved.{moved, is_closed}
 use Rattle.pip_model.specs.NativeText.{read_native}
 use Rattle.pip_model.specs.Endings.{Ending, finished, fault_ending}
 use Rattle.pip_model.specs.ItemKinds.{matrix_item, problem_item}
-use Rattle.pip_model.specs.Items.{ItemAt, or_ending, text_with, text_of_item, FirstItems, IsItself, NoEnd, Ends}
+use Rattle.pip_model.specs.Items.{ItemAt, or_ending, text_with, text_of_item, IsItself, NoEnd, Ends}
 use Rattle.pip_model.specs.Commands.{SolveOptions, Solve, item_text, text_of}
 use Rattle.pip_model.specs.Output.{IsFirstOutput}
 use Rattle.text_laws.proofs.LocalProblems.{read_native-moved}
@@ -26,7 +26,7 @@ use Rattle.text_laws.proofs.Items.{next_open-closed}
 use Rattle.headline.proofs.FirstItems.{first_items-first, first_items-end}
 use Rattle.pip_problem.specs.Faults.{read_fault}
 use Rattle.pip_reader.specs.Groups.{group_behind, first_group_end}
-use Rattle.pip_stream.specs.Windows.{taken_by, bytes_from, Drops}
+use Rattle.pip_stream.specs.Windows.{taken_by, bytes_from}
 use Rattle.pip_stream.specs.Next.{ReadsNext, ReadsNone, RefusesNext, StaysOpen, HoldsRest, FindsNext, IsReady}
 use Rattle.pip_stream.specs.declared.refusal.NextRefusal.{NextRefusal}
 use Rattle.pip_stream.specs.declared.refusal.NextRefusal.TheVariants as next

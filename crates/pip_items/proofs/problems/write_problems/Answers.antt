@@ -1,6 +1,6 @@
-use Rattle.std.proofs.Common.{◌≡◌, refl, sym, ap, subst, ◌∙◌, ℕ, ◌+◌, ◌≤◌, arith, rules, length}
+use Rattle.std.proofs.Common.{refl, ap, ◌∙◌, arith, rules, length}
 use Rattle.std.proofs.lemmas.Result.{err_from_is_err_and}
-use Rattle.std.specs.Prelude.{Option, Some, None, Ok, Err}
+use Rattle.std.specs.Prelude.{Ok, Err}
 use Rattle.pip_outside.specs.Windows.{HeldBytes}
 use Rattle.pip_words.specs.Words.{options_of}
 use Rattle.pip_stream.specs.Windows.{taken_by}
