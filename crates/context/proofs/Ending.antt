@@ -1,5 +1,5 @@
 -- Where no row is below 0 and those of the unknowns are whole, the run without parameters has a point.
-use Rattle.std.proofs.Common.{◌≡◌, ◌∙◌, refl, ap, sym, ℕ, zero, suc, ◌+◌, ◌≤◌, ℤ, arith, Bool, true, false, ◌&&◌, Option, Some, None, is_none, is_some, List, [], ◌∷◌, ◌++◌, length, take}
+use Rattle.std.proofs.Common.{◌≡◌, ◌∙◌, refl, ap, sym, ℕ, zero, suc, ◌+◌, ◌≤◌, ℤ, arith, Bool, true, false, Option, Some, None, is_none, is_some, List, [], ◌∷◌, ◌++◌, length, take}
 use Rattle.std.specs.Prelude.{if◌then◌else◌, filter, ◌||◌}
 use Rattle.std.proofs.lemmas.List.{take-append-le, get_or_at}
 use Rattle.std.specs.List.{list_any}
@@ -8,6 +8,7 @@ use Rattle.pip_model.specs.Forms.{constant, entry}
 use Rattle.pip_model.specs.Rows.{Row, row_at, form_row, count_from, candidates, entering_of, entering_of_listed, first_fraction, fraction_from}
 use Rattle.pip_model.specs.Tree.{Bottom}
 use Rattle.pip_model.specs.Run.{Work, Done, Closed, go_on, give, listed, leaf, turn, turn_by, last_turn, pivot_turn, numbers_of, point_setting}
+use Rattle.pip_model.proofs.Tests.{both}
 use Rattle.pip_model.proofs.Fuel.{closed_run_from, falls-constant_class}
 use Rattle.context.specs.Turns.{negative_from, node_of}
 use Rattle.context.specs.Remembered.{replayed, finds_point, asked, IsStopped, EndsWith}
@@ -45,11 +46,6 @@ finds_here n E S v h e f whole =
     ∙ ap (λ o. turn_by (point_setting n) (node_of rows) (signs_of o) v) (negative-append E S 0 e f)
     ∙ ap (λ o. last_turn (point_setting n) (node_of rows) o v) none in
     ap (λ o. go_on o (λ t. give (is_some (numbers_of t)))) (closed_run_from (point_setting n) falls-constant_class (node_of rows) v v (leaf (point_setting n) (node_of rows)) closed)
-
-both : (a b : Bool) → (a && b) ≡ true → (a ≡ true) × (b ≡ true)
-both true true e = (refl, refl)
-both true false e = absurd cc
-both false b e = absurd cc
 
 -- ---- one row behind them
 

@@ -33,11 +33,10 @@ first_more n K c =
     ∙ ap (λ (rows : List Row). units ++ rows) (map-append (form_row n) (map (widen_to n) K) (widen_to n c ∷ []))
     ∙ sym (append-assoc units (map (form_row n) (map (widen_to n) K)) (form_row n (widen_to n c) ∷ []))
 
-point_some : (n : ℕ) (K : List (List ℤ)) (c : List ℤ) → point n (K ++ c ∷ []) ≡ point_run n (K ++ c ∷ [])
+pub point_some : (n : ℕ) (K : List (List ℤ)) (c : List ℤ) → point n (K ++ c ∷ []) ≡ point_run n (K ++ c ∷ [])
 point_some zero [] c = refl
 point_some zero (d ∷ K) c = refl
-point_some (suc n) [] c = refl
-point_some (suc n) (d ∷ K) c = refl
+point_some (suc n) K c = refl
 
 has_point_is : (n : ℕ) (K : List (List ℤ)) (c : List ℤ) (w : Work) → has_point n (K ++ c ∷ []) w ≡ finds_point n (first_rows n K ++ form_row n (widen_to n c) ∷ []) w
 has_point_is n K c w =

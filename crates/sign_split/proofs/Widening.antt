@@ -8,11 +8,12 @@ use Rattle.std.proofs.lemmas.List.Folds.{list_all-append}
 use Rattle.pip_model.specs.Numbers.{is_nonneg, is_zero, floor_div, gcd_of}
 use Rattle.pip_model.specs.Forms.{coefficients, constant, width, floor_divided, tighten, negate, opposite, widen_to}
 use Rattle.pip_model.specs.Listed.{opposite_listed}
-use Rattle.pip_model.specs.Run.{Work, Outcome, Counted, Done, Refused, Class, Plus, Minus, go_on, ◌>>=◌, give, listed, root, run_from, point_setting, numbers_of, point, point_run, class, class_of, class_above, class_below, class_by_points}
+use Rattle.pip_model.specs.Run.{Work, Outcome, Counted, Done, Refused, Class, Plus, Minus, go_on, ◌>>=◌, give, listed, root, run_from, point_setting, numbers_of, point, class, class_of, class_above, class_below, class_by_points}
 use Rattle.pip_model.proofs.Division.{form-parts, gcd_of-natural}
 use Rattle.run_laws.proofs.Lengths.{length_map, length_tighten}
 use Rattle.run_laws.proofs.Scopes.{coefficients-end, constant-end, length-widen_to}
 use Rattle.affine_rows.proofs.Units.{widen_same}
+use Rattle.context.proofs.OneFormMore.{point_some}
 use Rattle.sign_split.specs.Classes.{widened_class}
 use Rattle.sign_split.proofs.Opposites.{form_of, opposite_form, opposite_length}
 use Rattle.sign_split.proofs.TightSigns.{not_positive, is_below}
@@ -119,11 +120,6 @@ module _ (w : ℕ) (c : List ℤ) (some : 1 ≤ length c) where
   below_widened = rw (all_widened not_positive refl, constant_widened) refl
 
 -- ---- points
-
-point_some : (w : ℕ) (K : List (List ℤ)) (c : List ℤ) → point w (K ++ c ∷ []) ≡ point_run w (K ++ c ∷ [])
-point_some zero [] c = refl
-point_some zero (d ∷ K) c = refl
-point_some (suc w) K c = refl
 
 point_widened : (w : ℕ) (K : List (List ℤ)) (c : List ℤ) → 1 ≤ length c → length c ≤ w + 1 → point w (K ++ widen_to w c ∷ []) ≡ point w (K ++ c ∷ [])
 point_widened w K c some narrow =
