@@ -4,7 +4,7 @@ ghost use Rattle.pip_outside.specs.Faults.{HasRisen};
 ghost use Rattle.pip_model.specs.Endings.{all_done, wrong_words, read_failed, write_failed, memory_refused};
 ghost use Rattle.pip_words.specs.Words.{command_given};
 ghost use Rattle.pip_items.specs.Outputs.{TakesInput, TakesInputAtMost, IsRead, EndsByFaults};
-ghost use Rattle.pip_items.specs.ByProblem.{WritesOf, ReadsWhole};
+ghost use Rattle.pip_items.specs.ByProblem.{WritesOf, ReadsWhole, StopsAtRefused};
 ghost use Rattle.pip_cli.specs.Runs.{IsWordsEnding, WhereTold};
 ghost use Rattle.pip_cli.specs.Ends.{GainsLine, IsNoted, IsAfterInput, EndsAs, AnswersRight, Completes};
 
@@ -31,6 +31,8 @@ fn run<S: Source, K: Sink>(
         result }
     ensures unread { IfSome (command_given words.now) ReadsWhole → IsErrOf result Ending.ReadFault →
         sink.new ≡ sink.old }
+    ensures asked { WhereTold (command_given words.now) (S.left source.old)
+        (StopsAtRefused S.calls S.taken source.old source.new) }
     ensures output { WhereTold (command_given words.now) (S.left source.old) (λ c bytes.
         WritesOf c bytes (S.taken source.new - S.taken source.old) (K.written sink.old) (K.written sink.new) result) }
 {
@@ -63,6 +65,8 @@ pub fn pip_main<S: Source, K: Sink, N: Sink>(
     ensures done_at_end { IfSome (command_given words.now) TakesInput → result ≡ all_done →
         IsAtEnd (S.left source.new) }
     ensures taken { TakesInputAtMost (S.left source.old) (S.taken source.old) (S.taken source.new) }
+    ensures asked { WhereTold (command_given words.now) (S.left source.old)
+        (StopsAtRefused S.calls S.taken source.old source.new) }
 
     // the causes of faults, each of which ends the run
     ensures read_fault { result ≡ read_failed → HasRisen (S.faults source.old) (S.faults source.new) }
