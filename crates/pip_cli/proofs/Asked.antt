@@ -9,7 +9,7 @@ use Rattle.clap.specs.Words.{Row, Text, fault_of, subcommand_of, first_of, all_o
 use Rattle.pip_model.specs.Tokens.{is_digit, natural_of}
 use Rattle.pip_model.specs.Limits.{most_params, most_pivots, most_cuts, most_splits, most_nesting}
 use Rattle.pip_model.specs.Run.{Budget, IsBudget, standard_budget}
-use Rattle.pip_model.specs.Commands.{Command, Eval, Simplify, Pieces, Restrict, Same}
+use Rattle.pip_model.specs.Commands.{Command, Eval, Simplify, Pieces, Restrict, Same, Least}
 use Rattle.pip_model.specs.Output.{MayBeAsked}
 use Rattle.pip_items.specs.Outputs.{IsWithin}
 use Rattle.pip_words.specs.Arguments.{pip_app}
@@ -120,6 +120,10 @@ same_asked : (w : Option (ℕ × Budget)) → IfSome w IsWalk → IfSome (option
 same_asked None h = tt
 same_asked (Some w) h = λ bytes within. h.0
 
+least_asked : (w : Option (ℕ × Budget)) → IfSome w IsWalk → IfSome (option_map (λ x. Least x.0 x.1) w) IsAsked
+least_asked None h = tt
+least_asked (Some w) h = λ bytes within. h
+
 in_asked : (found : Option (Text × List Row)) → IfSome (command_in found) IsAsked
 in_asked None = tt
 in_asked (Some found) =
@@ -131,7 +135,8 @@ in_asked (Some found) =
     (chosen (bytes_eq found.0 (codes "trial")) _ _ (trial_asked found.1)
     (chosen (bytes_eq found.0 (codes "pieces")) _ _ (pieces_asked (needed_of (codes "parameters") most_params found.1) (needed_within most_params (first_of (codes "parameters") found.1)))
     (chosen (bytes_eq found.0 (codes "restrict")) _ _ (restrict_asked (walk_of found.1) (walk_within found.1))
-    (chosen (bytes_eq found.0 (codes "same")) _ _ (same_asked (walk_of found.1) (walk_within found.1)) tt))))))))
+    (chosen (bytes_eq found.0 (codes "same")) _ _ (same_asked (walk_of found.1) (walk_within found.1))
+    (chosen (bytes_eq found.0 (codes "least")) _ _ (least_asked (walk_of found.1) (walk_within found.1)) tt)))))))))
 
 pub command-asked : (words : List Text) → IfSome (command_of words) IsAsked
 command-asked words = chosen (is_accepted (fault_of pip_app words)) _ _ (in_asked (subcommand_of pip_app words)) tt

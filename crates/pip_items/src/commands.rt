@@ -2,6 +2,7 @@
 mod certified;
 pub(crate) mod check;
 mod eval;
+pub(crate) mod least;
 mod needed;
 mod pair;
 mod pieces;

@@ -6,6 +6,7 @@ ghost use Rattle.pip_items.specs.Outputs.{WritesOver, TakesInput, TakesInputAtMo
 ghost use Rattle.pip_items.specs.ByProblem.{WritesOf, ReadsWhole, StopsAtRefused};
 
 use crate::commands::check::Check;
+use crate::commands::least::Least;
 use crate::commands::restrict::Restrict;
 use crate::commands::same::Same;
 use crate::commands::share::Share;
@@ -75,6 +76,7 @@ pub fn write_output<S: Source, K: Sink>(
         Command::Pieces(options) => write_over_input(alloc, options, source, sink),
         Command::Restrict(options) => write_over_input(alloc, &Restrict(options), source, sink),
         Command::Same(options) => write_over_input(alloc, &Same(options), source, sink),
+        Command::Least(options) => write_over_input(alloc, &Least(options), source, sink),
         Command::Trial(options) => write_items(alloc, options, b"", sink),
     }
 }

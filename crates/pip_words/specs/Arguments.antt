@@ -77,10 +77,14 @@ abbrev pub same_shape : Shape
 same_shape = command_with (codes "same") (
     needed_rule (codes "parameters") ∷ setting_rule (codes "pivots") ∷ setting_rule (codes "cuts") ∷ setting_rule (codes "splits") ∷ [])
 
+abbrev pub least_shape : Shape
+least_shape = command_with (codes "least") (
+    needed_rule (codes "parameters") ∷ setting_rule (codes "pivots") ∷ setting_rule (codes "cuts") ∷ setting_rule (codes "splits") ∷ setting_rule (codes "nesting") ∷ [])
+
 -- the program, of which a command is required
 abbrev pub bare_app : App
 bare_app = record (new_app (codes "pip")) { top = record (new_app (codes "pip")).top { subcommand_required = true } }
 
 abbrev pub pip_app : App
 pip_app = fold with_subcommand bare_app (
-    solve_shape ∷ eval_shape ∷ simplify_shape ∷ check_shape ∷ share_shape ∷ trial_shape ∷ pieces_shape ∷ restrict_shape ∷ same_shape ∷ [])
+    solve_shape ∷ eval_shape ∷ simplify_shape ∷ check_shape ∷ share_shape ∷ trial_shape ∷ pieces_shape ∷ restrict_shape ∷ same_shape ∷ least_shape ∷ [])

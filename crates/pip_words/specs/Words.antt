@@ -7,7 +7,7 @@ use Rattle.std.specs.Str.{bytes_eq}
 use Rattle.clap.specs.Words.{Row, Text, Kinds, fault_of, subcommand_of, first_of, all_of}
 use Rattle.pip_model.specs.Limits.{most_params, most_pivots, most_cuts, most_splits, most_nesting}
 use Rattle.pip_model.specs.Run.{Budget, standard_budget}
-use Rattle.pip_model.specs.Commands.{SolveOptions, Command, Solve, Eval, Simplify, CheckAll, ShareAll, Trial, Pieces, Restrict, Same}
+use Rattle.pip_model.specs.Commands.{SolveOptions, Command, Solve, Eval, Simplify, CheckAll, ShareAll, Trial, Pieces, Restrict, Same, Least}
 use Rattle.pip_words.specs.Arguments.{pip_app}
 use Rattle.pip_words.specs.Numbers.{number_of, parameter_of, most_drawn}
 use Rattle.pip_words.specs.declared.command.Command.{Command as Given}
@@ -30,6 +30,7 @@ meaning_of (given.Trial o) = Trial o.seed o.count
 meaning_of (given.Pieces o) = Pieces o.params
 meaning_of (given.Restrict o) = Restrict o.params o.limits
 meaning_of (given.Same o) = Same o.params o.limits
+meaning_of (given.Least o) = Least o.params o.limits
 
 infixl 10 ◌>>=◌
 abbrev pub ◌>>=◌ : {A B : Type 0} → Option A → (A → Option B) → Option B
@@ -134,6 +135,10 @@ restrict_of rows = option_map (λ w. Restrict w.0 w.1) (walk_of rows)
 abbrev pub same_of : List Row → Option Command
 same_of rows = option_map (λ w. Same w.0 w.1) (walk_of rows)
 
+-- least M, and a budget
+abbrev pub least_of : List Row → Option Command
+least_of rows = option_map (λ w. Least w.0 w.1) (walk_of rows)
+
 -- the command of this name
 abbrev pub command_named : Text → List Row → Option Command
 command_named name rows =
@@ -146,7 +151,8 @@ command_named name rows =
     else (if bytes_eq name (codes "pieces") then pieces_of rows
     else (if bytes_eq name (codes "restrict") then restrict_of rows
     else (if bytes_eq name (codes "same") then same_of rows
-    else None))))))))
+    else (if bytes_eq name (codes "least") then least_of rows
+    else None)))))))))
 
 abbrev pub command_in : Option (Text × List Row) → Option Command
 command_in None = None

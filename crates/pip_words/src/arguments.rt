@@ -132,6 +132,16 @@ pub(crate) fn pip<'a>(alloc: Global) -> Result<Command<'a>, AllocError>
                     Argument::Setting(names::SPLITS),
                 ],
             },
+            Entry {
+                name: names::LEAST,
+                arguments: &[
+                    Argument::Needed(names::PARAMETERS),
+                    Argument::Setting(names::PIVOTS),
+                    Argument::Setting(names::CUTS),
+                    Argument::Setting(names::SPLITS),
+                    Argument::Setting(names::NESTING),
+                ],
+            },
         ],
     )
 }

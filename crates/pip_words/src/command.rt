@@ -18,6 +18,7 @@ pub enum Command {
     Pieces(PiecesOptions),
     Restrict(WalkOptions),
     Same(WalkOptions),
+    Least(WalkOptions),
 }
 
 /// How problems are read and solved.

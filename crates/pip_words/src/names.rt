@@ -18,6 +18,8 @@ pub(crate) const RESTRICT: &str = "restrict";
 
 pub(crate) const SAME: &str = "same";
 
+pub(crate) const LEAST: &str = "least";
+
 pub(crate) const POLYLIB: &str = "polylib";
 
 pub(crate) const CERTIFICATE: &str = "certificate";

@@ -2,7 +2,7 @@ ghost use Rattle.std.specs.Prelude.{◌≡◌, ◌≤◌, IfOk, IfErr, IfSome, S
 ghost use Rattle.pip_model.specs.Limits.{most_params};
 ghost use Rattle.clap.specs.Words.{subcommand_rows_of, rows_of, found_of};
 ghost use Rattle.pip_words.specs.Words.{command_given, meaning_of, Gives, command_in, command_named, solve_of, eval_of, simplify_of};
-ghost use Rattle.pip_words.specs.Words.{pieces_of, walk_of, restrict_of, same_of};
+ghost use Rattle.pip_words.specs.Words.{pieces_of, walk_of, restrict_of, same_of, least_of};
 ghost use Rattle.pip_words.specs.Words.{trial_of, budget_of, parameters_of, flag_of, limit_of, needed_of};
 
 use crate::arguments::pip;
@@ -77,6 +77,8 @@ fn named(alloc: Global, name: &str, matches: &ArgMatches<'_>) -> Result<Command,
         restrict(matches)
     } else if name == names::SAME {
         same(matches)
+    } else if name == names::LEAST {
+        least(matches)
     } else {
         Err(WordsRefusal::Usage)
     }
@@ -197,6 +199,15 @@ fn same(matches: &ArgMatches<'_>) -> Result<Command, WordsRefusal>
 {
     match walk(matches) {
         Some(options) => Ok(Command::Same(options)),
+        None => Err(WordsRefusal::Usage),
+    }
+}
+
+fn least(matches: &ArgMatches<'_>) -> Result<Command, WordsRefusal>
+    ensures { Gives meaning_of (least_of (rows_of (found_of matches.now))) result }
+{
+    match walk(matches) {
+        Some(options) => Ok(Command::Least(options)),
         None => Err(WordsRefusal::Usage),
     }
 }

@@ -42,6 +42,7 @@ fn read(alloc: Global, line: &str) -> Result<String, Fail> {
         Ok(Command::Pieces(options)) => format!(in alloc; "pieces {}", options.params)?,
         Ok(Command::Restrict(options)) => walk(alloc, "restrict", &options)?,
         Ok(Command::Same(options)) => walk(alloc, "same", &options)?,
+        Ok(Command::Least(options)) => walk(alloc, "least", &options)?,
         Ok(Command::Trial(options)) => {
             format!(in alloc; "trial {} {}", options.seed, options.count)?
         }
@@ -141,6 +142,11 @@ fn words_of_lines(rt: HostRuntime) -> Result<(), Fail> {
         ("pip restrict 49", "usage"),
         ("pip same 0 --splits 0 --pivots=2", "same 0 2 100000 0 200"),
         ("pip same 1 --nesting 1", "usage"),
+        (
+            "pip least 1 --nesting 7 --splits 1000000",
+            "least 1 1000000 100000 1000000 7",
+        ),
+        ("pip least --nesting 7", "usage"),
         ("pip trial 7 0", "trial 7 0"),
         (
             "pip trial 18446744073709551615 10000",

@@ -1,5 +1,5 @@
 use Rattle.std.proofs.Common.{refl, ap, not, [], Some}
-use Rattle.pip_model.specs.Commands.{Solve, Eval, Simplify, CheckAll, ShareAll, Trial, Pieces, Restrict, Same}
+use Rattle.pip_model.specs.Commands.{Solve, Eval, Simplify, CheckAll, ShareAll, Trial, Pieces, Restrict, Same, Least}
 use Rattle.pip_words.specs.Words.{options_of}
 use Rattle.pip_items.proofs.ByProblem.{output-matrices}
 use Rattle.pip_items.proofs.Asked.{stops-whole}
@@ -43,6 +43,11 @@ returns-in-Same-clause-output g c =
     rw c.in-Same.is (output-taken (Same c.in-Same.options.params c.in-Same.options.limits) tt (g.S.Source.left c.args.source.now) (g.K.Sink.written c.args.sink.now)
     _ c.write_over_input-in-Same.result c.write_over_input-in-Same.ensures.output)
 
+pub returns-in-Least-clause-output : goal.returns-in-Least-clause-output
+returns-in-Least-clause-output g c =
+    rw c.in-Least.is (output-taken (Least c.in-Least.options.params c.in-Least.options.limits) tt (g.S.Source.left c.args.source.now) (g.K.Sink.written c.args.sink.now)
+    _ c.write_over_input-in-Least.result c.write_over_input-in-Least.ensures.output)
+
 pub returns-in-Trial-clause-output : goal.returns-in-Trial-clause-output
 returns-in-Trial-clause-output g c =
     rw c.in-Trial.is (output-trial c.in-Trial.options.seed c.in-Trial.options.count (g.K.Sink.written c.args.sink.now) _ c.write_items.result c.write_items.ensures.own c.write_items.ensures.output)
@@ -82,6 +87,10 @@ returns-in-Restrict-clause-asked g c =
 pub returns-in-Same-clause-asked : goal.returns-in-Same-clause-asked
 returns-in-Same-clause-asked g c =
     rw c.in-Same.is (stops-whole g.S.Source.calls g.S.Source.taken c.args.source.now c.write_over_input-in-Same.new.source (Same c.in-Same.options.params c.in-Same.options.limits) (g.S.Source.left c.args.source.now) refl)
+
+pub returns-in-Least-clause-asked : goal.returns-in-Least-clause-asked
+returns-in-Least-clause-asked g c =
+    rw c.in-Least.is (stops-whole g.S.Source.calls g.S.Source.taken c.args.source.now c.write_over_input-in-Least.new.source (Least c.in-Least.options.params c.in-Least.options.limits) (g.S.Source.left c.args.source.now) refl)
 
 pub returns-in-Trial-clause-asked : goal.returns-in-Trial-clause-asked
 returns-in-Trial-clause-asked g c =
