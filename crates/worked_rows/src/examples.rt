@@ -1,4 +1,4 @@
-//! The examples that README.md and examples/ show. The trees were computed by another program.
+//! The examples that README.md and examples/ show. The trees and the pieces were computed by other programs.
 use crate::row::{Row, check};
 use std::test::Fail;
 
@@ -75,6 +75,38 @@ fn examples_are_answered(rt: HostRuntime) -> Result<(), Fail> {
             words: "pip same 1",
             input: "() ((up) (if #[-1 0] (list #[0 0]) (newparm 1 (div #[1 0] 2)) (list #[1 -1 0])))\n         ((half) (list #[1/2 0]))\n",
             output: "differ #[ 1]\n",
+            notes: "",
+            status: 0,
+        },
+        Row {
+            name: "when the second of two statements wrote a cell",
+            words: "pip solve",
+            input: "((in turn i: a of i+3 = f of i; a of 2i = g of i; use of a of i.\n  When did the second statement write the a of i that turn i uses? The unknowns are the turns since then, and the statements, 1; the parameter is i) 2 1 4 0 -1 1\n(#[2 0 0 -1]\n #[-2 0 0 1]\n #[-1 0 0 1]\n #[0 1 -1 0])\n())\n",
+            output: "((in turn i: a of i+3 = f of i; a of 2i = g of i; use of a of i.\n  When did the second statement write the a of i that turn i uses? The unknowns are the turns since then, and the statements, 1; the parameter is i)\n(if #[ -1 0]\n(list\n#[ 0 0]\n#[ 0 1]\n)\n(newparm 1 (div #[ 1 0] 2))\n(if #[ -1 2 0]\n(list\n#[ 1 -1 0]\n#[ 0 0 1]\n)\n()\n)\n)\n)\n",
+            notes: "",
+            status: 0,
+        },
+        Row {
+            name: "when the first of them did",
+            words: "pip solve",
+            input: "((in turn i: a of i+3 = f of i; a of 2i = g of i; use of a of i.\n  When did the first statement write the a of i that turn i uses? The unknowns are the turns since then, and the statements, 2; the parameter is i) 2 1 4 0 -1 1\n(#[1 0 -3 0]\n #[-1 0 3 0]\n #[-1 0 0 1]\n #[0 1 -2 0])\n())\n",
+            output: "((in turn i: a of i+3 = f of i; a of 2i = g of i; use of a of i.\n  When did the first statement write the a of i that turn i uses? The unknowns are the turns since then, and the statements, 2; the parameter is i)\n(if #[ 1 -3]\n(list\n#[ 0 3]\n#[ 0 2]\n)\n()\n)\n)\n",
+            notes: "",
+            status: 0,
+        },
+        Row {
+            name: "the last write of either",
+            words: "pip least 1",
+            input: "(#[1 -3])\n((in turn i: a of i+3 = f of i; a of 2i = g of i; use of a of i.\n  When did the second statement write the a of i that turn i uses? The unknowns are the turns since then, and the statements, 1; the parameter is i)\n(if #[ -1 0]\n(list\n#[ 0 0]\n#[ 0 1]\n)\n(newparm 1 (div #[ 1 0] 2))\n(if #[ -1 2 0]\n(list\n#[ 1 -1 0]\n#[ 0 0 1]\n)\n()\n)\n)\n)\n((in turn i: a of i+3 = f of i; a of 2i = g of i; use of a of i.\n  When did the first statement write the a of i that turn i uses? The unknowns are the turns since then, and the statements, 2; the parameter is i)\n(if #[ 1 -3]\n(list\n#[ 0 3]\n#[ 0 2]\n)\n()\n)\n)\n",
+            output: "((in turn i: a of i+3 = f of i; a of 2i = g of i; use of a of i.\n  When did the second statement write the a of i that turn i uses? The unknowns are the turns since then, and the statements, 1; the parameter is i)\n(newparm 1 (div #[ 1 0] 2))\n(if #[ -1 2 0]\n(if #[ 1 -1 -3]\n(if #[ -1 1 3]\n(list\n#[ 1 -1 0]\n#[ 0 0 1]\n)\n(list\n#[ 0 0 3]\n#[ 0 0 2]\n)\n)\n(list\n#[ 1 -1 0]\n#[ 0 0 1]\n)\n)\n(list\n#[ 0 0 3]\n#[ 0 0 2]\n)\n)\n)\n",
+            notes: "",
+            status: 0,
+        },
+        Row {
+            name: "its pieces, for a code generator",
+            words: "pip pieces 1",
+            input: "((in turn i: a of i+3 = f of i; a of 2i = g of i; use of a of i.\n  When did the second statement write the a of i that turn i uses? The unknowns are the turns since then, and the statements, 1; the parameter is i)\n(newparm 1 (div #[ 1 0] 2))\n(if #[ -1 2 0]\n(if #[ 1 -1 -3]\n(if #[ -1 1 3]\n(list\n#[ 1 -1 0]\n#[ 0 0 1]\n)\n(list\n#[ 0 0 3]\n#[ 0 0 2]\n)\n)\n(list\n#[ 1 -1 0]\n#[ 0 0 1]\n)\n)\n(list\n#[ 0 0 3]\n#[ 0 0 2]\n)\n)\n)\n",
+            output: "((in turn i: a of i+3 = f of i; a of 2i = g of i; use of a of i.\n  When did the second statement write the a of i that turn i uses? The unknowns are the turns since then, and the statements, 1; the parameter is i)\n(piece\n(newparm 1 (div #[ 1 0] 2))\n(where #[ -1 2 0])\n(where #[ 1 -1 -3])\n(where #[ -1 1 3])\n(list\n#[ 1 -1 0]\n#[ 0 0 1]\n)\n)\n(piece\n(newparm 1 (div #[ 1 0] 2))\n(where #[ -1 2 0])\n(where #[ 1 -1 -3])\n(where #[ 1 -1 -4])\n(list\n#[ 0 0 3]\n#[ 0 0 2]\n)\n)\n(piece\n(newparm 1 (div #[ 1 0] 2))\n(where #[ -1 2 0])\n(where #[ -1 1 2])\n(list\n#[ 1 -1 0]\n#[ 0 0 1]\n)\n)\n(piece\n(newparm 1 (div #[ 1 0] 2))\n(where #[ 1 -2 -1])\n(list\n#[ 0 0 3]\n#[ 0 0 2]\n)\n)\n)\n",
             notes: "",
             status: 0,
         },
