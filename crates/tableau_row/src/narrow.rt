@@ -26,6 +26,9 @@ fn bounded_gcd(a: u64, b: u64) -> u64
     ensures value { result ≡ euclid (b + 1) a b }
     ensures bound { result < 2 ^ 63 }
 {
+    if b == 0 {
+        return a;
+    }
     gcd_natural(a, b)
 }
 
