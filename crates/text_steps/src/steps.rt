@@ -64,19 +64,29 @@ pub fn expect_word(bytes: &[u8], wanted: &[u8], place: usize) -> Result<usize, T
     }
 }
 
+// The number that is the next token, and the place behind it, where it is not read at one go.
+#[inline(never)]
+fn number_token(bytes: &[u8], place: usize) -> Reads<i128, TextFault>
+    requires { place ≤ length bytes.now }
+    ensures reads { IsRead (λ z. z) fault_of bytes.now place result (model.number bytes.now place) }
+    ensures fits { IfOk result (λ x. Fits x.0) }
+{
+    let token = token(bytes, place);
+    match token.kind {
+        Kind::Number(number) => Ok((number, token.after)),
+        Kind::WideNumber => Err(TextFault::Wide(token.start)),
+        _ => Err(TextFault::Syntax(token.start)),
+    }
+}
+
 /// The number that is the next token, and the place behind it.
 pub fn number(bytes: &[u8], place: usize) -> Reads<i128, TextFault>
     requires { place ≤ length bytes.now }
     ensures reads { IsRead (λ z. z) fault_of bytes.now place result (model.number bytes.now place) }
     ensures fits { IfOk result (λ x. Fits x.0) }
 {
-    if let Some(read) = plain_number(bytes, place) {
-        return Ok(read);
-    }
-    let token = token(bytes, place);
-    match token.kind {
-        Kind::Number(number) => Ok((number, token.after)),
-        Kind::WideNumber => Err(TextFault::Wide(token.start)),
-        _ => Err(TextFault::Syntax(token.start)),
+    match plain_number(bytes, place) {
+        Some(read) => Ok(read),
+        None => number_token(bytes, place),
     }
 }
