@@ -1,5 +1,5 @@
 -- Texts of lists, and numbers over a denominator.
-use Rattle.std.proofs.Common.{◌≡◌, ◌∙◌, ◌≤◌, refl, ap, sym, append_assoc, codes, if◌then◌else◌, ℕ, ℤ, pos, negsuc, ◌≤ℤ◌, ◌<◌, unsigned_abs, Bool, true, false, arith, List, [], ◌∷◌, ◌++◌, flat_map}
+use Rattle.std.proofs.Common.{◌≡◌, ◌∙◌, ◌≤◌, refl, ap, sym, append_assoc, codes, if◌then◌else◌, ℕ, ◌%◌, ℤ, pos, negsuc, ◌≤ℤ◌, ◌<◌, unsigned_abs, Bool, true, false, arith, List, [], ◌∷◌, ◌++◌, flat_map}
 use Rattle.std.proofs.lemmas.Int.{ints}
 use Rattle.std.proofs.lemmas.List.{append-nil}
 use Rattle.std.specs.Fmt.{signed_decimal}
@@ -10,7 +10,8 @@ use Rattle.pip_model.specs.Tree.{Component}
 use Rattle.pip_model.specs.TreeText.{spell_fraction, spell_fractions, spell_components}
 use Rattle.text_parts.specs.Printing.{Begins}
 use Rattle.quast_text.specs.Printing.{spell_denominator, spell_term, spell_component}
-use Rattle.pip_model.proofs.Gcd.{common-IsGcd}
+use Rattle.pip_model.specs.Numbers.{euclid}
+use Rattle.pip_model.proofs.Gcd.{common-IsGcd, div_one}
 
 pub fractions_flat : (d : ℤ) (cs : List ℤ) → flat_map (spell_term d) cs ≡ spell_fractions d cs
 fractions_flat d [] = refl
@@ -38,6 +39,17 @@ gcd_positive c (pos n) h =
     let some : 0 < n = omega (arith, ints) in
     let p = pos_of_dvd_of_pos (common-IsGcd (unsigned_abs c) n).1 some in
     omega (arith, ints)
+
+-- over 1 a number is itself
+gcd_by_one : (c : ℤ) → gcd c (pos 1) ≡ pos 1
+gcd_by_one c =
+    let none : unsigned_abs c % 1 ≡ 0 = omega arith in
+    ap (λ (n : ℕ). pos (euclid 1 1 n)) none
+
+pub whole_fraction : (c : ℤ) → spell_fraction c (pos 1) ≡ signed_decimal c
+whole_fraction c =
+    ap (λ (g : ℤ). if same_number g (pos 1) then signed_decimal (floor_div c g) else signed_decimal (floor_div c g) ++ codes "/" ++ signed_decimal (floor_div (pos 1) g)) (gcd_by_one c)
+    ∙ ap (λ (z : ℤ). signed_decimal z) (div_one c)
 
 -- ---- what is written goes on from what was
 

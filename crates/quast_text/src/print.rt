@@ -198,8 +198,24 @@ fn put_term(out: &mut Vec<u8>, c: i128, d: i128) -> Result<(), AllocError>
 }
 
 // c over d in lowest terms, the denominator only where it is not 1.
-#[tactic(auto, using(crate::proofs::Spellings::gcd_positive, crate::proofs::Spellings::fraction_parts))]
+#[tactic(auto, using(crate::proofs::Spellings::whole_fraction))]
 fn put_fraction(out: &mut Vec<u8>, c: i128, d: i128) -> Result<(), AllocError>
+    requires positive { pos 1 ≤ℤ d }
+    requires c_fits { Fits c }
+    requires d_fits { Fits d }
+    ensures ok { Appends (spell_fraction c d) out.old.items out.new.items result }
+    ensures kept { Begins out.old.items out.new.items }
+{
+    if d == 1 {
+        put_number(out, c)
+    } else {
+        put_lowest(out, c, d)
+    }
+}
+
+// The same, by the greatest common divisor.
+#[tactic(auto, using(crate::proofs::Spellings::gcd_positive, crate::proofs::Spellings::fraction_parts))]
+fn put_lowest(out: &mut Vec<u8>, c: i128, d: i128) -> Result<(), AllocError>
     requires positive { pos 1 ≤ℤ d }
     requires c_fits { Fits c }
     requires d_fits { Fits d }

@@ -5,7 +5,7 @@ use Rattle.pip_model.specs.Numbers.{floor_div, gcd}
 use Rattle.pip_model.specs.TreeText.{spell_fraction}
 use Rattle.quast_text.specs.Printing.{spell_denominator}
 use Rattle.quast_text.proofs.Spellings.{begins_through, on_ok, fraction_written}
-use Rattle.quast_text.proofs.print.put_fraction.Goals as goal
+use Rattle.quast_text.proofs.print.put_lowest.Goals as goal
 
 pub returns-clause-ok : goal.returns-clause-ok
 returns-clause-ok c =
