@@ -89,43 +89,41 @@ fn rows_of(alloc: Global, problem: &Problem) -> Result<Tableau, WantOfMemory>
     }
 }
 
+// What the run of a problem keeps. All that may be pending and join the context has its room from the start.
+#[derive(Drop)]
+struct Room {
+    path: Path,
+    pending: Pending,
+}
+
+// The path to a problem's first node, and nothing pending, with room for so many levels.
+fn room_of(alloc: Global, problem: &Problem, levels: usize) -> Result<Room, WantOfMemory>
+    requires { levels ≤ most_nesting }
+    ensures path { IfOk result (λ room. IsFirstPath problem.now levels room.path) }
+    ensures pending { IfOk result (λ room. room.pending ≡ record { frames = []; most = levels }) }
+{
+    let path = path_of(alloc, problem, levels)?;
+    let pending = Pending::reserve(alloc, levels)?;
+    Ok(Room { path, pending })
+}
+
 // The tree of a problem whose context has a point.
 fn tree(
     alloc: Global,
     problem: &Problem,
-    path: &mut Path,
-    pending: &mut Pending,
+    room: &mut Room,
     work: &mut Work,
 ) -> Result<Quast, Refusal>
-    requires path { IsFirstPath problem.now pending.old.most path.old }
-    requires pending { pending.old.frames ≡ [] }
-    requires nesting { pending.old.most ≡ work.old.budget.nesting }
-    requires few { pending.old.most ≤ most_nesting }
+    requires path { IsFirstPath problem.now room.old.pending.most room.old.path }
+    requires pending { room.old.pending.frames ≡ [] }
+    requires nesting { room.old.pending.most ≡ work.old.budget.nesting }
+    requires few { room.old.pending.most ≤ most_nesting }
     ensures gives { AgreesCounted tree_in run_fault result work.new
         (run_from (setting problem.now) (first_node problem.now) work.old) }
     ensures width { IfOk result (λ tree. tree.width ≡ problem.now.params) }
 {
     let rows = rows_of(alloc, problem)?;
-    let tree = run(rows, path, pending, work)?;
-    Ok(tree)
-}
-
-// The same, from the room for so many levels. All that may be pending and join the context has its room from the start.
-fn tree_within(
-    alloc: Global,
-    problem: &Problem,
-    levels: usize,
-    work: &mut Work,
-) -> Result<Quast, Refusal>
-    requires nesting { levels ≡ work.old.budget.nesting }
-    requires few { levels ≤ most_nesting }
-    ensures gives { AgreesCounted tree_in run_fault result work.new
-        (run_from (setting problem.now) (first_node problem.now) work.old) }
-    ensures width { IfOk result (λ tree. tree.width ≡ problem.now.params) }
-{
-    let mut path = path_of(alloc, problem, levels)?;
-    let mut pending = Pending::reserve(alloc, levels)?;
-    let tree = tree(alloc, problem, &mut path, &mut pending, work)?;
+    let tree = run(rows, &mut room.path, &mut room.pending, work)?;
     Ok(tree)
 }
 
@@ -159,7 +157,8 @@ pub fn answer_from(
     match point {
         None => Ok(Answer::Void),
         Some(_) => {
-            let tree = tree_within(alloc, problem, levels, work)?;
+            let mut room = room_of(alloc, problem, levels)?;
+            let tree = tree(alloc, problem, &mut room, work)?;
             Ok(Answer::Tree(tree))
         }
     }
@@ -176,8 +175,12 @@ fn answer(
     ensures gives { AgreesCounted answer_of run_fault result work.new (model.answer problem.now work.old) }
     ensures scope { IfOk result (IsOver problem.now.params) }
 {
-    let point = context_point(alloc, problem, work)?;
-    answer_from(alloc, problem, &point, limits, work)
+    let mut room = room_of(alloc, problem, limits.nesting() as usize)?;
+    let Some(_) = room.path.context.point(alloc, work)? else {
+        return Ok(Answer::Void);
+    };
+    let tree = tree(alloc, problem, &mut room, work)?;
+    Ok(Answer::Tree(tree))
 }
 
 // The answer of the run from its start.
