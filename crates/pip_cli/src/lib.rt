@@ -3,4 +3,4 @@
 
 mod program;
 
-pub use program::pip_main;
+pub use program::{pip_main, refuse_words};

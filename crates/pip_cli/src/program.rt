@@ -1,7 +1,7 @@
 ghost use Rattle.std.specs.Prelude.{◌≡◌, ◌≢◌, ◌⊎◌, ◌-◌, None, Ok, IsErrOf, IfSome};
 ghost use Rattle.std.specs.Io.KnownBytes.{IsAtEnd};
 ghost use Rattle.pip_outside.specs.Faults.{HasRisen};
-ghost use Rattle.pip_model.specs.Endings.{all_done, wrong_words, read_failed, write_failed, memory_refused};
+ghost use Rattle.pip_model.specs.Endings.{all_done, wrong_words, read_failed, write_failed, memory_refused, memory_ending};
 ghost use Rattle.pip_words.specs.Words.{command_given};
 ghost use Rattle.pip_items.specs.Outputs.{TakesInput, TakesInputAtMost, IsRead, EndsByFaults};
 ghost use Rattle.pip_items.specs.ByProblem.{WritesOf, ReadsWhole, StopsAtRefused};
@@ -103,4 +103,16 @@ pub fn pip_main<S: Source, K: Sink, N: Sink>(
             ending.status().number()
         }
     }
+}
+
+/// Ends a run for whose words there was no memory: its line goes to the notes, and its status is answered. A write of
+/// the line that fails does not change the status.
+pub fn refuse_words<N: Sink>(notes: &mut N) -> u8
+    ensures status { result ≡ memory_refused }
+    ensures notes { GainsLine (N.written notes.old) (N.written notes.new) (N.faults notes.old) (N.faults notes.new)
+        memory_ending }
+{
+    let ending = Ending::WantOfMemory;
+    let _ = ending.write_line(notes);
+    ending.status().number()
 }
