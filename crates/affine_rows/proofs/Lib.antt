@@ -1,6 +1,7 @@
 pub mod QuotientForms
 pub mod Closing
 pub mod Combined
+pub mod DigitNumbers
 pub mod Divisors
 mod DeclaredLimits
 pub mod Mapped

@@ -1,6 +1,6 @@
-ghost use Rattle.std.specs.Prelude.{◌≡◌, ◌≤ℤ◌, pos, All, IsTrue, OnOk, OnErr};
-ghost use Rattle.pip_model.specs.Numbers.{divides};
-ghost use Rattle.pip_model.specs.Forms.{floor_divided, negate, opposite, scale, tighten};
+ghost use Rattle.std.specs.Prelude.{◌≡◌, ◌↔◌, ◌≤ℤ◌, pos, All, IsTrue, OnOk, OnErr};
+ghost use Rattle.pip_model.specs.Numbers.{divides, gcd_of};
+ghost use Rattle.pip_model.specs.Forms.{coefficients, floor_divided, negate, opposite, scale, tighten};
 ghost use Rattle.pip_model.specs.Listed.{opposite_listed};
 ghost use Rattle.pip_model.specs.Agreement.{IsChecked};
 ghost use Rattle.affine_rows.specs.Checks.{Fits, is_overflow};
@@ -35,6 +35,27 @@ pub(crate) fn make_opposite(entries: &mut [i128]) -> Result<(), Overflow>
     Ok(())
 }
 
+// The gcd of the coefficients, 0 where all are 0.
+fn coefficient_divisor(entries: &[i128]) -> i128
+    requires { IsForm entries.now }
+    ensures value { result ≡ gcd_of (coefficients entries.now) }
+    ensures low { pos 0 ≤ℤ result }
+    ensures fits { Fits result }
+{
+    let (coefficients, _) = entries.split_at(entries.len() - 1);
+    divisor(coefficients)
+}
+
+// Whether the gcd of the coefficients is at most 1.
+#[tactic(auto, using(crate::proofs::Tightening::tighten_kept))]
+pub(crate) fn is_tight(entries: &[i128]) -> bool
+    requires { IsForm entries.now }
+    ensures value { IsTrue result ↔ (gcd_of (coefficients entries.now) ≤ℤ pos 1) }
+    ensures kept { IsTrue result → tighten entries.now ≡ entries.now }
+{
+    coefficient_divisor(entries) <= 1
+}
+
 // Divides by the gcd of the coefficients and rounds the constant down.
 #[tactic(auto, using(crate::proofs::Tightening::tighten_divided, crate::proofs::Tightening::tighten_kept))]
 pub(crate) fn make_tight(entries: &mut [i128])
@@ -42,8 +63,7 @@ pub(crate) fn make_tight(entries: &mut [i128])
     ensures value { entries.new ≡ tighten entries.old }
     ensures form { IsForm entries.new }
 {
-    let (coefficients, _) = entries.split_at(entries.len() - 1);
-    let e = divisor(coefficients);
+    let e = coefficient_divisor(entries);
     if e > 1 {
         divide_all(entries, e);
     }

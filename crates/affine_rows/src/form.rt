@@ -1,6 +1,6 @@
-ghost use Rattle.std.specs.Prelude.{◌≡◌, ◌+◌, ◌<◌, ◌≤ℤ◌, ℤ, List, pos, length, All, IsTrue, IfOk, OnOk, OnErr};
+ghost use Rattle.std.specs.Prelude.{◌≡◌, ◌↔◌, ◌+◌, ◌<◌, ◌≤ℤ◌, ℤ, List, pos, length, All, IsTrue, IfOk, OnOk, OnErr};
 ghost use Rattle.pip_model.specs.Numbers.{divides, gcd_of, is_nonneg};
-ghost use Rattle.pip_model.specs.Forms.{width, entry, value, combine, floor_divided, scale, tighten, opposite, residue, widen, remove};
+ghost use Rattle.pip_model.specs.Forms.{width, entry, coefficients, value, combine, floor_divided, scale, tighten, opposite, residue, widen, remove};
 ghost use Rattle.pip_model.specs.Listed.{value_listed, combine_listed, opposite_listed};
 ghost use Rattle.pip_model.specs.Agreement.{IsChecked};
 ghost use Rattle.affine_rows.specs.Checks.{Fits, is_overflow, is_form_overflow};
@@ -8,7 +8,7 @@ ghost use Rattle.affine_rows.specs.Forms.{IsForm};
 
 use crate::combination::add_combined;
 use crate::division::{divisor, residues};
-use crate::entries::{divide_evenly, make_opposite, make_tight};
+use crate::entries::{divide_evenly, is_tight, make_opposite, make_tight};
 use crate::evaluation::evaluate;
 use crate::memory::{FormRefusal, WantOfMemory};
 use crate::numbers::Overflow;
@@ -128,6 +128,14 @@ impl Form {
         ensures exact { scale d self.new ≡ self.old }
     {
         divide_evenly(&mut self.entries, d);
+    }
+
+    /// Whether the greatest common divisor of the coefficients is at most 1, so that tightening keeps the form.
+    pub fn is_tight(&self) -> bool
+        ensures value { IsTrue result ↔ (gcd_of (coefficients self.now) ≤ℤ pos 1) }
+        ensures kept { IsTrue result → tighten self.now ≡ self.now }
+    {
+        is_tight(&self.entries)
     }
 
     /// Divides the coefficients by their greatest common divisor, and rounds the constant over it down. A form whose

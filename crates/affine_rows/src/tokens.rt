@@ -1,8 +1,8 @@
-ghost use Rattle.std.specs.Prelude.{◌≡◌, ℕ, ◌+◌, ◌<◌, ◌≤◌, ◌^◌, ◌-◌, pos, min, length, take, drop, slice_index, IfSome};
+ghost use Rattle.std.specs.Prelude.{◌≡◌, ℕ, ◌+◌, ◌<◌, ◌≤◌, ◌^◌, ◌-◌, ◌==◌, ◌||◌, false, pos, min, length, take, drop, slice_index, IfSome};
 ghost use Rattle.std.specs.List.{prefix_len, take_while};
 ghost use Rattle.pip_model.specs.Numbers.{fits};
 ghost use Rattle.pip_model.specs.declared.Kind.TheVariants.{Number};
-ghost use Rattle.pip_model.specs.Tokens.{is_blank, is_digit, is_letter, is_sign, natural_of, unsigned_part as unsigned_part_of, digits_at, integer_of, number_kind as number_kind_of, fraction_kind as fraction_kind_of, lexeme as lexeme_of, behind_stroke as behind_stroke_of, numeral_at, token_here as token_here_of, token as token_of};
+ghost use Rattle.pip_model.specs.Tokens.{is_blank, is_digit, is_letter, is_sign, natural_of, unsigned_part as unsigned_part_of, digits_at, integer_of, number_kind as number_kind_of, fraction_kind as fraction_kind_of, lexeme as lexeme_of, behind_stroke as behind_stroke_of, numeral_at, token_here as token_here_of, token_in, token as token_of};
 ghost use Rattle.affine_rows.specs.Checks.{Fits};
 ghost use Rattle.affine_rows.specs.Tokens.{fitting, signed_as, IsFittingKind, TakesBytes};
 
@@ -247,9 +247,55 @@ fn skip_blanks(bytes: &[u8], start: usize) -> usize
     start + blanks(rest)
 }
 
-/// The number that is the next token at or behind `start`, which is at most the number of bytes, and the place behind
-/// it; none where `token` has to be asked.
-pub fn plain_number(bytes: &[u8], start: usize) -> Option<(i128, usize)>
+// Whether the byte is a space, newline, `]` or `)`, before which a number ends.
+fn ends_number(byte: u8) -> bool
+    ensures { result ≡ ((byte == 32) || (byte == 93) || (byte == 10) || (byte == 41)) }
+{
+    matches!(byte, b' ' | b']' | b'\n' | b')')
+}
+
+// The number of one digit at the front, behind a `-` or none, and how many bytes spell it; none where there is no such
+// number, or no space, newline, `]` or `)` stands behind it.
+#[inline(always)]
+fn digit_number(bytes: &[u8]) -> Option<(i128, usize)>
+    ensures value { IfSome result
+        (λ x. (place : ℕ) → token_here_of place bytes.now ≡ lexeme_of place (Number x.0) x.1) }
+    ensures front { IfSome result (λ x. is_blank (slice_index bytes.now 0) ≡ false) }
+    ensures fits { IfSome result (λ x. Fits x.0) }
+    ensures order { IfSome result (λ x. (0 < x.1) × (x.1 ≤ length bytes.now)) }
+{
+    match bytes {
+        [first, next, ..] if digit(*first) && ends_number(*next) => {
+            Some((i128::from(first.saturating_sub(b'0')), 1))
+        }
+        [b'-', first, next, ..] if digit(*first) && ends_number(*next) => {
+            Some((-i128::from(first.saturating_sub(b'0')), 2))
+        }
+        _ => None,
+    }
+}
+
+// The number of one digit that is the next token, behind one space or none, and the place behind it; none where there
+// is no such number.
+#[inline(always)]
+fn small_number(bytes: &[u8]) -> Option<(i128, usize)>
+    ensures value { IfSome result (λ x. (place : ℕ) → ((token_in place bytes.now).kind ≡ Number x.0)
+        × ((token_in place bytes.now).after ≡ place + x.1)) }
+    ensures fits { IfSome result (λ x. Fits x.0) }
+    ensures order { IfSome result (λ x. (0 < x.1) × (x.1 ≤ length bytes.now)) }
+{
+    match bytes {
+        [b' ', rest @ ..] => match digit_number(rest) {
+            Some((number, len)) => Some((number, len + 1)),
+            None => None,
+        },
+        _ => digit_number(bytes),
+    }
+}
+
+// The number that is the next token at or behind `start`, and the place behind it; none where `token` has to be asked.
+#[inline(never)]
+fn wide_number(bytes: &[u8], start: usize) -> Option<(i128, usize)>
     requires { start ≤ length bytes.now }
     ensures value { IfSome result (λ x. ((token_of bytes.now start).kind ≡ Number x.0)
         × ((token_of bytes.now start).after ≡ x.1)) }
@@ -260,6 +306,23 @@ pub fn plain_number(bytes: &[u8], start: usize) -> Option<(i128, usize)>
     let (_, rest) = bytes.split_at(place);
     let (number, len) = short_number(rest)?;
     Some((number, place + len))
+}
+
+/// The number that is the next token at or behind `start`, which is at most the number of bytes, and the place behind
+/// it; none where `token` has to be asked.
+#[inline(always)]
+pub fn plain_number(bytes: &[u8], start: usize) -> Option<(i128, usize)>
+    requires { start ≤ length bytes.now }
+    ensures value { IfSome result (λ x. ((token_of bytes.now start).kind ≡ Number x.0)
+        × ((token_of bytes.now start).after ≡ x.1)) }
+    ensures fits { IfSome result (λ x. Fits x.0) }
+    ensures order { IfSome result (λ x. (start < x.1) × (x.1 ≤ length bytes.now)) }
+{
+    let (_, rest) = bytes.split_at(start);
+    match small_number(rest) {
+        Some((number, len)) => Some((number, start + len)),
+        None => wide_number(bytes, start),
+    }
 }
 
 /// The next token at or behind `start`, which is at most the number of bytes: blanks are skipped, and the token is the
