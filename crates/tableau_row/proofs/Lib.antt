@@ -7,6 +7,7 @@ pub mod Quotients
 pub mod Rounding
 pub mod RowLaws
 pub mod ShortRows
+pub mod Solved
 pub mod Substituting
 pub mod Unchanged
 pub mod UnitRows

@@ -1,17 +1,17 @@
-ghost use Rattle.std.specs.Prelude.{◌≡◌, ℕ, ◌+◌, ◌-◌, ◌<◌, ◌≤◌, pos, ◌≤ℤ◌, [], ◌∷◌, ◌++◌, length, IsTrue, IfOk, IfSome, OnErr, OnOk, vec_len, vec_capacity};
-ghost use Rattle.pip_model.specs.Forms.{entry};
+ghost use Rattle.std.specs.Prelude.{◌≡◌, ℕ, ◌+◌, ◌-◌, ◌<◌, ◌≤◌, pos, ◌≤ℤ◌, [], ◌∷◌, ◌++◌, length, All, IsTrue, IfOk, IfSome, OnErr, OnOk, vec_len, vec_capacity};
+ghost use Rattle.pip_model.specs.Forms.{entry, negate};
 ghost use Rattle.pip_model.specs.Listed.{all_fit};
 ghost use Rattle.pip_model.specs.Rows as model;
 ghost use Rattle.pip_model.specs.Cuts.{rounded, rounded_listed};
 ghost use Rattle.pip_model.specs.Agreement.{IsChecked};
 ghost use Rattle.affine_rows.specs.Checks.{is_overflow};
 ghost use Rattle.tableau_row.specs.Flat.{numbers_of};
-ghost use Rattle.tableau_row.specs.Short.{IsShortRow};
+ghost use Rattle.tableau_row.specs.Short.{IsShort, IsShortRow};
 ghost use Rattle.tableau_row.specs.Rows.{IsRow, IsOwnRow, IsReduced, row_from};
 ghost use Rattle.tableau_row.specs.Views.{row_of};
 
 use crate::row::{divide, eliminate_long, eliminate_short, round};
-use crate::short::both;
+use crate::short::{both, short_opposite};
 use crate::view::RowView;
 use affine_rows::Overflow;
 
@@ -110,6 +110,50 @@ pub fn append_eliminated(
     } else {
         eliminate_long(last, p, c)
     }
+}
+
+// Appends the opposites of short entries, for which there is room.
+fn append_negated(numbers: &mut Vec<i128>, entries: &[i128])
+    requires room { vec_len numbers.old + length entries.now ≤ vec_capacity numbers.old }
+    requires short { All IsShort entries.now }
+    ensures items { numbers.new.items ≡ numbers.old.items ++ negate entries.now }
+    ensures length { vec_len numbers.new ≡ vec_len numbers.old + length entries.now }
+    ensures room { vec_capacity numbers.old ≤ vec_capacity numbers.new }
+{
+    for entry in entries {
+        append_one(numbers, short_opposite(*entry));
+    }
+}
+
+/// Appends the numbers of what the row of column c itself is after the pivot on row p and column c: p solved for that
+/// column. All numbers of p are short, and have no common divisor; so those made are and have none, and nothing is
+/// divided.
+pub fn append_solved(numbers: &mut Vec<i128>, p: &RowView<'_>, c: usize)
+    requires room { vec_len numbers.old + length (numbers_of (row_of p.now)) ≤ vec_capacity numbers.old }
+    requires p { IsOwnRow (row_of p.now) }
+    requires reduced { IsReduced (row_of p.now) }
+    requires p_short { IsShortRow (row_of p.now) }
+    requires column { c < length p.now.coefs.now }
+    requires positive { pos 1 ≤ℤ entry p.now.coefs.now c }
+    ensures listed { IsTrue (all_fit (model.eliminated_listed (row_of p.now) c
+        (model.unit_row (length p.now.coefs.now) (length p.now.constant.now - 1) c))) }
+    ensures items { numbers.new.items ≡ numbers.old.items ++ numbers_of (model.eliminated (row_of p.now) c
+        (model.unit_row (length p.now.coefs.now) (length p.now.constant.now - 1) c)) }
+    ensures row { IsRow (length p.now.coefs.now) (length p.now.constant.now - 1) (model.eliminated (row_of p.now) c
+        (model.unit_row (length p.now.coefs.now) (length p.now.constant.now - 1) c)) }
+    ensures reduced { IsReduced (model.eliminated (row_of p.now) c
+        (model.unit_row (length p.now.coefs.now) (length p.now.constant.now - 1) c)) }
+    ensures short { IsShortRow (model.eliminated (row_of p.now) c
+        (model.unit_row (length p.now.coefs.now) (length p.now.constant.now - 1) c)) }
+    ensures room { vec_capacity numbers.old ≤ vec_capacity numbers.new }
+{
+    let (front, rest) = p.coefs.split_at(c);
+    let (_, back) = rest.split_at(1);
+    append_one(numbers, p.coefs[c]);
+    append_negated(numbers, front);
+    append_one(numbers, p.den);
+    append_negated(numbers, back);
+    append_negated(numbers, p.constant);
 }
 
 /// Appends the numbers of the row rounded by the quotient at place q, and says whether they are short; a refusal leaves

@@ -10,7 +10,8 @@ mod short;
 mod view;
 
 pub use append::{
-    append_divided, append_eliminated, append_entries, append_rounded, append_row, append_widened,
+    append_divided, append_eliminated, append_entries, append_rounded, append_row, append_solved,
+    append_widened,
 };
 pub use elimination::check_eliminated;
 pub use narrow::{short_floor_div, short_gcd};

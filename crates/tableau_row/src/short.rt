@@ -1,4 +1,4 @@
-ghost use Rattle.std.specs.Prelude.{◌≡◌, ◌<◌, ◌^◌, ◌*ℤ◌, ◌-ℤ◌, ◌&&◌, unsigned_abs, length, All, IsTrue};
+ghost use Rattle.std.specs.Prelude.{◌≡◌, ◌<◌, ◌^◌, ◌*ℤ◌, ◌-ℤ◌, neg_ℤ, ◌&&◌, unsigned_abs, length, All, IsTrue};
 ghost use Rattle.std.specs.List.{list_all};
 ghost use Rattle.pip_model.specs.Forms.{combine};
 ghost use Rattle.affine_rows.specs.Checks.{Fits};
@@ -101,6 +101,14 @@ pub(crate) fn narrow(z: i128) -> i64
     ensures { result ≡ z }
 {
     z as i64
+}
+
+// The opposite of a short number.
+pub(crate) fn short_opposite(z: i128) -> i128
+    requires { IsShort z }
+    ensures { result ≡ neg_ℤ z }
+{
+    -(narrow(z) as i128)
 }
 
 // The product of numbers of 32 bits.

@@ -1,0 +1,10 @@
+use Rattle.std.proofs.Common.{rules, pos, arith}
+use Rattle.tableau_row.proofs.Solved.{negated_step}
+use Rattle.tableau_row.proofs.append.append_negated.Goals as goal
+
+pub loop-entry-preserved : goal.loop-entry-preserved
+loop-entry-preserved c = record {
+  items = negated_step c.args.numbers.now.items c.loop-entry.numbers.items c.append_one.new.numbers.items c.args.entries.now c.loop-entry.entry-index c.short_opposite.result (pos 0) (omega arith) c.loop-entry.invariant.items (search rules) (search rules);
+  length = search rules;
+  room = search rules;
+}
