@@ -13,6 +13,8 @@ use Rattle.affine_rows.specs.Checks.{Fits}
 use Rattle.affine_rows.proofs.Combined.{listed_at}
 use Rattle.tableau_row.specs.Short.{is_short}
 use Rattle.tableau_row.proofs.Places.{length_combine, listed_but, remove_parts, set_combine}
+use Rattle.tableau_row.proofs.Unchanged.{set-same}
+use Rattle.std.proofs.lemmas.Int.{ints}
 
 pub short_bound : (z : ℤ) → IsTrue (is_short z) → unsigned_abs z < 2 ^ 63
 short_bound z e = ltb-true (unsigned_abs z) (2 ^ 63) e
@@ -86,6 +88,15 @@ module _ (a b : ℤ) (r s : List ℤ) (same : length r ≡ length s) (i : ℕ) (
       (ap (λ (xs : List ℤ). set (front ++ xs) i (a *ℤ get_or r i (pos 0) -ℤ b *ℤ get_or s i (pos 0))) (drop_more r i (pos 0) h)
       ∙ set_at front (get_or r i (pos 0)) (drop (i + 1) r) (a *ℤ get_or r i (pos 0) -ℤ b *ℤ get_or s i (pos 0)) i front_length
       ∙ sym (append_assoc front ((a *ℤ get_or r i (pos 0) -ℤ b *ℤ get_or s i (pos 0)) ∷ []) (drop (i + 1) r)))
+
+  -- under an a of 1 an entry stays at which s is 0
+  pub kept_step : (now : List ℤ) → now ≡ combined a r b s i → a ≡ pos 1 → get_or s i (pos 0) ≡ pos 0 → now ≡ combined a r b s (i + 1)
+  kept_step now e one none =
+      sym (set-same now i (get_or now i (pos 0)) refl)
+      ∙ combined_step now (get_or now i (pos 0)) e (rw (one, none) (once (get_or now i (pos 0)) b))
+    where
+      once : (x y : ℤ) → x ≡ pos 1 *ℤ x -ℤ y *ℤ pos 0
+      once x y = omega (arith, ints)
 
   listed_both : IsTrue (all_fit (combine_listed a (drop i r) b (drop i s)))
       → IsTrue (all_fit (listed_at a (get_or r i (pos 0)) b (get_or s i (pos 0)))) × IsTrue (all_fit (combine_listed a (drop (i + 1) r) b (drop (i + 1) s)))

@@ -27,7 +27,7 @@ solved p c = record { den = entry p.coefs c; coefs = slice_set (negate p.coefs) 
 opposite_of : (a y : ℤ) → a *ℤ pos 0 -ℤ pos 1 *ℤ y ≡ neg_ℤ y
 opposite_of a y = omega (arith, ints)
 
-pub combine_zeros : (a : ℤ) (s : List ℤ) (n : ℕ) → length s ≡ n → combine a (replicate n (pos 0)) (pos 1) s ≡ negate s
+combine_zeros : (a : ℤ) (s : List ℤ) (n : ℕ) → length s ≡ n → combine a (replicate n (pos 0)) (pos 1) s ≡ negate s
 combine_zeros a [] n e = let z : n ≡ 0 = omega arith in rw z refl
 combine_zeros a (y ∷ s) zero e = absurd (omega arith)
 combine_zeros a (y ∷ s) (suc n) e = rw (opposite_of a y, combine_zeros a s n (omega arith)) refl

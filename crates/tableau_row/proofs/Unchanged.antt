@@ -60,7 +60,7 @@ combine-none a [] s e = refl
 combine-none a (x ∷ r) [] e = absurd (omega arith)
 combine-none a (x ∷ r) (y ∷ s) e = rw (less_none a x y, combine-none a r s (omega arith)) refl
 
-set-same : (xs : List ℤ) (c : ℕ) (z : ℤ) → entry xs c ≡ z → slice_set xs c z ≡ xs
+pub set-same : (xs : List ℤ) (c : ℕ) (z : ℤ) → entry xs c ≡ z → slice_set xs c z ≡ xs
 set-same [] c z e = refl
 set-same (x ∷ xs) zero z e = rw (sym e) refl
 set-same (x ∷ xs) (suc c) z e = rw (set-same xs c z e) refl

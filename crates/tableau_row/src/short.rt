@@ -1,4 +1,4 @@
-ghost use Rattle.std.specs.Prelude.{◌≡◌, ◌<◌, ◌^◌, ◌*ℤ◌, ◌-ℤ◌, neg_ℤ, ◌&&◌, unsigned_abs, length, All, IsTrue};
+ghost use Rattle.std.specs.Prelude.{◌≡◌, ◌<◌, ◌^◌, pos, ◌*ℤ◌, ◌-ℤ◌, neg_ℤ, ◌&&◌, unsigned_abs, length, All, IsTrue};
 ghost use Rattle.std.specs.List.{list_all};
 ghost use Rattle.pip_model.specs.Forms.{combine};
 ghost use Rattle.affine_rows.specs.Checks.{Fits};
@@ -216,6 +216,28 @@ fn combine_by_short(a: i128, r: &mut [i128], b: i128, s: &[i128]) -> bool
     short
 }
 
+// The same where a is 1, and b of 32 bits: the entries of r at which s is 0 stay.
+#[tactic(auto, using(crate::proofs::ShortRows::fits_short))]
+fn combine_by_one(r: &mut [i128], b: i64, s: &[i128]) -> bool
+    requires lengths { length r.old ≡ length s.now }
+    requires r { All IsShort r.old }
+    requires b { unsigned_abs b < 2 ^ 31 }
+    requires s { All IsShort s.now }
+    ensures value { r.new ≡ combine (pos 1) r.old b s.now }
+    ensures fits { All Fits r.new }
+    ensures short { IsTrue result → All IsShort r.new }
+{
+    let mut short = true;
+    for i in 0..r.len() {
+        if narrow(s[i]) != 0 {
+            let (entry, entry_short) = half_entry(1, r[i], b, s[i]);
+            short = both(short, entry_short);
+            r[i] = entry;
+        }
+    }
+    short
+}
+
 // Makes `a*r - b*s` of r for short numbers; whether those are short too.
 pub(crate) fn combine_short(a: i128, r: &mut [i128], b: i128, s: &[i128]) -> bool
     requires lengths { length r.old ≡ length s.now }
@@ -229,7 +251,9 @@ pub(crate) fn combine_short(a: i128, r: &mut [i128], b: i128, s: &[i128]) -> boo
 {
     let narrow_a = narrow(a);
     let narrow_b = narrow(b);
-    if is_half(narrow_a) && is_half(narrow_b) {
+    if narrow_a == 1 && is_half(narrow_b) {
+        combine_by_one(r, narrow_b, s)
+    } else if is_half(narrow_a) && is_half(narrow_b) {
         combine_by_half(narrow_a, r, narrow_b, s)
     } else {
         combine_by_short(a, r, b, s)
