@@ -1,7 +1,8 @@
-ghost use Rattle.std.specs.Prelude.{◌≡◌, ◌*◌, ◌^◌, ◌<◌, ◌≤◌, [], length, IfOk, OnOk};
+ghost use Rattle.std.specs.Prelude.{◌≡◌, ◌*◌, ◌^◌, ◌<◌, ◌≤◌, false, [], length, IfOk, IfSome, IfNone, OnOk};
 ghost use Rattle.pip_model.specs.Rows as model;
 ghost use Rattle.tableau.specs.KeptRows.{flat_numbers};
 ghost use Rattle.tableau.specs.KeptRows.{row_length, unit_run};
+ghost use Rattle.tableau_row.specs.Flat.{is_unit_row};
 ghost use Rattle.tableau_row.specs.Rows.{IsRow, IsReduced};
 ghost use Rattle.tableau_row.specs.Views.{row_of};
 
@@ -113,6 +114,19 @@ impl FlatRows {
             units,
         };
         lent.row(self.kept[i])
+    }
+
+    // The column whose row row i is, none of any other row.
+    pub(crate) fn column(&self, i: usize) -> Option<usize>
+        requires place { i < length self.now.rows }
+        ensures some { IfSome result (λ c. (c < self.now.unknowns)
+            × (model.row_at self.now.rows i ≡ model.unit_row self.now.unknowns self.now.width c)) }
+        ensures none { IfNone result (is_unit_row (model.row_at self.now.rows i) ≡ false) }
+    {
+        match self.kept[i] {
+            Kept::Unit(c) => Some(c),
+            Kept::At(_) => None,
+        }
     }
 
     // Makes room for so many rows; where there is not enough, for half as many more than now at least.

@@ -1,4 +1,4 @@
-ghost use Rattle.std.specs.Prelude.{◌≡◌, ◌+◌, ◌-◌, ◌^◌, ◌<◌, ◌≤◌, pos, ◌≤ℤ◌, All, map, not, filter, flat_map, [], length, IfOk, OnOk, OnErr};
+ghost use Rattle.std.specs.Prelude.{◌≡◌, ◌+◌, ◌-◌, ◌^◌, ◌<◌, ◌≤◌, pos, ◌≤ℤ◌, false, All, map, not, filter, flat_map, [], length, IfOk, IfSome, IfNone, OnOk, OnErr};
 ghost use Rattle.pip_model.specs.Forms.{entry};
 ghost use Rattle.pip_model.specs.Rows as model;
 ghost use Rattle.pip_model.specs.Cuts.{rounded_listed};
@@ -128,6 +128,16 @@ impl Tableau {
         ensures row { IsRow self.now.unknowns self.now.width (row_of result) }
     {
         self.rows.row(self.units.as_slice(), i)
+    }
+
+    /// The column whose row row i is, none of any other row.
+    pub fn column_of(&self, i: usize) -> Option<usize>
+        requires { i < length self.now.rows }
+        ensures some { IfSome result (λ c. (c < self.now.unknowns)
+            × (model.row_at self.now.rows i ≡ model.unit_row self.now.unknowns self.now.width c)) }
+        ensures none { IfNone result (is_unit_row (model.row_at self.now.rows i) ≡ false) }
+    {
+        self.rows.column(i)
     }
 
     /// The kept numbers of the rows that are no unit rows, row after row in order: each D, its coefficients, the
