@@ -1,5 +1,5 @@
 -- The choice of the entering column, candidate by candidate.
-use Rattle.std.specs.Prelude.{ℕ, ◌-◌, ◌<◌, ℤ, pos, ◌≤ℤ◌, ◌*ℤ◌, Option, Some, None, List, [], length, filter, if◌then◌else◌}
+use Rattle.std.specs.Prelude.{ℕ, ◌-◌, ◌<◌, ℤ, pos, ◌≤ℤ◌, ◌*ℤ◌, nat_eq, Option, Some, None, List, [], length, filter, if◌then◌else◌}
 use Rattle.pip_model.specs.Numbers.{is_positive}
 use Rattle.pip_model.specs.Forms.{entry}
 use Rattle.pip_model.specs.Rows.{Row, row_at, count_from, cross_products, up_to_difference, is_better, best, best_listed, entering_of, entering_of_listed}
@@ -7,6 +7,10 @@ use Rattle.pip_model.specs.Rows.{Row, row_at, count_from, cross_products, up_to_
 -- the product for column k at row i, which is compared with that for column b
 abbrev pub product_at : List Row → ℕ → Row → ℕ → ℕ → ℤ
 product_at rows i p k b = entry (row_at rows i).coefs k *ℤ entry p.coefs b
+
+-- the coefficient of column k in the row of column c
+abbrev pub unit_entry : ℕ → ℕ → ℤ
+unit_entry c k = if nat_eq c k then pos 1 else pos 0
 
 -- the products that tell whether k is better than b
 abbrev pub compared : List Row → Row → ℕ → ℕ → List ℤ

@@ -1,12 +1,35 @@
-ghost use Rattle.std.specs.Prelude.{◌≡◌, ◌+◌, ◌<◌, ◌≤◌, [], ◌∷◌, length, take, IfOk, IfSome, IsSomeAnd};
+ghost use Rattle.std.specs.Prelude.{◌≡◌, ◌*ℤ◌, ◌+◌, ◌<◌, ◌≤◌, [], ◌∷◌, length, take, IfOk, IfSome, IsSomeAnd};
 ghost use Rattle.pip_model.specs.Rows as model;
 ghost use Rattle.pip_model.specs.Agreement.{IsChecked};
-ghost use Rattle.affine_rows.specs.Checks.{is_overflow};
+ghost use Rattle.pip_model.specs.Forms.{entry};
+ghost use Rattle.affine_rows.specs.Checks.{is_overflow, IsFitted};
 ghost use Rattle.tableau.specs.Views.{row_of};
-ghost use Rattle.dual_pivot.specs.Choices.{product_at, compared, better, better_listed, IsCandidate};
+ghost use Rattle.dual_pivot.specs.Choices.{product_at, compared, better, better_listed, unit_entry, IsCandidate};
 
-use affine_rows::{Overflow, positive};
+use affine_rows::{Overflow, positive, times};
 use tableau::{RowView, Tableau};
+
+// The product of a number with the coefficient of column k in the row of column c.
+fn unit_product(c: usize, k: usize, factor: i128) -> Result<i128, Overflow>
+    ensures { IsFitted (unit_entry c k *ℤ factor) result }
+{
+    if c == k { times(1, factor) } else { Ok(0) }
+}
+
+// The products by which columns k and b are compared at the row of column c: one of them is a coefficient of p at most,
+// the others are 0.
+fn unit_products(p: &RowView<'_>, c: usize, k: usize, b: usize) -> Result<(i128, i128), Overflow>
+    requires k { k < length p.now.coefs.now }
+    requires b { b < length p.now.coefs.now }
+    ensures listed { IsChecked is_overflow ((unit_entry c k *ℤ entry p.now.coefs.now b)
+        ∷ (unit_entry c b *ℤ entry p.now.coefs.now k) ∷ []) result }
+    ensures value { IfOk result (λ both. both ≡
+        (unit_entry c k *ℤ entry p.now.coefs.now b, unit_entry c b *ℤ entry p.now.coefs.now k)) }
+{
+    let of_k = unit_product(c, k, p.coefs[b])?;
+    let of_b = unit_product(c, b, p.coefs[k])?;
+    Ok((of_k, of_b))
+}
 
 // The products by which columns k and b are compared at row i.
 fn products_at(
@@ -25,6 +48,9 @@ fn products_at(
     ensures value { IfOk result (λ both. both ≡
         (product_at t.now.rows i (row_of p.now) k b, product_at t.now.rows i (row_of p.now) b k)) }
 {
+    if let Some(c) = t.column_of(i) {
+        return unit_products(p, c, k, b);
+    }
     let row = t.row(i);
     let of_k = row.product(k, p, b)?;
     let of_b = row.product(b, p, k)?;
