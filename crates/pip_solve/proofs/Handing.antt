@@ -312,6 +312,22 @@ module _ (start : TableauRows) (from : Path) (before : Waiting) (v : Work) (rows
     pub ends : (tree : Tree) → ((x : Work) → turned_run now later pending.frames T x ≡ give tree x) → whole_run start from before.frames v ≡ Done tree u
     ends tree same = sym g.same ∙ turned_on rows now path later pending T w u g.running e within kept ∙ same u
 
+  -- the node goes on, and nothing else changes
+  module _ (now : TableauRows) (later : Path) (T : turns.Turn) (u : Work) (e : turn (setting_of rows path) (node_of rows path) w ≡ Done (turn_of now path T) u) (given : TurnIs rows now path u.budget.nesting T) (kept : IsKept path later) (budget : u.budget ≡ w.budget) (again : T ≡ code.Again) where
+    stays_next : IsNextNode (weight T) later pending now later pending
+    stays_next = rw again record {
+      running = follows now later code.Again u (rw again at e) (rw again at given) kept budget;
+      most = refl;
+      params = refl;
+      nearer = omega arith;
+    }
+
+    pub goes_on_again : GoesOn start from before v now later pending u
+    goes_on_again = goes_on now later T u e given kept budget now later pending stays_next (λ x. rw again refl)
+
+    pub smaller_again : 2 * left u + dues pending.frames < 2 * left w + dues pending.frames
+    smaller_again = smaller now later T u e given kept budget now later pending stays_next
+
   pub refused : (u : Work) (o : Option Refusal) → IfSome o (λ f. turn (setting_of rows path) (node_of rows path) w ≡ Refused f u) → IfSome o (λ f. whole_run start from before.frames v ≡ Refused f u)
   refused u None h = h
   refused u (Some f) h = sym g.same ∙ turned_refused rows path pending.frames w u f h

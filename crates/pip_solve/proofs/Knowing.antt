@@ -1,5 +1,5 @@
 -- The forms that are known stay known while the context stays.
-use Rattle.std.proofs.Common.{◌≡◌, ◌≢◌, refl, ap, ◌⊎◌, inl, inr, ℕ, ℤ, ◌-◌, List, [], ◌∷◌, ◌++◌, length, arith}
+use Rattle.std.proofs.Common.{◌≡◌, ap, ◌⊎◌, inl, inr, ℕ, ℤ, ◌-◌, List, [], ◌∷◌, ◌++◌, length, arith}
 use Rattle.std.proofs.lemmas.List.Elements.{All-push, All-same}
 use Rattle.pip_model.specs.Run.{Work, Budget, Done, Plus, class}
 use Rattle.run_laws.proofs.CountedAgain.{class-again}
@@ -7,11 +7,7 @@ use Rattle.context.specs.declared.work.Counts.{Counts}
 use Rattle.context.specs.Scoped.{ScopedForms, IsKeptContext}
 use Rattle.pip_solve.specs.declared.known.KnownForm.{KnownForm}
 use Rattle.pip_solve.specs.declared.known.KnownForms.{KnownForms}
-use Rattle.pip_solve.specs.declared.path.Path.{Path}
-use Rattle.pip_solve.specs.declared.turn.Turn.{Turn}
-use Rattle.pip_solve.specs.declared.turn.Turn.TheVariants as code
 use Rattle.pip_solve.specs.Known.{IsKnownForm, AreKnown}
-use Rattle.pip_solve.specs.Nodes.{IsKept}
 
 -- a form whose class was Plus is known with what was counted
 pub found_known : (K : List (List ℤ)) (w : ℕ) (entries : List ℤ) (before after : Work) (counts : Counts) → class K w entries before ≡ Done Plus after
@@ -38,12 +34,3 @@ known_on k now b c known kept e h = rw (kept.forms, kept.width, e) h
 
 pub at_start : (k now : ScopedForms) (b c : Budget) (known : KnownForms) → IsKeptContext k now → c ≡ b → AreKnown now.forms now.width c known → AreKnown k.forms k.width b known
 at_start k now b c known kept e h = rw (← kept.forms, ← kept.width, ← e) h
-
--- after a turn, and what follows it
-pub known_after : (T : Turn) (path later there : Path) (b c : Budget) (known now : KnownForms) → AreKnown path.context.forms path.context.width b known → IsKept path later → c ≡ b
-    → (T ≡ code.Again → now.forms.items ≡ known.forms.items) → (T ≢ code.Again → now.forms.items ≡ []) → (T ≡ code.Again → there ≡ later) → AreKnown there.context.forms there.context.width c now
-known_after (code.Closed t) path later there b c known now h kept e again other same = known_none there.context.forms there.context.width c now (other (λ x. cc))
-known_after (code.Split f) path later there b c known now h kept e again other same = known_none there.context.forms there.context.width c now (other (λ x. cc))
-known_after (code.Below i k) path later there b c known now h kept e again other same = known_none there.context.forms there.context.width c now (other (λ x. cc))
-known_after code.Again path later there b c known now h kept e again other same =
-    rw (same refl) (known_on path.context later.context b c now kept.context e (known_same path.context.forms path.context.width b known now (again refl) h))

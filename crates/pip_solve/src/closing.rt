@@ -61,7 +61,7 @@ pub(crate) fn close(
                 pending.push(Frame::FirstMade {
                     condition,
                     first: tree,
-                });
+                })?;
                 return Ok(Next::Node(rows));
             }
             Frame::FirstMade { condition, first } => {

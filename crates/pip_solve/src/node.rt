@@ -1,4 +1,4 @@
-ghost use Rattle.std.specs.Prelude.{◌≡◌, ◌≢◌, ℕ, ◌+◌, ◌*◌, ◌-◌, ◌^◌, ◌<◌, ◌≤◌, None, [], ◌∷◌, ◌++◌, map, length, IfOk, OnOk};
+ghost use Rattle.std.specs.Prelude.{◌≡◌, ℕ, ◌+◌, ◌*◌, ◌-◌, ◌^◌, ◌<◌, ◌≤◌, None, [], ◌∷◌, ◌++◌, map, length, IfOk, OnOk};
 ghost use Rattle.pip_model.specs.Rows.{row_at, widened};
 ghost use Rattle.pip_model.specs.Cuts as cuts;
 ghost use Rattle.pip_model.specs.Run.{Work as Counts};
@@ -95,7 +95,7 @@ fn split(
         rows: later,
         context: path.context.mark(),
         quotients: path.quotients.mark(),
-    });
+    })?;
     path.enter(holds);
     Ok(Next::Node(rows))
 }
@@ -118,20 +118,9 @@ fn define_below(
     let alloc = rows.allocator();
     let form = key.form.try_clone(alloc)?;
     let rows = cut_below(rows, i, &key.form)?;
-    pending.push(Frame::NewParm { form, den: key.den });
+    pending.push(Frame::NewParm { form, den: key.den })?;
     add_quotient(alloc, path, key)?;
     Ok(Next::Node(rows))
-}
-
-// The forms that are known stay known where the turn leaves the context as it is.
-fn keep_known(known: &mut KnownForms, turn: &Turn)
-    ensures again { turn.now ≡ turned.Again → known.new.forms.items ≡ known.old.forms.items }
-    ensures other { (turn.now ≢ turned.Again) → known.new.forms.items ≡ [] }
-{
-    match turn {
-        Turn::Again => {}
-        _ => known.forget(),
-    }
 }
 
 // What is in hand after a turn.
@@ -145,7 +134,6 @@ fn follow(
     ensures gives { IfOk result (λ next. (w : Counts) → turned_run rows path.old pending.old.frames turn w
         ≡ next_run path.new pending.new.frames next w) }
     ensures next { IfOk result (IsNext (weight turn) path.old pending.old path.new pending.new) }
-    ensures again { turn ≡ turned.Again → path.new ≡ path.old }
 {
     match turn {
         Turn::Closed(tree) => close(rows.allocator(), tree, path, pending),
@@ -155,7 +143,8 @@ fn follow(
     }
 }
 
-// The tree of a node and of the frames that wait for it: the run from it, turn by turn.
+// The tree of a node and of the frames that wait for it: the run from it, turn by turn. A node that goes on stays where
+// it is, and so do the forms that are known on its context.
 pub(crate) fn run(
     node: Tableau,
     path: &mut Path,
@@ -172,7 +161,10 @@ pub(crate) fn run(
     let mut known = KnownForms::new(rows.allocator());
     loop {
         let turn = take_turn(&mut rows, path, &mut known, work)?;
-        keep_known(&mut known, &turn);
+        if let Turn::Again = turn {
+            continue;
+        }
+        known.forget();
         match follow(turn, rows, path, pending)? {
             Next::Node(next) => rows = next,
             Next::Tree(tree) => return Ok(tree),

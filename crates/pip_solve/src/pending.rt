@@ -1,4 +1,4 @@
-ghost use Rattle.std.specs.Prelude.{◌≡◌, ◌<◌, ◌≤◌, [], ◌∷◌, length, IfSome, ◌↔◌, IfOk, None};
+ghost use Rattle.std.specs.Prelude.{◌≡◌, ◌<◌, ◌≤◌, [], ◌∷◌, length, IfSome, ◌↔◌, OnOk, OnErr, None};
 
 use affine_rows::{Form, WantOfMemory};
 use context::ContextMark;
@@ -28,8 +28,8 @@ pub enum Frame {
     },
 }
 
-/// The frames that wait, on a stack with room for all of them. Contracts see them as a list, the one pushed last first,
-/// and how many may wait.
+/// The frames that wait, on a stack that takes memory as they come. Contracts see them as a list, the one pushed last
+/// first, and how many may wait.
 #[derive(Drop)]
 pub struct Pending {
     most: usize,
@@ -38,7 +38,6 @@ pub struct Pending {
 
 impl Model for Pending {
     ghost use Rattle.std.specs.Prelude.{◌≤◌, reverse, length};
-    ghost use Rattle.std.specs.Vec.{vec_capacity};
     ghost use Rattle.std.specs.Coded.{codes};
     ghost use Rattle.quast.specs.Trees.{scoped_code};
     ghost use Rattle.pip_solve.specs.Waiting.{Waiting};
@@ -49,24 +48,28 @@ impl Model for Pending {
 
     ghost view = { λ p. record { frames = reverse p.stack.items; most = p.most } };
 
-    ghost invariant = { λ p. (length p.stack.items ≤ p.most) × (p.most ≤ vec_capacity p.stack) };
+    ghost invariant = { λ p. length p.stack.items ≤ p.most };
 }
 
 impl Pending {
-    /// Nothing waits, and n frames may.
-    pub fn reserve(alloc: Global, n: usize) -> Result<Pending, WantOfMemory>
-        ensures { IfOk result (λ p. p ≡ record { frames = []; most = n }) }
+    /// Nothing waits, and so many frames may. Takes no memory.
+    pub fn new(alloc: Global, most: usize) -> Pending
+        ensures { result ≡ record { frames = []; most = most } }
     {
-        let stack = Vec::with_capacity(alloc, n)?;
-        Ok(Pending { most: n, stack })
+        Pending {
+            most,
+            stack: Vec::new(alloc),
+        }
     }
 
-    /// One more frame waits. Takes no memory.
-    pub fn push(&mut self, f: Frame)
+    /// One more frame waits. After a refusal those wait that waited before.
+    pub fn push(&mut self, f: Frame) -> Result<(), WantOfMemory>
         requires { length self.old.frames < self.old.most }
-        ensures { self.new ≡ record self.old { frames = f ∷ self.old.frames } }
+        ensures ok { OnOk result (self.new ≡ record self.old { frames = f ∷ self.old.frames }) }
+        ensures err { OnErr result (self.new ≡ self.old) }
     {
-        self.stack.push(f).unwrap();
+        self.stack.push(f)?;
+        Ok(())
     }
 
     /// The frame that was pushed last, which waits no more; none where nothing waits. No more than may ever wait.

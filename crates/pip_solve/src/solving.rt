@@ -1,4 +1,4 @@
-ghost use Rattle.std.specs.Prelude.{◌≡◌, ◌+◌, ◌*◌, ◌≤◌, [], IfOk, map};
+ghost use Rattle.std.specs.Prelude.{◌≡◌, ◌+◌, ◌*◌, ◌≤◌, [], IfOk, IsTrue, map};
 ghost use Rattle.pip_model.specs.Forms.{tighten};
 ghost use Rattle.pip_model.specs.Leaves.{IsReached};
 ghost use Rattle.pip_model.specs.Limits.{most_nesting};
@@ -17,7 +17,7 @@ ghost use Rattle.pip_solve.specs.Starts.{IsFirstPath};
 use crate::node::run;
 use crate::path::Path;
 use crate::pending::Pending;
-use affine_rows::{Form, WantOfMemory};
+use affine_rows::{Form, WantOfMemory, gcd_with};
 use context::{Context, Point, Work};
 use new_parameters::Quotients;
 use pip_problem::{Limits, Problem, Refusal};
@@ -70,7 +70,28 @@ fn tightened(alloc: Global, rows: &[Form]) -> Result<Vec<Form>, WantOfMemory>
     Ok(forms)
 }
 
-// The first tableau of a problem; in integer mode its rows are tightened.
+// Whether a row's coefficients have no common divisor above 1, so that tightening leaves it as it is.
+#[tactic(auto, using(affine_rows::proofs::Tightening::tighten_kept, pip_model::proofs::Gcd::gcd_zero))]
+fn is_tight(row: &Form) -> bool
+    ensures { IsTrue result → tighten row.now ≡ row.now }
+{
+    let (coefficients, _) = row.as_slice().split_at(row.width());
+    gcd_with(0, coefficients) <= 1
+}
+
+// Whether tightening leaves each row as it is.
+fn are_tight(rows: &[Form]) -> bool
+    ensures { IsTrue result → map tighten rows.now ≡ rows.now }
+{
+    for row in rows {
+        if !is_tight(row) {
+            return false;
+        }
+    }
+    true
+}
+
+// The first tableau of a problem; in integer mode its rows are tightened. Where they are tight, no copies are made.
 fn rows_of(alloc: Global, problem: &Problem) -> Result<Tableau, WantOfMemory>
     ensures rows { IfOk result (λ t. t
         ≡ record {
@@ -81,7 +102,7 @@ fn rows_of(alloc: Global, problem: &Problem) -> Result<Tableau, WantOfMemory>
         }) }
     ensures problem { IsProblem problem.now }
 {
-    if problem.integer() {
+    if problem.integer() && !are_tight(problem.rows()) {
         let rows = tightened(alloc, problem.rows())?;
         Tableau::start(alloc, problem.unknowns(), problem.params(), &rows)
     } else {
@@ -89,7 +110,7 @@ fn rows_of(alloc: Global, problem: &Problem) -> Result<Tableau, WantOfMemory>
     }
 }
 
-// What the run of a problem keeps. All that may be pending and join the context has its room from the start.
+// What the run of a problem keeps. All that may join the context has its room from the start.
 #[derive(Drop)]
 struct Room {
     path: Path,
@@ -103,7 +124,7 @@ fn room_of(alloc: Global, problem: &Problem, levels: usize) -> Result<Room, Want
     ensures pending { IfOk result (λ room. room.pending ≡ record { frames = []; most = levels }) }
 {
     let path = path_of(alloc, problem, levels)?;
-    let pending = Pending::reserve(alloc, levels)?;
+    let pending = Pending::new(alloc, levels);
     Ok(Room { path, pending })
 }
 

@@ -1,8 +1,8 @@
 use Rattle.std.proofs.Common.{rules, refl, ◌≡◌}
 use Rattle.pip_model.specs.Run.{Work, give}
 use Rattle.pip_solve.specs.Frames.{turned_run, whole_run, IsNextNode, weight}
-use Rattle.pip_solve.proofs.Handing.{follows, goes_on, smaller, ends}
-use Rattle.pip_solve.proofs.Knowing.{known_none, known_after}
+use Rattle.pip_solve.proofs.Handing.{follows, goes_on, smaller, goes_on_again, smaller_again, ends}
+use Rattle.pip_solve.proofs.Knowing.{known_none, known_on}
 use Rattle.pip_solve.proofs.node.run.Goals as goal
 
 pub loop-known-init : goal.loop-known-init
@@ -30,8 +30,17 @@ loop-known-preserved c =
     let same : (x : Work) → turned_run c.take_turn.new.rows c.take_turn.new.path c.loop-known.pending.frames c.in_ok-turn.turn x ≡ whole_run c.in-Node.next c.follow.new.path c.follow.new.pending.frames x = rw c.in-Node.is at c.in_ok-next.ensures.gives in
     record {
       on = goes_on c.args.node c.args.path.now c.args.pending.now c.args.work.now c.loop-known.rows c.loop-known.path c.loop-known.pending c.loop-known.work c.loop-known.invariant.on c.take_turn.new.rows c.take_turn.new.path c.in_ok-turn.turn c.take_turn.new.work c.in_ok-turn.ensures.gives.agrees c.in_ok-turn.ensures.turn c.take_turn.ensures.path c.take_turn.ensures.gives.counted.budget c.in-Node.next c.follow.new.path c.follow.new.pending n same;
-      known = known_after c.in_ok-turn.turn c.loop-known.path c.take_turn.new.path c.follow.new.path c.loop-known.work.budget c.take_turn.new.work.budget c.take_turn.new.known c.keep_known.new.known c.take_turn.ensures.known c.take_turn.ensures.path c.take_turn.ensures.gives.counted.budget c.keep_known.ensures.again c.keep_known.ensures.other c.follow.ensures.again;
+      known = known_none c.follow.new.path.context.forms c.follow.new.path.context.width c.take_turn.new.work.budget c.forget.new.self c.forget.ensures;
     }
+
+pub loop-known-smaller-in-Again : goal.loop-known-smaller-in-Again
+loop-known-smaller-in-Again c = smaller_again c.args.node c.args.path.now c.args.pending.now c.args.work.now c.loop-known.rows c.loop-known.path c.loop-known.pending c.loop-known.work c.loop-known.invariant.on c.take_turn.new.rows c.take_turn.new.path c.in_ok-turn.turn c.take_turn.new.work c.in_ok-turn.ensures.gives.agrees c.in_ok-turn.ensures.turn c.take_turn.ensures.path c.take_turn.ensures.gives.counted.budget c.in-Again.is
+
+pub loop-known-preserved-in-Again : goal.loop-known-preserved-in-Again
+loop-known-preserved-in-Again c = record {
+  on = goes_on_again c.args.node c.args.path.now c.args.pending.now c.args.work.now c.loop-known.rows c.loop-known.path c.loop-known.pending c.loop-known.work c.loop-known.invariant.on c.take_turn.new.rows c.take_turn.new.path c.in_ok-turn.turn c.take_turn.new.work c.in_ok-turn.ensures.gives.agrees c.in_ok-turn.ensures.turn c.take_turn.ensures.path c.take_turn.ensures.gives.counted.budget c.in-Again.is;
+  known = known_on c.loop-known.path.context c.take_turn.new.path.context c.loop-known.work.budget c.take_turn.new.work.budget c.take_turn.new.known c.take_turn.ensures.path.context c.take_turn.ensures.gives.counted.budget c.take_turn.ensures.known;
+}
 
 pub returns-in-Tree-clause-gives : goal.returns-in-Tree-clause-gives
 returns-in-Tree-clause-gives c =

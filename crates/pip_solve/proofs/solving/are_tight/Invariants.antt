@@ -1,0 +1,6 @@
+use Rattle.std.proofs.Common.{◌≡◌, map, take}
+use Rattle.pip_model.specs.Forms.{tighten}
+use Rattle.pip_solve.proofs.solving.are_tight.Given as goal
+
+abbrev pub invariant-loop-row : goal.invariant-loop-row
+invariant-loop-row l = map tighten (take l.row-index l.rows) ≡ take l.row-index l.rows
