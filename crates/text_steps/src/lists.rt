@@ -24,7 +24,7 @@ pub fn numbers(
     let mut at = place;
     for _ in 0..count {
         let (entry, after) = number(bytes, at)?;
-        read.push(entry)?;
+        read.push_reserved(entry);
         at = after;
     }
     Ok((read, at))

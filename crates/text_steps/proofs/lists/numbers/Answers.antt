@@ -16,10 +16,11 @@ returns-in_err-entry-clause-reads c =
 
 pub loop-preserved : goal.loop-preserved
 loop-preserved c = (
-  rw c.in_ok-push.ensures.items (step_more _ _ _ _ (λ at. numbers c.args.bytes.now (c.args.count - (c.loop.counter + 1)) at) _ _
+  rw c.push_reserved.ensures.items (step_more _ _ _ _ (λ at. numbers c.args.bytes.now (c.args.count - (c.loop.counter + 1)) at) _ _
       (numbers_more c.args.bytes.now c.args.count c.loop.counter c.loop.at c.loop-test.true) c.loop.invariant.0 (search rules)),
   search rules,
-  rw c.in_ok-push.ensures.items (All-push Fits _ _ c.loop.invariant.2 (search rules)),
+  rw c.push_reserved.ensures.items (All-push Fits _ _ c.loop.invariant.2 (search rules)),
+  search rules,
   search rules,
   search rules,
 )

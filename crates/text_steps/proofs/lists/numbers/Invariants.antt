@@ -1,4 +1,4 @@
-use Rattle.std.proofs.Common.{◌≡◌, ◌-◌, ◌≤◌, length}
+use Rattle.std.proofs.Common.{◌≡◌, ◌-◌, ◌≤◌, length, vec_capacity}
 use Rattle.std.specs.Prelude.{All}
 use Rattle.affine_rows.specs.Checks.{Fits}
 use Rattle.pip_model.specs.Reading.{numbers}
@@ -12,3 +12,4 @@ invariant-loop l =
     × All Fits l.read.items
     × (l.place ≤ l.at)
     × (l.at ≤ length l.bytes)
+    × (l.count ≤ vec_capacity l.read)
