@@ -1,14 +1,13 @@
 -- A number of one digit, behind which a byte stands that ends a number.
-use Rattle.std.proofs.Common.{◌≡◌, ◌≤◌, ℕ, ℤ, ◌+◌, ◌-◌, ◌^◌, ◌∙◌, ap, sym, true, false, pos, List, [], ◌∷◌, length, drop, refl, arith}
+use Rattle.std.proofs.Common.{◌≡◌, ◌≤◌, ℕ, ℤ, ◌+◌, ◌-◌, ◌^◌, ◌∙◌, ap, sym, true, false, pos, List, [], ◌∷◌, length, refl, arith}
 use Rattle.std.specs.Prelude.{◌==◌, ◌||◌, neg_ℤ, slice_index}
 use Rattle.std.proofs.lemmas.Bool.Decides.{nat_tests}
 use Rattle.std.proofs.lemmas.Bool.{lt-ltb}
 use Rattle.pip_model.specs.declared.Kind.TheVariants.{Number}
-use Rattle.pip_model.specs.declared.Lexeme.{Lexeme}
 use Rattle.pip_model.proofs.Fitting.{fits-neg}
 use Rattle.affine_rows.specs.Checks.{Fits}
 use Rattle.affine_rows.proofs.ShortNumbers.{number_here}
-use Rattle.pip_model.specs.Tokens.{is_blank, is_sign, is_digit, digits_at, unsigned_part, behind_stroke, integer_of, lexeme, token_here, token_in}
+use Rattle.pip_model.specs.Tokens.{is_sign, is_digit, digits_at, unsigned_part, behind_stroke, integer_of, lexeme, token_here}
 
 digit_no_sign : (b : ℕ) → is_digit b ≡ true → is_sign b ≡ false
 digit_no_sign b h = grind (arith, nat_tests)
@@ -81,20 +80,3 @@ minus_here place z (a ∷ []) some minus digit end is = absurd (omega arith)
 minus_here place z (a ∷ b ∷ []) some minus digit end is = absurd (omega arith)
 minus_here place z (a ∷ b ∷ n ∷ bs) some minus digit end is =
     rw is (minus_bytes place a b n bs minus digit (end_no_digit n end) (end_no_stroke n end))
-
-number_behind : (place len : ℕ) (z : ℤ) (t : Lexeme) → t ≡ lexeme (place + 1) (Number z) len → (t.kind ≡ Number z) × (t.after ≡ place + (len + 1))
-number_behind place len z t e = (ap (λ (x : Lexeme). x.kind) e, ap (λ (x : Lexeme). x.after) e ∙ omega arith)
-
-behind_space : (place len : ℕ) (z : ℤ) (bs : List ℕ) → is_blank (slice_index bs 0) ≡ false
-    → token_here (place + 1) bs ≡ lexeme (place + 1) (Number z) len
-    → ((token_in place (32 ∷ bs)).kind ≡ Number z) × ((token_in place (32 ∷ bs)).after ≡ place + (len + 1))
-behind_space place len z [] front here = number_behind place len z (token_here (place + 1) []) here
-behind_space place len z (b ∷ bs) front here = rw front (number_behind place len z (token_here (place + 1) (b ∷ bs)) here)
-
--- a number y behind one space
-pub number_behind_space : (place len : ℕ) (y z : ℤ) (rest bs : List ℕ) → token_here (place + 1) rest ≡ lexeme (place + 1) (Number z) len
-    → is_blank (slice_index rest 0) ≡ false → rest ≡ drop 1 bs → 1 ≤ length bs → slice_index bs 0 ≡ 32 → y ≡ z
-    → ((token_in place bs).kind ≡ Number y) × ((token_in place bs).after ≡ place + (len + 1))
-number_behind_space place len y z rest [] here front is some space same = absurd (omega arith)
-number_behind_space place len y z rest (b ∷ bs) here front is some space same =
-    rw (same, space) (behind_space place len z bs (rw is at front) (rw is at here))

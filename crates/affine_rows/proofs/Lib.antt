@@ -1,4 +1,5 @@
 pub mod QuotientForms
+pub mod Blanks
 pub mod Closing
 pub mod Combined
 pub mod DigitNumbers
