@@ -1,7 +1,7 @@
 -- What is in hand keeps what the run needs of it.
 use Rattle.std.proofs.Common.{◌≡◌, refl, sym, ap, subst, ◌∙◌, ℕ, ◌+◌, ◌-◌, ◌*◌, ◌<◌, ◌≤◌, ◌++◌, ◌∷◌, [], Bool, Option, Some, None, List, ℤ, length, arith}
 use Rattle.std.specs.Prelude.{IfSome}
-use Rattle.std.proofs.lemmas.List.{length-append, length-take-le}
+use Rattle.std.proofs.lemmas.List.{length-append}
 use Rattle.pip_model.specs.Contexts.{IsContext}
 use Rattle.pip_model.specs.Forms.{opposite}
 use Rattle.pip_model.specs.Limits.{most_nesting}
@@ -50,14 +50,12 @@ module _ (rows : TableauRows) (path now : Path) (pending : Waiting) (running : I
         few_params = omega (arith, node.few_params, params);
         few_quotients = omega (arith, node.few_quotients, still, nothing, entered.depth);
         shallow = omega (arith, nested, running.few, entered.depth);
-        room = omega (arith, running.room, entered.room, long, more, nested);
       } in
       record {
         node = first;
         depth = omega (arith, entered.depth, running.depth);
         nested = omega (arith, entered.depth, nested);
         few = running.few;
-        room = omega (arith, running.room, entered.room, entered.depth, long, more, nested);
         waits = (
           record {
             forms = omega (arith, forms, long, more);
@@ -75,11 +73,9 @@ module _ (rows : TableauRows) (path now : Path) (pending : Waiting) (running : I
               few_params = omega (arith, node.few_params, params);
               few_quotients = let kept = ap (λ (q : Scope). length q.quotients) back in omega (arith, kept, node.few_quotients, running.depth);
               shallow = omega (arith, nested, running.few, running.depth);
-              room = omega (arith, running.room, entered.room, long, more, forms);
             };
             condition = condition;
             nested = omega (arith, nested, running.depth);
-            room = omega (arith, running.room, entered.room, long, more, forms, running.depth);
           },
           waits_grown pending.most rows.width path (gone_back now mark quotients (length pending.frames)) pending.frames (back_again path now c entered mark quotients forms added (length pending.frames)) running.waits,
         );
@@ -90,8 +86,6 @@ module _ (rows : TableauRows) (path now : Path) (pending : Waiting) (running : I
       → now_rows.unknowns ≡ rows.unknowns → now_rows.width ≡ rows.width + 1 → rows.unknowns ≤ length now_rows.rows
       → IsRunning now_rows now (record pending { frames = frame.NewParm k.form k.den ∷ pending.frames })
   below_running now_rows a b k i new entered unknowns width some =
-      let long = length-append path.context.forms (a ∷ b ∷ []) in
-      let more = ap (λ (fs : List (List ℤ)). length fs) entered.forms in
       let still = ap (λ (q : Scope). length q.quotients) entered.quotients in
       let added = length-append path.quotients.quotients (k ∷ []) in
       let params = ap (λ (q : Scope). q.params) entered.quotients in
@@ -107,12 +101,10 @@ module _ (rows : TableauRows) (path now : Path) (pending : Waiting) (running : I
           few_params = omega (arith, node.few_params, params);
           few_quotients = omega (arith, node.few_quotients, still, added, entered.depth);
           shallow = omega (arith, nested, running.few, entered.depth);
-          room = omega (arith, running.room, entered.room, long, more, nested);
         };
         depth = omega (arith, entered.depth, running.depth);
         nested = omega (arith, entered.depth, nested);
         few = running.few;
-        room = omega (arith, running.room, entered.room, entered.depth, long, more, nested);
         waits = (
           omega (arith, new.wide, width),
           rw (new.residue) (new.row.positive),
@@ -165,12 +157,10 @@ turned_running rows now path later pending T running turned kept = by T turned
             few_params = omega (arith, node.few_params, params);
             few_quotients = omega (arith, node.few_quotients, still, kept.depth);
             shallow = omega (arith, node.shallow, kept.depth);
-            room = omega (arith, node.room, kept.context.spare);
           };
           depth = kept.depth ∙ running.depth;
           nested = omega (arith, kept.depth, running.nested);
           few = running.few;
-          room = omega (arith, kept.depth, kept.context.spare, running.room);
           waits = subst (λ n. Waits pending.most n later pending.frames) (sym width) waits;
         }
 
@@ -230,10 +220,6 @@ pub second_running : (most w : ℕ) (rows : TableauRows) (path mid now : Path) (
 second_running most w rows path mid now frames c mark quotients first waits back entered deep width nested few =
     let due = waits.2 in
     let node = due.node in
-    let marked = length-take-le mark.forms path.context.forms waits.0.forms in
-    let gone = ap (λ (fs : List (List ℤ)). length fs) back.forms in
-    let long = length-append mid.context.forms (opposite c ∷ []) in
-    let more = ap (λ (fs : List (List ℤ)). length fs) entered.forms in
     let still = ap (λ (q : Scope). length q.quotients) entered.quotients in
     let nothing = length-append mid.quotients.quotients [] in
     let params = ap (λ (q : Scope). q.params) entered.quotients in
@@ -249,17 +235,15 @@ second_running most w rows path mid now frames c mark quotients first waits back
         few_params = omega (arith, node.few_params, params, before);
         few_quotients = omega (arith, node.few_quotients, still, nothing, kept, entered.depth, back.depth, deep);
         shallow = omega (arith, due.nested, few, entered.depth, back.depth, deep);
-        room = omega (arith, due.room, due.nested, back.room, entered.room, marked, gone, long, more, waits.0.forms);
       };
       depth = omega (arith, entered.depth, back.depth, deep);
       nested = omega (arith, due.nested, entered.depth, back.depth, deep);
       few = few;
-      room = omega (arith, due.room, due.nested, back.room, entered.room, marked, gone, long, more, waits.0.forms, entered.depth, back.depth, deep);
       waits = (
         due.condition.wide,
         width ∙ sym waits.1,
         nested,
-        subst (λ n. Waits most n now frames) (sym waits.1) (waits_grown most w (gone_back path mark quotients (length frames)) now frames (second_grown path mid now frames c mark quotients waits.0 back entered) waits.3),
+        subst (λ n. Waits most n now frames) (sym waits.1) (waits_grown most w (gone_back path mark quotients (length frames)) now frames (second_grown path mid now frames c mark quotients back entered) waits.3),
       );
     }
 

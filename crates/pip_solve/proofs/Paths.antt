@@ -33,8 +33,8 @@ pub row_at-widened : (rows : List Row) (i : ℕ) → i < length rows → row_at 
 row_at-widened rows i h = get_or-map widened rows i (form_row 0 []) (form_row 0 []) h
 
 -- the first node of a problem
-pub starts : (P : Problem) (t : TableauRows) (path : Path) (levels : ℕ) → IsProblem P → t ≡ record { unknowns = P.unknowns; width = P.params; rows = start P.unknowns P.params (started P.integer P.rows) } → IsFirstPath P levels path → IsNode t path
-starts P t path levels formed rows first =
+pub starts : (P : Problem) (t : TableauRows) (path : Path) → IsProblem P → t ≡ record { unknowns = P.unknowns; width = P.params; rows = start P.unknowns P.params (started P.integer P.rows) } → IsFirstPath P path → IsNode t path
+starts P t path formed rows first =
     let size = ap (λ (q : Scope). size q) first.quotients in
     let params = ap (λ (q : Scope). q.params) first.quotients in
     let none = ap (λ (q : Scope). length q.quotients) first.quotients in
@@ -48,22 +48,20 @@ starts P t path levels formed rows first =
       few_params = omega (arith, params, formed.few_params);
       few_quotients = omega (arith, none);
       shallow = omega (arith, first.depth);
-      room = omega (arith, first.room);
     }
 
 -- the node is in hand, and nothing waits
-pub starts_running : (P : Problem) (t : TableauRows) (path : Path) (pending : Waiting) → IsProblem P → t ≡ record { unknowns = P.unknowns; width = P.params; rows = start P.unknowns P.params (started P.integer P.rows) } → IsFirstPath P pending.most path → pending.frames ≡ [] → pending.most ≤ most_nesting → IsRunning t path pending
+pub starts_running : (P : Problem) (t : TableauRows) (path : Path) (pending : Waiting) → IsProblem P → t ≡ record { unknowns = P.unknowns; width = P.params; rows = start P.unknowns P.params (started P.integer P.rows) } → IsFirstPath P path → pending.frames ≡ [] → pending.most ≤ most_nesting → IsRunning t path pending
 starts_running P t path pending formed rows first none few =
     let empty = ap (λ (fs : List Frame). length fs) none in
     let width = ap (λ (x : TableauRows). x.width) rows in
     let params = ap (λ (q : Scope). q.params) first.quotients in
     let over : t.width ≡ path.quotients.params = omega (arith, width, params) in
     record {
-      node = starts P t path pending.most formed rows first;
+      node = starts P t path formed rows first;
       depth = omega (arith, first.depth, empty);
       nested = omega (arith, first.depth);
       few = few;
-      room = omega (arith, first.room, first.depth);
       waits = subst (Waits pending.most t.width path) (sym none) over;
     }
 

@@ -29,7 +29,6 @@ pub grown_depth : (path : Path) (depth : ℕ) → Grown path (at_depth path dept
 grown_depth path depth = record {
   integer = refl;
   forms = ([], sym (append-nil _));
-  room = omega arith;
   params = refl;
   quotients = ([], sym (append-nil _));
 }

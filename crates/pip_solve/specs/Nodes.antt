@@ -16,7 +16,7 @@ node_of t path = record { rows = t.rows; context = path.context.forms; quotients
 abbrev pub setting_of : TableauRows → Path → Setting
 setting_of t path = record { unknowns = t.unknowns; params = path.quotients.params; integer = path.integer; class = class }
 
--- the tableau and the path are over the same parameters and quotients, and within the limits; the context has room for a form more
+-- the tableau and the path are over the same parameters and quotients, and within the limits
 pub record IsNode (t : TableauRows) (path : Path) : Type 0 where
   pub some_unknowns : 1 ≤ t.unknowns
   pub few_unknowns : t.unknowns ≤ most_unknowns
@@ -26,9 +26,8 @@ pub record IsNode (t : TableauRows) (path : Path) : Type 0 where
   pub few_params : path.quotients.params ≤ most_params
   pub few_quotients : length path.quotients.quotients ≤ path.depth
   pub shallow : path.depth ≤ most_nesting
-  pub room : 1 ≤ path.context.spare
 
--- the path is as before, and its context has as much room
+-- the path is as before
 pub record IsKept (path now : Path) : Type 0 where
   pub integer : now.integer ≡ path.integer
   pub depth : now.depth ≡ path.depth
@@ -41,7 +40,6 @@ pub record IsBelow (path : Path) (added : List (List ℤ)) (keys : List Quotient
   pub depth : now.depth ≡ path.depth + 1
   pub width : now.context.width ≡ path.context.width + length keys
   pub forms : now.context.forms ≡ path.context.forms ++ added
-  pub room : length path.context.forms + path.context.spare ≤ length now.context.forms + now.context.spare
   pub quotients : now.quotients ≡ record path.quotients { quotients = path.quotients.quotients ++ keys }
 
 -- at the same depth, with the context and the quotients as they were at marks
@@ -50,5 +48,4 @@ pub record IsBack (path : Path) (mark : ContextMark) (count : ℕ) (now : Path) 
   pub depth : now.depth ≡ path.depth
   pub width : now.context.width ≡ mark.width
   pub forms : now.context.forms ≡ take mark.forms path.context.forms
-  pub room : length path.context.forms + path.context.spare ≤ length now.context.forms + now.context.spare
   pub quotients : now.quotients ≡ record path.quotients { quotients = take count path.quotients.quotients }

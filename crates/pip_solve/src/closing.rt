@@ -57,7 +57,7 @@ pub(crate) fn close(
             } => {
                 let fails = opposite(alloc, &condition)?;
                 path.back_to(context, quotients);
-                path.enter(fails);
+                path.enter(fails)?;
                 pending.push(Frame::FirstMade {
                     condition,
                     first: tree,

@@ -57,7 +57,6 @@ fn add_quotient(alloc: Global, path: &mut Path, key: Quotient) -> Result<(), Wan
     requires wide { length key.form ≡ size path.old.quotients + 1 }
     requires scope { path.old.context.width ≡ size path.old.quotients }
     requires room { size path.old.quotients < 2 ^ 64 - 1 }
-    requires spare { 2 ≤ path.old.context.spare }
     requires depth { path.old.depth < 2 ^ 64 - 1 }
     ensures { OnOk result (IsBelow path.old
         (cuts.lower_bound (size path.old.quotients + 1) (size path.old.quotients) key
@@ -66,6 +65,7 @@ fn add_quotient(alloc: Global, path: &mut Path, key: Quotient) -> Result<(), Wan
 {
     let place = path.quotients.add(key)?;
     let (lower, upper) = path.quotients.bounds(alloc, place)?;
+    path.context.reserve(2)?;
     path.context.widen();
     path.context.add(lower);
     path.context.add(upper);
@@ -96,7 +96,7 @@ fn split(
         context: path.context.mark(),
         quotients: path.quotients.mark(),
     })?;
-    path.enter(holds);
+    path.enter(holds)?;
     Ok(Next::Node(rows))
 }
 

@@ -1,4 +1,4 @@
-ghost use Rattle.std.specs.Prelude.{◌≡◌, ◌+◌, ◌*◌, ◌≤◌, [], IfOk, IsTrue, map};
+ghost use Rattle.std.specs.Prelude.{◌≡◌, ◌≤◌, IfOk, IsTrue, map};
 ghost use Rattle.pip_model.specs.Forms.{tighten};
 ghost use Rattle.pip_model.specs.Leaves.{IsReached};
 ghost use Rattle.pip_model.specs.Limits.{most_nesting};
@@ -25,16 +25,14 @@ use quast::{Answer, Quast};
 use std::alloc::Global;
 use tableau::Tableau;
 
-// The context of a problem, with room for two more forms at each of so many levels, and for one form more.
-fn context_of(alloc: Global, problem: &Problem, levels: usize) -> Result<Context, WantOfMemory>
-    requires { levels ≤ most_nesting }
+// The context of a problem.
+fn context_of(alloc: Global, problem: &Problem) -> Result<Context, WantOfMemory>
     ensures width { IfOk result (λ k. k.width ≡ problem.now.params) }
     ensures forms { IfOk result (λ k. k.forms ≡ problem.now.context) }
-    ensures room { IfOk result (λ k. 2 * levels + 1 ≤ k.spare) }
 {
     let forms = problem.context();
     let mut context = Context::try_new(alloc, problem.params())?;
-    context.reserve(forms.len() + 2 * levels + 1)?;
+    context.reserve(forms.len())?;
     for form in forms {
         let copy = form.try_clone(alloc)?;
         context.add(copy);
@@ -42,12 +40,11 @@ fn context_of(alloc: Global, problem: &Problem, levels: usize) -> Result<Context
     Ok(context)
 }
 
-// The path to a problem's first node, with room for so many levels below it.
-fn path_of(alloc: Global, problem: &Problem, levels: usize) -> Result<Path, WantOfMemory>
-    requires { levels ≤ most_nesting }
-    ensures { IfOk result (IsFirstPath problem.now levels) }
+// The path to a problem's first node.
+fn path_of(alloc: Global, problem: &Problem) -> Result<Path, WantOfMemory>
+    ensures { IfOk result (IsFirstPath problem.now) }
 {
-    let context = context_of(alloc, problem, levels)?;
+    let context = context_of(alloc, problem)?;
     let quotients = Quotients::try_new(alloc, problem.params())?;
     Ok(Path {
         integer: problem.integer(),
@@ -110,41 +107,25 @@ fn rows_of(alloc: Global, problem: &Problem) -> Result<Tableau, WantOfMemory>
     }
 }
 
-// What the run of a problem keeps. All that may join the context has its room from the start.
-#[derive(Drop)]
-struct Room {
-    path: Path,
-    pending: Pending,
-}
-
-// The path to a problem's first node, and nothing pending, with room for so many levels.
-fn room_of(alloc: Global, problem: &Problem, levels: usize) -> Result<Room, WantOfMemory>
-    requires { levels ≤ most_nesting }
-    ensures path { IfOk result (λ room. IsFirstPath problem.now levels room.path) }
-    ensures pending { IfOk result (λ room. room.pending ≡ record { frames = []; most = levels }) }
-{
-    let path = path_of(alloc, problem, levels)?;
-    let pending = Pending::new(alloc, levels);
-    Ok(Room { path, pending })
-}
-
-// The tree of a problem whose context has a point.
+// The tree of a problem whose context has a point, from the path to its first node. What is pending and what joins the
+// context takes memory as the run goes down.
 fn tree(
     alloc: Global,
     problem: &Problem,
-    room: &mut Room,
+    path: &mut Path,
+    levels: usize,
     work: &mut Work,
 ) -> Result<Quast, Refusal>
-    requires path { IsFirstPath problem.now room.old.pending.most room.old.path }
-    requires pending { room.old.pending.frames ≡ [] }
-    requires nesting { room.old.pending.most ≡ work.old.budget.nesting }
-    requires few { room.old.pending.most ≤ most_nesting }
+    requires path { IsFirstPath problem.now path.old }
+    requires nesting { levels ≡ work.old.budget.nesting }
+    requires few { levels ≤ most_nesting }
     ensures gives { AgreesCounted tree_in run_fault result work.new
         (run_from (setting problem.now) (first_node problem.now) work.old) }
     ensures width { IfOk result (λ tree. tree.width ≡ problem.now.params) }
 {
     let rows = rows_of(alloc, problem)?;
-    let tree = run(rows, &mut room.path, &mut room.pending, work)?;
+    let mut pending = Pending::new(alloc, levels);
+    let tree = run(rows, path, &mut pending, work)?;
     Ok(tree)
 }
 
@@ -157,7 +138,7 @@ pub fn context_point(
     ensures gives { IsCountedRun (λ o. o) run_fault result work.old work.new
         (model.point problem.now.params problem.now.context) }
 {
-    let context = context_of(alloc, problem, 0)?;
+    let context = context_of(alloc, problem)?;
     context.point(alloc, work)
 }
 
@@ -178,8 +159,8 @@ pub fn answer_from(
     match point {
         None => Ok(Answer::Void),
         Some(_) => {
-            let mut room = room_of(alloc, problem, levels)?;
-            let tree = tree(alloc, problem, &mut room, work)?;
+            let mut path = path_of(alloc, problem)?;
+            let tree = tree(alloc, problem, &mut path, levels, work)?;
             Ok(Answer::Tree(tree))
         }
     }
@@ -196,11 +177,12 @@ fn answer(
     ensures gives { AgreesCounted answer_of run_fault result work.new (model.answer problem.now work.old) }
     ensures scope { IfOk result (IsOver problem.now.params) }
 {
-    let mut room = room_of(alloc, problem, limits.nesting() as usize)?;
-    let Some(_) = room.path.context.point(alloc, work)? else {
+    let levels = limits.nesting() as usize;
+    let mut path = path_of(alloc, problem)?;
+    let Some(_) = path.context.point(alloc, work)? else {
         return Ok(Answer::Void);
     };
-    let tree = tree(alloc, problem, &mut room, work)?;
+    let tree = tree(alloc, problem, &mut path, levels, work)?;
     Ok(Answer::Tree(tree))
 }
 

@@ -1,8 +1,8 @@
-use Rattle.std.proofs.Common.{◌≡◌, ◌+◌, ◌*◌, ◌≤◌, length, take}
+use Rattle.std.proofs.Common.{◌≡◌, ◌+◌, ◌≤◌, length, take}
 use Rattle.pip_solve.proofs.solving.context_of.Given as goal
 
 abbrev pub invariant-loop-form : goal.invariant-loop-form
 invariant-loop-form l =
     (l.context.width ≡ l.problem.params)
     × (l.context.forms ≡ take l.form-index l.forms)
-    × (length l.forms + 2 * l.levels + 1 ≤ l.context.spare + l.form-index)
+    × (length l.forms ≤ l.context.spare + l.form-index)

@@ -1,5 +1,10 @@
+use Rattle.std.proofs.Common.{rules, ◌≡◌, ◌≤◌, []}
+use Rattle.pip_model.specs.Limits.{most_nesting}
 use Rattle.pip_solve.proofs.Paths.{starts_running}
 use Rattle.pip_solve.proofs.solving.tree.Goals as goal
 
 pub run-requires-clause-running : goal.run-requires-clause-running
-run-requires-clause-running c = starts_running c.args.problem.now c.in_ok-rows.rows c.args.room.now.path c.args.room.now.pending c.in_ok-rows.ensures.problem c.in_ok-rows.ensures.rows c.requires.path c.requires.pending c.requires.few
+run-requires-clause-running c =
+    let none : c.new-pending.result.frames ≡ [] = search rules in
+    let few : c.new-pending.result.most ≤ most_nesting = search rules in
+    starts_running c.args.problem.now c.in_ok-rows.rows c.args.path.now c.new-pending.result c.in_ok-rows.ensures.problem c.in_ok-rows.ensures.rows c.requires.path none few
