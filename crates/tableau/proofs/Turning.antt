@@ -1,15 +1,18 @@
 -- The rows of a tableau in a pivot, as they are kept.
 use Rattle.std.proofs.Common.{◌≡◌, refl, ap, sym, ◌∙◌, subst, ℕ, zero, suc, ◌+◌, ◌-◌, ◌<◌, ◌≤◌, ◌≢◌, ℤ, pos, ◌≤ℤ◌, ◌*ℤ◌, true, ◌&&◌, List, [], ◌∷◌, ◌++◌, length, map, flat_map, take, drop, replicate, arith, append_assoc, get_or, get_or-set_other}
 use Rattle.std.specs.Prelude.{IsTrue, All, slice_set}
-use Rattle.std.proofs.lemmas.List.{map-append, get_or-replicate, length-set, length-map, take-map, drop-map, get_or-map}
-use Rattle.std.proofs.lemmas.List.Elements.{All-same, All-take, All-drop}
+use Rattle.std.proofs.lemmas.List.{take-append-drop, get_or-take, get_or-drop, map-append, get_or-replicate, length-set, length-map, take-map, drop-map, get_or-map}
+use Rattle.std.proofs.lemmas.List.Elements.{All-head, All-tail, All-same, All-take, All-drop}
 use Rattle.std.proofs.lemmas.Int.{ints}
 use Rattle.pip_model.specs.Numbers.{fits}
 use Rattle.pip_model.specs.Forms.{entry, scale, width}
 use Rattle.pip_model.specs.Listed.{all_fit}
 use Rattle.pip_model.specs.Rows.{Row, row_at, form_row, unit_row, eliminated, eliminated_listed, pivot, pivot_listed}
-use Rattle.tableau.specs.KeptRows.{KeptRows, IsSpare, SameShape, with_more, with_rows}
-use Rattle.tableau_row.specs.Rows.{IsRow}
+use Rattle.tableau.specs.KeptRows.{IsSteady, row_length, row_from_place, KeptRows, IsSpare, SameShape, with_more, with_rows}
+use Rattle.tableau_row.specs.Rows.{IsRow, IsReduced}
+use Rattle.tableau_row.specs.Short.{IsShortRow}
+use Rattle.tableau_row.proofs.ShortRows.{short_eliminated}
+use Rattle.std.proofs.lemmas.Grind.{flat_map-append}
 use Rattle.tableau_row.proofs.Contents.{content-one}
 use Rattle.tableau.proofs.Flat.{unit_fits}
 use Rattle.tableau_row.proofs.Substituting.{eliminated_none, checked_sides}
@@ -46,6 +49,68 @@ unit_listed n w k c p h column other hp =
 pub unit_turned : (n w k c : ℕ) (p : Row) → k < n → c < n → c ≢ k → IsRow n w p → pos 1 ≤ℤ entry p.coefs c → unit_row n w k ≡ eliminated p c (unit_row n w k)
 unit_turned n w k c p h column other hp positive =
     eliminated_none n w p c (unit_row n w k) hp (unit_fits n w k h) positive (other_entry n w k c column other) (content-one (unit_row n w k) refl)
+
+pub unit_steady : (n w k c : ℕ) (p : Row) → k < n → c < n → c ≢ k → IsRow n w p → pos 1 ≤ℤ entry p.coefs c → IsSteady p c (unit_row n w k)
+unit_steady n w k c p h column other hp positive = record { listed = unit_listed n w k c p h column other hp; stays = unit_turned n w k c p h column other hp positive }
+
+-- ---- a short row that is 0 in the column
+
+pub short_steady : (n w c : ℕ) (p r : Row) → IsRow n w p → IsRow n w r → c < n → pos 1 ≤ℤ entry p.coefs c → entry r.coefs c ≡ pos 0 → IsReduced r → IsShortRow p → IsShortRow r → IsSteady p c r
+short_steady n w c p r hp hr column positive none reduced p_short r_short = record {
+  listed = short_eliminated p c r p_short r_short (omega (arith, column, hp.coefs)) (hr.coefs ∙ sym hp.coefs);
+  stays = eliminated_none n w p c r hp hr positive none reduced;
+}
+
+-- the coefficient of a row by its place
+pub place_entry : (n w c first : ℕ) (zs : List ℤ) → c < n → first + row_length n w ≤ length zs → entry (row_from_place n w zs first).coefs c ≡ entry zs (first + 1 + c)
+place_entry n w c first zs h within =
+    let l = row_length n w in
+    get_or-take n (drop 1 (take l (drop first zs))) c (pos 0) h
+    ∙ get_or-drop 1 (take l (drop first zs)) c (pos 0)
+    ∙ get_or-take l (drop first zs) (1 + c) (pos 0) (omega (arith, h))
+    ∙ get_or-drop first zs (1 + c) (pos 0)
+    ∙ ap (entry zs) (omega arith)
+
+-- ---- rows that stay, and the rows behind them
+
+pub steady_listed : {X : Type 0} (f : X → Row) (p : Row) (c : ℕ) (xs : List X) → All (λ x. IsSteady p c (f x)) xs → IsTrue (all_fit (flat_map (λ x. eliminated_listed p c (f x)) xs))
+steady_listed f p c [] h = refl
+steady_listed {X} f p c (x ∷ xs) h =
+    let S : X → Type 0 = λ x. IsSteady p c (f x) in
+    all_fit-append (eliminated_listed p c (f x)) (flat_map (λ x. eliminated_listed p c (f x)) xs)
+    ∙ rw ((All-head S x xs h).listed, steady_listed f p c xs (All-tail S x xs h)) refl
+
+pub steady_rows : {X : Type 0} (f : X → Row) (p : Row) (c : ℕ) (xs : List X) → All (λ x. IsSteady p c (f x)) xs → map f xs ≡ map (λ x. eliminated p c (f x)) xs
+steady_rows f p c [] h = refl
+steady_rows {X} f p c (x ∷ xs) h =
+    let S : X → Type 0 = λ x. IsSteady p c (f x) in
+    ap (λ (r : Row). r ∷ map f xs) (All-head S x xs h).stays ∙ ap (λ (rs : List Row). eliminated p c (f x) ∷ rs) (steady_rows f p c xs (All-tail S x xs h))
+
+pub listed_behind : {X : Type 0} (f : X → Row) (p : Row) (c i : ℕ) (xs : List X) → All (λ x. IsSteady p c (f x)) (take i xs)
+    → all_fit (flat_map (λ x. eliminated_listed p c (f x)) (drop i xs)) ≡ all_fit (flat_map (λ x. eliminated_listed p c (f x)) xs)
+listed_behind {X} f p c i xs h =
+    let g : X → List ℤ = λ x. eliminated_listed p c (f x) in
+    let both : flat_map g xs ≡ flat_map g (take i xs) ++ flat_map g (drop i xs) = ap (flat_map g) (sym (take-append-drop i xs)) ∙ flat_map-append g (take i xs) (drop i xs) in
+    sym (ap all_fit both ∙ all_fit-append (flat_map g (take i xs)) (flat_map g (drop i xs)) ∙ rw (steady_listed f p c (take i xs) h) refl)
+
+pub rows_behind : {X : Type 0} (f : X → Row) (p : Row) (c i : ℕ) (xs : List X) → All (λ x. IsSteady p c (f x)) (take i xs)
+    → map f (take i xs) ++ map (λ x. eliminated p c (f x)) (drop i xs) ≡ map (λ x. eliminated p c (f x)) xs
+rows_behind {X} f p c i xs h =
+    let g : X → Row = λ x. eliminated p c (f x) in
+    ap (λ (rs : List Row). rs ++ map g (drop i xs)) (steady_rows f p c (take i xs) h)
+    ∙ sym (map-append g (take i xs) (drop i xs)) ∙ ap (map g) (take-append-drop i xs)
+
+-- ---- the first row, and the rows behind it
+
+pub first_listed : {X : Type 0} (f : X → Row) (p : Row) (c : ℕ) (xs : List X) (d : X) → 0 < length xs → IsTrue (all_fit (eliminated_listed p c (f (get_or xs 0 d))))
+    → all_fit (flat_map (λ x. eliminated_listed p c (f x)) (drop 1 xs)) ≡ all_fit (flat_map (λ x. eliminated_listed p c (f x)) xs)
+first_listed f p c [] d some h = absurd (omega arith)
+first_listed f p c (x ∷ xs) d some h = sym (all_fit-append (eliminated_listed p c (f x)) (flat_map (λ y. eliminated_listed p c (f y)) xs) ∙ rw h refl)
+
+pub first_rows : {X : Type 0} (f : X → Row) (p : Row) (c : ℕ) (xs : List X) (d : X) (t : KeptRows) → 0 < length xs
+    → with_rows (with_more t (eliminated p c (f (get_or xs 0 d)))) (map (λ x. eliminated p c (f x)) (drop 1 xs)) ≡ with_rows t (map (λ x. eliminated p c (f x)) xs)
+first_rows f p c [] d t some = absurd (omega arith)
+first_rows f p c (x ∷ xs) d t some = ap (λ (rs : List Row). record t { rows = rs }) (append_assoc t.rows (eliminated p c (f x) ∷ []) (map (λ y. eliminated p c (f y)) xs))
 
 -- ---- the rows in front and behind
 

@@ -1,6 +1,7 @@
 -- Rows as they are kept: the row of a column by the column, any other by the place of its numbers.
-use Rattle.std.specs.Prelude.{◌≡◌, ℕ, ◌+◌, ◌*◌, ◌<◌, ◌≤◌, ℤ, pos, Bool, true, false, not, IsTrue, List, [], ◌∷◌, ◌++◌, length, take, drop, map, filter, flat_map, max, replicate, All}
-use Rattle.pip_model.specs.Rows.{Row, unit_row}
+use Rattle.std.specs.Prelude.{◌≡◌, ℕ, ◌+◌, ◌-◌, ◌*◌, ◌^◌, ◌<◌, ◌≤◌, ℤ, pos, Bool, true, false, not, IsTrue, List, [], ◌∷◌, ◌++◌, length, take, drop, map, filter, flat_map, max, replicate, All}
+use Rattle.pip_model.specs.Rows.{Row, unit_row, eliminated, eliminated_listed}
+use Rattle.pip_model.specs.Listed.{all_fit}
 use Rattle.tableau_row.specs.Short.{IsShortRow}
 use Rattle.tableau_row.specs.Rows.{IsRow, IsReduced}
 use Rattle.tableau_row.specs.Flat.{numbers_of, row_of_numbers, is_unit_row}
@@ -75,6 +76,46 @@ pub record IsFlat (n w : ℕ) (numbers : List ℤ) (ks : List Kept) : Type 0 whe
   pub plain : All (IsPlain n w numbers) ks
   pub flat : numbers ≡ flat_numbers (rows_kept n w numbers ks)
   pub few : length numbers ≤ length ks * row_length n w
+
+-- rows that are kept among these numbers, each with what is known of it
+pub record AreKept (n w : ℕ) (numbers : List ℤ) (ks : List Kept) : Type 0 where
+  pub places : All (IsPlace n w (length numbers)) ks
+  pub rows : All (λ k. IsRow n w (row_kept n w numbers k)) ks
+  pub reduced : All (λ k. IsReduced (row_kept n w numbers k)) ks
+  pub short : All (IsKnown n w numbers) ks
+  pub plain : All (IsPlain n w numbers) ks
+
+abbrev pub AreLent : Lent → List Kept → Type 0
+AreLent v ks = AreKept v.unknowns v.width v.numbers.now ks
+
+-- the numbers of the rows, l for each that is not kept as a column, follow one another from place a on to place b
+abbrev pub IsRun : ℕ → ℕ → ℕ → List Kept → Type 0
+IsRun l a b [] = a ≡ b
+IsRun l a b (kept.Unit c ∷ ks) = IsRun l a b ks
+IsRun l a b (kept.At p ∷ ks) = (p.first ≡ a) × IsRun l (a + l) b ks
+
+-- the place behind the numbers of the row; place a where it has none
+abbrev pub place_behind : ℕ → ℕ → Kept → ℕ
+place_behind l a (kept.Unit c) = a
+place_behind l a (kept.At p) = p.first + l
+
+-- the row where its numbers move with those from place a on to place b
+abbrev pub moved_kept : ℕ → ℕ → Kept → Kept
+moved_kept a b (kept.Unit c) = kept.Unit c
+moved_kept a b (kept.At p) = kept.At (record { first = p.first - a + b; short = p.short })
+
+-- there is such a place
+abbrev pub IsMovable : ℕ → ℕ → Kept → Type 0
+IsMovable a b (kept.Unit c) = Unit {0}
+IsMovable a b (kept.At p) = (a ≤ p.first) × (p.first - a + b < 2 ^ 64)
+
+-- the row stays as it is in the pivot on row p and column c, and its listed numbers fit
+pub record IsSteady (p : Row) (c : ℕ) (r : Row) : Type 0 where
+  pub listed : IsTrue (all_fit (eliminated_listed p c r))
+  pub stays : r ≡ eliminated p c r
+
+abbrev pub AreSteady : Row → ℕ → Lent → List Kept → Type 0
+AreSteady p c v ks = All (λ k. IsSteady p c (lent_row v k)) ks
 
 -- the capacities are enough for the rows
 pub record HasRoom (n w most count kept_capacity numbers_capacity : ℕ) : Type 0 where

@@ -1,9 +1,10 @@
-ghost use Rattle.std.specs.Prelude.{◌≡◌, ◌+◌, ◌-◌, ◌<◌, ◌≤◌, pos, ◌≤ℤ◌, [], length, map, flat_map, All, OnErr, OnOk};
+ghost use Rattle.std.specs.Prelude.{◌≡◌, ◌+◌, ◌-◌, ◌<◌, ◌≤◌, pos, ◌≤ℤ◌, [], ◌∷◌, length, take, map, flat_map, All, IfSome, OnSome, OnErr, OnOk};
 ghost use Rattle.pip_model.specs.Forms.{entry};
+ghost use Rattle.pip_model.specs.Listed.{all_fit};
 ghost use Rattle.pip_model.specs.Rows as model;
 ghost use Rattle.pip_model.specs.Agreement.{IsChecked};
 ghost use Rattle.affine_rows.specs.Checks.{is_overflow};
-ghost use Rattle.tableau.specs.KeptRows.{IsFlat, IsPlace, IsKnownLent, IsPlainLent, SameShape, lent_row, lent_rows, with_more, with_rows, unit_run};
+ghost use Rattle.tableau.specs.KeptRows.{AreLent, AreSteady, IsFlat, IsPlace, IsKnownLent, IsPlainLent, IsRun, IsSteady, SameShape, lent_row, lent_rows, row_length, with_more, with_rows, unit_run};
 ghost use Rattle.tableau_row.specs.Rows.{IsRow, IsOwnRow, IsReduced};
 ghost use Rattle.tableau_row.specs.Views.{row_of};
 
@@ -66,47 +67,94 @@ fn turn_row(
     Ok(())
 }
 
-// The same, where the row of another column stays without a look at its numbers.
-fn turn_kept(
+// The place behind the row's numbers, which stand at the place if it has any, where the row is known to stay as it is
+// in the pivot on row p and column c: the row of another column, or a short one under a short p that is 0 in the column.
+fn steady_end(p: &RowView<'_>, c: usize, lent: &Lent<'_>, one: Kept, at: usize) -> Option<usize>
+    requires place { IsPlace lent.now.unknowns lent.now.width (length lent.now.numbers.now) one }
+    requires row { IsRow lent.now.unknowns lent.now.width (lent_row lent.now one) }
+    requires reduced { IsReduced (lent_row lent.now one) }
+    requires short { IsKnownLent lent.now one }
+    requires p { IsRow lent.now.unknowns lent.now.width (row_of p.now) }
+    requires column { c < lent.now.unknowns }
+    requires positive { pos 1 ≤ℤ entry p.now.coefs.now c }
+    ensures run { IfSome result (λ end.
+        IsRun (row_length lent.now.unknowns lent.now.width) at end (one ∷ [])) }
+    ensures steady { OnSome result (IsSteady (row_of p.now) c (lent_row lent.now one)) }
+{
+    match one {
+        Kept::Unit(k) => { if k != c { Some(at) } else { None } }
+        Kept::At(place) => {
+            if place.first == at && place.short && p.short && lent.numbers[at + 1 + c] == 0 {
+                Some(lent.behind(one, at))
+            } else {
+                None
+            }
+        }
+    }
+}
+
+// How many kept rows in front are known to stay as they are in the pivot on row p and column c, with numbers that
+// follow one another from the place on, and the place behind them.
+fn steady(p: &RowView<'_>, c: usize, lent: &Lent<'_>, kept: &[Kept], first: usize) -> (usize, usize)
+    requires lent { AreLent lent.now kept.now }
+    requires p { IsRow lent.now.unknowns lent.now.width (row_of p.now) }
+    requires column { c < lent.now.unknowns }
+    requires positive { pos 1 ≤ℤ entry p.now.coefs.now c }
+    ensures count { result.0 ≤ length kept.now }
+    ensures run { IsRun (row_length lent.now.unknowns lent.now.width) first result.1 (take result.0 kept.now) }
+    ensures steady { AreSteady (row_of p.now) c lent.now (take result.0 kept.now) }
+{
+    let mut at = first;
+    for i in 0..kept.len() {
+        match steady_end(p, c, lent, kept[i], at) {
+            Some(end) => at = end,
+            None => return (i, at),
+        }
+    }
+    (kept.len(), at)
+}
+
+// Adds the kept rows in front that are known to stay as they are in the pivot on row p and column c, as one run from
+// the place on; the rows behind them, and the place there.
+fn push_steady<'k>(
     next: &mut FlatRows,
     p: &RowView<'_>,
     c: usize,
     lent: &Lent<'_>,
-    one: Kept,
-) -> Result<(), Overflow>
-    requires room { length next.old.rows < next.old.most }
+    kept: &'k [Kept],
+    first: usize,
+) -> (&'k [Kept], usize)
+    requires room { length next.old.rows + length kept.now ≤ next.old.most }
     requires unknowns { next.old.unknowns ≡ lent.now.unknowns }
     requires width { next.old.width ≡ lent.now.width }
-    requires units { lent.now.units.now ≡ unit_run lent.now.unknowns lent.now.width }
-    requires place { IsPlace lent.now.unknowns lent.now.width (length lent.now.numbers.now) one }
+    requires lent { AreLent lent.now kept.now }
     requires p { IsRow lent.now.unknowns lent.now.width (row_of p.now) }
-    requires row { IsRow lent.now.unknowns lent.now.width (lent_row lent.now one) }
-    requires reduced { IsReduced (lent_row lent.now one) }
-    requires short { IsKnownLent lent.now one }
-    requires plain { IsPlainLent lent.now one }
     requires column { c < lent.now.unknowns }
     requires positive { pos 1 ≤ℤ entry p.now.coefs.now c }
-    ensures listed { IsChecked is_overflow (model.eliminated_listed (row_of p.now) c (lent_row lent.now one)) result }
-    ensures ok { OnOk result
-        (next.new ≡ with_more next.old (model.eliminated (row_of p.now) c (lent_row lent.now one))) }
-    ensures err { OnErr result (next.new ≡ next.old) }
+    ensures lent { AreLent lent.now result.0.now }
+    ensures listed { all_fit (flat_map (λ one. model.eliminated_listed (row_of p.now) c (lent_row lent.now one)) result.0.now)
+        ≡ all_fit (flat_map (λ one. model.eliminated_listed (row_of p.now) c (lent_row lent.now one)) kept.now) }
+    ensures rows { with_rows next.new (map (λ one. model.eliminated (row_of p.now) c (lent_row lent.now one)) result.0.now)
+        ≡ with_rows next.old (map (λ one. model.eliminated (row_of p.now) c (lent_row lent.now one)) kept.now) }
+    ensures fewer { length result.0.now ≤ length kept.now }
+    ensures count { length next.new.rows + length result.0.now ≡ length next.old.rows + length kept.now }
+    ensures shape { SameShape next.new next.old }
 {
-    if let Kept::Unit(k) = one {
-        if k != c {
-            next.push_unit(k);
-            return Ok(());
-        }
-    }
-    turn_row(next, p, c, lent, one)
+    let (count, end) = steady(p, c, lent, kept, first);
+    let (run, rest) = kept.split_at(count);
+    next.push_run(lent, run, first, end);
+    (rest, end)
 }
 
-// Adds what the kept rows are after the pivot on row p and column c.
+// Adds what the kept rows are after the pivot on row p and column c. Rows that stay are copied as one run where their
+// numbers follow one another, at first from the place on.
 fn turn_rows(
     next: &mut FlatRows,
     p: &RowView<'_>,
     c: usize,
     lent: &Lent<'_>,
     kept: &[Kept],
+    first: usize,
 ) -> Result<(), Overflow>
     requires room { length next.old.rows + length kept.now ≤ next.old.most }
     requires unknowns { next.old.unknowns ≡ lent.now.unknowns }
@@ -126,8 +174,12 @@ fn turn_rows(
         (map (λ one. model.eliminated (row_of p.now) c (lent_row lent.now one)) kept.now)) }
     ensures shape { SameShape next.new next.old }
 {
-    for one in kept {
-        turn_kept(next, p, c, lent, *one)?;
+    let (mut rest, mut at) = push_steady(next, p, c, lent, kept, first);
+    while let [one, tail @ ..] = rest {
+        turn_row(next, p, c, lent, *one)?;
+        let (behind, end) = push_steady(next, p, c, lent, tail, lent.behind(*one, at));
+        rest = behind;
+        at = end;
     }
     Ok(())
 }
@@ -158,9 +210,9 @@ fn turn_all(
     let (front, _) = kept.split_at(r);
     let (_, back) = kept.split_at(r + 1);
     let p = lent.row(kept[r]);
-    turn_rows(next, &p, c, lent, front)?;
+    turn_rows(next, &p, c, lent, front, 0)?;
     next.push_unit(c);
-    turn_rows(next, &p, c, lent, back)?;
+    turn_rows(next, &p, c, lent, back, lent.behind(kept[r], 0))?;
     Ok(())
 }
 
@@ -227,6 +279,6 @@ impl FlatRows {
             numbers: self.numbers.as_slice(),
             units,
         };
-        turn_rows(next, p, c, &lent, self.kept.as_slice())
+        turn_rows(next, p, c, &lent, self.kept.as_slice(), 0)
     }
 }

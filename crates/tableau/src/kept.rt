@@ -1,7 +1,7 @@
 ghost use Rattle.std.specs.Prelude.{◌≡◌, ◌+◌, ◌<◌, ◌≤◌, length, take, drop, IsTrue, IfSome};
 ghost use Rattle.pip_model.specs.Rows.{unit_row};
 ghost use Rattle.tableau_row.specs.Flat.{numbers_of};
-ghost use Rattle.tableau.specs.KeptRows.{IsPlace, IsKnownLent, lent_row, row_length, row_from_place, row_kept, unit_run};
+ghost use Rattle.tableau.specs.KeptRows.{IsPlace, IsKnownLent, lent_row, place_behind, row_length, row_from_place, row_kept, unit_run};
 ghost use Rattle.tableau_row.specs.Short.{IsShortRow};
 ghost use Rattle.tableau_row.specs.Views.{row_of};
 
@@ -81,6 +81,17 @@ impl<'t> Lent<'t> {
         match kept {
             Kept::Unit(_) => None,
             Kept::At(at) => Some(self.numbers_at(at.first)),
+        }
+    }
+
+    // The place behind the numbers of a row, the given one where it has none.
+    pub(crate) fn behind(&self, kept: Kept, at: usize) -> usize
+        requires { IsPlace self.now.unknowns self.now.width (length self.now.numbers.now) kept }
+        ensures { result ≡ place_behind (row_length self.now.unknowns self.now.width) at kept }
+    {
+        match kept {
+            Kept::Unit(_) => at,
+            Kept::At(place) => place.first + self.unknowns + self.width + 2,
         }
     }
 

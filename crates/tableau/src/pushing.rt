@@ -20,7 +20,7 @@ use tableau_row::{
 };
 
 // Appends the kept row, for which there is room.
-fn append_kept(kept: &mut Vec<Kept>, one: Kept)
+pub(crate) fn append_kept(kept: &mut Vec<Kept>, one: Kept)
     requires room { vec_len kept.old < vec_capacity kept.old }
     ensures items { kept.new.items ≡ kept.old.items ++ one ∷ [] }
     ensures count { length kept.new.items ≡ length kept.old.items + 1 }

@@ -1,0 +1,21 @@
+use Rattle.std.proofs.Common.{List, take, ◌<◌, length, subst, sym}
+use Rattle.std.proofs.lemmas.List.{take_more}
+use Rattle.std.proofs.lemmas.List.Elements.{All-more}
+use Rattle.tableau.specs.KeptRows.{IsRun, IsSteady, lent_row, row_length}
+use Rattle.tableau_row.specs.Views.{row_of}
+use Rattle.tableau.specs.declared.kept.Kept.{Kept}
+use Rattle.tableau.proofs.Runs.{run_more}
+use Rattle.tableau.proofs.exchange.steady.Goals as goal
+
+pub loop-i-preserved : goal.loop-i-preserved
+loop-i-preserved c =
+    let l = c.args.lent.now in
+    let ks = c.args.kept.now in
+    let size = row_length l.unknowns l.width in
+    let i = c.loop-i.i in
+    let more : i < length ks = c.loop-i-test.true in
+    record {
+      run = subst (λ (js : List Kept). IsRun size c.args.first c.in-Some.end js) (sym (take_more ks i _ more))
+          (run_more size c.args.first c.loop-i.at c.in-Some.end (take i ks) _ c.loop-i.invariant.run c.in-Some.ensures.run);
+      steady = All-more (λ (k : Kept). IsSteady (row_of c.args.p.now) c.args.c (lent_row l k)) ks i _ more c.loop-i.invariant.steady c.in-Some.ensures.steady;
+    }
