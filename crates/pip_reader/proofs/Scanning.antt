@@ -1,11 +1,12 @@
 -- The end of the first group of a text, piece by piece.
-use Rattle.std.proofs.Common.{◌≡◌, ◌≢◌, ◌∙◌, refl, sym, ap, ℕ, zero, suc, ◌+◌, ◌<◌, Bool, true, false, ◌⊎◌, inl, inr, List, [], ◌∷◌, ◌++◌, length, drop, append_assoc, add-one, zero-add, drop-cons, take, arith}
+use Rattle.std.proofs.Common.{◌≡◌, ◌≢◌, ◌∙◌, refl, sym, ap, ℕ, zero, suc, ◌+◌, ◌-◌, ◌<◌, ◌≤◌, Bool, true, false, ◌⊎◌, inl, inr, List, [], ◌∷◌, ◌++◌, length, drop, append_assoc, add-one, zero-add, drop-cons, take, arith}
 use Rattle.std.proofs.lemmas.Bool.{ne_eqb}
-use Rattle.std.proofs.lemmas.List.{length_push, take_more}
+use Rattle.std.proofs.lemmas.List.{length_push, take_more, length-take-le, length-drop, drop-drop, take-append-drop}
+use Rattle.std.proofs.Math.Seq.{take-add}
 use Rattle.std.proofs.lemmas.List.Sums.{fold-append}
-use Rattle.std.specs.Prelude.{Option, Some, None, IfNone, fold, slice_index, ◌==◌}
+use Rattle.std.specs.Prelude.{Option, Some, None, IfNone, fold, slice_index, ◌==◌, All}
 use Rattle.pip_model.specs.Reading.{open_after, closing, next_open}
-use Rattle.pip_reader.specs.Groups.{group_behind, first_group_end, group_end_from, IsScanned, place_behind}
+use Rattle.pip_reader.specs.Groups.{NoBracket, group_behind, first_group_end, group_end_from, IsScanned, place_behind}
 
 yes_no : (b : Bool) → (b ≡ true) ⊎ (b ≡ false)
 yes_no true = inl refl
@@ -127,3 +128,66 @@ scan-open seen bytes depth now None h e count = record {
   not_ended = sym (scan-found seen bytes depth None h e);
 }
 scan-open seen bytes depth now (Some after) h e count = tt
+
+-- ---- runs of bytes
+
+-- a run without a bracket
+module _ where
+  rest : (b : ℕ) (bs : List ℕ) → All NoBracket (b ∷ bs) → All NoBracket bs
+  rest b bs h = λ k d l. h (suc k) d (omega (arith, l))
+
+  depth_stays : (depth b : ℕ) (bs : List ℕ) → All NoBracket (b ∷ bs) → open_after depth b ≡ depth
+  depth_stays depth b bs h = let no : NoBracket b = h 0 0 (omega arith) in sym (other_byte depth b no.0 no.1)
+
+pub quiet-fold : (depth : ℕ) (xs : List ℕ) → All NoBracket xs → depth ≡ fold open_after depth xs
+quiet-fold depth [] h = refl
+quiet-fold depth (b ∷ bs) h = quiet-fold depth bs (rest b bs h) ∙ ap (λ d. fold open_after d bs) (sym (depth_stays depth b bs h))
+
+pub quiet-none : (depth place : ℕ) (xs : List ℕ) → All NoBracket xs → None ≡ group_end_from depth place xs
+quiet-none depth place [] h = refl
+quiet-none depth place (b ∷ bs) h =
+    let e = depth_stays depth b bs h in
+    let goes_on : (depth ≡ 0) ⊎ (open_after depth b ≢ 0) = elim (none_or_some depth) [ inl none ↦ inl none | inr some ↦ inr (λ ended. some (sym e ∙ ended)) ] in
+    quiet-none depth (suc place) bs (rest b bs h) ∙ ap (λ d. group_end_from d (suc place) bs) (sym e) ∙ sym (step_on depth place b bs goes_on)
+
+end-found : (depth place after : ℕ) (xs ys : List ℕ) → group_end_from depth place xs ≡ Some after → group_end_from depth place (xs ++ ys) ≡ Some after
+end-found depth place after [] ys h = cc
+end-found depth place after (b ∷ xs) ys h =
+    elim (step depth place b) [
+      | inl stops ↦ stops (xs ++ ys) ∙ sym (stops xs) ∙ h
+      | inr more ↦ more (xs ++ ys) ∙ end-found (open_after depth b) (suc place) after xs ys (sym (more xs) ∙ h)
+    ]
+
+moved : (depth at : ℕ) (xs : List ℕ) → group_end_from depth at xs ≡ place_behind at (group_end_from depth 0 xs)
+moved depth at xs = let zero_more : at + 0 ≡ at = omega arith in rw zero_more at (end-moved at depth 0 xs)
+
+-- the run of these bytes from a place up to an end
+module _ (at end : ℕ) (xs : List ℕ) (ordered : at ≤ end) where
+  abbrev pub run : List ℕ
+  run = take (end - at) (drop at xs)
+
+  up_to : at + (end - at) ≡ end
+  up_to = omega arith
+
+  split : drop at xs ≡ run ++ drop end xs
+  split = sym (ap (λ ys. run ++ ys) (ap (λ k. drop k xs) (sym up_to) ∙ sym (drop-drop (end - at) at xs)) ∙ take-append-drop (end - at) (drop at xs))
+
+  -- no end in the run
+  pub run-more : (depth now : ℕ) → end ≤ length xs → None ≡ group_end_from depth 0 run → now ≡ fold open_after depth run
+      → group_end_from depth at (drop at xs) ≡ group_end_from now end (drop end xs)
+  run-more depth now within none e =
+      let long : length run ≡ end - at = length-take-le (end - at) (drop at xs) (omega (arith, length-drop at xs)) in
+      ap (group_end_from depth at) split
+      ∙ end-append depth at run (drop end xs) (moved depth at run ∙ ap (place_behind at) (sym none))
+      ∙ rw (long, up_to, ← e) refl
+
+  -- an end in the run
+  pub run-found : (depth after : ℕ) → Some after ≡ group_end_from depth 0 run → group_end_from depth at (drop at xs) ≡ Some (at + after)
+  run-found depth after found =
+      ap (group_end_from depth at) split
+      ∙ end-found depth at (at + after) run (drop end xs) (moved depth at run ∙ ap (place_behind at) (sym found))
+
+  pub fold-run : (start depth now : ℕ) → depth ≡ fold open_after start (take at xs) → now ≡ fold open_after depth run → now ≡ fold open_after start (take end xs)
+  fold-run start depth now e f =
+      let joined : take end xs ≡ take at xs ++ run = rw up_to at (take-add at (end - at) xs) in
+      f ∙ ap (λ d. fold open_after d run) e ∙ sym (ap (fold open_after start) joined ∙ fold-append open_after start (take at xs) run)

@@ -1,5 +1,5 @@
 -- The end of the first group of a text that comes in pieces.
-use Rattle.std.specs.Prelude.{◌≡◌, ℕ, zero, suc, ◌+◌, ◌==◌, List, [], ◌∷◌, fold, drop, Option, Some, None, if◌then◌else◌}
+use Rattle.std.specs.Prelude.{◌≡◌, ℕ, zero, suc, ◌+◌, ◌==◌, ◌≢◌, List, [], ◌∷◌, fold, drop, Option, Some, None, if◌then◌else◌}
 use Rattle.std.specs.Option.{option_map}
 use Rattle.pip_model.specs.Reading.{open_after, closing, next_open}
 
@@ -26,3 +26,7 @@ pub record IsScanned (seen : List ℕ) (depth : ℕ) : Type 0 where
 -- a place among the bytes behind so many
 abbrev pub place_behind : ℕ → Option ℕ → Option ℕ
 place_behind n result = option_map (λ after. n + after) result
+
+-- the byte is no bracket
+abbrev pub NoBracket : ℕ → Type 0
+NoBracket b = (b ≢ 40) × (b ≢ 41)

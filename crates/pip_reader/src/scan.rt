@@ -1,9 +1,21 @@
-ghost use Rattle.std.specs.Prelude.{◌≡◌, ◌+◌, ◌<◌, ◌≤◌, ◌^◌, ◌++◌, ℕ, List, [], length, fold, IfNone, IfSome};
+ghost use Rattle.std.specs.Prelude.{◌≡◌, ◌↔◌, ◌+◌, ◌<◌, ◌≤◌, ◌^◌, ◌++◌, ℕ, List, [], length, fold, All, IsTrue, IfNone, IfSome};
 ghost use Rattle.pip_model.specs.Reading.{open_after as open_after_of};
-ghost use Rattle.pip_reader.specs.Groups.{IsScanned, first_group_end, group_end_from, place_behind};
+ghost use Rattle.pip_reader.specs.Groups.{IsScanned, NoBracket, first_group_end, group_end_from, place_behind};
 
 use affine_rows::open_after;
 use std::marker::Model;
+
+// Whether no byte is a bracket. Each byte is tested, whatever the others are.
+#[inline(always)]
+fn has_no_bracket(bytes: &[u8]) -> bool
+    ensures { IsTrue result ↔ All NoBracket bytes.now }
+{
+    let mut found = false;
+    for byte in bytes {
+        found |= *byte == b'(' || *byte == b')';
+    }
+    !found
+}
 
 /// A search for the end of a text's first group, piece by piece.
 ///
@@ -30,7 +42,7 @@ impl GroupScan {
     }
 
     // The place behind the `)` that balances the first `(`, where so many brackets are open before these bytes.
-    fn find(&mut self, bytes: &[u8]) -> Option<usize>
+    fn find_in(&mut self, bytes: &[u8]) -> Option<usize>
         requires { self.old + length bytes.now < 2 ^ 64 }
         ensures found { result ≡ group_end_from self.old 0 bytes.now }
         ensures open { IfNone result (self.new ≡ fold open_after_of self.old bytes.now) }
@@ -48,6 +60,30 @@ impl GroupScan {
             }
         }
         self.depth = depth;
+        None
+    }
+
+    // The same, by runs of eight bytes, of which those without a bracket are passed at one go.
+    fn find(&mut self, bytes: &[u8]) -> Option<usize>
+        requires { self.old + length bytes.now < 2 ^ 64 }
+        ensures found { result ≡ group_end_from self.old 0 bytes.now }
+        ensures open { IfNone result (self.new ≡ fold open_after_of self.old bytes.now) }
+        ensures bound { IfSome result (λ after. after ≤ length bytes.now) }
+        ensures few { self.new ≤ self.old + length bytes.now }
+    {
+        let mut at = 0;
+        while at < bytes.len() {
+            let left = bytes.len() - at;
+            if 8 <= left && has_no_bracket(&bytes[at..at + 8]) {
+                at += 8;
+            } else {
+                let end = at + left.min(8);
+                if let Some(after) = self.find_in(&bytes[at..end]) {
+                    return Some(at + after);
+                }
+                at = end;
+            }
+        }
         None
     }
 

@@ -1,34 +1,39 @@
-use Rattle.std.proofs.Common.{◌≡◌, ◌≢◌, ◌+◌, ◌≤◌, ◌∙◌, ◌⊎◌, inl, inr, sym, ap, arith}
-use Rattle.std.specs.Prelude.{slice_index}
-use Rattle.pip_model.specs.Reading.{open_after}
-use Rattle.pip_reader.proofs.Scanning.{end_more, fold_more, none_or_some, other_byte}
+use Rattle.std.proofs.Common.{arith, refl, sym, ◌∙◌, ◌≤◌, ◌+◌, ◌-◌, length, take, drop}
+use Rattle.std.proofs.lemmas.List.{length-take}
+use Rattle.pip_reader.proofs.Scanning.{quiet-fold, quiet-none, run-more, run-found, fold-run}
 use Rattle.pip_reader.proofs.scan.GroupScan.find.Goals as goal
-use Rattle.pip_reader.proofs.scan.GroupScan.find.Goals.{then-byte-eq40+else-before-gt0, else-before-gt0-via-then-before-gt0+else-depth-eq0, else-before-gt0-via-else-before-gt0, else-byte-eq40+else-byte-eq41}
 
-pub loop-i-preserved : goal.loop-i-preserved
-loop-i-preserved c =
-    let before = c.loop-i.depth in
-    let now = c.if-byte-eq40.depth in
-    let is : c.if-byte-eq40.depth ≡ open_after c.loop-i.depth (slice_index c.args.bytes.now c.loop-i.i) =
-    elim c.if-byte-eq40.branch [
-      | then-byte-eq40+else-before-gt0 w ↦ w.depth-is ∙ w.open_after-depth.ensures.value
-      | else-byte-eq40+else-byte-eq41 w ↦ w.depth-is ∙ other_byte _ _ w.if-byte-eq40.false w.if-byte-eq41.false
-    ] in
-    let goes_on : (c.loop-i.depth ≡ 0) ⊎ (c.if-byte-eq40.depth ≢ 0) =
-    elim c.if-byte-eq40.branch [
-      | then-byte-eq40+else-before-gt0 w ↦ elim w.else-before-gt0.branch [
-        | else-before-gt0-via-then-before-gt0+else-depth-eq0 v ↦ inr (λ e. v.if-depth-eq0.false (sym w.depth-is ∙ e))
-        | else-before-gt0-via-else-before-gt0 v ↦ inl (omega arith)
-      ]
-      | else-byte-eq40+else-byte-eq41 w ↦ rw w.depth-is (none_or_some c.loop-i.depth)
-    ] in
-    let few : c.if-byte-eq40.depth ≤ c.loop-i.depth + 1 =
-    elim c.if-byte-eq40.branch [
-      | then-byte-eq40+else-before-gt0 w ↦ omega (arith, w.depth-is, w.open_after-depth.ensures.bound)
-      | else-byte-eq40+else-byte-eq41 w ↦ omega (arith, w.depth-is)
-    ] in
+pub loop-at-preserved-then-has_no_bracket : goal.loop-at-preserved-then-has_no_bracket
+loop-at-preserved-then-has_no_bracket c =
+    let at = c.loop-at.at in
+    let bytes = c.args.bytes.now in
+    let depth = c.loop-at.self in
+    let run = take (at + 8 - at) (drop at bytes) in
+    let within : at + 8 ≤ length bytes = omega arith in
+    let stays = quiet-fold depth run (c.if-has_no_bracket.ensures.0 refl) in
+    let none = quiet-none depth 0 run (c.if-has_no_bracket.ensures.0 refl) in
     record {
-      rest = sym (end_more before now c.loop-i.i c.args.bytes.now (omega arith) is goes_on) ∙ c.loop-i.invariant.rest;
-      depth = fold_more c.args.self.now now c.loop-i.i c.args.bytes.now (omega arith) (is ∙ ap (λ d. open_after d (slice_index c.args.bytes.now c.loop-i.i)) c.loop-i.invariant.depth);
+      rest = sym (run-more at (at + 8) bytes (omega arith) depth depth within none stays) ∙ c.loop-at.invariant.rest;
+      depth = fold-run at (at + 8) bytes (omega arith) c.args.self.now depth depth c.loop-at.invariant.depth stays;
       bound = omega arith;
+      within = within;
+    }
+
+pub returns-in-Some-clause-found : goal.returns-in-Some-clause-found
+returns-in-Some-clause-found c =
+    let at = c.loop-at.at in
+    sym (run-found at (at + c.min.result) c.args.bytes.now (omega arith) c.loop-at.self c.in-Some.after c.in-Some.ensures.found) ∙ c.loop-at.invariant.rest
+
+pub loop-at-preserved : goal.loop-at-preserved
+loop-at-preserved c =
+    let at = c.loop-at.at in
+    let bytes = c.args.bytes.now in
+    let now = c.find_in.new.self in
+    let within : at + c.min.result ≤ length bytes = omega arith in
+    let more = c.in_default.ensures.«open» in
+    record {
+      rest = sym (run-more at (at + c.min.result) bytes (omega arith) c.loop-at.self now within c.in_default.ensures.found more) ∙ c.loop-at.invariant.rest;
+      depth = fold-run at (at + c.min.result) bytes (omega arith) c.args.self.now c.loop-at.self now c.loop-at.invariant.depth more;
+      bound = omega (arith, c.in_default.ensures.few, length-take (at + c.min.result - at) (drop at bytes));
+      within = within;
     }

@@ -1,12 +1,16 @@
-use Rattle.std.proofs.Common.{◌≡◌, ◌+◌, ◌≤◌, take, drop}
+use Rattle.std.proofs.Common.{◌≡◌, ◌+◌, ◌-◌, ◌≤◌, take, drop, length}
 use Rattle.std.specs.Prelude.{fold}
 use Rattle.pip_model.specs.Reading.{open_after}
 use Rattle.pip_reader.specs.Groups.{group_end_from}
 use Rattle.pip_reader.proofs.scan.GroupScan.find.Given as goal
 
-abbrev pub invariant-loop-i : goal.invariant-loop-i
-invariant-loop-i l = record {
-  rest : group_end_from l.depth l.i (drop l.i l.bytes) ≡ group_end_from l.fn.self 0 l.bytes;
-  depth : l.depth ≡ fold open_after l.fn.self (take l.i l.bytes);
-  bound : l.depth ≤ l.fn.self + l.i;
+abbrev pub invariant-loop-at : goal.invariant-loop-at
+invariant-loop-at l = record {
+  rest : group_end_from l.self l.at (drop l.at l.bytes) ≡ group_end_from l.fn.self 0 l.bytes;
+  depth : l.self ≡ fold open_after l.fn.self (take l.at l.bytes);
+  bound : l.self ≤ l.fn.self + l.at;
+  within : l.at ≤ length l.bytes;
 }
+
+abbrev pub decreases-loop-at : goal.decreases-loop-at
+decreases-loop-at l = length l.bytes - l.at

@@ -1,0 +1,9 @@
+use Rattle.std.proofs.Common.{◌≡◌, ◌<◌, ℕ, get_or, true, false}
+use Rattle.pip_reader.specs.Groups.{NoBracket}
+use Rattle.pip_reader.proofs.scan.has_no_bracket.Given as goal
+
+abbrev pub invariant-loop-byte : goal.invariant-loop-byte
+invariant-loop-byte l = record {
+  none : l.found ≡ false → (k : ℕ) → k < l.byte-index → NoBracket (get_or l.bytes k 0);
+  some : l.found ≡ true → ((k : ℕ) → k < l.byte-index → NoBracket (get_or l.bytes k 0)) → ⊥;
+}
