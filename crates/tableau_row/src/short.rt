@@ -89,7 +89,7 @@ pub(crate) fn with_entry(short: bool, entry: i128) -> bool
 }
 
 // Whether the number lies from -(2^31 - 1) to 2^31 - 1.
-fn is_half(z: i64) -> bool
+pub(crate) fn is_half(z: i64) -> bool
     ensures { IsTrue result → unsigned_abs z < 2 ^ 31 }
 {
     -2147483647 <= z && z <= 2147483647
@@ -155,7 +155,7 @@ fn half_difference(a: i64, x: i64, b: i64, y: i64) -> i64
 }
 
 // `a*x - b*y` for short numbers, a and b being of 32 bits; whether it is known to be short.
-fn half_entry(a: i64, x: i128, b: i64, y: i128) -> (i128, bool)
+pub(crate) fn half_entry(a: i64, x: i128, b: i64, y: i128) -> (i128, bool)
     requires a { unsigned_abs a < 2 ^ 31 }
     requires x { IsShort x }
     requires b { unsigned_abs b < 2 ^ 31 }
@@ -175,27 +175,6 @@ fn half_entry(a: i64, x: i128, b: i64, y: i128) -> (i128, bool)
 }
 
 // Makes `a*r - b*s` of r, entry by entry, for short numbers; whether those are short too.
-#[tactic(auto, using(crate::proofs::ShortRows::fits_short))]
-fn combine_by_half(a: i64, r: &mut [i128], b: i64, s: &[i128]) -> bool
-    requires lengths { length r.old ≡ length s.now }
-    requires a { unsigned_abs a < 2 ^ 31 }
-    requires r { All IsShort r.old }
-    requires b { unsigned_abs b < 2 ^ 31 }
-    requires s { All IsShort s.now }
-    ensures value { r.new ≡ combine a r.old b s.now }
-    ensures fits { All Fits r.new }
-    ensures short { IsTrue result → All IsShort r.new }
-{
-    let mut short = true;
-    for i in 0..r.len() {
-        let (entry, entry_short) = half_entry(a, r[i], b, s[i]);
-        short = both(short, entry_short);
-        r[i] = entry;
-    }
-    short
-}
-
-// The same for wider a and b.
 #[tactic(auto, using(crate::proofs::ShortRows::fits_short))]
 fn combine_by_short(a: i128, r: &mut [i128], b: i128, s: &[i128]) -> bool
     requires lengths { length r.old ≡ length s.now }
@@ -249,12 +228,9 @@ pub(crate) fn combine_short(a: i128, r: &mut [i128], b: i128, s: &[i128]) -> boo
     ensures fits { All Fits r.new }
     ensures short { IsTrue result → All IsShort r.new }
 {
-    let narrow_a = narrow(a);
     let narrow_b = narrow(b);
-    if narrow_a == 1 && is_half(narrow_b) {
+    if narrow(a) == 1 && is_half(narrow_b) {
         combine_by_one(r, narrow_b, s)
-    } else if is_half(narrow_a) && is_half(narrow_b) {
-        combine_by_half(narrow_a, r, narrow_b, s)
     } else {
         combine_by_short(a, r, b, s)
     }

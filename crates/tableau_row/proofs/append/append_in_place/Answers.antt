@@ -6,7 +6,7 @@ use Rattle.tableau_row.specs.Short.{IsShortRow}
 use Rattle.tableau_row.specs.Views.{row_of}
 use Rattle.tableau_row.proofs.Numbers.{lent_last}
 use Rattle.tableau_row.proofs.Substituting.{eliminated_reduced}
-use Rattle.tableau_row.proofs.append.append_eliminated.Goals as goal
+use Rattle.tableau_row.proofs.append.append_in_place.Goals as goal
 
 pub returns-then-both-clause-reduced : goal.returns-then-both-clause-reduced
 returns-then-both-clause-reduced c = eliminated_reduced _ _ c.args.c (row_of c.args.p.now) (row_of c.args.row.now) c.requires.row c.requires.positive

@@ -1,0 +1,19 @@
+use Rattle.std.proofs.Common.{arith, rules, ◌≡◌, pos, to_z, of_z, ◌*ℤ◌, ◌-ℤ◌, get_or}
+use Rattle.std.specs.Int.{w64}
+use Rattle.affine_rows.specs.Checks.{Fits}
+use Rattle.tableau_row.specs.Short.{IsShort}
+use Rattle.tableau_row.proofs.Combining.{made_taken, made_step}
+use Rattle.tableau_row.proofs.append.append_combined.Goals as goal
+
+pub loop-i-preserved : goal.loop-i-preserved
+loop-i-preserved c =
+    let a = to_z w64 (of_z w64 c.args.a) in
+    let b = to_z w64 (of_z w64 c.args.b) in
+    let entry : c.half_entry-entry.result.0 ≡ a *ℤ get_or c.args.r.now c.loop-i.i (pos 0) -ℤ b *ℤ get_or c.args.s.now c.loop-i.i (pos 0) = search rules in
+    record {
+      items = made_step a b c.args.r.now c.args.s.now c.requires.lengths c.loop-i.i (omega arith) c.args.numbers.now.items c.loop-i.numbers.items c.append_one.new.numbers.items c.half_entry-entry.result.0 entry c.loop-i.invariant.items (search rules);
+      fits = made_taken a b c.args.r.now c.args.s.now c.requires.lengths c.loop-i.i (omega arith) Fits c.half_entry-entry.result.0 entry c.half_entry-entry.ensures.fits c.loop-i.invariant.fits;
+      short = λ all. made_taken a b c.args.r.now c.args.s.now c.requires.lengths c.loop-i.i (omega arith) IsShort c.half_entry-entry.result.0 entry (c.half_entry-entry.ensures.short (c.both-short.ensures.second all)) (c.loop-i.invariant.short (c.both-short.ensures.first all));
+      length = search rules;
+      room = search rules;
+    }
