@@ -1,5 +1,5 @@
 -- Rows that are kept by their numbers, with one row more.
-use Rattle.std.proofs.Common.{◌≡◌, refl, ap, sym, ◌∙◌, subst, ℕ, ◌+◌, ◌*◌, ◌<◌, ◌≤◌, ℤ, pos, true, false, not, List, [], ◌∷◌, ◌++◌, length, take, drop, replicate, arith, length-append, append-nil}
+use Rattle.std.proofs.Common.{◌≡◌, refl, ap, sym, ◌∙◌, subst, ℕ, ◌+◌, ◌-◌, ◌*◌, ◌<◌, ◌≤◌, ℤ, pos, true, false, not, List, [], ◌∷◌, ◌++◌, length, take, drop, replicate, arith, length-append, append-nil}
 use Rattle.std.specs.Prelude.{IsTrue, All, filter, flat_map}
 use Rattle.std.proofs.lemmas.List.{take_at, drop_at, take_all, take-append-le, drop-append-le, take-append-drop, length-drop, length-replicate, map-append, length_push, length-take-le, length-set}
 use Rattle.std.proofs.lemmas.List.Elements.{All-head, All-tail, All-push, All-weaker, All-set, All-replicate, All-same, filter-append}
@@ -123,6 +123,12 @@ unit_short n w c = record {
   coefs = All-set IsShort (replicate n (pos 0)) c (pos 1) (omega arith) (All-replicate IsShort n (pos 0) (omega arith));
   constant = All-replicate IsShort (w + 1) (pos 0) (omega arith);
 }
+
+-- the row of a column over the columns and places of a row
+pub unit_over : (n w c : ℕ) (p : Row) → IsRow n w p → unit_row (length p.coefs) (length p.constant - 1) c ≡ unit_row n w c
+unit_over n w c p h =
+    let places : length p.constant - 1 ≡ w = omega (arith, h.constant) in
+    rw (h.coefs, places) refl
 
 pub with_unit : (n w c : ℕ) (zs : List ℤ) (ks : List Kept) → IsFlat n w zs ks → c < n → IsFlat n w zs (ks ++ kept.Unit c ∷ [])
 with_unit n w c zs ks h lt =

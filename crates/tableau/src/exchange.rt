@@ -1,4 +1,4 @@
-ghost use Rattle.std.specs.Prelude.{◌≡◌, ◌+◌, ◌-◌, ◌<◌, ◌≤◌, pos, ◌≤ℤ◌, [], ◌∷◌, length, take, map, flat_map, All, IfSome, OnSome, OnErr, OnOk};
+ghost use Rattle.std.specs.Prelude.{◌≡◌, ◌+◌, ◌-◌, ◌<◌, ◌≤◌, pos, ◌≤ℤ◌, false, [], ◌∷◌, length, take, map, flat_map, All, IsTrue, IfSome, OnSome, OnErr, OnOk};
 ghost use Rattle.pip_model.specs.Forms.{entry};
 ghost use Rattle.pip_model.specs.Listed.{all_fit};
 ghost use Rattle.pip_model.specs.Rows as model;
@@ -29,6 +29,19 @@ fn check_row(p: &RowView<'_>, c: usize, row: &RowView<'_>) -> Result<(), Overflo
         return Ok(());
     }
     check_eliminated(p, c, row)
+}
+
+// The row, as one that is not known to be short.
+fn as_long<'t>(row: &RowView<'t>) -> RowView<'t>
+    ensures value { row_of result ≡ row_of row.now }
+    ensures short { result.short ≡ false }
+{
+    RowView {
+        den: row.den,
+        coefs: row.coefs,
+        constant: row.constant,
+        short: false,
+    }
 }
 
 // Adds what a kept row is after the pivot on row p and column c. A row that is 0 in the column stays, since its numbers
@@ -65,6 +78,41 @@ fn turn_row(
         next.push_eliminated(p, c, &row, lent.run(one));
     }
     Ok(())
+}
+
+// The same, where the row of column c itself is p solved for the column, if p is short.
+fn turn_kept(
+    next: &mut FlatRows,
+    p: &RowView<'_>,
+    c: usize,
+    lent: &Lent<'_>,
+    one: Kept,
+) -> Result<(), Overflow>
+    requires room { length next.old.rows < next.old.most }
+    requires unknowns { next.old.unknowns ≡ lent.now.unknowns }
+    requires width { next.old.width ≡ lent.now.width }
+    requires units { lent.now.units.now ≡ unit_run lent.now.unknowns lent.now.width }
+    requires place { IsPlace lent.now.unknowns lent.now.width (length lent.now.numbers.now) one }
+    requires p { IsRow lent.now.unknowns lent.now.width (row_of p.now) }
+    requires row { IsRow lent.now.unknowns lent.now.width (lent_row lent.now one) }
+    requires reduced { IsReduced (lent_row lent.now one) }
+    requires short { IsKnownLent lent.now one }
+    requires plain { IsPlainLent lent.now one }
+    requires p_reduced { IsTrue p.now.short → IsReduced (row_of p.now) }
+    requires column { c < lent.now.unknowns }
+    requires positive { pos 1 ≤ℤ entry p.now.coefs.now c }
+    ensures listed { IsChecked is_overflow (model.eliminated_listed (row_of p.now) c (lent_row lent.now one)) result }
+    ensures ok { OnOk result
+        (next.new ≡ with_more next.old (model.eliminated (row_of p.now) c (lent_row lent.now one))) }
+    ensures err { OnErr result (next.new ≡ next.old) }
+{
+    if let Kept::Unit(k) = one {
+        if k == c && p.short {
+            next.push_solved(p, c);
+            return Ok(());
+        }
+    }
+    turn_row(next, p, c, lent, one)
 }
 
 // The place behind the row's numbers, which stand at the place if it has any, where the row is known to stay as it is
@@ -166,6 +214,7 @@ fn turn_rows(
     requires short { All (IsKnownLent lent.now) kept.now }
     requires plain { All (IsPlainLent lent.now) kept.now }
     requires p { IsRow lent.now.unknowns lent.now.width (row_of p.now) }
+    requires p_reduced { IsTrue p.now.short → IsReduced (row_of p.now) }
     requires column { c < lent.now.unknowns }
     requires positive { pos 1 ≤ℤ entry p.now.coefs.now c }
     ensures listed { IsChecked is_overflow
@@ -176,7 +225,7 @@ fn turn_rows(
 {
     let (mut rest, mut at) = push_steady(next, p, c, lent, kept, first);
     while let [one, tail @ ..] = rest {
-        turn_row(next, p, c, lent, *one)?;
+        turn_kept(next, p, c, lent, *one)?;
         let (behind, end) = push_steady(next, p, c, lent, tail, lent.behind(*one, at));
         rest = behind;
         at = end;
@@ -279,6 +328,8 @@ impl FlatRows {
             numbers: self.numbers.as_slice(),
             units,
         };
-        turn_rows(next, p, c, &lent, self.kept.as_slice(), 0)
+        // The numbers of p may have a common divisor.
+        let pivot = as_long(p);
+        turn_rows(next, &pivot, c, &lent, self.kept.as_slice(), 0)
     }
 }

@@ -16,7 +16,7 @@ use crate::kept::{Kept, Place};
 use affine_rows::Overflow;
 use tableau_row::{
     RowView, append_divided, append_eliminated, append_entries, append_rounded, append_row,
-    append_widened, unit_column, view_of,
+    append_solved, append_widened, unit_column, view_of,
 };
 
 // Appends the kept row, for which there is room.
@@ -136,6 +136,31 @@ impl FlatRows {
         let first = self.numbers.len();
         let short = append_eliminated(&mut self.numbers, p, c, row, run);
         let last = Place { first, short };
+        seal(
+            &mut self.kept,
+            &mut self.numbers,
+            last,
+            self.unknowns,
+            self.width,
+        );
+    }
+
+    // Adds what the row of column c itself is after the pivot on row p and that column.
+    pub(crate) fn push_solved(&mut self, p: &RowView<'_>, c: usize)
+        requires room { length self.old.rows < self.old.most }
+        requires p { IsRow self.old.unknowns self.old.width (row_of p.now) }
+        requires reduced { IsReduced (row_of p.now) }
+        requires short { IsShortRow (row_of p.now) }
+        requires column { c < self.old.unknowns }
+        requires positive { pos 1 ≤ℤ entry p.now.coefs.now c }
+        ensures listed { IsTrue (all_fit (model.eliminated_listed (row_of p.now) c
+            (model.unit_row self.old.unknowns self.old.width c))) }
+        ensures row { self.new ≡ with_more self.old (model.eliminated (row_of p.now) c
+            (model.unit_row self.old.unknowns self.old.width c)) }
+    {
+        let first = self.numbers.len();
+        append_solved(&mut self.numbers, p, c);
+        let last = Place { first, short: true };
         seal(
             &mut self.kept,
             &mut self.numbers,

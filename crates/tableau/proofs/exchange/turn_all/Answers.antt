@@ -1,8 +1,8 @@
-use Rattle.std.proofs.Common.{rules, arith, ◌≡◌, ◌∙◌, ◌+◌, ◌≤ℤ◌, pos, subst, sym, take, drop}
+use Rattle.std.proofs.Common.{[], rules, arith, ◌≡◌, ◌∙◌, ◌+◌, ◌≤ℤ◌, pos, subst, sym, take, drop}
 use Rattle.std.proofs.lemmas.Grind.{common_steps}
 use Rattle.std.proofs.lemmas.List.{length-map}
 use Rattle.pip_model.specs.Forms.{entry}
-use Rattle.pip_model.specs.Rows.{Row, row_at}
+use Rattle.pip_model.specs.Rows.{Row, row_at, form_row}
 use Rattle.tableau.specs.KeptRows.{row_kept, rows_kept}
 use Rattle.tableau_row.specs.Rows.{IsRow, IsReduced}
 use Rattle.tableau_row.specs.Views.{row_of}
@@ -105,3 +105,19 @@ returns-clause-ok c =
     let formed = row_formed l.unknowns l.width rows (row_of c.row-p.result) c.args.r p_is (simp length-map c.requires.row) c.requires.flat.rows in
     let made = turned_pivot f c.args.kept.now c.split_at.result.0.now c.split_at-2.result.1.now (row_of c.row-p.result) c.args.r c.args.c l.unknowns l.width c.requires.row front_is back_is p_is formed in
     grind (arith, common_steps, made)
+
+pub turn_rows-requires-clause-p_reduced : goal.turn_rows-requires-clause-p_reduced
+turn_rows-requires-clause-p_reduced c =
+    let l = c.args.lent.now in
+    let f = row_kept l.unknowns l.width l.numbers.now in
+    let rows = rows_kept l.unknowns l.width l.numbers.now c.args.kept.now in
+    let p_is : row_of c.row-p.result ≡ row_at rows c.args.r = c.row-p.ensures ∙ row_is f c.args.kept.now c.args.r _ c.requires.row in
+    λ short. subst IsReduced (sym p_is) (c.requires.flat.reduced c.args.r (form_row 0 []) (simp length-map c.requires.row))
+
+pub turn_rows-requires-2-clause-p_reduced : goal.turn_rows-requires-2-clause-p_reduced
+turn_rows-requires-2-clause-p_reduced c =
+    let l = c.args.lent.now in
+    let f = row_kept l.unknowns l.width l.numbers.now in
+    let rows = rows_kept l.unknowns l.width l.numbers.now c.args.kept.now in
+    let p_is : row_of c.row-p.result ≡ row_at rows c.args.r = c.row-p.ensures ∙ row_is f c.args.kept.now c.args.r _ c.requires.row in
+    λ short. subst IsReduced (sym p_is) (c.requires.flat.reduced c.args.r (form_row 0 []) (simp length-map c.requires.row))

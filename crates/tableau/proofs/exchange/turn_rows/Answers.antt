@@ -21,15 +21,15 @@ loop-rest-preserved c =
     let all : tail ≡ drop 1 rest = take_all (length rest - 1) (drop 1 rest) (rw (length-drop 1 rest) (omega arith)) in
     let listed_end : all_fit (flat_map h c.push_steady-end.result.0.now) ≡ all_fit (flat_map h tail) = c.push_steady-end.ensures.listed in
     let rows_before : with_rows c.loop-rest.next (map g rest) ≡ with_rows c.args.next.now (map g c.args.kept.now) = c.loop-rest.invariant.rows in
-    let rows_end : with_rows c.push_steady-end.new.next (map g c.push_steady-end.result.0.now) ≡ with_rows c.turn_row.new.next (map g tail) = c.push_steady-end.ensures.rows in
+    let rows_end : with_rows c.push_steady-end.new.next (map g c.push_steady-end.result.0.now) ≡ with_rows c.turn_kept.new.next (map g tail) = c.push_steady-end.ensures.rows in
     let some : 0 < length rest = search rules in
-    let made = c.in_ok-turn_row.ensures.ok in
+    let made = c.in_ok-turn_kept.ensures.ok in
     let shape = c.push_steady-end.ensures.shape in
     let before = c.loop-rest.invariant.shape in
     record {
       lent = c.push_steady-end.ensures.lent;
-      listed = listed_end ∙ ap (λ (ks : List Kept). all_fit (flat_map h ks)) all ∙ first_listed (lent_row l) p c.args.c rest _ some c.in_ok-turn_row.ensures.listed ∙ listed_before;
-      rows = rows_end ∙ ap (λ (ks : List Kept). with_rows c.turn_row.new.next (map g ks)) all ∙ ap (λ (t : KeptRows). with_rows t (map g (drop 1 rest))) made
+      listed = listed_end ∙ ap (λ (ks : List Kept). all_fit (flat_map h ks)) all ∙ first_listed (lent_row l) p c.args.c rest _ some c.in_ok-turn_kept.ensures.listed ∙ listed_before;
+      rows = rows_end ∙ ap (λ (ks : List Kept). with_rows c.turn_kept.new.next (map g ks)) all ∙ ap (λ (t : KeptRows). with_rows t (map g (drop 1 rest))) made
           ∙ first_rows (lent_row l) p c.args.c rest _ c.loop-rest.next some ∙ rows_before;
       count = grind (arith, common_steps);
       shape = record {
