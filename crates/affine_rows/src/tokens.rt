@@ -321,7 +321,11 @@ pub fn plain_number(bytes: &[u8], start: usize) -> Option<(i128, usize)>
     let (_, rest) = bytes.split_at(start);
     match small_number(rest) {
         Some((number, len)) => Some((number, start + len)),
-        None => wide_number(bytes, start),
+        // Part by part, so that the result above need not stand in memory.
+        None => match wide_number(bytes, start) {
+            Some((number, after)) => Some((number, after)),
+            None => None,
+        },
     }
 }
 

@@ -72,6 +72,7 @@ fn bracket_end(bytes: &[u8], wanted: Kind) -> Option<usize>
 }
 
 /// The place behind the wanted bracket, which is the next token.
+#[inline(always)]
 pub fn expect(bytes: &[u8], wanted: Kind, place: usize) -> Result<usize, TextFault>
     requires { place ≤ length bytes.now }
     ensures { IsPassed fault_of bytes.now place result (model.expect bytes.now wanted place) }
@@ -79,7 +80,11 @@ pub fn expect(bytes: &[u8], wanted: Kind, place: usize) -> Result<usize, TextFau
     let (_, rest) = bytes.split_at(place);
     match bracket_end(rest, wanted) {
         Some(len) => Ok(place + len),
-        None => bracket_token(bytes, wanted, place),
+        // Part by part, so that the result above need not stand in memory.
+        None => match bracket_token(bytes, wanted, place) {
+            Ok(after) => Ok(after),
+            Err(fault) => Err(fault),
+        },
     }
 }
 
@@ -136,7 +141,11 @@ pub fn number(bytes: &[u8], place: usize) -> Reads<i128, TextFault>
     ensures fits { IfOk result (λ x. Fits x.0) }
 {
     match plain_number(bytes, place) {
-        Some(read) => Ok(read),
-        None => number_token(bytes, place),
+        Some((number, after)) => Ok((number, after)),
+        // Part by part, so that the result above need not stand in memory.
+        None => match number_token(bytes, place) {
+            Ok((number, after)) => Ok((number, after)),
+            Err(fault) => Err(fault),
+        },
     }
 }
