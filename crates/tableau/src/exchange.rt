@@ -223,14 +223,19 @@ fn turn_rows(
         (map (λ one. model.eliminated (row_of p.now) c (lent_row lent.now one)) kept.now)) }
     ensures shape { SameShape next.new next.old }
 {
-    let (mut rest, mut at) = push_steady(next, p, c, lent, kept, first);
-    while let [one, tail @ ..] = rest {
-        turn_kept(next, p, c, lent, *one)?;
-        let (behind, end) = push_steady(next, p, c, lent, tail, lent.behind(*one, at));
-        rest = behind;
-        at = end;
+    let mut rest = kept;
+    let mut at = first;
+    loop {
+        let (behind, end) = push_steady(next, p, c, lent, rest, at);
+        match behind {
+            [] => return Ok(()),
+            [one, tail @ ..] => {
+                turn_kept(next, p, c, lent, *one)?;
+                rest = tail;
+                at = lent.behind(*one, end);
+            }
+        }
     }
-    Ok(())
 }
 
 // Makes of no rows the kept rows after the pivot on row r and column c.

@@ -5,8 +5,8 @@ use Rattle.tableau.specs.KeptRows.{AreLent, SameShape, lent_row, with_rows}
 use Rattle.tableau_row.specs.Views.{row_of}
 use Rattle.tableau.proofs.exchange.turn_rows.Given as goal
 
-abbrev pub invariant-loop-rest : goal.invariant-loop-rest
-invariant-loop-rest l = record {
+abbrev pub invariant-loop-behind : goal.invariant-loop-behind
+invariant-loop-behind l = record {
   lent : AreLent l.lent l.rest;
   listed : all_fit (flat_map (λ one. eliminated_listed (row_of l.p) l.c (lent_row l.lent one)) l.rest)
       ≡ all_fit (flat_map (λ one. eliminated_listed (row_of l.p) l.c (lent_row l.lent one)) l.kept);
@@ -16,5 +16,5 @@ invariant-loop-rest l = record {
   shape : SameShape l.next l.fn.next;
 }
 
-abbrev pub decreases-loop-rest : goal.decreases-loop-rest
-decreases-loop-rest l = length l.rest
+abbrev pub decreases-loop-behind : goal.decreases-loop-behind
+decreases-loop-behind l = length l.rest
