@@ -17,7 +17,7 @@ ghost use Rattle.pip_solve.specs.Starts.{IsFirstPath};
 use crate::node::run;
 use crate::path::Path;
 use crate::pending::Pending;
-use affine_rows::{Form, WantOfMemory, gcd_with};
+use affine_rows::{Form, WantOfMemory};
 use context::{Context, Point, Work};
 use new_parameters::Quotients;
 use pip_problem::{Limits, Problem, Refusal};
@@ -67,21 +67,12 @@ fn tightened(alloc: Global, rows: &[Form]) -> Result<Vec<Form>, WantOfMemory>
     Ok(forms)
 }
 
-// Whether a row's coefficients have no common divisor above 1, so that tightening leaves it as it is.
-#[tactic(auto, using(affine_rows::proofs::Tightening::tighten_kept, pip_model::proofs::Gcd::gcd_zero))]
-fn is_tight(row: &Form) -> bool
-    ensures { IsTrue result → tighten row.now ≡ row.now }
-{
-    let (coefficients, _) = row.as_slice().split_at(row.width());
-    gcd_with(0, coefficients) <= 1
-}
-
 // Whether tightening leaves each row as it is.
 fn are_tight(rows: &[Form]) -> bool
     ensures { IsTrue result → map tighten rows.now ≡ rows.now }
 {
     for row in rows {
-        if !is_tight(row) {
+        if !row.is_tight() {
             return false;
         }
     }
