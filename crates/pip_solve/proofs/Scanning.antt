@@ -1,5 +1,7 @@
 -- The scan of a node's rows, from one row to the next.
-use Rattle.std.proofs.Common.{◌≡◌, refl, sym, ◌∙◌, ap, ℕ, ◌+◌, ◌<◌, ℤ, Option, Some, None, List, [], ◌∷◌, length, drop}
+use Rattle.std.specs.List.{list_all}
+use Rattle.pip_model.specs.Numbers.{is_nonneg}
+use Rattle.std.proofs.Common.{◌≡◌, refl, sym, ◌∙◌, ap, ℕ, ◌+◌, ◌<◌, ℤ, Option, Some, None, List, [], ◌∷◌, length, drop, zero, suc, pos, true, replicate}
 use Rattle.std.specs.Prelude.{IfSome}
 use Rattle.std.proofs.lemmas.List.{drop_more}
 use Rattle.pip_model.specs.Rows.{Row, row_at, form_row}
@@ -56,3 +58,8 @@ module _ (S : Setting) (N : Node) (e : S.class ≡ class) (w v : Work) where
   pub turn_refused : (o : Option Refusal) → IfSome o (λ f. scanned N.context (scope S N) 0 AllPlus N.rows w ≡ Refused f v) → IfSome o (λ f. turn S N w ≡ Refused f v)
   turn_refused None h = h
   turn_refused (Some f) h = ap (λ o. go_on o (λ signs. turn_by S N signs)) (scan-scanned S N e 0 AllPlus N.rows w ∙ h)
+
+-- a form of zeros is nowhere below 0
+pub zeros_nonneg : (n : ℕ) → list_all is_nonneg (replicate n (pos 0)) ≡ true
+zeros_nonneg zero = refl
+zeros_nonneg (suc n) = zeros_nonneg n

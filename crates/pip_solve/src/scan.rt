@@ -68,7 +68,7 @@ fn class_anew(
     }
 }
 
-// The class of the constant form of row i.
+// The class of the constant form of row i. A row that is a column's own row is at least 0 everywhere.
 fn class_of_row(
     rows: &Tableau,
     i: usize,
@@ -85,6 +85,9 @@ fn class_of_row(
     ensures kept { IsKeptContext context.old context.new }
     ensures known { AreKnown context.old.forms context.old.width work.old.budget known.new }
 {
+    if let Some(_) = rows.column_of(i) {
+        return Ok(Class::Plus);
+    }
     let row = rows.row(i);
     if is_nowhere_below(row.constant) {
         return Ok(Class::Plus);
