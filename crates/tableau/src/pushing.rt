@@ -13,10 +13,10 @@ ghost use Rattle.tableau_row.specs.Views.{row_of};
 
 use crate::flat_rows::FlatRows;
 use crate::kept::{Kept, Place};
-use affine_rows::Overflow;
+use affine_rows::{Form, Overflow};
 use tableau_row::{
     RowView, append_divided, append_eliminated, append_entries, append_rounded, append_row,
-    append_solved, append_widened, unit_column, view_of,
+    append_solved, append_widened, is_short_row, unit_column, view_of,
 };
 
 // Appends the kept row, for which there is room.
@@ -96,6 +96,21 @@ impl FlatRows {
             self.unknowns,
             self.width,
         );
+    }
+
+    // Adds the row of a form over the columns and then the places.
+    pub(crate) fn push_form(&mut self, form: &Form)
+        requires room { length self.old.rows < self.old.most }
+        requires length { length form.now ≡ self.old.unknowns + self.old.width + 1 }
+        ensures { self.new ≡ with_more self.old (model.form_row self.old.unknowns form.now) }
+    {
+        let (coefs, constant) = form.as_slice().split_at(self.unknowns);
+        self.push_row(&RowView {
+            den: 1,
+            coefs,
+            constant,
+            short: is_short_row(1, coefs, constant),
+        });
     }
 
     // Adds a row, divided by the greatest common divisor of all its numbers.

@@ -64,6 +64,34 @@ fn make_room(
     Ok(())
 }
 
+// For how many rows a tableau of so many columns and forms has room at its start.
+fn first_room(unknowns: usize, forms: usize) -> Result<usize, WantOfMemory>
+    ensures { IfOk result (λ most. unknowns + forms ≤ most) }
+{
+    let rows = unknowns.checked_add(forms).ok_or(WantOfMemory)?;
+    Ok(rows.saturating_add(SPARE))
+}
+
+// The rows of all columns, with room for so many rows.
+fn unit_rows(
+    alloc: Global,
+    unknowns: usize,
+    width: usize,
+    most: usize,
+) -> Result<FlatRows, WantOfMemory>
+    requires { unknowns ≤ most }
+    ensures unknowns { IfOk result (λ t. t.unknowns ≡ unknowns) }
+    ensures width { IfOk result (λ t. t.width ≡ width) }
+    ensures rows { IfOk result (λ t. t.rows ≡ map (model.unit_row unknowns width) (model.count_from 0 unknowns)) }
+    ensures room { IfOk result (λ t. most ≤ t.most) }
+{
+    let mut made = FlatRows::with_room(alloc, unknowns, width, most)?;
+    for c in 0..unknowns {
+        made.push_unit(c);
+    }
+    Ok(made)
+}
+
 impl Tableau {
     /// The first tableau of these forms over the unknowns, the places and a constant: the unknowns' own rows, then
     /// a row for each form.
@@ -77,27 +105,19 @@ impl Tableau {
         ensures { IfOk result (λ t.
             t ≡ record { unknowns = unknowns; width = width; rows = model.start unknowns width rows.now }) }
     {
-        let mut t = Tableau {
-            rows: FlatRows::new(alloc, unknowns, width),
-            next: FlatRows::new(alloc, unknowns, width),
-            units: Vec::new(alloc),
-        };
-        t.reserve(unknowns.saturating_add(rows.len()).saturating_add(SPARE))?;
-        for c in 0..unknowns {
-            t.push_unit(c)?;
-        }
+        let most = first_room(unknowns, rows.len())?;
+        let mut units = Vec::new(alloc);
+        make_run(&mut units, unknowns, width)?;
+        let next = FlatRows::with_room(alloc, unknowns, width, most)?;
+        let mut made = unit_rows(alloc, unknowns, width, most)?;
         for form in rows {
-            t.push_form(form)?;
+            made.push_form(form);
         }
-        Ok(t)
-    }
-
-    // Makes room for so many rows.
-    fn reserve(&mut self, most: usize) -> Result<(), WantOfMemory>
-        ensures { self.new ≡ self.old }
-    {
-        self.rows.reserve(most)?;
-        self.next.reserve(most)
+        Ok(Tableau {
+            rows: made,
+            next,
+            units,
+        })
     }
 
     /// The number of rows.
@@ -217,23 +237,6 @@ impl Tableau {
     {
         make_room(&mut self.rows, &mut self.next, &mut self.units)?;
         self.rows.push_unit(c);
-        Ok(())
-    }
-
-    // Adds the row of a form over the columns and then the places.
-    fn push_form(&mut self, form: &Form) -> Result<(), WantOfMemory>
-        requires { length form.now ≡ self.old.unknowns + self.old.width + 1 }
-        ensures ok { OnOk result (self.new ≡ with_row self.old (model.form_row self.old.unknowns form.now)) }
-        ensures err { OnErr result (self.new ≡ self.old) }
-    {
-        make_room(&mut self.rows, &mut self.next, &mut self.units)?;
-        let (coefs, constant) = form.as_slice().split_at(self.rows.unknowns());
-        self.rows.push_row(&RowView {
-            den: 1,
-            coefs,
-            constant,
-            short: is_short_row(1, coefs, constant),
-        });
         Ok(())
     }
 
