@@ -14,7 +14,7 @@ use Rattle.pip_model.specs.Output.{IsOutput, IsFirstOutput}
 use Rattle.pip_problem.specs.Faults.{run_fault, read_fault}
 use Rattle.quast_text.specs.Faults.{text_fault}
 use Rattle.pip_model.specs.Walks.{ToolRefusal, ByRun, Negative, Lengths}
-use Rattle.quast_tools.specs.Faults.{tool_fault}
+use Rattle.quast_walk.specs.Faults.{tool_fault}
 use Rattle.leaf_certificate.specs.Faults.{certificate_fault}
 use Rattle.headline.proofs.OutputRight.{output-right, first_output-right}
 use Rattle.headline.proofs.OutputUnique.{output-unique}

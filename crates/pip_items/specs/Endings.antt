@@ -13,8 +13,8 @@ use Rattle.pip_model.specs.Check.{Rejected, Unfit}
 use Rattle.pip_problem.specs.declared.refusal.Refusal.TheVariants as run
 use Rattle.quast_pieces.specs.declared.refusal.PiecesRefusal.{PiecesRefusal}
 use Rattle.quast_pieces.specs.declared.refusal.PiecesRefusal.TheVariants as pieces
-use Rattle.quast_tools.specs.Faults.{tool_fault}
-use Rattle.quast_tools.specs.declared.refusal.ToolRefusal.{ToolRefusal}
+use Rattle.quast_walk.specs.Faults.{tool_fault}
+use Rattle.quast_walk.specs.declared.refusal.ToolRefusal.{ToolRefusal}
 use Rattle.pip_items.specs.declared.ending.Ending.{Ending}
 use Rattle.pip_items.specs.declared.ending.Ending.TheVariants as ending
 

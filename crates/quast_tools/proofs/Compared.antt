@@ -10,9 +10,9 @@ use Rattle.pip_model.specs.ToolAgreement.{without_counts}
 use Rattle.pip_model.specs.ToolLaws.{IsSameness, IsSameRefusal}
 use Rattle.pip_model.specs.WellFormed.{IsWellFormedAnswer}
 use Rattle.walk_laws.proofs.Comparing.{same-gives, same-refuses}
-use Rattle.quast_tools.specs.Faults.{tool_fault}
+use Rattle.quast_walk.specs.Faults.{tool_fault}
+use Rattle.quast_walk.specs.declared.refusal.ToolRefusal.{ToolRefusal}
 use Rattle.quast_tools.specs.Samenesses.{sameness_of}
-use Rattle.quast_tools.specs.declared.refusal.ToolRefusal.{ToolRefusal}
 use Rattle.quast_tools.specs.declared.sameness.Sameness.{Sameness}
 use Rattle.quast_tools.proofs.Restricted.{made_of, refusal_tells}
 

@@ -12,8 +12,8 @@ use Rattle.pip_model.specs.WellFormed.{IsWellFormedAnswer}
 use Rattle.walk_laws.proofs.Choosing.{least-gives, least-refuses}
 use Rattle.quast.specs.Answers.{answer_of}
 use Rattle.quast.specs.declared.answer.Answer.{Answer}
-use Rattle.quast_tools.specs.Faults.{tool_fault}
-use Rattle.quast_tools.specs.declared.refusal.ToolRefusal.{ToolRefusal}
+use Rattle.quast_walk.specs.Faults.{tool_fault}
+use Rattle.quast_walk.specs.declared.refusal.ToolRefusal.{ToolRefusal}
 use Rattle.quast_tools.proofs.Restricted.{made_of, refusal_tells}
 
 module _ (m : ℕ) (rows : List (List ℤ)) (a b : model.Answer) (k : Budget) (context : IsContext m rows) (first : IsWellFormedAnswer m a) (second : IsWellFormedAnswer m b) where

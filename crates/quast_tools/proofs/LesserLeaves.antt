@@ -7,8 +7,8 @@ use Rattle.pip_model.specs.Walks.{Walked, Stopped, stop, Lengths, Visit}
 use Rattle.pip_model.specs.Tools.{spread_component, spread_tree, widened_components, least_lists, least_leaves}
 use Rattle.pip_model.proofs.Tests.{not_true}
 use Rattle.run_laws.proofs.Lengths.{length_map}
+use Rattle.quast_walk.specs.Readings.{IsListWithin, IsOwnComponent, spread_reduced, widened_reduced}
 use Rattle.quast_tools.specs.Choices.{IsList}
-use Rattle.quast_tools.specs.Readings.{IsListWithin, IsOwnComponent, spread_reduced, widened_reduced}
 use Rattle.quast_tools.proofs.Listing.{own_list}
 use Rattle.quast_tools.proofs.Paired.{first_scoped, first_made, second_scoped, second_made}
 

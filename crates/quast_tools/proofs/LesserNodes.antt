@@ -12,14 +12,14 @@ use Rattle.pip_model.specs.Walks.{Walked, Made, Stopped, Walking, walk_on, make,
 use Rattle.pip_model.specs.Tools.{spread_tree, choosing, if_of}
 use Rattle.pip_model.proofs.Tests.{three}
 use Rattle.context.specs.Scoped.{ScopedForms, IsKeptContext}
+use Rattle.quast_walk.specs.Readings.{room_at, size_at, IsAtLeaf, IsReading, IsWithin}
+use Rattle.quast_walk.specs.Visits.{IsBelow, IsGrown}
+use Rattle.quast_walk.specs.declared.reading.AtLeaf.{AtLeaf}
+use Rattle.quast_walk.specs.declared.reading.AtLeaf.TheVariants as at
+use Rattle.quast_walk.specs.declared.reading.Leaf.{Leaf}
+use Rattle.quast_walk.specs.declared.reading.Leaf.TheVariants as leaf
+use Rattle.quast_walk.specs.declared.reading.Reading.{Reading}
 use Rattle.quast_tools.specs.Choices.{chosen}
-use Rattle.quast_tools.specs.Readings.{room_at, size_at, IsAtLeaf, IsReading, IsWithin}
-use Rattle.quast_tools.specs.Visits.{IsBelow, IsGrown}
-use Rattle.quast_tools.specs.declared.reading.AtLeaf.{AtLeaf}
-use Rattle.quast_tools.specs.declared.reading.AtLeaf.TheVariants as at
-use Rattle.quast_tools.specs.declared.reading.Leaf.{Leaf}
-use Rattle.quast_tools.specs.declared.reading.Leaf.TheVariants as leaf
-use Rattle.quast_tools.specs.declared.reading.Reading.{Reading}
 
 -- the walk of a tree as it is read
 abbrev pub chosen_along : Reading → Visit → Tree → Walking Tree

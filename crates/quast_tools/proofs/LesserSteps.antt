@@ -12,11 +12,11 @@ use Rattle.pip_model.specs.Tools.{difference, difference_listed, count_if, not_b
 use Rattle.affine_rows.specs.Checks.{is_form_overflow}
 use Rattle.affine_rows.specs.declared.memory.FormRefusal.{FormRefusal}
 use Rattle.context.specs.Scoped.{ScopedForms, IsKeptContext}
-use Rattle.quast_tools.specs.Faults.{tool_fault, of_form}
-use Rattle.quast_tools.specs.Visits.{visit_of}
-use Rattle.quast_tools.specs.declared.refusal.ToolRefusal.{ToolRefusal}
-use Rattle.quast_tools.proofs.Defining.{listed_goes, unfit_stops}
-use Rattle.quast_tools.proofs.Walking.{kept_visit}
+use Rattle.quast_walk.specs.Faults.{tool_fault, of_form}
+use Rattle.quast_walk.specs.Visits.{visit_of}
+use Rattle.quast_walk.specs.declared.refusal.ToolRefusal.{ToolRefusal}
+use Rattle.quast_walk.proofs.Defining.{listed_goes, unfit_stops}
+use Rattle.quast_walk.proofs.Walking.{kept_visit}
 
 -- ---- an if is counted, and then the nesting is raised
 

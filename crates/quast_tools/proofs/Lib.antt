@@ -1,15 +1,7 @@
-pub mod Lowest
-pub mod Placing
-pub mod Walking
-pub mod Narrow
-pub mod Defining
-pub mod Branching
 pub mod SameSteps
 pub mod Paired
-pub mod Pointed
 pub mod Restricted
 pub mod Compared
-pub mod Readied
 pub mod LesserSteps
 pub mod RestSteps
 pub mod LesserNodes

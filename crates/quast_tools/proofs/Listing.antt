@@ -5,9 +5,9 @@ use Rattle.pip_model.specs.Forms.{width}
 use Rattle.pip_model.specs.Tree.{Component, is_component}
 use Rattle.pip_model.proofs.Tests.{both}
 use Rattle.quast.specs.Components.{IsComponent, width_of}
+use Rattle.quast_walk.specs.Readings.{IsOwnComponent}
+use Rattle.quast_walk.proofs.Placing.{Scoped, all_wide, component_wide}
 use Rattle.quast_tools.specs.Choices.{IsList}
-use Rattle.quast_tools.specs.Readings.{IsOwnComponent}
-use Rattle.quast_tools.proofs.Placing.{Scoped, all_wide, component_wide}
 
 pub own_width : (w : ℕ) (xs : List Component) → 1 ≤ length xs → list_all (is_component w) xs ≡ true → width_of xs ≡ w
 own_width w [] some h = omega (arith, some)

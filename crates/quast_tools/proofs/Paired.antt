@@ -7,8 +7,8 @@ use Rattle.pip_model.specs.Walks.{Walked, Visit}
 use Rattle.pip_model.specs.Tools.{spread_component, spread_tree, widened_component, widened_components, differ_here, same_lists, same_leaves}
 use Rattle.pip_model.proofs.Tests.{not_true}
 use Rattle.walk_laws.proofs.Spread.{widened-scoped}
-use Rattle.quast_tools.specs.Readings.{IsListWithin, IsWide, spread_reduced, widened_reduced}
-use Rattle.quast_tools.proofs.Placing.{Scoped, scoped_of, made_so, all_wide}
+use Rattle.quast_walk.specs.Readings.{IsListWithin, IsWide, spread_reduced, widened_reduced}
+use Rattle.quast_walk.proofs.Placing.{Scoped, scoped_of, made_so, all_wide}
 
 module _ (w : ℕ) (cs : List Component) (within : IsListWithin w cs) where
   pub first_scoped : Scoped w (widened_components w cs)

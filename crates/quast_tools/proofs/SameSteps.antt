@@ -8,11 +8,11 @@ use Rattle.pip_model.specs.Listed.{all_fit, opposite_listed}
 use Rattle.pip_model.specs.Tree.{Component}
 use Rattle.pip_model.specs.Run.{Work, point, listed}
 use Rattle.pip_model.specs.Walks.{ToolRefusal, Walked, Made, Stopped, Walking, walk_on, ◌>>=◌, make, by_run, Visit}
-use Rattle.pip_model.specs.Tools.{difference, difference_listed, first_numbers, differ_or, same_lists}
+use Rattle.pip_model.specs.Tools.{difference, difference_listed, first_numbers, first_of_both, differ_or, same_lists}
 use Rattle.context.specs.Scoped.{ScopedForms, IsKeptContext}
-use Rattle.quast_tools.proofs.Defining.{listed_goes}
-use Rattle.quast_tools.proofs.Walking.{kept_visit, in_two}
-use Rattle.quast_tools.specs.Visits.{visit_of}
+use Rattle.quast_walk.proofs.Defining.{listed_goes}
+use Rattle.quast_walk.proofs.Walking.{kept_visit, in_two}
+use Rattle.quast_walk.specs.Visits.{visit_of}
 use Rattle.quast_tools.specs.Searches.{point_where, point_above, point_below, found_or, same_component}
 
 found_step : (m : ℕ) (o : Walked (Option (List ℤ))) (next : Walking (Option (List ℤ))) → walk_on o (λ p. differ_or m p next) ≡ walk_on (walk_on o (λ p. make (first_numbers m p))) (λ p. found_or p next)
@@ -115,3 +115,14 @@ module _ (m : ℕ) (k l : ScopedForms) (kept : IsKeptContext k l) (depth : ℕ) 
 
   pub lists_go_on : (o : Option (List ℤ)) → is_some o ≡ false → same_component m (visit_of l 0) c d w1 ≡ Made o w2 → same_lists m (visit_of k depth) cs ds w0 ≡ same_lists m (visit_of k depth) (drop (i + 1) cs) (drop (i + 1) ds) w2
   lists_go_on o e s = at_component ∙ ap then_others s ∙ on_none o e
+
+-- ---- at an if, of whose trees both are walked
+
+-- the first difference is the answer
+pub both_found : (v : List ℤ) (o : Option (List ℤ)) (second : Walking (Option (List ℤ))) (w : Work) → is_some o ≡ true → first_of_both v o second w ≡ Made o w
+both_found v None second w e = cc
+both_found v (Some p) second w e = refl
+
+pub both_none : (v : List ℤ) (o : Option (List ℤ)) (second : Walking (Option (List ℤ))) (w : Work) → is_some o ≡ false → first_of_both v o second w ≡ second w
+both_none v None second w e = refl
+both_none v (Some p) second w e = cc

@@ -7,10 +7,10 @@ use Rattle.pip_model.specs.Walks.{Walking, Visit}
 use Rattle.pip_model.specs.Tools.{not_below, least_lists, least_leaves, least_second, tree_or_bottom}
 use Rattle.quast.specs.Answers.{answer_of}
 use Rattle.quast.specs.Components.{IsComponent, width_of}
-use Rattle.quast_tools.specs.declared.reading.AtLeaf.{AtLeaf}
-use Rattle.quast_tools.specs.declared.reading.AtLeaf.TheVariants as at
+use Rattle.quast_walk.specs.declared.reading.AtLeaf.{AtLeaf}
+use Rattle.quast_walk.specs.declared.reading.AtLeaf.TheVariants as at
+use Rattle.quast_walk.specs.Readings.{leaf_tree}
 use Rattle.quast_tools.specs.declared.rest.Rest.{Rest}
-use Rattle.quast_tools.specs.Readings.{leaf_tree}
 
 -- what is done at a leaf of a tree: the second answer is walked, or a leaf of the first is met
 abbrev pub chosen : ℕ → AtLeaf → Visit → Tree → Walking Tree

@@ -7,9 +7,9 @@ use Rattle.pip_model.specs.Run.{point, listed}
 use Rattle.pip_model.specs.Walks.{Walking, ◌>>=◌, ◌>>◌, make, by_run, Visit}
 use Rattle.pip_model.specs.Tools.{difference, difference_listed, first_numbers, same_leaves, same_second}
 use Rattle.quast.specs.Answers.{answer_of}
-use Rattle.quast_tools.specs.declared.reading.AtLeaf.{AtLeaf}
-use Rattle.quast_tools.specs.declared.reading.AtLeaf.TheVariants as at
-use Rattle.quast_tools.specs.Readings.{leaf_answer}
+use Rattle.quast_walk.specs.declared.reading.AtLeaf.{AtLeaf}
+use Rattle.quast_walk.specs.declared.reading.AtLeaf.TheVariants as at
+use Rattle.quast_walk.specs.Readings.{leaf_answer}
 
 -- the context's point where c is at least 0, cut to m numbers
 abbrev pub point_where : ℕ → Visit → List ℤ → Walking (Option (List ℤ))

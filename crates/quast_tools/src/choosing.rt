@@ -11,18 +11,16 @@ ghost use Rattle.pip_model.specs.Tree.{nesting};
 ghost use Rattle.pip_model.specs.Walks.{start_visit};
 ghost use Rattle.pip_model.specs.WellFormed.{IsWellFormedAnswer};
 ghost use Rattle.quast.specs.Answers.{answer_of, IsOver};
-ghost use Rattle.quast_tools.specs.Faults.{tool_fault};
-ghost use Rattle.quast_tools.specs.Readings.{answer_nesting};
-ghost use Rattle.quast_tools.specs.Visits.{tree_in};
+ghost use Rattle.quast_walk.specs.Faults.{tool_fault};
+ghost use Rattle.quast_walk.specs.Readings.{answer_nesting};
+ghost use Rattle.quast_walk.specs.Visits.{tree_in};
 
 use crate::lesser_nodes::{choose_node, choose_second};
-use crate::reading::{AtLeaf, Leaf, Reading};
-use crate::refusal::ToolRefusal;
-use crate::starting::{context_of, levels, point};
 use affine_rows::Forms;
 use context::{Context, Work};
 use pip_problem::Limits;
 use quast::{Answer, Quast};
+use quast_walk::{AtLeaf, Leaf, Reading, ToolRefusal, context_of, levels, point};
 use std::alloc::Global;
 
 // The lesser of two answers on the rows' context, which has a point. A `void` answer counts as bottom.

@@ -8,20 +8,18 @@ ghost use Rattle.pip_model.specs.Tools as model;
 ghost use Rattle.pip_model.specs.Walks.{start_visit};
 ghost use Rattle.pip_model.specs.WellFormed.{IsWellFormedAnswer};
 ghost use Rattle.quast.specs.Answers.{answer_of, IsOver};
-ghost use Rattle.quast_tools.specs.Faults.{tool_fault};
-ghost use Rattle.quast_tools.specs.Readings.{answer_nesting};
+ghost use Rattle.quast_walk.specs.Faults.{tool_fault};
+ghost use Rattle.quast_walk.specs.Readings.{answer_nesting};
 ghost use Rattle.quast_tools.specs.Samenesses.{sameness_of, DiffersOver};
 ghost use Rattle.quast_tools.specs.Searches.{HasNumbers};
 
-use crate::reading::{AtLeaf, Leaf, Reading};
-use crate::refusal::ToolRefusal;
 use crate::sameness::Sameness;
 use crate::searching::{search_node, search_second};
-use crate::starting::{context_of, levels, point};
 use affine_rows::Forms;
 use context::{Context, Point, Work};
 use pip_problem::Limits;
 use quast::Answer;
+use quast_walk::{AtLeaf, Leaf, Reading, ToolRefusal, context_of, levels, point};
 use std::alloc::Global;
 
 // The first point at which two answers differ on the rows' context, which has a point.

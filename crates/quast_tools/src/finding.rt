@@ -2,19 +2,15 @@ ghost use Rattle.std.specs.Prelude.{◌≡◌, ℕ, ◌+◌, ◌≤◌, length, 
 ghost use Rattle.pip_model.specs.ToolAgreement.{AgreesWalked};
 ghost use Rattle.pip_model.specs.Tools.{differ_here, first_numbers, same_lists};
 ghost use Rattle.context.specs.Scoped.{IsKeptContext};
-ghost use Rattle.quast_tools.specs.Faults.{tool_fault};
-ghost use Rattle.quast_tools.specs.Readings.{IsWide};
+ghost use Rattle.quast_walk.specs.Faults.{tool_fault};
+ghost use Rattle.quast_walk.specs.Readings.{IsWide};
+ghost use Rattle.quast_walk.specs.Visits.{visit_of};
 ghost use Rattle.quast_tools.specs.Searches.{point_where, point_above as above_of, point_below as below_of, same_component, HasNumbers};
-ghost use Rattle.quast_tools.specs.Visits.{visit_of};
 
-use crate::differences::{above, below, difference};
-use crate::reading::Reading;
-use crate::refusal::ToolRefusal;
-use crate::starting::point;
-use crate::steps::{enter, leave, mark};
 use affine_rows::Form;
 use context::{Context, Point, Work};
 use quast::Component;
+use quast_walk::{Reading, ToolRefusal, above, below, difference, enter, leave, mark, point};
 
 // The point's first m numbers.
 fn cut(found: Option<Point>, m: usize) -> Option<Point>

@@ -4,17 +4,15 @@ ghost use Rattle.pip_model.specs.Tools.{same_leaves, spread_tree};
 ghost use Rattle.pip_model.specs.Tree as model;
 ghost use Rattle.pip_model.specs.Tree.{is_scoped};
 ghost use Rattle.context.specs.Scoped.{IsKeptContext};
-ghost use Rattle.quast_tools.specs.Faults.{tool_fault};
-ghost use Rattle.quast_tools.specs.Readings.{leaf_answer, leaf_tree, spread_answer, IsListWithin, IsWithin};
+ghost use Rattle.quast_walk.specs.Faults.{tool_fault};
+ghost use Rattle.quast_walk.specs.Readings.{leaf_answer, leaf_tree, spread_answer, IsListWithin, IsWithin};
+ghost use Rattle.quast_walk.specs.Visits.{visit_of};
 ghost use Rattle.quast_tools.specs.Searches.{HasNumbers};
-ghost use Rattle.quast_tools.specs.Visits.{visit_of};
 
 use crate::finding::{find_here, find_in_lists};
-use crate::reading::{Leaf, Reading};
-use crate::refusal::ToolRefusal;
-use crate::spreading::{spread_list, widened_list};
 use context::{Context, Point, Work};
 use quast::Component;
+use quast_walk::{Leaf, Reading, ToolRefusal, spread_list, widened_list};
 
 // The first point at which two lists differ: a list of the first tree, over no more places, and one of the second.
 fn find_between(

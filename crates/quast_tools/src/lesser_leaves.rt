@@ -5,19 +5,17 @@ ghost use Rattle.pip_model.specs.Tools.{least_leaves, spread_tree, widened_compo
 ghost use Rattle.pip_model.specs.Tree as model;
 ghost use Rattle.pip_model.specs.Tree.{is_scoped, nesting};
 ghost use Rattle.context.specs.Scoped.{IsKeptContext};
+ghost use Rattle.quast_walk.specs.Faults.{tool_fault};
+ghost use Rattle.quast_walk.specs.Readings.{leaf_tree, IsListWithin, IsWithin};
+ghost use Rattle.quast_walk.specs.Visits.{visit_of, tree_in};
 ghost use Rattle.quast_tools.specs.Choices.{IsList};
-ghost use Rattle.quast_tools.specs.Faults.{tool_fault};
-ghost use Rattle.quast_tools.specs.Readings.{leaf_tree, IsListWithin, IsWithin};
-ghost use Rattle.quast_tools.specs.Visits.{visit_of, tree_in};
 
 use crate::lesser_lists::{choose_rest, list_tree};
-use crate::reading::{Leaf, Reading};
-use crate::refusal::ToolRefusal;
 use crate::rest::Rest;
-use crate::spreading::{spread_list, widened_list};
 use affine_rows::WantOfMemory;
 use context::{Context, Work};
 use quast::{Component, Quast};
+use quast_walk::{Leaf, Reading, ToolRefusal, spread_list, widened_list};
 use std::alloc::Global;
 
 // A list of the first tree, over no more places, as a tree over w places.

@@ -7,18 +7,15 @@ ghost use Rattle.pip_model.specs.Tree.{nesting};
 ghost use Rattle.pip_model.specs.Walks.{where_holds};
 ghost use Rattle.context.specs.Scoped.{ScopedForms, IsKeptContext};
 ghost use Rattle.quast.specs.Components.{IsComponent, width_of};
+ghost use Rattle.quast_walk.specs.Faults.{tool_fault};
+ghost use Rattle.quast_walk.specs.Visits.{visit_of, tree_in};
 ghost use Rattle.quast_tools.specs.Choices.{IsRest, rest_chosen, rest_not_below};
-ghost use Rattle.quast_tools.specs.Faults.{tool_fault};
-ghost use Rattle.quast_tools.specs.Visits.{visit_of, tree_in};
 
-use crate::differences::{difference, negated};
-use crate::lists::copies;
-use crate::refusal::ToolRefusal;
 use crate::rest::{Rest, deeper, past};
-use crate::steps::{enter, leave, mark, sign};
 use affine_rows::{Form, WantOfMemory};
 use context::{Context, Work};
 use quast::{Component, Quast};
+use quast_walk::{ToolRefusal, copies, difference, enter, leave, mark, negated, sign};
 use sign_split::Class;
 use std::alloc::Global;
 

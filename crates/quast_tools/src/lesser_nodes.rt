@@ -8,20 +8,20 @@ ghost use Rattle.pip_model.specs.Walks.{walk, where_holds};
 ghost use Rattle.context.specs.Scoped.{IsKeptContext};
 ghost use Rattle.quast.specs.Answers.{answer_of, IsOver};
 ghost use Rattle.quast.specs.Trees.{tree_of};
+ghost use Rattle.quast_walk.specs.Faults.{tool_fault};
+ghost use Rattle.quast_walk.specs.Readings.{leaf_tree, room_at, answer_nesting, IsWithin, IsReading};
+ghost use Rattle.quast_walk.specs.Visits.{visit_of, tree_in};
 ghost use Rattle.quast_tools.specs.Choices.{chosen};
-ghost use Rattle.quast_tools.specs.Faults.{tool_fault};
-ghost use Rattle.quast_tools.specs.Readings.{leaf_tree, room_at, answer_nesting, IsWithin, IsReading};
-ghost use Rattle.quast_tools.specs.Visits.{visit_of, tree_in};
 
 use crate::lesser_leaves::choose_at_leaves;
 use crate::lesser_lists::count_if;
-use crate::reading::{AtLeaf, Leaf, Reading, deeper};
-use crate::refusal::ToolRefusal;
-use crate::spreading::spread;
-use crate::steps::{check_sign, enter, go_below, leave, mark, opposite, sign};
 use affine_rows::Form;
 use context::{Context, Work};
 use quast::{Answer, Node, Quast};
+use quast_walk::{
+    AtLeaf, Leaf, Reading, ToolRefusal, check_sign, enter, go_below, leave, mark, opposite, sign,
+    spread,
+};
 use sign_split::Class;
 
 // The lesser of the answers along the walk of a node's tree: an if is kept where its form has both signs, and each new
@@ -102,7 +102,7 @@ fn choose_deeper(
     ensures nested { IfOk result (λ made. reading.now.depth + 1 + nesting made.tree ≤ work.old.budget.nesting) }
     ensures budget { work.new.budget ≡ work.old.budget }
 {
-    let inner = deeper(reading);
+    let inner = reading.deeper();
     let made = choose_node(&inner, node, context, work)?;
     Ok(made)
 }
@@ -192,13 +192,7 @@ pub(crate) fn choose_second(
     ensures nested { IfOk result (λ made. reading.now.depth + nesting made.tree ≤ work.old.budget.nesting) }
     ensures budget { work.new.budget ≡ work.old.budget }
 {
-    let below = Reading {
-        alloc: reading.alloc,
-        parameters: reading.parameters,
-        between: context.mark().width - reading.parameters,
-        at_leaf: AtLeaf::Meet(leaf),
-        depth: reading.depth,
-    };
+    let below = reading.meeting(leaf, context.mark().width);
     match answer {
         Answer::Void => choose_at_leaves(&below, leaf, Leaf::Bottom, context, work),
         Answer::Tree(tree) => choose_node(&below, tree.root(), context, work),

@@ -3,25 +3,18 @@
 
 mod choosing;
 mod comparing;
-mod differences;
 mod finding;
 mod leaves;
 mod lesser_leaves;
 mod lesser_lists;
 mod lesser_nodes;
-mod lists;
-mod reading;
-mod refusal;
 mod rest;
 mod restricting;
 mod sameness;
 mod searching;
-mod spreading;
-mod starting;
-mod steps;
 
 pub use choosing::least;
 pub use comparing::same;
-pub use refusal::ToolRefusal;
+pub use quast_walk::ToolRefusal;
 pub use restricting::restrict;
 pub use sameness::Sameness;

@@ -13,17 +13,17 @@ ghost use Rattle.pip_model.specs.WellFormed.{IsWellFormedAnswer};
 ghost use Rattle.context.specs.Scoped.{IsKeptContext};
 ghost use Rattle.quast.specs.Answers.{answer_of, IsOver};
 ghost use Rattle.quast.specs.Trees.{tree_of};
-ghost use Rattle.quast_tools.specs.Faults.{tool_fault};
-ghost use Rattle.quast_tools.specs.Visits.{visit_of, tree_in};
+ghost use Rattle.quast_walk.specs.Faults.{tool_fault};
+ghost use Rattle.quast_walk.specs.Visits.{visit_of, tree_in};
 
-use crate::lists::copies;
-use crate::refusal::ToolRefusal;
-use crate::starting::{context_of, levels, point};
-use crate::steps::{check_sign, enter, go_below, leave, mark, opposite, sign};
 use affine_rows::{Form, Forms};
 use context::{Context, Work};
 use pip_problem::Limits;
 use quast::{Answer, Node, Quast};
+use quast_walk::{
+    ToolRefusal, check_sign, context_of, copies, enter, go_below, leave, levels, mark, opposite,
+    point, sign,
+};
 use sign_split::Class;
 use std::alloc::Global;
 

@@ -8,19 +8,19 @@ ghost use Rattle.pip_model.specs.Walks.{walk, where_holds};
 ghost use Rattle.context.specs.Scoped.{IsKeptContext};
 ghost use Rattle.quast.specs.Answers.{answer_of, IsOver};
 ghost use Rattle.quast.specs.Trees.{tree_of};
-ghost use Rattle.quast_tools.specs.Faults.{tool_fault};
-ghost use Rattle.quast_tools.specs.Readings.{leaf_answer, leaf_tree, room_at, answer_nesting, IsWithin, IsReading};
+ghost use Rattle.quast_walk.specs.Faults.{tool_fault};
+ghost use Rattle.quast_walk.specs.Readings.{leaf_answer, leaf_tree, room_at, answer_nesting, IsWithin, IsReading};
+ghost use Rattle.quast_walk.specs.Visits.{visit_of};
 ghost use Rattle.quast_tools.specs.Searches.{searched, HasNumbers};
-ghost use Rattle.quast_tools.specs.Visits.{visit_of};
 
 use crate::leaves::find_at_leaves;
-use crate::reading::{AtLeaf, Leaf, Reading};
-use crate::refusal::ToolRefusal;
-use crate::spreading::spread;
-use crate::steps::{check_sign, enter, go_below, leave, mark, opposite, sign};
 use affine_rows::Form;
 use context::{Context, Point, Work};
 use quast::{Answer, Node};
+use quast_walk::{
+    AtLeaf, Leaf, Reading, ToolRefusal, check_sign, enter, go_below, leave, mark, opposite, sign,
+    spread,
+};
 use sign_split::Class;
 
 // The first point at which the answers differ, in the order of the walk of a node's tree: it goes where the form's
@@ -148,13 +148,7 @@ pub(crate) fn search_second(
     ensures kept { IfOk result (λ o. IsKeptContext context.old context.new) }
     ensures numbers { IfOk result (HasNumbers reading.now.parameters) }
 {
-    let below = Reading {
-        alloc: reading.alloc,
-        parameters: reading.parameters,
-        between: context.mark().width - reading.parameters,
-        at_leaf: AtLeaf::Meet(leaf),
-        depth: reading.depth,
-    };
+    let below = reading.meeting(leaf, context.mark().width);
     match answer {
         Answer::Void => find_at_leaves(&below, leaf, Leaf::Void, context, work),
         Answer::Tree(tree) => search_node(&below, tree.root(), context, work),

@@ -40,7 +40,7 @@ opposite_length (x ∷ c) = length-opposite (x ∷ c) (omega arith)
 back : (k : ℤ) → neg_ℤ (neg_ℤ k -ℤ pos 1) -ℤ pos 1 ≡ k
 back k = omega (arith, ints)
 
-negate_twice : (c : List ℤ) → negate (negate c) ≡ c
+pub negate_twice : (c : List ℤ) → negate (negate c) ≡ c
 negate_twice [] = refl
 negate_twice (x ∷ xs) = ap₂ (λ (y : ℤ) (ys : List ℤ). y ∷ ys) (neg_ℤ-neg_ℤ x) (negate_twice xs)
 

@@ -5,13 +5,13 @@ use Rattle.pip_model.specs.Tools.{spread_tree, choosing, least_first, tree_or_bo
 use Rattle.quast.specs.Answers.{answer_of, IsOver}
 use Rattle.quast.specs.Trees.{tree_of}
 use Rattle.quast.specs.declared.answer.Answer as answer
+use Rattle.quast_walk.specs.Faults.{tool_fault}
+use Rattle.quast_walk.specs.Visits.{tree_in}
+use Rattle.quast_walk.specs.declared.reading.AtLeaf.TheVariants as at
+use Rattle.quast_walk.proofs.Placing.{spread_tree-none}
+use Rattle.quast_walk.proofs.Readied.{first_ready}
+use Rattle.quast_walk.proofs.Walking.{agrees_as}
 use Rattle.quast_tools.specs.Choices.{chosen}
-use Rattle.quast_tools.specs.Faults.{tool_fault}
-use Rattle.quast_tools.specs.Visits.{tree_in}
-use Rattle.quast_tools.specs.declared.reading.AtLeaf.TheVariants as at
-use Rattle.quast_tools.proofs.Placing.{spread_tree-none}
-use Rattle.quast_tools.proofs.Readied.{first_ready}
-use Rattle.quast_tools.proofs.Walking.{agrees_as}
 use Rattle.quast_tools.proofs.choosing.choose_answers.Goals as goal
 
 pub choose_node-requires-clause-scoped : goal.choose_node-requires-clause-scoped

@@ -5,12 +5,12 @@ use Rattle.pip_model.specs.Tools.{spread_tree, comparing, same_first}
 use Rattle.quast.specs.Answers.{answer_of, IsOver}
 use Rattle.quast.specs.Trees.{tree_of}
 use Rattle.quast.specs.declared.answer.Answer as answer
-use Rattle.quast_tools.specs.Faults.{tool_fault}
+use Rattle.quast_walk.specs.Faults.{tool_fault}
+use Rattle.quast_walk.specs.declared.reading.AtLeaf.TheVariants as at
+use Rattle.quast_walk.proofs.Placing.{spread_tree-none}
+use Rattle.quast_walk.proofs.Readied.{first_ready}
+use Rattle.quast_walk.proofs.Walking.{agrees_as}
 use Rattle.quast_tools.specs.Searches.{searched}
-use Rattle.quast_tools.specs.declared.reading.AtLeaf.TheVariants as at
-use Rattle.quast_tools.proofs.Placing.{spread_tree-none}
-use Rattle.quast_tools.proofs.Readied.{first_ready}
-use Rattle.quast_tools.proofs.Walking.{agrees_as}
 use Rattle.quast_tools.proofs.comparing.search_answers.Goals as goal
 
 pub search_node-requires-clause-scoped : goal.search_node-requires-clause-scoped

@@ -1,7 +1,7 @@
-use Rattle.quast_tools.specs.Faults.{tool_fault}
-use Rattle.quast_tools.specs.Visits.{visit_of}
+use Rattle.quast_walk.specs.Faults.{tool_fault}
+use Rattle.quast_walk.specs.Visits.{visit_of}
+use Rattle.quast_walk.proofs.Walking.{agrees_as}
 use Rattle.quast_tools.proofs.SameSteps.{below_goes}
-use Rattle.quast_tools.proofs.Walking.{agrees_as}
 use Rattle.quast_tools.proofs.finding.find_below.Goals as goal
 
 pub returns-clause-gives : goal.returns-clause-gives

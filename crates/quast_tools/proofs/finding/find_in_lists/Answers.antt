@@ -1,8 +1,8 @@
 use Rattle.std.proofs.Common.{rules}
 use Rattle.std.proofs.lemmas.Result.{err_from_is_err_and}
-use Rattle.quast_tools.specs.Faults.{tool_fault}
+use Rattle.quast_walk.specs.Faults.{tool_fault}
+use Rattle.quast_walk.proofs.Walking.{kept_kept}
 use Rattle.quast_tools.proofs.SameSteps.{lists_stop, lists_found, lists_go_on}
-use Rattle.quast_tools.proofs.Walking.{kept_kept}
 use Rattle.quast_tools.proofs.finding.find_in_lists.Goals as goal
 
 pub returns-in_err-found-clause-gives : goal.returns-in_err-found-clause-gives

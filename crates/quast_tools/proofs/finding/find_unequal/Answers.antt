@@ -1,10 +1,10 @@
 use Rattle.std.proofs.Common.{◌∙◌, sym, ap}
-use Rattle.quast_tools.specs.Faults.{tool_fault}
+use Rattle.quast_walk.specs.Faults.{tool_fault}
+use Rattle.quast_walk.specs.Visits.{visit_of}
 use Rattle.quast_tools.specs.Searches.{point_below}
-use Rattle.quast_tools.specs.Visits.{visit_of}
 use Rattle.pip_model.specs.Walks.{Visit}
+use Rattle.quast_walk.proofs.Walking.{agrees_as, kept_visit}
 use Rattle.quast_tools.proofs.SameSteps.{above_found, none_above}
-use Rattle.quast_tools.proofs.Walking.{agrees_as, kept_visit}
 use Rattle.quast_tools.proofs.finding.find_unequal.Goals as goal
 
 pub returns-in-Some-clause-gives : goal.returns-in-Some-clause-gives

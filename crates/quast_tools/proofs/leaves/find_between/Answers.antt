@@ -2,11 +2,11 @@ use Rattle.std.proofs.Common.{rules, ◌≡◌, ◌∙◌, ap, sym, ℕ, List, l
 use Rattle.pip_model.specs.Tree.{Component}
 use Rattle.pip_model.specs.Tools.{same_lists, spread_component, widened_components}
 use Rattle.run_laws.proofs.Lengths.{length_map}
-use Rattle.quast_tools.specs.Faults.{tool_fault}
-use Rattle.quast_tools.specs.Readings.{widened_reduced}
-use Rattle.quast_tools.specs.Visits.{visit_of}
+use Rattle.quast_walk.specs.Faults.{tool_fault}
+use Rattle.quast_walk.specs.Readings.{widened_reduced}
+use Rattle.quast_walk.specs.Visits.{visit_of}
+use Rattle.quast_walk.proofs.Walking.{agrees_as}
 use Rattle.quast_tools.proofs.Paired.{first_scoped, first_made, second_scoped, second_made, wide_by, leaves_alike}
-use Rattle.quast_tools.proofs.Walking.{agrees_as}
 use Rattle.quast_tools.proofs.leaves.find_between.Goals as goal
 
 pub find_in_lists-requires-clause-first : goal.find_in_lists-requires-clause-first

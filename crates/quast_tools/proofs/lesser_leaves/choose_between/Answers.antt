@@ -3,12 +3,12 @@ use Rattle.pip_model.specs.Tree.{Component, Leaf}
 use Rattle.pip_model.specs.Tools.{least_lists, spread_component, widened_components}
 use Rattle.pip_model.specs.Walks.{Visit}
 use Rattle.run_laws.proofs.Lengths.{length_map}
+use Rattle.quast_walk.specs.Faults.{tool_fault}
+use Rattle.quast_walk.specs.Readings.{IsOwnComponent, spread_reduced, widened_reduced}
+use Rattle.quast_walk.specs.Visits.{visit_of, tree_in}
+use Rattle.quast_walk.proofs.Walking.{agrees_as, kept_visit}
 use Rattle.quast_tools.specs.Choices.{IsList}
-use Rattle.quast_tools.specs.Faults.{tool_fault}
-use Rattle.quast_tools.specs.Readings.{IsOwnComponent, spread_reduced, widened_reduced}
-use Rattle.quast_tools.specs.Visits.{visit_of, tree_in}
 use Rattle.quast_tools.proofs.LesserLeaves.{first_is, first_list, first_length, second_is, second_list, second_length, lists_alike}
-use Rattle.quast_tools.proofs.Walking.{agrees_as, kept_visit}
 use Rattle.quast_tools.proofs.lesser_leaves.choose_between.Goals as goal
 
 pub choose_rest-requires-clause-rest : goal.choose_rest-requires-clause-rest

@@ -1,6 +1,6 @@
 use Rattle.std.proofs.Common.{◌∙◌, ap, sym, subst, List, All}
 use Rattle.pip_model.specs.Tree.{Component, Leaf}
-use Rattle.quast_tools.specs.Readings.{IsOwnComponent}
+use Rattle.quast_walk.specs.Readings.{IsOwnComponent}
 use Rattle.quast_tools.proofs.LesserLeaves.{first_is, first_list}
 use Rattle.quast_tools.proofs.lesser_leaves.first_tree.Goals as goal
 

@@ -1,8 +1,8 @@
 use Rattle.std.proofs.Common.{◌∙◌, ap, sym, subst, List, All, IsTrue}
 use Rattle.pip_model.specs.Tree.{Component, Leaf, is_scoped}
 use Rattle.pip_model.specs.Tools.{spread_tree}
-use Rattle.quast_tools.specs.Readings.{leaf_tree, IsOwnComponent}
-use Rattle.quast_tools.specs.declared.reading.Leaf as code
+use Rattle.quast_walk.specs.Readings.{leaf_tree, IsOwnComponent}
+use Rattle.quast_walk.specs.declared.reading.Leaf as code
 use Rattle.quast_tools.proofs.LesserLeaves.{second_is, second_list}
 use Rattle.quast_tools.proofs.lesser_leaves.second_tree.Goals as goal
 

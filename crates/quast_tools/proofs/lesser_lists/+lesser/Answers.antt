@@ -8,13 +8,13 @@ use Rattle.sign_split.specs.Classes.{class_of}
 use Rattle.pip_model.specs.Run.{Budget}
 use Rattle.sign_split.specs.Classes.{ConditionIs}
 use Rattle.sign_split.specs.declared.classes.Class as code
+use Rattle.quast_walk.specs.Faults.{tool_fault}
+use Rattle.quast_walk.specs.Visits.{visit_of, tree_in}
+use Rattle.quast_walk.proofs.Walking.{agrees_as, under_visit}
 use Rattle.quast_tools.proofs.Listing.{wide_at}
 use Rattle.quast_tools.specs.Choices.{rest_chosen, rest_not_below}
-use Rattle.quast_tools.specs.Faults.{tool_fault}
-use Rattle.quast_tools.specs.Visits.{visit_of, tree_in}
 use Rattle.quast_tools.proofs.LesserSteps.{choice, choice_stops, choice_plus, choice_minus, choice_uncounted, choice_holding_stops, choice_made, rest_unfit, rest_choice}
 use Rattle.quast_tools.proofs.RestSteps.{moved, moved_depth, moved_chosen, moved_not_below}
-use Rattle.quast_tools.proofs.Walking.{agrees_as, under_visit}
 use Rattle.quast_tools.proofs.lesser_lists.+lesser.Goals as goal
 
 pub choose_rest-returns-in_err-form-clause-gives : goal.choose_rest-returns-in_err-form-clause-gives

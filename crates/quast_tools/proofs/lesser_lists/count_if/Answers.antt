@@ -4,10 +4,10 @@ use Rattle.std.proofs.lemmas.Result.{err_from_is_err_and}
 use Rattle.pip_model.specs.Run.{count_split, check_nesting}
 use Rattle.pip_model.specs.Walks.{Stopped, by_run, walked_as}
 use Rattle.pip_problem.specs.Faults.{run_fault}
-use Rattle.quast_tools.specs.Faults.{tool_fault}
-use Rattle.quast_tools.specs.Visits.{visit_of}
+use Rattle.quast_walk.specs.Faults.{tool_fault}
+use Rattle.quast_walk.specs.Visits.{visit_of}
+use Rattle.quast_walk.proofs.Readied.{counted_stops}
 use Rattle.quast_tools.proofs.LesserSteps.{count_stops, count_goes}
-use Rattle.quast_tools.proofs.Readied.{counted_stops}
 use Rattle.quast_tools.proofs.lesser_lists.count_if.Goals as goal
 
 pub returns-in_err-count_split-clause-gives : goal.returns-in_err-count_split-clause-gives

@@ -16,18 +16,19 @@ use Rattle.quast.specs.Answers.{answer_of, IsOver}
 use Rattle.quast.specs.Trees.{tree_of}
 use Rattle.quast.specs.declared.answer.Answer as answer
 use Rattle.sign_split.specs.Classes.{class_of}
+use Rattle.quast_walk.specs.Faults.{tool_fault}
+use Rattle.quast_walk.specs.Readings.{leaf_tree, room_at, size_at, answer_nesting, answer_size, IsAtLeaf}
+use Rattle.quast_walk.specs.Visits.{visit_of, tree_in, IsBelow}
+use Rattle.quast_walk.specs.declared.reading.AtLeaf as code
+use Rattle.quast_walk.specs.declared.reading.Reading.{Reading}
+use Rattle.quast_walk.proofs.Branching.{if_stops, if_plus, if_minus, split_stops, first_stops, first_made}
+use Rattle.quast_walk.proofs.Defining.{define_refused, define_ends, define_unfit, define_stops, define_made}
+use Rattle.quast_walk.proofs.Narrow.{quotient}
+use Rattle.quast_walk.proofs.Placing.{spread_tree-none}
+use Rattle.quast_walk.proofs.Readied.{leaf_within, second_ready, counted_stops}
+use Rattle.quast_walk.proofs.Walking.{agrees_as, kept_visit, kept_kept, under_visit}
 use Rattle.quast_tools.specs.Choices.{chosen}
-use Rattle.quast_tools.specs.Faults.{tool_fault}
-use Rattle.quast_tools.specs.Readings.{leaf_tree, room_at, size_at, answer_nesting, answer_size, IsAtLeaf}
-use Rattle.quast_tools.specs.Visits.{visit_of, tree_in, IsBelow}
-use Rattle.quast_tools.specs.declared.reading.AtLeaf as code
-use Rattle.quast_tools.proofs.Branching.{if_stops, if_plus, if_minus, split_stops, first_stops, first_made}
-use Rattle.quast_tools.proofs.Defining.{define_refused, define_ends, define_unfit, define_stops, define_made}
 use Rattle.quast_tools.proofs.LesserNodes.{down_depth, down_walk, down_reads, down_scoped, down_room, down_size, second_stops, second_made, some_so, below_reads, below_width, below_scoped, below_fits, below_grown}
-use Rattle.quast_tools.proofs.Narrow.{quotient}
-use Rattle.quast_tools.proofs.Placing.{spread_tree-none}
-use Rattle.quast_tools.proofs.Readied.{leaf_within, second_ready, counted_stops}
-use Rattle.quast_tools.proofs.Walking.{agrees_as, kept_visit, kept_kept, under_visit}
 use Rattle.quast_tools.proofs.lesser_nodes.+choose.Goals as goal
 
 pub choose_node-returns-in_err-sign-in-Select-clause-gives : goal.choose_node-returns-in_err-sign-in-Select-clause-gives
@@ -349,7 +350,8 @@ choose_second-choose_node-requires t c =
     let nested = ap answer_nesting c.in-Tree.is in
     let sized = ap answer_size c.in-Tree.is in
     let nest = ap nesting c.root.ensures.tree in
-    let size = ap size c.root.ensures.tree in (
+    let size = ap size c.root.ensures.tree in
+    rw c.meeting-below.ensures (
       omega (arith, c.decreases, sized, size),
       (
         record { few = c.requires.few; leaf = c.requires.leaf },
@@ -369,9 +371,10 @@ choose_second-returns-in-Tree-clause-gives t c =
     let W = choosing (λ g other. least_leaves g (leaf_tree c.args.leaf) other) in
     let w0 = c.args.work.now in
     let h = visit_of c.args.context.now c.args.reading.now.depth in
+    let read = ap (λ (r : Reading). walk (choosing (chosen r.parameters r.at_leaf)) (visit_of c.args.context.now r.depth) (spread_tree r.parameters r.between (tree_of c.root.result.now)) w0) c.meeting-below.ensures in
     let same = ap (λ (u : Tree). walk W h (spread_tree m (c.mark.result.width - m) u) w0) c.root.ensures.tree ∙ ap (λ (k : ℕ). walk W h (spread_tree m (k - m) c.in-Tree.tree.tree) w0) c.mark.ensures.width in
     let whole = ap (λ (x : answer.Answer). least_second m (leaf_tree c.args.leaf) h (tree_or_bottom (answer_of x)) w0) c.in-Tree.is in
-    agrees_as tree_in tool_fault c.choose_node.result c.choose_node.new.work _ _ (same ∙ sym whole) c.choose_node.ensures.gives
+    agrees_as tree_in tool_fault c.choose_node.result c.choose_node.new.work _ _ (read ∙ same ∙ sym whole) c.choose_node.ensures.gives
 
 pub choose_node-choose_deeper-requires : goal.choose_node-choose_deeper-requires
 choose_node-choose_deeper-requires t c =

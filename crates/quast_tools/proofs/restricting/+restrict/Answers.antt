@@ -7,10 +7,10 @@ use Rattle.pip_model.specs.Tools.{restricting}
 use Rattle.pip_model.specs.Walks.{Made, below_listed}
 use Rattle.affine_rows.specs.Checks.{is_form_overflow}
 use Rattle.quast.specs.Trees.{tree_of}
-use Rattle.quast_tools.specs.Faults.{tool_fault}
-use Rattle.quast_tools.specs.Visits.{visit_of, checked_sign, IsBelow}
-use Rattle.quast_tools.proofs.Narrow.{quotient}
-use Rattle.quast_tools.proofs.Defining.{define_unfit, define_stops, define_made}
+use Rattle.quast_walk.specs.Faults.{tool_fault}
+use Rattle.quast_walk.specs.Visits.{visit_of, checked_sign, IsBelow}
+use Rattle.quast_walk.proofs.Narrow.{quotient}
+use Rattle.quast_walk.proofs.Defining.{define_unfit, define_stops, define_made}
 use Rattle.quast_tools.proofs.restricting.+restrict.Goals as goal
 
 pub restrict_node-returns-in_err-go_below-in-Define-clause-gives : goal.restrict_node-returns-in_err-go_below-in-Define-clause-gives

@@ -16,17 +16,19 @@ use Rattle.quast.specs.Answers.{answer_of, IsOver}
 use Rattle.quast.specs.Trees.{tree_of}
 use Rattle.quast.specs.declared.answer.Answer as answer
 use Rattle.sign_split.specs.Classes.{class_of}
-use Rattle.quast_tools.specs.Faults.{tool_fault}
-use Rattle.quast_tools.specs.Readings.{leaf_answer, leaf_tree, spread_answer, room_at, size_at, answer_nesting, answer_size, IsAtLeaf}
+use Rattle.quast_walk.specs.Faults.{tool_fault}
+use Rattle.quast_walk.specs.Readings.{leaf_answer, leaf_tree, spread_answer, room_at, size_at, answer_nesting, answer_size, IsAtLeaf}
+use Rattle.quast_walk.specs.Visits.{visit_of, IsBelow}
+use Rattle.quast_walk.specs.declared.reading.AtLeaf as code
+use Rattle.quast_walk.specs.declared.reading.Reading.{Reading}
+use Rattle.quast_walk.proofs.Branching.{if_stops, if_plus, if_minus, split_stops, first_stops, first_made}
+use Rattle.quast_walk.proofs.Defining.{define_refused, define_unfit, define_stops, define_made}
+use Rattle.quast_walk.proofs.Narrow.{quotient}
+use Rattle.quast_walk.proofs.Placing.{spread_tree-none}
+use Rattle.quast_walk.proofs.Readied.{leaf_within, second_ready, counted_stops}
+use Rattle.quast_walk.proofs.Walking.{agrees_as, kept_visit, under_visit}
 use Rattle.quast_tools.specs.Searches.{searched}
-use Rattle.quast_tools.specs.Visits.{visit_of, IsBelow}
-use Rattle.quast_tools.specs.declared.reading.AtLeaf as code
-use Rattle.quast_tools.proofs.Branching.{if_stops, if_plus, if_minus, split_stops, first_stops, first_made}
-use Rattle.quast_tools.proofs.Defining.{define_refused, define_unfit, define_stops, define_made}
-use Rattle.quast_tools.proofs.Narrow.{quotient}
-use Rattle.quast_tools.proofs.Placing.{spread_tree-none}
-use Rattle.quast_tools.proofs.Readied.{leaf_within, second_ready, counted_stops, both_found, both_none}
-use Rattle.quast_tools.proofs.Walking.{agrees_as, kept_visit, under_visit}
+use Rattle.quast_tools.proofs.SameSteps.{both_found, both_none}
 use Rattle.quast_tools.proofs.searching.+search.Goals as goal
 
 pub search_leaf-search_second-requires : goal.search_leaf-search_second-requires
@@ -276,7 +278,8 @@ search_second-search_node-requires t c =
     let nested = ap answer_nesting c.in-Tree.is in
     let sized = ap answer_size c.in-Tree.is in
     let nest = ap nesting c.root.ensures.tree in
-    let size = ap size c.root.ensures.tree in (
+    let size = ap size c.root.ensures.tree in
+    rw c.meeting-below.ensures (
       omega (arith, c.decreases, sized, size),
       (
         record { few = c.requires.few; leaf = c.requires.leaf },
@@ -297,9 +300,10 @@ search_second-returns-in-Tree-clause-gives t c =
     let w0 = c.args.work.now in
     λ depth.
     let h = visit_of c.args.context.now depth in
+    let read = ap (λ (r : Reading). walk (comparing (searched r.parameters r.at_leaf)) h (spread_tree r.parameters r.between (tree_of c.root.result.now)) w0) c.meeting-below.ensures in
     let same = ap (λ (u : Tree). walk W h (spread_tree m (c.mark.result.width - m) u) w0) c.root.ensures.tree ∙ ap (λ (k : ℕ). walk W h (spread_tree m (k - m) c.in-Tree.tree.tree) w0) c.mark.ensures.width in
     let whole = ap (λ (x : answer.Answer). same_second m (leaf_answer c.args.leaf) h (answer_of x) w0) c.in-Tree.is in
-    agrees_as (λ o. o) tool_fault c.search_node.result c.search_node.new.work _ _ (same ∙ sym whole) (c.search_node.ensures.gives depth)
+    agrees_as (λ o. o) tool_fault c.search_node.result c.search_node.new.work _ _ (read ∙ same ∙ sym whole) (c.search_node.ensures.gives depth)
 
 pub search_where-returns-in_err-found-clause-gives : goal.search_where-returns-in_err-found-clause-gives
 search_where-returns-in_err-found-clause-gives t c =

@@ -1,7 +1,7 @@
 use Rattle.std.proofs.Common.{◌+◌, ◌*◌}
 use Rattle.pip_model.specs.Tree.{size}
 use Rattle.quast.specs.Trees.{tree_of}
-use Rattle.quast_tools.specs.Readings.{answer_size, size_at}
+use Rattle.quast_walk.specs.Readings.{answer_size, size_at}
 use Rattle.quast_tools.proofs.searching.+search.Given as goal
 
 abbrev pub decreases-search_node : goal.decreases-search_node

@@ -1,0 +1,8 @@
+pub mod Lowest
+pub mod Placing
+pub mod Walking
+pub mod Narrow
+pub mod Defining
+pub mod Branching
+pub mod Pointed
+pub mod Readied

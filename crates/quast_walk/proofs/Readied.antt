@@ -1,0 +1,38 @@
+-- What is known of the trees that are walked, and of their leaves.
+use Rattle.std.proofs.Common.{◌≡◌, ◌∙◌, ap, sym, subst, ℕ, ◌-◌, ◌≤◌, arith, [], Option, Some, None, IsTrue}
+use Rattle.std.specs.Prelude.{IfSome}
+use Rattle.pip_model.specs.Tree.{Tree, Leaf, is_scoped}
+use Rattle.pip_model.specs.Run as run
+use Rattle.pip_model.specs.Run.{Work, Counted, Refused}
+use Rattle.pip_model.specs.Walks.{Stopped, by_run, walked_as, Visit}
+use Rattle.pip_model.specs.Tools.{spread_tree}
+use Rattle.walk_laws.proofs.SecondTree.{second-scoped}
+use Rattle.quast.specs.Trees.{ScopedTree, IsQuast}
+use Rattle.quast_walk.specs.Faults.{by_run_fault}
+use Rattle.quast_walk.specs.Readings.{leaf_tree, IsWithin}
+use Rattle.quast_walk.specs.declared.reading.Leaf as code
+use Rattle.quast_walk.specs.declared.reading.Leaf.TheVariants as leaf
+use Rattle.quast_walk.proofs.Placing.{spread_tree-none}
+
+-- a leaf of a tree that is read as it stands
+pub leaf_within : (m n w : ℕ) (l : code.Leaf) → n ≡ 0 → IsTrue (is_scoped w (spread_tree m n (leaf_tree l))) → IsWithin w l
+leaf_within m n w leaf.Void none h = tt
+leaf_within m n w leaf.Bottom none h = tt
+leaf_within m n w (leaf.List cs) none h = (w, omega arith, subst (λ (t : Tree). IsTrue (is_scoped w t)) (ap (λ (k : ℕ). spread_tree m k (Leaf cs.now)) none ∙ spread_tree-none m (Leaf cs.now)) h)
+
+-- the second tree where it is walked
+pub second_ready : (m w width : ℕ) (q : ScopedTree) (t : Tree) → t ≡ q.tree → q.width ≡ m → IsQuast q → m ≤ w → width ≡ w → IsTrue (is_scoped w (spread_tree m (width - m) t))
+second_ready m w width q t is over quast few wide =
+    let h : Visit = record { places = w; context = []; depth = 0 } in
+    let scoped = subst (λ (n : ℕ). IsTrue (is_scoped n q.tree)) over quast.well_formed.scoped in
+    rw (is, wide) (second-scoped m h q.tree few scoped)
+
+-- the first tree
+pub first_ready : (w width : ℕ) (q : ScopedTree) (t : Tree) → t ≡ q.tree → q.width ≡ w → IsQuast q → IsTrue (is_scoped w (spread_tree width 0 t))
+first_ready w width q t is over quast =
+    subst (λ (u : Tree). IsTrue (is_scoped w u)) (sym (spread_tree-none width t ∙ is)) (subst (λ (n : ℕ). IsTrue (is_scoped n q.tree)) over quast.well_formed.scoped)
+
+-- a count that was refused
+pub counted_stops : {A : Type 0} (part : Counted A) (o : Option run.Refusal) (w0 w1 : Work) → IfSome o (λ f. part w0 ≡ Refused f w1) → IfSome (by_run_fault o) (λ f. by_run part w0 ≡ Stopped f w1)
+counted_stops part None w0 w1 s = s
+counted_stops part (Some f) w0 w1 s = ap walked_as s

@@ -1,0 +1,8 @@
+use Rattle.std.proofs.Common.{◌≡◌, ◌+◌, ◌*◌, ◌≤◌, length, take}
+use Rattle.quast_walk.proofs.starting.context_of.Given as goal
+
+abbrev pub invariant-loop-form : goal.invariant-loop-form
+invariant-loop-form l =
+    (l.context.width ≡ l.rows.width)
+    × (l.context.forms ≡ take l.form-index l.forms)
+    × (length l.forms + 2 * l.levels ≤ l.context.spare + l.form-index)

@@ -1,0 +1,19 @@
+//! The walk of a selection tree under a context: where it starts, its steps at a node, how a second tree is read where
+//! it stands at a leaf of a first, and what refuses it.
+#![tactic(auto)]
+
+mod differences;
+mod lists;
+mod reading;
+mod refusal;
+mod spreading;
+mod starting;
+mod steps;
+
+pub use differences::{above, below, difference, negated};
+pub use lists::copies;
+pub use reading::{AtLeaf, Leaf, Reading};
+pub use refusal::ToolRefusal;
+pub use spreading::{spread, spread_list, widened_list};
+pub use starting::{context_of, levels, point};
+pub use steps::{check_sign, enter, go_below, leave, mark, opposite, sign};

@@ -1,0 +1,116 @@
+ghost use Rattle.std.specs.Prelude.{◌≡◌, ◌≤◌, ◌<◌, length, vec_len, map, All, IfOk};
+ghost use Rattle.pip_model.specs.Forms.{widen_to};
+ghost use Rattle.pip_model.specs.Tools as model;
+ghost use Rattle.affine_rows.specs.Checks.{Fits};
+ghost use Rattle.quast_walk.specs.Readings.{spread_reduced, widened_reduced, IsOwnComponent};
+
+use affine_rows::{Form, WantOfMemory};
+use quast::Component;
+use std::alloc::Global;
+
+// The entries with n zeros behind the first m.
+#[tactic(auto, using(crate::proofs::Placing::cut_lemmas))]
+fn spread_entries(
+    alloc: Global,
+    entries: &[i128],
+    m: usize,
+    n: usize,
+) -> Result<Vec<i128>, WantOfMemory>
+    requires { All Fits entries.now }
+    ensures value { IfOk result (λ v. v.items ≡ model.spread m n entries.now) }
+    ensures fits { IfOk result (λ v. All Fits v.items) }
+    ensures some { IfOk result (λ v. length entries.now ≤ vec_len v) }
+{
+    let (front, back) = entries.split_at(m.min(entries.len()));
+    let Some(middle) = front.len().checked_add(n) else {
+        return Err(WantOfMemory);
+    };
+    let mut made = Vec::with_capacity(alloc, middle.saturating_add(back.len()))?;
+    made.extend_from_slice(front)?;
+    made.resize(middle, 0)?;
+    made.extend_from_slice(back)?;
+    Ok(made)
+}
+
+/// The form with n zeros behind its first m coefficients, or behind all its entries where these are fewer.
+pub fn spread(alloc: Global, form: &Form, m: usize, n: usize) -> Result<Form, WantOfMemory>
+    ensures { IfOk result (λ made. made ≡ model.spread m n form.now) }
+{
+    let entries = spread_entries(alloc, form.as_slice(), m, n)?;
+    Ok(Form::from_entries(entries))
+}
+
+// The form over w places, of which it may have fewer.
+fn widened(alloc: Global, form: &Form, w: usize) -> Result<Form, WantOfMemory>
+    ensures { IfOk result (λ made. made ≡ widen_to w form.now) }
+{
+    let mut made = form.try_clone(alloc)?;
+    made.widen(w.saturating_sub(form.width()))?;
+    Ok(made)
+}
+
+// The component with n zeros behind the first m coefficients.
+fn spread_component(
+    alloc: Global,
+    component: &Component,
+    m: usize,
+    n: usize,
+) -> Result<Component, WantOfMemory>
+    ensures value { IfOk result (λ made. made ≡ spread_reduced m n component.now) }
+    ensures component { IfOk result IsOwnComponent }
+{
+    let form = spread(alloc, component.form(), m, n)?;
+    let made = Component::reduced(component.den(), form);
+    let _ = made.den();
+    Ok(made)
+}
+
+// The component over w places, of which its own may be fewer.
+fn widened_component(
+    alloc: Global,
+    component: &Component,
+    w: usize,
+) -> Result<Component, WantOfMemory>
+    ensures value { IfOk result (λ made. made ≡ widened_reduced w component.now) }
+    ensures component { IfOk result IsOwnComponent }
+{
+    let form = widened(alloc, component.form(), w)?;
+    let made = Component::reduced(component.den(), form);
+    let _ = made.den();
+    Ok(made)
+}
+
+/// The components with n zeros behind the first m coefficients of each, in lowest terms.
+pub fn spread_list(
+    alloc: Global,
+    components: &[Component],
+    m: usize,
+    n: usize,
+) -> Result<Vec<Component>, WantOfMemory>
+    ensures value { IfOk result (λ v. v.items ≡ map (spread_reduced m n) components.now) }
+    ensures components { IfOk result (λ v. All IsOwnComponent v.items) }
+{
+    let mut made = Vec::with_capacity(alloc, components.len())?;
+    for i in 0..components.len() {
+        let component = spread_component(alloc, &components[i], m, n)?;
+        made.push(component)?;
+    }
+    Ok(made)
+}
+
+/// The components over w places, of which theirs may be fewer, in lowest terms.
+pub fn widened_list(
+    alloc: Global,
+    components: &[Component],
+    w: usize,
+) -> Result<Vec<Component>, WantOfMemory>
+    ensures value { IfOk result (λ v. v.items ≡ map (widened_reduced w) components.now) }
+    ensures components { IfOk result (λ v. All IsOwnComponent v.items) }
+{
+    let mut made = Vec::with_capacity(alloc, components.len())?;
+    for i in 0..components.len() {
+        let component = widened_component(alloc, &components[i], w)?;
+        made.push(component)?;
+    }
+    Ok(made)
+}

@@ -1,0 +1,65 @@
+ghost use Rattle.std.specs.Prelude.{◌≡◌, ℕ, ◌+◌, ◌*◌, ◌≤◌, length, IfOk, IfSome};
+ghost use Rattle.pip_model.specs.Limits.{most_nesting};
+ghost use Rattle.pip_model.specs.Run.{point as point_of};
+ghost use Rattle.pip_model.specs.ToolAgreement.{AgreesWalked};
+ghost use Rattle.pip_model.specs.Walks.{by_run};
+ghost use Rattle.pip_model.specs.WellFormed.{IsWellFormedAnswer};
+ghost use Rattle.quast.specs.Answers.{answer_of, IsOver};
+ghost use Rattle.quast_walk.specs.Faults.{tool_fault};
+ghost use Rattle.quast_walk.specs.Readings.{answer_nesting};
+
+use crate::refusal::ToolRefusal;
+use affine_rows::{Forms, WantOfMemory};
+use context::{Context, Point, Work};
+use quast::Answer;
+use std::alloc::Global;
+
+/// The context of the rows, with room for two more forms at each of so many levels: at most one more than those of two
+/// trees, each nested 200 deep.
+pub fn context_of(alloc: Global, rows: &Forms, levels: usize) -> Result<Context, WantOfMemory>
+    requires { levels ≤ 2 * most_nesting + 1 }
+    ensures width { IfOk result (λ k. k.width ≡ rows.now.width) }
+    ensures forms { IfOk result (λ k. k.forms ≡ rows.now.forms) }
+    ensures room { IfOk result (λ k. 2 * levels ≤ k.spare) }
+{
+    let forms = rows.as_slice();
+    let mut context = Context::try_new(alloc, rows.width())?;
+    context.reserve(forms.len() + 2 * levels)?;
+    for form in forms {
+        let copy = form.try_clone(alloc)?;
+        context.add(copy);
+    }
+    Ok(context)
+}
+
+/// The context's point, none where no whole vector of numbers from 0 on satisfies it. It is refused where the point's
+/// run is: a number does not fit, or the budget of pivots or of cuts is spent.
+pub fn point(
+    alloc: Global,
+    context: &Context,
+    work: &mut Work,
+) -> Result<Option<Point>, ToolRefusal>
+    ensures gives { AgreesWalked (λ o. o) tool_fault result work.new
+        (by_run (point_of context.now.width context.now.forms) work.old) }
+    ensures budget { work.new.budget ≡ work.old.budget }
+    ensures width { IfOk result (λ o. IfSome o (λ p. length p ≡ context.now.width)) }
+{
+    let found = context.point(alloc, work)?;
+    Ok(found)
+}
+
+/// The most nodes that choose or define on a path of the answer, at most 200. An answer over so many parameters is well
+/// formed over them.
+pub fn levels(answer: &Answer) -> usize
+    ensures few { result ≤ most_nesting }
+    ensures nesting { answer_nesting answer.now ≤ result }
+    ensures formed { (w : ℕ) → IsOver w answer.now → IsWellFormedAnswer w (answer_of answer.now) }
+{
+    match answer {
+        Answer::Void => 0,
+        Answer::Tree(tree) => {
+            let _ = tree.root();
+            tree.nesting()
+        }
+    }
+}
