@@ -180,11 +180,9 @@ fn push_steady<'k>(
     requires column { c < lent.now.unknowns }
     requires positive { pos 1 ≤ℤ entry p.now.coefs.now c }
     ensures lent { AreLent lent.now result.0.now }
-    ensures listed {
-        all_fit (flat_map (λ one. model.eliminated_listed (row_of p.now) c (lent_row lent.now one)) result.0.now)
+    ensures listed { all_fit (flat_map (λ one. model.eliminated_listed (row_of p.now) c (lent_row lent.now one)) result.0.now)
         ≡ all_fit (flat_map (λ one. model.eliminated_listed (row_of p.now) c (lent_row lent.now one)) kept.now) }
-    ensures rows {
-        with_rows next.new (map (λ one. model.eliminated (row_of p.now) c (lent_row lent.now one)) result.0.now)
+    ensures rows { with_rows next.new (map (λ one. model.eliminated (row_of p.now) c (lent_row lent.now one)) result.0.now)
         ≡ with_rows next.old (map (λ one. model.eliminated (row_of p.now) c (lent_row lent.now one)) kept.now) }
     ensures fewer { length result.0.now ≤ length kept.now }
     ensures count { length next.new.rows + length result.0.now ≡ length next.old.rows + length kept.now }
