@@ -1,13 +1,14 @@
-ghost use Rattle.std.specs.Prelude.{◌≡◌, ◌+◌, ◌-◌, ◌<◌, ◌≤◌, pos, ◌≤ℤ◌, false, [], ◌∷◌, ◌++◌, length, take, drop, IsTrue, IfSome, OnErr, OnOk, vec_len, vec_capacity};
+ghost use Rattle.std.specs.Prelude.{◌≡◌, ◌+◌, ◌-◌, ◌<◌, ◌≤◌, pos, ◌≤ℤ◌, false, [], ◌∷◌, ◌++◌, length, take, drop, All, IsTrue, IfSome, OnErr, OnOk, vec_len, vec_capacity};
 ghost use Rattle.pip_model.specs.Forms.{entry};
 ghost use Rattle.pip_model.specs.Listed.{all_fit};
 ghost use Rattle.pip_model.specs.Rows as model;
 ghost use Rattle.pip_model.specs.Cuts.{rounded, rounded_listed};
 ghost use Rattle.pip_model.specs.Agreement.{IsChecked};
 ghost use Rattle.affine_rows.specs.Checks.{is_overflow};
+ghost use Rattle.affine_rows.specs.Forms.{IsForm};
 ghost use Rattle.tableau_row.specs.Flat.{numbers_of, row_of_numbers, is_unit_row};
 ghost use Rattle.tableau.specs.KeptRows.{IsFlat, IsUnsealed, row_length, rows_kept, with_more};
-ghost use Rattle.tableau_row.specs.Short.{IsShortRow};
+ghost use Rattle.tableau_row.specs.Short.{IsShort, IsShortRow};
 ghost use Rattle.tableau_row.specs.Rows.{IsRow, IsReduced};
 ghost use Rattle.tableau_row.specs.Views.{row_of};
 
@@ -27,6 +28,29 @@ pub(crate) fn append_kept(kept: &mut Vec<Kept>, one: Kept)
     ensures room { vec_capacity kept.old ≤ vec_capacity kept.new }
 {
     kept.push_reserved(one);
+}
+
+// Appends the number, for which there is room.
+fn append_number(numbers: &mut Vec<i128>, number: i128)
+    requires room { vec_len numbers.old < vec_capacity numbers.old }
+    ensures items { numbers.new.items ≡ numbers.old.items ++ number ∷ [] }
+    ensures length { vec_len numbers.new ≡ vec_len numbers.old + 1 }
+    ensures room { vec_capacity numbers.old ≤ vec_capacity numbers.new }
+{
+    numbers.push_reserved(number);
+}
+
+// Appends the numbers of a form's row, 1 and the entries; whether they are short.
+fn append_form(numbers: &mut Vec<i128>, form: &Form) -> bool
+    requires room { vec_len numbers.old + (length form.now + 1) ≤ vec_capacity numbers.old }
+    ensures items { numbers.new.items ≡ numbers.old.items ++ pos 1 ∷ form.now }
+    ensures form { IsForm form.now }
+    ensures short { IsTrue result → All IsShort form.now }
+    ensures room { vec_capacity numbers.old ≤ vec_capacity numbers.new }
+{
+    append_number(numbers, 1);
+    append_entries(numbers, form.as_slice());
+    is_short_row(1, form.as_slice(), &[])
 }
 
 // Keeps the row whose numbers stand last, from the place on: the row of a column as the column.
@@ -104,13 +128,16 @@ impl FlatRows {
         requires length { length form.now ≡ self.old.unknowns + self.old.width + 1 }
         ensures { self.new ≡ with_more self.old (model.form_row self.old.unknowns form.now) }
     {
-        let (coefs, constant) = form.as_slice().split_at(self.unknowns);
-        self.push_row(&RowView {
-            den: 1,
-            coefs,
-            constant,
-            short: is_short_row(1, coefs, constant),
-        });
+        let first = self.numbers.len();
+        let short = append_form(&mut self.numbers, form);
+        let last = Place { first, short };
+        seal(
+            &mut self.kept,
+            &mut self.numbers,
+            last,
+            self.unknowns,
+            self.width,
+        );
     }
 
     // Adds a row, divided by the greatest common divisor of all its numbers.

@@ -5,7 +5,7 @@ ghost use Rattle.pip_model.specs.Cuts.{rounded_listed};
 ghost use Rattle.pip_model.specs.Agreement.{IsChecked};
 ghost use Rattle.affine_rows.specs.Checks.{is_overflow};
 ghost use Rattle.tableau_row.specs.Flat.{numbers_of, is_unit_row};
-ghost use Rattle.tableau.specs.KeptRows.{IsSpare, unit_run};
+ghost use Rattle.tableau.specs.KeptRows.{IsSpare, with_rows, unit_run};
 ghost use Rattle.tableau_row.specs.Rows.{IsRow, row_from};
 ghost use Rattle.tableau.specs.Tableaus.{with_row, with_rounded};
 ghost use Rattle.tableau_row.specs.Views.{row_of};
@@ -42,6 +42,28 @@ impl Model for Tableau {
 // How many more rows than those of its start a tableau has room for, so that the first cuts move none.
 const SPARE: usize = 4;
 
+// Makes room for so many rows, and the run.
+fn make_rooms(
+    rows: &mut FlatRows,
+    next: &mut FlatRows,
+    units: &mut Vec<i128>,
+    most: usize,
+) -> Result<(), WantOfMemory>
+    requires spare { IsSpare rows.old next.old units.old.items }
+    ensures spare { IsSpare rows.new next.new units.new.items }
+    ensures unknowns { rows.new.unknowns ≡ rows.old.unknowns }
+    ensures width { rows.new.width ≡ rows.old.width }
+    ensures rows { rows.new.rows ≡ rows.old.rows }
+    ensures room { OnOk result (most ≤ rows.new.most) }
+    ensures next_room { OnOk result (most ≤ next.new.most) }
+    ensures units { OnOk result (units.new.items ≡ unit_run rows.new.unknowns rows.new.width) }
+{
+    make_run(units, rows.unknowns(), rows.width())?;
+    rows.reserve(most)?;
+    next.reserve(most)?;
+    Ok(())
+}
+
 // Makes room for one more row, and the run.
 fn make_room(
     rows: &mut FlatRows,
@@ -57,11 +79,8 @@ fn make_room(
     ensures next_room { OnOk result (length rows.new.rows < next.new.most) }
     ensures units { OnOk result (units.new.items ≡ unit_run rows.new.unknowns rows.new.width) }
 {
-    make_run(units, rows.unknowns(), rows.width())?;
     let most = rows.len() + 1;
-    rows.reserve(most)?;
-    next.reserve(most)?;
-    Ok(())
+    make_rooms(rows, next, units, most)
 }
 
 // For how many rows a tableau of so many columns and forms has room at its start.
@@ -72,24 +91,28 @@ fn first_room(unknowns: usize, forms: usize) -> Result<usize, WantOfMemory>
     Ok(rows.saturating_add(SPARE))
 }
 
-// The rows of all columns, with room for so many rows.
-fn unit_rows(
-    alloc: Global,
-    unknowns: usize,
-    width: usize,
-    most: usize,
-) -> Result<FlatRows, WantOfMemory>
-    requires { unknowns ≤ most }
-    ensures unknowns { IfOk result (λ t. t.unknowns ≡ unknowns) }
-    ensures width { IfOk result (λ t. t.width ≡ width) }
-    ensures rows { IfOk result (λ t. t.rows ≡ map (model.unit_row unknowns width) (model.count_from 0 unknowns)) }
-    ensures room { IfOk result (λ t. most ≤ t.most) }
+// Makes of no rows those of all columns.
+fn push_units(rows: &mut FlatRows)
+    requires empty { rows.old.rows ≡ [] }
+    requires room { rows.old.unknowns ≤ rows.old.most }
+    ensures { rows.new ≡ record rows.old {
+      rows = map (model.unit_row rows.old.unknowns rows.old.width) (model.count_from 0 rows.old.unknowns);
+    } }
 {
-    let mut made = FlatRows::with_room(alloc, unknowns, width, most)?;
-    for c in 0..unknowns {
-        made.push_unit(c);
+    for c in 0..rows.unknowns() {
+        rows.push_unit(c);
     }
-    Ok(made)
+}
+
+// Adds the rows of the forms.
+fn push_forms(rows: &mut FlatRows, forms: &[Form])
+    requires room { length rows.old.rows + length forms.now ≤ rows.old.most }
+    requires forms { All (λ form. length form ≡ rows.old.unknowns + rows.old.width + 1) forms.now }
+    ensures { rows.new ≡ with_rows rows.old (map (model.form_row rows.old.unknowns) forms.now) }
+{
+    for form in forms {
+        rows.push_form(form);
+    }
 }
 
 impl Tableau {
@@ -105,19 +128,35 @@ impl Tableau {
         ensures { IfOk result (λ t.
             t ≡ record { unknowns = unknowns; width = width; rows = model.start unknowns width rows.now }) }
     {
-        let most = first_room(unknowns, rows.len())?;
-        let mut units = Vec::new(alloc);
-        make_run(&mut units, unknowns, width)?;
-        let next = FlatRows::with_room(alloc, unknowns, width, most)?;
-        let mut made = unit_rows(alloc, unknowns, width, most)?;
-        for form in rows {
-            made.push_form(form);
+        let mut made = Tableau::new(alloc, unknowns, width);
+        made.restart(rows)?;
+        Ok(made)
+    }
+
+    /// No rows over so many columns and places. It takes no memory.
+    pub fn new(alloc: Global, unknowns: usize, width: usize) -> Tableau
+        ensures { result ≡ record { unknowns = unknowns; width = width; rows = [] } }
+    {
+        Tableau {
+            rows: FlatRows::new(alloc, unknowns, width),
+            next: FlatRows::new(alloc, unknowns, width),
+            units: Vec::new(alloc),
         }
-        Ok(Tableau {
-            rows: made,
-            next,
-            units,
-        })
+    }
+
+    /// Makes of the rows those that `start` gives of these forms.
+    pub fn restart(&mut self, forms: &[Form]) -> Result<(), WantOfMemory>
+        requires { All (λ form. length form ≡ self.old.unknowns + self.old.width + 1) forms.now }
+        ensures ok { OnOk result (self.new
+            ≡ record self.old { rows = model.start self.old.unknowns self.old.width forms.now }) }
+        ensures err { OnErr result (self.new ≡ self.old) }
+    {
+        let most = first_room(self.rows.unknowns(), forms.len())?;
+        make_rooms(&mut self.rows, &mut self.next, &mut self.units, most)?;
+        self.rows.clear();
+        push_units(&mut self.rows);
+        push_forms(&mut self.rows, forms);
+        Ok(())
     }
 
     /// The number of rows.
@@ -177,12 +216,11 @@ impl Tableau {
     pub fn empty_like(&self) -> Tableau
         ensures { result ≡ record self.now { rows = [] } }
     {
-        let alloc = self.rows.allocator();
-        Tableau {
-            rows: FlatRows::new(alloc, self.rows.unknowns(), self.rows.width()),
-            next: FlatRows::new(alloc, self.rows.unknowns(), self.rows.width()),
-            units: Vec::new(alloc),
-        }
+        Tableau::new(
+            self.rows.allocator(),
+            self.rows.unknowns(),
+            self.rows.width(),
+        )
     }
 
     /// The same tableau.

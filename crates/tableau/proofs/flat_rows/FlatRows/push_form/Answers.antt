@@ -1,7 +1,31 @@
-use Rattle.std.proofs.Common.{pos, refl}
-use Rattle.tableau_row.specs.Rows.{row_from}
+use Rattle.std.proofs.Common.{rules, ap, refl, ◌≡◌, ◌∙◌, ◌+◌, ◌++◌, sym, subst, List, ℤ, length}
+use Rattle.pip_model.specs.Rows.{Row, form_row}
+use Rattle.tableau_row.specs.Flat.{numbers_of}
 use Rattle.tableau_row.proofs.Contents.{content-one}
+use Rattle.tableau.specs.KeptRows.{KeptRows, rows_kept, with_more}
+use Rattle.tableau.proofs.Flat.{unsealed, more_rows}
+use Rattle.tableau.proofs.FormRows.{form_numbers, form_fits, form_short}
 use Rattle.tableau.proofs.flat_rows.FlatRows.push_form.Goals as goal
 
-pub push_row-requires-clause-reduced : goal.push_row-requires-clause-reduced
-push_row-requires-clause-reduced c = content-one (row_from (pos 1) c.split_at.result.0.now c.split_at.result.1.now) refl
+pub seal-requires-clause-unsealed : goal.seal-requires-clause-unsealed
+seal-requires-clause-unsealed c =
+    let s = c.self.inside in
+    let f = c.args.form.now in
+    let long = subst (λ (t : KeptRows). length f ≡ t.unknowns + t.width + 1) (sym c.self.view_is) c.requires.length in
+    let items : c.append_form-short.new.numbers.items ≡ s.numbers.items ++ numbers_of (form_row s.unknowns f) = c.append_form-short.ensures.items ∙ ap (λ (xs : List ℤ). s.numbers.items ++ xs) (sym (form_numbers s.unknowns f)) in
+    unsealed s.unknowns s.width _ s.numbers.items c.append_form-short.new.numbers.items s.kept.items (form_row s.unknowns f) items (search rules) c.self.invariant.0
+    (form_fits s.unknowns s.width f long c.append_form-short.ensures.form.fits)
+    (content-one (form_row s.unknowns f) refl)
+    (λ short. form_short s.unknowns f (c.append_form-short.ensures.short short))
+
+pub returns : goal.returns
+returns c =
+    let s = c.self.inside in
+    let f = c.args.form.now in
+    let long = subst (λ (t : KeptRows). length f ≡ t.unknowns + t.width + 1) (sym c.self.view_is) c.requires.length in
+    let items : c.append_form-short.new.numbers.items ≡ s.numbers.items ++ numbers_of (form_row s.unknowns f) = c.append_form-short.ensures.items ∙ ap (λ (xs : List ℤ). s.numbers.items ++ xs) (sym (form_numbers s.unknowns f)) in
+    let row = form_fits s.unknowns s.width f long c.append_form-short.ensures.form.fits in
+    subst (λ (t : KeptRows). record { unknowns = s.unknowns; width = s.width; most = s.most; rows = rows_kept s.unknowns s.width c.seal.new.numbers.items c.seal.new.kept.items } ≡ with_more t (form_row t.unknowns f)) c.self.view_is
+    (ap (λ (rs : List Row). record { unknowns = s.unknowns; width = s.width; most = s.most; rows = rs })
+    (more_rows s.unknowns s.width c.len-first.result s.numbers.items c.append_form-short.new.numbers.items c.seal.new.numbers.items s.kept.items c.seal.new.kept.items (form_row s.unknowns f) items (search rules) row.coefs
+    c.seal.ensures.rows))

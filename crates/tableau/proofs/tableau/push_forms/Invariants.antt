@@ -1,0 +1,7 @@
+use Rattle.std.proofs.Common.{◌≡◌, take, map}
+use Rattle.pip_model.specs.Rows.{form_row}
+use Rattle.tableau.specs.KeptRows.{with_rows}
+use Rattle.tableau.proofs.tableau.push_forms.Given as goal
+
+abbrev pub invariant-loop-form : goal.invariant-loop-form
+invariant-loop-form l = l.rows ≡ with_rows l.fn.rows (map (form_row l.fn.rows.unknowns) (take l.form-index l.forms))

@@ -1,0 +1,23 @@
+use Rattle.std.proofs.Common.{◌≡◌, sym, ap, ◌∙◌, List, length, arith}
+use Rattle.std.proofs.lemmas.List.{length-map}
+use Rattle.pip_model.specs.Rows.{Row, unit_row, count_from}
+use Rattle.pip_model.proofs.Forms.{length-count}
+use Rattle.tableau_row.proofs.RowLaws.{count_map}
+use Rattle.tableau.specs.KeptRows.{KeptRows, with_more}
+use Rattle.tableau.proofs.tableau.push_units.Goals as goal
+
+pub push_unit-requires-clause-room : goal.push_unit-requires-clause-room
+push_unit-requires-clause-room c =
+    let old = c.args.rows.now in
+    let count = length-map (count_from 0 c.loop-c.c) (unit_row old.unknowns old.width) ∙ length-count 0 c.loop-c.c in
+    let all : length c.loop-c.rows.rows ≡ c.loop-c.c = ap (λ (t : KeptRows). length t.rows) c.loop-c.invariant ∙ count in
+    let most : c.loop-c.rows.most ≡ old.most = ap (λ (t : KeptRows). t.most) c.loop-c.invariant in
+    let room = c.requires.room in
+    omega (arith, all, most, room)
+
+pub loop-c-preserved : goal.loop-c-preserved
+loop-c-preserved c =
+    let old = c.args.rows.now in
+    c.push_unit.ensures
+    ∙ ap (λ (t : KeptRows). with_more t (unit_row t.unknowns t.width c.loop-c.c)) c.loop-c.invariant
+    ∙ ap (λ (rs : List Row). record old { rows = rs }) (sym (count_map (unit_row old.unknowns old.width) c.loop-c.c))
