@@ -32,13 +32,13 @@ joined out x y one two three e p q r = rw (r, q, p) (append_assoc (out ++ x) (e 
 
 -- ---- a row with another put in
 
-take_combine : (a b : ℤ) (r s : List ℤ) (c : ℕ) → combine a (take c r) b (take c s) ≡ take c (combine a r b s)
+pub take_combine : (a b : ℤ) (r s : List ℤ) (c : ℕ) → combine a (take c r) b (take c s) ≡ take c (combine a r b s)
 take_combine a b r s zero = refl
 take_combine a b [] s (suc c) = refl
 take_combine a b (x ∷ r) [] (suc c) = refl
 take_combine a b (x ∷ r) (y ∷ s) (suc c) = rw (take_combine a b r s c) refl
 
-drop_combine : (a b : ℤ) (r s : List ℤ) (c : ℕ) → combine a (drop c r) b (drop c s) ≡ drop c (combine a r b s)
+pub drop_combine : (a b : ℤ) (r s : List ℤ) (c : ℕ) → combine a (drop c r) b (drop c s) ≡ drop c (combine a r b s)
 drop_combine a b r s zero = refl
 drop_combine a b [] s (suc c) = refl
 drop_combine a b (x ∷ r) [] (suc c) = combine_nil a b (drop c r)

@@ -76,7 +76,7 @@ gcd_of_negate [] = refl
 gcd_of_negate (x ∷ xs) = gcd_opposite x (gcd_of (negate xs)) ∙ ap (gcd x) (gcd_of_negate xs)
 
 -- a number that changes places with an entry
-gcd_exchanged : (d : ℤ) (xs : List ℤ) (c : ℕ) → c < length xs → gcd (entry xs c) (gcd_of (slice_set xs c d)) ≡ gcd d (gcd_of xs)
+pub gcd_exchanged : (d : ℤ) (xs : List ℤ) (c : ℕ) → c < length xs → gcd (entry xs c) (gcd_of (slice_set xs c d)) ≡ gcd d (gcd_of xs)
 gcd_exchanged d [] c h = absurd (omega arith)
 gcd_exchanged d (x ∷ xs) zero h = gcd_swap x d (gcd_of xs)
 gcd_exchanged d (x ∷ xs) (suc c) h =
