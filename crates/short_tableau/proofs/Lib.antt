@@ -1,3 +1,4 @@
+pub mod Finished
 pub mod Places
 pub mod Fitting
 pub mod ShortParts

@@ -1,7 +1,10 @@
 -- Rows in their places.
-use Rattle.std.proofs.Common.{◌≡◌, refl, ap, sym, ◌∙◌, subst, ℕ, zero, suc, ◌+◌, ◌-◌, ◌*◌, ◌<◌, ◌≤◌, ℤ, List, [], ◌∷◌, ◌++◌, length, map, take, drop, arith, append-nil, length-append, length-drop}
+use Rattle.std.proofs.Common.{◌≡◌, refl, ap, sym, ◌∙◌, subst, ℕ, zero, suc, ◌+◌, ◌-◌, ◌*◌, ◌<◌, ◌≤◌, ℤ, Bool, true, false, ◌&&◌, List, [], ◌∷◌, ◌++◌, length, map, take, drop, arith, append-nil, length-append, length-drop}
 use Rattle.std.specs.Prelude.{slice_set}
-use Rattle.std.proofs.lemmas.List.{take_at, drop_at, take-append-le, drop-append-le, get_or_at, set_at, length-map, map-append, take_all, drop_all, take-append-drop}
+use Rattle.std.proofs.lemmas.List.{take_at, drop_at, take-append-le, drop-append-le, get_or_at, set_at, length-map, length-take, drop_more, map-append, take_all, drop_all, take-append-drop, get_or-map}
+use Rattle.std.proofs.lemmas.List.Folds.{list_all-append}
+use Rattle.std.proofs.Math.Bool.{and-false}
+use Rattle.std.specs.List.{list_all}
 use Rattle.std.proofs.lemmas.List.Elements.{All-same, All-set, All-take, All-drop, All-push, All-append, All-cons, All-nil}
 use Rattle.std.proofs.Math.Nat.{suc-mul, mul-le-mul_right, add-mul}
 use Rattle.pip_model.specs.Rows.{Row, row_at, form_row, unit_row, eliminated, pivot}
@@ -9,6 +12,8 @@ use Rattle.tableau.specs.Flat.{row_of_numbers, numbers_of}
 use Rattle.tableau.proofs.Numbers.{row_again}
 use Rattle.affine_rows.proofs.Mapped.{mapped}
 use Rattle.tableau.specs.Tableaus.{TableauRows, with_row}
+use Rattle.short_tableau.specs.Begun.{is_short_row}
+use Rattle.short_tableau.proofs.Finished.{list_all_false}
 use Rattle.short_tableau.specs.Dense.{row_size, rows_in, IsShortReduced, IsDense}
 
 one_more : (i l : ℕ) → suc i * l ≡ l + i * l
@@ -134,6 +139,17 @@ row_short n k i zs front mid back whole h dense =
 pub mapped_all : (f : Row → Row) (old : List Row) (i : ℕ) → length old ≤ i → mapped f i old ≡ map f old
 mapped_all f old i h = rw (take_all i old h, drop_all i old h) (append-nil (map f old))
 
+pub unmapped : (f : Row → Row) (old now : List Row) (i : ℕ) → i < length old → now ≡ mapped f i old → row_at now i ≡ row_at old i
+unmapped f old now i h e =
+    rw (e, drop_more old i (form_row 0 []) h)
+    (get_or_at (map f (take i old)) (row_at old i) (drop (i + 1) old) (form_row 0 []) i (simp (length-map, length-take) (omega (arith, h))))
+
+-- ---- a row that is not short
+
+pub long_row : (f : Row → Row) (rows : List Row) (i : ℕ) → i < length rows → is_short_row (f (row_at rows i)) ≡ false → list_all is_short_row (map f rows) ≡ false
+long_row f rows i h e =
+    list_all_false is_short_row (map f rows) i (form_row 0 []) (simp length-map h) (ap is_short_row (get_or-map f rows i (form_row 0 []) (form_row 0 []) h) ∙ e)
+
 -- ---- the pivot
 
 pivot_sides : (A B : List Row) (p : Row) (r c n : ℕ) → length A ≡ r → length p.coefs ≡ n → length p.constant ≡ 1
@@ -158,6 +174,24 @@ pivot_made n k r c front mid back front_now made back_now h dense same size e f 
     ∙ rw (e, f, g) refl
     ∙ sym (ap (λ (rs : List Row). pivot rs r c) (rows_parts n k r front mid back h)
     ∙ pivot_sides (rows_in n r front) (rows_in n (k - (r + 1)) back) (row_of_numbers n mid) r c n (length_rows n r front) p.row.coefs p.row.constant)
+
+-- a number that is not short, in a row that a pivot makes in front of row r or behind it
+pub pivot_long : (n k r c : ℕ) (front mid back : List ℤ) → AreParts n k r front mid back → IsDense n k (front ++ (mid ++ back))
+    → (list_all is_short_row (map (eliminated (row_of_numbers n mid) c) (rows_in n r front)) && list_all is_short_row (map (eliminated (row_of_numbers n mid) c) (rows_in n (k - (r + 1)) back))) ≡ false
+    → list_all is_short_row (pivot (rows_in n k (front ++ (mid ++ back))) r c) ≡ false
+pivot_long n k r c front mid back h dense long =
+    let p = subst (IsShortReduced n) (row_here n k r front mid back h) (dense_row n k r (front ++ (mid ++ back)) dense h.within) in
+    let before = map (eliminated (row_of_numbers n mid) c) (rows_in n r front) in
+    let behind = map (eliminated (row_of_numbers n mid) c) (rows_in n (k - (r + 1)) back) in
+    ap (list_all is_short_row)
+    (ap (λ (rs : List Row). pivot rs r c) (rows_parts n k r front mid back h)
+    ∙ pivot_sides (rows_in n r front) (rows_in n (k - (r + 1)) back) (row_of_numbers n mid) r c n (length_rows n r front) p.row.coefs p.row.constant)
+    ∙ list_all-append is_short_row before (unit_row n 0 c ∷ behind)
+    ∙ sides (list_all is_short_row before) (is_short_row (unit_row n 0 c)) (list_all is_short_row behind) long
+  where
+    sides : (x y z : Bool) → (x && z) ≡ false → (x && (y && z)) ≡ false
+    sides false y z e = refl
+    sides true y z e = rw e (and-false y)
 
 -- ---- one row more
 

@@ -2,6 +2,7 @@
 //! the pivot and the cut (P. Feautrier, "Parametric integer programming", RAIRO 1988).
 #![tactic(auto)]
 
+mod begun;
 mod choice;
 mod cuts;
 mod fractions;
@@ -10,5 +11,6 @@ mod pushing;
 mod row;
 mod rows;
 mod short_table;
+mod wide;
 
 pub use short_table::ShortTableau;

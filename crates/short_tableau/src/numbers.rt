@@ -1,7 +1,9 @@
-ghost use Rattle.std.specs.Prelude.{◌≡◌, ◌<◌, ◌≤◌, ◌^◌, pos, ◌-ℤ◌, ◌*ℤ◌, ◌≤ℤ◌, unsigned_abs, length, All, IsTrue, IfSome};
+ghost use Rattle.std.specs.Prelude.{◌≡◌, ◌<◌, ◌≤◌, ◌^◌, pos, ◌-ℤ◌, ◌*ℤ◌, ◌≤ℤ◌, unsigned_abs, length, All, IsTrue, IfSome, IfNone, false};
 ghost use Rattle.pip_model.specs.Numbers.{gcd as gcd_of_two, gcd_of, floor_mod as floor_mod_of};
 ghost use Rattle.pip_model.specs.Forms.{combine as combine_of, floor_divided};
-ghost use Rattle.tableau.specs.Short.{IsShort};
+ghost use Rattle.affine_rows.specs.Checks.{Fits};
+ghost use Rattle.tableau.specs.Short.{is_short, IsShort};
+ghost use Rattle.short_tableau.specs.Begun.{finished};
 
 use tableau::{short_floor_div, short_gcd};
 
@@ -60,6 +62,7 @@ pub fn product(a: i64, b: i64) -> i128
     requires b { IsShort b }
     ensures value { result ≡ a *ℤ b }
     ensures bound { unsigned_abs result < 2 ^ 126 }
+    ensures fits { Fits result }
 {
     exact_product(a, b)
 }
@@ -68,6 +71,7 @@ pub fn product(a: i64, b: i64) -> i128
 pub fn narrow(z: i128) -> Option<i64>
     ensures value { IfSome result (λ n. n ≡ z) }
     ensures short { IfSome result IsShort }
+    ensures long { IfNone result (is_short z ≡ false) }
 {
     if -9223372036854775807 <= z && z <= 9223372036854775807 {
         Some(z as i64)
@@ -76,32 +80,24 @@ pub fn narrow(z: i128) -> Option<i64>
     }
 }
 
-// The product of short numbers, where it is short.
-pub fn times(a: i64, b: i64) -> Option<i64>
-    requires a { IsShort a }
-    requires b { IsShort b }
-    ensures value { IfSome result (λ n. n ≡ a *ℤ b) }
-    ensures short { IfSome result IsShort }
-{
-    narrow(product(a, b))
-}
-
 // The difference of numbers that are far from the ends.
 fn wide_difference(a: i128, b: i128) -> i128
     requires a { unsigned_abs a < 2 ^ 126 }
     requires b { unsigned_abs b < 2 ^ 126 }
-    ensures { result ≡ a -ℤ b }
+    ensures value { result ≡ a -ℤ b }
+    ensures fits { Fits result }
 {
     a - b
 }
 
 // `a*x - b*y` for short numbers.
-fn wide_entry(a: i64, x: i64, b: i64, y: i64) -> i128
+pub fn wide_entry(a: i64, x: i64, b: i64, y: i64) -> i128
     requires a { IsShort a }
     requires x { IsShort x }
     requires b { IsShort b }
     requires y { IsShort y }
-    ensures { result ≡ a *ℤ x -ℤ b *ℤ y }
+    ensures value { result ≡ a *ℤ x -ℤ b *ℤ y }
+    ensures fits { Fits result }
 {
     wide_difference(product(a, x), product(b, y))
 }
@@ -145,24 +141,25 @@ fn entry(a: i64, x: i64, b: i64, y: i64) -> Option<i64>
     narrow_entry(a, x, b, y)
 }
 
-// Makes `a*r - b*s` of r, entry by entry, up to the first that is not short; whether all are.
-pub fn combine(a: i64, r: &mut [i64], b: i64, s: &[i64]) -> bool
+// Makes `a*r - b*s` of r, entry by entry, up to the first that is not short; how many are made.
+pub fn combine(a: i64, r: &mut [i64], b: i64, s: &[i64]) -> usize
     requires lengths { length r.old ≡ length s.now }
     requires a { IsShort a }
     requires r { All IsShort r.old }
     requires b { IsShort b }
     requires s { All IsShort s.now }
-    ensures value { IsTrue result → r.new ≡ combine_of a r.old b s.now }
-    ensures short { IsTrue result → All IsShort r.new }
+    ensures count { result ≤ length r.old }
+    ensures value { finished a r.new b s.now result ≡ combine_of a r.old b s.now }
+    ensures short { All IsShort r.new }
     ensures length { length r.new ≡ length r.old }
 {
     for i in 0..r.len() {
         let Some(number) = entry(a, r[i], b, s[i]) else {
-            return false;
+            return i;
         };
         r[i] = number;
     }
-    true
+    r.len()
 }
 
 // The greatest common divisor of a number and all entries.

@@ -1,9 +1,10 @@
-ghost use Rattle.std.specs.Prelude.{◌≡◌, ◌+◌, ◌<◌, ◌≤◌, ◌++◌, length, take, All, IsTrue, IsFalse, IfOk, OnOk, OnErr, vec_len};
+ghost use Rattle.std.specs.Prelude.{◌≡◌, ◌+◌, ◌<◌, ◌≤◌, ◌++◌, length, take, All, false, IsTrue, IsFalse, IfOk, OnOk, OnErr, vec_len};
+ghost use Rattle.std.specs.List.{list_all};
 ghost use Rattle.pip_model.specs.Forms.{widen_to};
 ghost use Rattle.pip_model.specs.Rows.{form_row, unit_row};
 ghost use Rattle.affine_rows.specs.Forms.{IsForm};
 ghost use Rattle.tableau.specs.Flat.{numbers_of};
-ghost use Rattle.tableau.specs.Short.{IsShort, IsShortRow};
+ghost use Rattle.tableau.specs.Short.{is_short, IsShort, IsShortRow};
 ghost use Rattle.short_tableau.specs.Rows.{row_of};
 
 use crate::numbers::narrow;
@@ -53,6 +54,7 @@ pub fn push_unit_row(numbers: &mut Vec<i64>, unknowns: usize, c: usize) -> Resul
 fn append_short(numbers: &mut Vec<i64>, entries: &[i128]) -> Result<bool, WantOfMemory>
     ensures items { IfOk result (λ b. IsTrue b → numbers.new.items ≡ numbers.old.items ++ entries.now) }
     ensures short { IfOk result (λ b. IsTrue b → All IsShort entries.now) }
+    ensures long { IfOk result (λ b. IsFalse b → list_all is_short entries.now ≡ false) }
 {
     for number in entries {
         let Some(short) = narrow(*number) else {
@@ -75,6 +77,7 @@ pub fn append_form(
     ensures items { IfOk result (λ b. IsTrue b → numbers.new.items
         ≡ numbers.old.items ++ numbers_of (form_row unknowns (widen_to unknowns form.now))) }
     ensures short { IfOk result (λ b. IsTrue b → IsShortRow (form_row unknowns (widen_to unknowns form.now))) }
+    ensures long { IfOk result (λ b. IsFalse b → list_all is_short form.now ≡ false) }
 {
     let (coefficients, constant) = form.split_at(form.len() - 1);
     let more = unknowns.checked_add(1).ok_or(WantOfMemory)?;

@@ -1,13 +1,15 @@
-ghost use Rattle.std.specs.Prelude.{◌≡◌, ◌+◌, ◌-◌, ◌<◌, pos, ◌≤ℤ◌, length, replicate, IsTrue, IfSome};
+ghost use Rattle.std.specs.Prelude.{◌≡◌, ◌+◌, ◌-◌, ◌<◌, pos, ◌≤ℤ◌, false, length, replicate, IsTrue, IsFalse, IfSome, IfNone};
 ghost use Rattle.pip_model.specs.Forms.{entry};
 ghost use Rattle.pip_model.specs.Rows as model;
 ghost use Rattle.tableau.specs.Flat.{row_of_numbers};
 ghost use Rattle.tableau.specs.Short.{IsShort, IsShortRow};
 ghost use Rattle.tableau.specs.Tableaus.{IsRow, IsOwnRow, IsReduced, row_from};
+ghost use Rattle.short_tableau.specs.Begun.{is_short_row};
 ghost use Rattle.short_tableau.specs.Dense.{IsShortReduced, row_size};
 ghost use Rattle.short_tableau.specs.Rows.{row_of};
 
-use crate::numbers::{combine, divide_all, gcd_with, times};
+use crate::begun::{begin, finish, short_ends};
+use crate::numbers::{divide_all, gcd_with};
 use tableau::short_floor_div;
 
 // A row: its denominator, its coefficients, and its constant form, which is a constant.
@@ -32,44 +34,6 @@ pub fn view_of(row: &[i64], unknowns: usize) -> ShortRow<'_>
     }
 }
 
-// Puts row p, solved for column c, into a row; the new denominator, none where a number is not short.
-fn substitute(
-    p: &ShortRow<'_>,
-    c: usize,
-    den: i64,
-    coefs: &mut [i64],
-    constant: &mut [i64],
-) -> Option<i64>
-    requires p { IsRow (length coefs.old) (length constant.old - 1) (row_of p.now) }
-    requires row { IsOwnRow (row_from den coefs.old constant.old) }
-    requires column { c < length coefs.old }
-    requires positive { pos 1 ≤ℤ entry p.now.coefs.now c }
-    requires p_short { IsShortRow (row_of p.now) }
-    requires row_short { IsShortRow (row_from den coefs.old constant.old) }
-    ensures value { IfSome result (λ d. row_from d coefs.new constant.new ≡ model.substituted (row_of p.now) c
-        (row_from den coefs.old constant.old)) }
-    ensures short { IfSome result (λ d. IsShortRow (row_from d coefs.new constant.new)) }
-    ensures coefs { length coefs.new ≡ length coefs.old }
-    ensures constant { length constant.new ≡ length constant.old }
-{
-    let a = p.coefs[c];
-    let b = coefs[c];
-    let Some(den) = times(den, a) else {
-        return None;
-    };
-    let Some(entry) = times(b, p.den) else {
-        return None;
-    };
-    if !combine(a, coefs, b, p.coefs) {
-        return None;
-    }
-    if !combine(a, constant, b, p.constant) {
-        return None;
-    }
-    coefs[c] = entry;
-    Some(den)
-}
-
 // Divides a row by the greatest common divisor of its numbers; the new denominator.
 pub fn divide_parts(den: i64, coefs: &mut [i64], constant: &mut [i64]) -> i64
     requires positive { pos 1 ≤ℤ den }
@@ -91,8 +55,8 @@ pub fn divide_parts(den: i64, coefs: &mut [i64], constant: &mut [i64]) -> i64
     short_floor_div(den, divisor)
 }
 
-// Makes of a row what it is after the pivot on row p and column c; the new denominator, none where a number of the row
-// is not short before it is divided.
+// Makes of a row what it is after the pivot on row p and column c; the new denominator, none where a number of it is
+// not short.
 fn eliminate_parts(
     p: &ShortRow<'_>,
     c: usize,
@@ -109,13 +73,19 @@ fn eliminate_parts(
     ensures value { IfSome result (λ d. row_from d coefs.new constant.new ≡ model.eliminated (row_of p.now) c
         (row_from den coefs.old constant.old)) }
     ensures short { IfSome result (λ d. IsShortRow (row_from d coefs.new constant.new)) }
+    ensures long { IfNone result (is_short_row (model.eliminated (row_of p.now) c
+        (row_from den coefs.old constant.old)) ≡ false) }
     ensures coefs { length coefs.new ≡ length coefs.old }
     ensures constant { length constant.new ≡ length constant.old }
 {
-    let Some(den) = substitute(p, c, den, coefs, constant) else {
-        return None;
-    };
-    Some(divide_parts(den, coefs, constant))
+    let begun = begin(p, c, den, coefs, constant);
+    match short_ends(&begun, coefs.len(), constant.len()) {
+        Some((den, entry)) => {
+            coefs[c] = entry;
+            Some(divide_parts(den, coefs, constant))
+        }
+        None => finish(p, c, &begun, coefs, constant),
+    }
 }
 
 // Makes of the numbers of a row those after the pivot on row p and column c; whether they are short. A row that is 0 in
@@ -130,6 +100,8 @@ pub fn eliminate(row: &mut [i64], p: &ShortRow<'_>, c: usize) -> bool
         ≡ model.eliminated (row_of p.now) c (row_of_numbers (length p.now.coefs.now) row.old) }
     ensures row { IsTrue result → IsShortReduced (length p.now.coefs.now)
         (row_of_numbers (length p.now.coefs.now) row.new) }
+    ensures long { IsFalse result → is_short_row
+        (model.eliminated (row_of p.now) c (row_of_numbers (length p.now.coefs.now) row.old)) ≡ false }
     ensures size { length row.new ≡ length row.old }
 {
     let (den, rest) = row.split_at_mut(1);

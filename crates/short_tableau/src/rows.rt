@@ -1,7 +1,9 @@
-ghost use Rattle.std.specs.Prelude.{◌≡◌, ◌+◌, ◌*◌, ◌<◌, ◌≤◌, pos, ◌≤ℤ◌, length, map, slice_set, IsTrue};
+ghost use Rattle.std.specs.Prelude.{◌≡◌, ◌+◌, ◌*◌, ◌<◌, ◌≤◌, pos, ◌≤ℤ◌, ◌&&◌, false, length, map, slice_set, IsTrue, IsFalse};
+ghost use Rattle.std.specs.List.{list_all};
 ghost use Rattle.pip_model.specs.Forms.{entry};
 ghost use Rattle.pip_model.specs.Rows as model;
 ghost use Rattle.tableau.specs.Flat.{row_of_numbers};
+ghost use Rattle.short_tableau.specs.Begun.{is_short_row};
 ghost use Rattle.short_tableau.specs.Dense.{IsDense, IsShortReduced, rows_in, row_size};
 ghost use Rattle.short_tableau.specs.Rows.{row_of};
 
@@ -39,6 +41,8 @@ fn turn_at(numbers: &mut [i64], rows: usize, i: usize, p: &ShortRow<'_>, c: usiz
     ensures rows { IsTrue result → rows_in (length p.now.coefs.now) rows numbers.new
         ≡ slice_set (rows_in (length p.now.coefs.now) rows numbers.old) i
         (model.eliminated (row_of p.now) c (model.row_at (rows_in (length p.now.coefs.now) rows numbers.old) i)) }
+    ensures long { IsFalse result → is_short_row (model.eliminated (row_of p.now) c
+        (model.row_at (rows_in (length p.now.coefs.now) rows numbers.old) i)) ≡ false }
     ensures size { length numbers.new ≡ length numbers.old }
 {
     let unknowns = p.coefs.len();
@@ -57,6 +61,8 @@ pub fn turn_rows(numbers: &mut [i64], rows: usize, p: &ShortRow<'_>, c: usize) -
     ensures dense { IsTrue result → IsDense (length p.now.coefs.now) rows numbers.new }
     ensures rows { IsTrue result → rows_in (length p.now.coefs.now) rows numbers.new
         ≡ map (model.eliminated (row_of p.now) c) (rows_in (length p.now.coefs.now) rows numbers.old) }
+    ensures long { IsFalse result → list_all is_short_row
+        (map (model.eliminated (row_of p.now) c) (rows_in (length p.now.coefs.now) rows numbers.old)) ≡ false }
     ensures size { length numbers.new ≡ length numbers.old }
 {
     for i in 0..rows {
@@ -98,6 +104,11 @@ fn turn_sides(
     ensures back_rows { IsTrue result → rows_in unknowns sides.back back.new
         ≡ map (model.eliminated (row_of_numbers unknowns row.now) sides.column)
         (rows_in unknowns sides.back back.old) }
+    ensures long { IsFalse result → (list_all is_short_row
+        (map (model.eliminated (row_of_numbers unknowns row.now) sides.column) (rows_in unknowns sides.front front.old))
+        && list_all is_short_row
+        (map (model.eliminated (row_of_numbers unknowns row.now) sides.column) (rows_in unknowns sides.back back.old)))
+        ≡ false }
 {
     let p = view_of(row, unknowns);
     if !turn_rows(front, sides.front, &p, sides.column) {
@@ -115,6 +126,8 @@ pub fn pivot_rows(numbers: &mut [i64], unknowns: usize, rows: usize, r: usize, c
     ensures dense { IsTrue result → IsDense unknowns rows numbers.new }
     ensures rows { IsTrue result → rows_in unknowns rows numbers.new
         ≡ model.pivot (rows_in unknowns rows numbers.old) r c }
+    ensures long { IsFalse result
+        → list_all is_short_row (model.pivot (rows_in unknowns rows numbers.old) r c) ≡ false }
 {
     let place = place_of(unknowns, rows, r, numbers);
     let sides = Sides {

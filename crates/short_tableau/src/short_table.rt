@@ -1,11 +1,14 @@
-ghost use Rattle.std.specs.Prelude.{◌≡◌, ◌+◌, ◌^◌, ◌<◌, ◌≤◌, pos, ◌≤ℤ◌, not, [], ◌∷◌, ◌++◌, All, length, map, flat_map, IsTrue, IsFalse, IfOk, OnOk, OnErr};
+ghost use Rattle.std.specs.Prelude.{◌≡◌, ◌+◌, ◌^◌, ◌<◌, ◌≤◌, pos, ◌≤ℤ◌, false, not, [], ◌∷◌, ◌++◌, All, length, map, flat_map, IsTrue, IsFalse, IfOk, OnOk, OnErr};
+ghost use Rattle.std.specs.List.{list_all};
 ghost use Rattle.pip_model.specs.Cuts.{constant_cut};
 ghost use Rattle.pip_model.specs.Forms.{constant, entry, widen_to};
 ghost use Rattle.pip_model.specs.Listed.{all_fit};
 ghost use Rattle.pip_model.specs.Numbers.{is_nonneg};
 ghost use Rattle.pip_model.specs.Rows as model;
 ghost use Rattle.affine_rows.specs.Forms.{IsForm};
+ghost use Rattle.tableau.specs.Short.{is_short};
 ghost use Rattle.tableau.specs.Tableaus.{with_row};
+ghost use Rattle.short_tableau.specs.Begun.{is_short_row};
 ghost use Rattle.short_tableau.specs.Dense.{IsShortReduced};
 ghost use Rattle.short_tableau.specs.Rows.{row_of};
 
@@ -174,12 +177,13 @@ impl ShortTableau {
     }
 
     /// Adds the row of a form, which is read over all columns, where its numbers are short, and says whether they are.
-    /// Else no row is left, as after a refusal.
+    /// Where one is not, no row is left, as after a refusal.
     pub fn push_form(&mut self, form: &[i128]) -> Result<bool, WantOfMemory>
         requires form { IsForm form.now }
         requires narrow { length form.now ≤ self.old.unknowns + 1 }
         ensures short { IfOk result (λ b. IsTrue b → self.new
             ≡ with_row self.old (model.form_row self.old.unknowns (widen_to self.old.unknowns form.now))) }
+        ensures long { IfOk result (λ b. IsFalse b → list_all is_short form.now ≡ false) }
         ensures unknowns { self.new.unknowns ≡ self.old.unknowns }
     {
         let pushed = append_form(&mut self.numbers, self.unknowns, form);
@@ -194,15 +198,16 @@ impl ShortTableau {
     }
 
     /// The pivot on row r and column c: the row, solved for the column's quantity, is put into each other row, and
-    /// row r becomes the row of the column. Whether the rows' numbers are short; where one is not, before its row is
-    /// divided, no row is left. All listed numbers fit. It takes no memory.
+    /// row r becomes the row of the column. Whether all numbers of the rows that are made are short; where one is not,
+    /// no row is left. All listed numbers fit. It takes no memory.
     pub fn pivot(&mut self, r: usize, c: usize) -> bool
         requires row { r < length self.old.rows }
         requires column { c < self.old.unknowns }
         requires positive { pos 1 ≤ℤ entry (model.row_at self.old.rows r).coefs c }
         ensures listed { IsTrue (all_fit (model.pivot_listed self.old.rows r c)) }
         ensures short { IsTrue result → self.new ≡ record self.old { rows = model.pivot self.old.rows r c } }
-        ensures long { IsFalse result → self.new ≡ record self.old { rows = [] } }
+        ensures long { IsFalse result → list_all is_short_row (model.pivot self.old.rows r c) ≡ false }
+        ensures none { IsFalse result → self.new ≡ record self.old { rows = [] } }
     {
         if !pivot_rows(&mut self.numbers, self.unknowns, self.count, r, c) {
             self.count = 0;
@@ -212,9 +217,9 @@ impl ShortTableau {
         true
     }
 
-    /// Puts row i of a tableau over the same columns, solved for the quantity of column c, into each row. Whether the
-    /// rows' numbers are short; where one is not, before its row is divided, no row is left. All listed numbers fit. It
-    /// takes no memory.
+    /// Puts row i of a tableau over the same columns, solved for the quantity of column c, into each row. Whether all
+    /// numbers of the rows that are made are short; where one is not, no row is left. All listed numbers fit. It takes
+    /// no memory.
     pub fn eliminate(&mut self, t: &ShortTableau, i: usize, c: usize) -> bool
         requires unknowns { t.now.unknowns ≡ self.old.unknowns }
         requires row { i < length t.now.rows }
@@ -224,7 +229,9 @@ impl ShortTableau {
             (flat_map (model.eliminated_listed (model.row_at t.now.rows i) c) self.old.rows)) }
         ensures short { IsTrue result → self.new
             ≡ record self.old { rows = map (model.eliminated (model.row_at t.now.rows i) c) self.old.rows } }
-        ensures long { IsFalse result → self.new ≡ record self.old { rows = [] } }
+        ensures long { IsFalse result → list_all is_short_row
+            (map (model.eliminated (model.row_at t.now.rows i) c) self.old.rows) ≡ false }
+        ensures none { IsFalse result → self.new ≡ record self.old { rows = [] } }
     {
         if !turn_rows(&mut self.numbers, self.count, &t.row(i), c) {
             self.count = 0;

@@ -1,9 +1,11 @@
 use Rattle.std.proofs.Common.{rules, ◌∙◌, ap, sym, subst, ◌++◌, pos, ◌≤ℤ◌, List, ℤ}
-use Rattle.std.specs.Prelude.{IsTrue}
+use Rattle.std.specs.Prelude.{IsTrue, IsFalse}
+use Rattle.std.specs.List.{list_all}
 use Rattle.pip_model.specs.Forms.{entry}
 use Rattle.pip_model.specs.Rows.{Row, pivot}
+use Rattle.short_tableau.specs.Begun.{is_short_row}
 use Rattle.short_tableau.specs.Dense.{IsDense, IsShortReduced, rows_in}
-use Rattle.short_tableau.proofs.Places.{AreParts, row_short, row_read, dense_front, dense_back, dense_made, pivot_made}
+use Rattle.short_tableau.proofs.Places.{AreParts, row_short, row_read, dense_front, dense_back, dense_made, pivot_made, pivot_long}
 use Rattle.short_tableau.proofs.ShortParts.{unit_short}
 use Rattle.short_tableau.proofs.rows.pivot_rows.Goals as goal
 
@@ -82,3 +84,16 @@ returns-clause-rows c = λ all.
     pivot_made n c.args.rows c.args.r c.args.c front mid back c.turn_sides.new.front c.make_unit.new.row c.turn_sides.new.back h (subst (IsDense n c.args.rows) whole c.requires.dense)
     (one.size ∙ sym h.front_size) (c.make_unit.ensures.size ∙ h.mid_size) (c.turn_sides.ensures.front_rows done) c.make_unit.ensures.value (c.turn_sides.ensures.back_rows done)
     ∙ ap (λ (zs : List ℤ). pivot (rows_in n c.args.rows zs) c.args.r c.args.c) (sym whole)
+
+pub returns-then-not-turn_sides-clause-long : goal.returns-then-not-turn_sides-clause-long
+returns-then-not-turn_sides-clause-long c = λ all.
+    let n = c.args.unknowns in
+    let front = c.split_at_mut-front.result.0.now in
+    let mid = c.split_at_mut-row.result.0.now in
+    let back = c.split_at_mut-row.result.1.now in
+    let h : AreParts c.args.unknowns c.args.rows c.args.r c.split_at_mut-front.result.0.now c.split_at_mut-row.result.0.now c.split_at_mut-row.result.1.now
+    = record { front_size = search rules; mid_size = search rules; within = c.requires.row } in
+    let whole = c.split_at_mut-front.ensures.value ∙ ap (λ (zs : List ℤ). front ++ zs) c.split_at_mut-row.ensures.value in
+    let long : IsFalse c.turn_sides.result = search rules in
+    ap (λ (zs : List ℤ). list_all is_short_row (pivot (rows_in n c.args.rows zs) c.args.r c.args.c)) whole
+    ∙ pivot_long n c.args.rows c.args.r c.args.c front mid back h (subst (IsDense n c.args.rows) whole c.requires.dense) (c.turn_sides.ensures.long long)

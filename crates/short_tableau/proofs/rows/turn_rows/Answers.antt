@@ -1,10 +1,11 @@
-use Rattle.std.proofs.Common.{rules, ◌∙◌, arith, length, refl, []}
-use Rattle.std.specs.Prelude.{IsTrue}
-use Rattle.pip_model.specs.Rows.{form_row, eliminated}
+use Rattle.std.proofs.Common.{rules, ◌∙◌, ap, sym, arith, length, refl, []}
+use Rattle.std.specs.Prelude.{IsTrue, IsFalse}
+use Rattle.pip_model.specs.Rows.{Row, form_row, eliminated}
 use Rattle.affine_rows.proofs.Mapped.{mapped_step}
+use Rattle.short_tableau.specs.Begun.{is_short_row}
 use Rattle.short_tableau.specs.Dense.{rows_in}
 use Rattle.short_tableau.specs.Rows.{row_of}
-use Rattle.short_tableau.proofs.Places.{length_rows, mapped_all}
+use Rattle.short_tableau.proofs.Places.{length_rows, long_row, mapped_all, unmapped}
 use Rattle.short_tableau.proofs.rows.turn_rows.Goals as goal
 
 pub loop-i-preserved : goal.loop-i-preserved
@@ -24,3 +25,14 @@ returns-clause-rows c = λ all.
     let n = length c.args.p.now.coefs.now in
     let h = length_rows n c.args.rows c.args.numbers.now in
     c.loop-i.invariant.rows ∙ mapped_all (eliminated (row_of c.args.p.now) c.args.c) (rows_in n c.args.rows c.args.numbers.now) c.loop-i.i (omega (arith, h))
+
+pub returns-then-not-turn_at-clause-long : goal.returns-then-not-turn_at-clause-long
+returns-then-not-turn_at-clause-long c = λ all.
+    let n = length c.args.p.now.coefs.now in
+    let old = rows_in n c.args.rows c.args.numbers.now in
+    let h = length_rows n c.args.rows c.args.numbers.now in
+    let long : IsFalse c.turn_at.result = search rules in
+    long_row (eliminated (row_of c.args.p.now) c.args.c) (rows_in n c.args.rows c.args.numbers.now) c.loop-i.i (omega (arith, h))
+    (ap (λ (r : Row). is_short_row (eliminated (row_of c.args.p.now) c.args.c r))
+    (sym (unmapped (eliminated (row_of c.args.p.now) c.args.c) old (rows_in n c.args.rows c.loop-i.numbers) c.loop-i.i (omega (arith, h)) c.loop-i.invariant.rows))
+    ∙ c.turn_at.ensures.long long)

@@ -1,7 +1,11 @@
-use Rattle.std.proofs.Common.{rules, ◌≡◌, ◌∙◌, ap, sym, subst, ℕ, pos, ◌≤ℤ◌}
-use Rattle.std.specs.Prelude.{IsTrue, map}
+use Rattle.std.proofs.Common.{rules, ◌≡◌, ◌∙◌, ap, sym, subst, refl, ℕ, pos, ◌≤ℤ◌}
+use Rattle.std.specs.Prelude.{IsTrue, map, false}
+use Rattle.std.specs.List.{list_all}
+use Rattle.std.proofs.Math.Bool.{and-false}
 use Rattle.pip_model.specs.Forms.{entry}
+use Rattle.tableau.specs.Flat.{row_of_numbers}
 use Rattle.pip_model.specs.Rows.{Row, eliminated}
+use Rattle.short_tableau.specs.Begun.{is_short_row}
 use Rattle.short_tableau.specs.Dense.{IsDense, IsShortReduced, rows_in}
 use Rattle.short_tableau.specs.Rows.{row_of}
 use Rattle.short_tableau.proofs.rows.turn_sides.Goals as goal
@@ -63,3 +67,21 @@ returns-clause-back_rows c = λ all.
     let p = subst (IsShortReduced n) (sym c.view_of-p.ensures) c.requires.row in
     subst (λ (k : ℕ). rows_in k c.args.sides.back c.turn_rows-2.new.numbers ≡ map (eliminated (row_of c.view_of-p.result) c.args.sides.column) (rows_in k c.args.sides.back c.args.back.now)) p.row.coefs (c.turn_rows-2.ensures.rows all)
     ∙ ap (λ (q : Row). map (eliminated q c.args.sides.column) (rows_in n c.args.sides.back c.args.back.now)) c.view_of-p.ensures
+
+pub returns-then-not-turn_rows-clause-long : goal.returns-then-not-turn_rows-clause-long
+returns-then-not-turn_rows-clause-long c = λ all.
+    let n = c.args.unknowns in
+    let p = subst (IsShortReduced n) (sym c.view_of-p.ensures) c.requires.row in
+    let long : list_all is_short_row (map (eliminated (row_of_numbers c.args.unknowns c.args.row.now) c.args.sides.column) (rows_in c.args.unknowns c.args.sides.front c.args.front.now)) ≡ false
+    = ap (λ (q : Row). list_all is_short_row (map (eliminated q c.args.sides.column) (rows_in n c.args.sides.front c.args.front.now))) (sym c.view_of-p.ensures)
+    ∙ subst (λ (k : ℕ). list_all is_short_row (map (eliminated (row_of c.view_of-p.result) c.args.sides.column) (rows_in k c.args.sides.front c.args.front.now)) ≡ false) p.row.coefs (c.turn_rows.ensures.long (search rules)) in
+    rw long refl
+
+pub returns-clause-long : goal.returns-clause-long
+returns-clause-long c = λ all.
+    let n = c.args.unknowns in
+    let p = subst (IsShortReduced n) (sym c.view_of-p.ensures) c.requires.row in
+    let long : list_all is_short_row (map (eliminated (row_of_numbers c.args.unknowns c.args.row.now) c.args.sides.column) (rows_in c.args.unknowns c.args.sides.back c.args.back.now)) ≡ false
+    = ap (λ (q : Row). list_all is_short_row (map (eliminated q c.args.sides.column) (rows_in n c.args.sides.back c.args.back.now))) (sym c.view_of-p.ensures)
+    ∙ subst (λ (k : ℕ). list_all is_short_row (map (eliminated (row_of c.view_of-p.result) c.args.sides.column) (rows_in k c.args.sides.back c.args.back.now)) ≡ false) p.row.coefs (c.turn_rows-2.ensures.long all) in
+    rw long (and-false (list_all is_short_row (map (eliminated (row_of_numbers c.args.unknowns c.args.row.now) c.args.sides.column) (rows_in c.args.unknowns c.args.sides.front c.args.front.now))))

@@ -1,8 +1,10 @@
-use Rattle.std.proofs.Common.{◌≡◌, ap, subst, arith}
-use Rattle.std.specs.Prelude.{IsTrue}
+use Rattle.std.proofs.Common.{◌≡◌, ◌∙◌, ap, subst, arith, rules, false, List, ℤ}
+use Rattle.std.specs.Prelude.{IsTrue, IsFalse}
+use Rattle.std.specs.List.{list_all}
 use Rattle.pip_model.specs.Listed.{all_fit}
-use Rattle.pip_model.specs.Rows.{pivot_listed}
+use Rattle.pip_model.specs.Rows.{pivot, pivot_listed}
 use Rattle.tableau.specs.Tableaus.{TableauRows}
+use Rattle.short_tableau.specs.Begun.{is_short_row}
 use Rattle.short_tableau.specs.Dense.{rows_in}
 use Rattle.short_tableau.proofs.Fitting.{pivot_fits}
 use Rattle.short_tableau.proofs.Places.{count_is, length_rows}
@@ -30,3 +32,11 @@ returns-clause-listed c =
     let l = length_rows s.unknowns s.count s.numbers.items in
     subst (λ (t : TableauRows). IsTrue (all_fit (pivot_listed t.rows c.args.r c.args.c))) c.self.view_is
     (pivot_fits s.unknowns c.args.r c.args.c (rows_in s.unknowns s.count s.numbers.items) c.self.invariant.rows (omega (arith, k, l, c.requires.row)) (omega (arith, n, c.requires.column)))
+
+pub returns-then-not-pivot_rows-clause-long : goal.returns-then-not-pivot_rows-clause-long
+returns-then-not-pivot_rows-clause-long c = λ all.
+    let s = c.self.inside in
+    let items : c.self.inside.numbers.items ≡ c.deref_mut.result.now = search rules in
+    let long : IsFalse c.pivot_rows.result = search rules in
+    subst (λ (t : TableauRows). list_all is_short_row (pivot t.rows c.args.r c.args.c) ≡ false) c.self.view_is
+    (ap (λ (zs : List ℤ). list_all is_short_row (pivot (rows_in s.unknowns s.count zs) c.args.r c.args.c)) items ∙ c.pivot_rows.ensures.long long)

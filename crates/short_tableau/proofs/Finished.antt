@@ -1,0 +1,194 @@
+-- A row that is made in two steps, and what shows that it is not short.
+use Rattle.std.proofs.Common.{◌≡◌, refl, ap, sym, ◌∙◌, ℕ, zero, suc, ◌+◌, ◌<◌, ◌≤◌, ℤ, pos, negsuc, ◌≤ℤ◌, ◌*ℤ◌, ◌-ℤ◌, Bool, true, false, ◌&&◌, List, [], ◌∷◌, ◌++◌, length, take, drop, get_or, set, arith, append-nil, append_assoc, length-append, length-drop, length-set}
+use Rattle.std.proofs.lemmas.Int.{ints}
+use Rattle.std.proofs.Math.IntN.{*ℤ_comm}
+use Rattle.std.proofs.Math.Bool.{and-false}
+use Rattle.std.proofs.lemmas.Bool.{lt-ltb}
+use Rattle.std.proofs.lemmas.List.{take_at, drop_at, take_all, drop_all, take-append-drop, length-take, length-map, drop_more, take_more, set_at, get_or_at, map-set, map-append, get_or-map, get_or-set_same}
+use Rattle.std.proofs.lemmas.List.Folds.{list_all-append}
+use Rattle.std.specs.Prelude.{slice_set}
+use Rattle.std.specs.List.{list_all}
+use Rattle.pip_model.specs.Numbers.{gcd, gcd_of, floor_div}
+use Rattle.pip_model.specs.Forms.{combine, entry, floor_divided}
+use Rattle.pip_model.specs.Rows.{Row, divided}
+use Rattle.pip_model.proofs.Gcd.{gcd_assoc, gcd_zero}
+use Rattle.affine_rows.proofs.Divisors.{gcd_step}
+use Rattle.tableau_row.proofs.Places.{take_combine, drop_combine, length_combine}
+use Rattle.tableau_row.proofs.Quotients.{quotient_short}
+use Rattle.tableau_row.proofs.RowLaws.{divided_row}
+use Rattle.tableau_row.proofs.Solved.{gcd_exchanged}
+use Rattle.tableau.proofs.Combining.{combined}
+use Rattle.tableau.specs.Short.{is_short}
+use Rattle.tableau.specs.Tableaus.{row_from}
+use Rattle.short_tableau.specs.Begun.{finished, begun_row, is_short_row}
+use Rattle.short_tableau.specs.declared.begun.Begun.{Begun}
+
+-- ---- the entries of a*r - b*s
+
+pub combine_at : (a b : ℤ) (r s : List ℤ) (i : ℕ) → length r ≡ length s → i < length r → get_or (combine a r b s) i (pos 0) ≡ a *ℤ get_or r i (pos 0) -ℤ b *ℤ get_or s i (pos 0)
+combine_at a b [] s i e h = absurd (omega arith)
+combine_at a b (x ∷ r) [] i e h = absurd (omega arith)
+combine_at a b (x ∷ r) (y ∷ s) zero e h = refl
+combine_at a b (x ∷ r) (y ∷ s) (suc i) e h = combine_at a b r s i (omega arith) (omega arith)
+
+none_left : (a b : ℤ) → a *ℤ b -ℤ b *ℤ a ≡ pos 0
+none_left a b = let e = *ℤ_comm a b in omega (arith, ints, e)
+
+-- the entry at which r is b and s is a
+pub combine_zero : (a b : ℤ) (r s : List ℤ) (c : ℕ) → length r ≡ length s → c < length r → b ≡ entry r c → a ≡ entry s c → entry (combine a r b s) c ≡ pos 0
+combine_zero a b r s c same h e f = combine_at a b r s c same h ∙ rw (sym e, sym f) (none_left a b)
+
+-- ---- the entries in front of a place are made
+
+module _ (a b : ℤ) (r s : List ℤ) (k : ℕ) where
+  pub finished_combined : (now : List ℤ) → length r ≡ length s → k ≤ length r → now ≡ combined a r b s k → finished a now b s k ≡ combine a r b s
+  finished_combined now same h e =
+      let front = combine a (take k r) b (take k s) in
+      let lengths : length (take k r) ≡ length (take k s) = simp length-take (omega arith) in
+      let size : length front ≡ k = length_combine a b (take k r) (take k s) lengths ∙ simp length-take (omega arith) in
+      rw (e, take_at front (drop k r) k size, drop_at front (drop k r) k size, take_combine a b r s k, drop_combine a b r s k)
+      (take-append-drop k (combine a r b s))
+
+  pub finished_all : length r ≤ k → finished a r b s k ≡ r
+  finished_all h = rw (take_all k r h, drop_all k r h) (append-nil r)
+
+  pub finished_length : length r ≡ length s → k ≤ length r → length (finished a r b s k) ≡ length r
+  finished_length same h =
+      let lengths : length (drop k r) ≡ length (drop k s) = simp length-drop (omega arith) in
+      let made = length_combine a b (drop k r) (drop k s) lengths in
+      simp (length-append, length-take, made, length-drop) (omega arith)
+
+-- the row that is begun is the row itself where all entries are made
+pub begun_all : (w : Begun) (p : Row) (c : ℕ) (coefs constant : List ℤ) (d e : ℤ) → d ≡ w.den → e ≡ w.entry → length coefs ≤ w.coefs → length constant ≤ w.constant
+    → row_from d (slice_set coefs c e) constant ≡ begun_row w p c coefs constant
+begun_all w p c coefs constant d e f g h k =
+    rw (f, g, finished_all w.by.of_row w.by.of_pivot coefs p.coefs w.coefs h, finished_all w.by.of_row w.by.of_pivot constant p.constant w.constant k) refl
+
+gcd_of_append : (xs ys : List ℤ) → gcd_of (xs ++ ys) ≡ gcd (gcd_of xs) (gcd_of ys)
+gcd_of_append [] ys = sym (gcd_zero ys)
+gcd_of_append (x ∷ xs) ys = ap (gcd x) (gcd_of_append xs ys) ∙ sym (gcd_assoc x (gcd_of xs) (gcd_of ys))
+
+pub gcd_finished : (start found whole : ℤ) (xs ys : List ℤ) → found ≡ gcd start (gcd_of xs) → whole ≡ gcd found (gcd_of ys) → whole ≡ gcd start (gcd_of (xs ++ ys))
+gcd_finished start found whole xs ys e f =
+    f ∙ ap (λ z. gcd z (gcd_of ys)) e ∙ gcd_assoc start (gcd_of xs) (gcd_of ys) ∙ ap (gcd start) (sym (gcd_of_append xs ys))
+
+pub divided_parts : (d : ℤ) (xs ys front rest : List ℤ) → front ≡ floor_divided d xs → rest ≡ floor_divided d ys → front ++ rest ≡ floor_divided d (xs ++ ys)
+divided_parts d xs ys front rest e f = rw (e, f) (sym (map-append (λ x. floor_div x d) xs ys))
+
+-- ---- lists of which not all pass
+
+pub list_all_false : {X : Type 0} (q : X → Bool) (xs : List X) (i : ℕ) (d : X) → i < length xs → q (get_or xs i d) ≡ false → list_all q xs ≡ false
+list_all_false q [] i d h e = absurd (omega arith)
+list_all_false q (x ∷ xs) zero d h e = rw e refl
+list_all_false q (x ∷ xs) (suc i) d h e = rw (list_all_false q xs i d (omega arith) e) (and-false (q x))
+
+pub behind_false : {X : Type 0} (q : X → Bool) (xs ys : List X) → list_all q ys ≡ false → list_all q (xs ++ ys) ≡ false
+behind_false q xs ys e = list_all-append q xs ys ∙ rw e (and-false (list_all q xs))
+
+passing : (p t : Bool) → p ≡ true → (p && t) ≡ false → t ≡ false
+passing true t e h = h
+passing false t e h = absurd cc
+
+either : (p t u : Bool) → (t ≡ false → u ≡ false) → (p && t) ≡ false → (p && u) ≡ false
+either true t u f h = f h
+either false t u f h = refl
+
+-- an element that passes is set
+list_all_set : {X : Type 0} (q : X → Bool) (xs : List X) (c : ℕ) (z d : X) → c < length xs → q (get_or xs c d) ≡ true → list_all q xs ≡ false → list_all q (set xs c z) ≡ false
+list_all_set q [] c z d h e f = absurd (omega arith)
+list_all_set q (x ∷ xs) zero z d h e f = rw (passing (q x) (list_all q xs) e f) (and-false (q z))
+list_all_set q (x ∷ xs) (suc c) z d h e f = either (q x) (list_all q xs) (list_all q (set xs c z)) (list_all_set q xs c z d (omega arith) e) f
+
+-- ---- the row, divided
+
+zero_short : (g : ℤ) → pos 1 ≤ℤ g → is_short (floor_div (pos 0) g) ≡ true
+zero_short g h = lt-ltb _ _ (quotient_short (pos 0) g h (omega arith))
+
+module _ (den e g : ℤ) (F G : List ℤ) (c : ℕ) (is : g ≡ gcd (gcd (gcd den e) (gcd_of F)) (gcd_of G)) (h : c < length F) (none : entry F c ≡ pos 0) where
+  set_divisor : gcd_of (slice_set F c e) ≡ gcd e (gcd_of F)
+  set_divisor = sym (gcd_zero (slice_set F c e)) ∙ ap (λ z. gcd z (gcd_of (slice_set F c e))) (sym none) ∙ gcd_exchanged e F c h
+
+  divisor_is : g ≡ gcd (gcd den (gcd_of (slice_set F c e))) (gcd_of G)
+  divisor_is = is ∙ ap (λ z. gcd z (gcd_of G)) (gcd_assoc den e (gcd_of F) ∙ ap (gcd den) (sym set_divisor))
+
+  pub made_row : (d : ℤ) (coefs constant : List ℤ) → d ≡ floor_div den g → coefs ≡ slice_set (floor_divided g F) c (floor_div e g) → constant ≡ floor_divided g G
+      → row_from d coefs constant ≡ divided (row_from den (slice_set F c e) G)
+  made_row d coefs constant p q r =
+      divided_row den (slice_set F c e) G g d coefs constant divisor_is p (q ∙ sym (map-set (λ x. floor_div x g) F c e)) r
+
+  parts : divided (row_from den (slice_set F c e) G) ≡ row_from (floor_div den g) (slice_set (floor_divided g F) c (floor_div e g)) (floor_divided g G)
+  parts = sym (made_row _ _ _ refl refl refl)
+
+  at_column : c < length (floor_divided g F)
+  at_column = simp length-map h
+
+  pub long_den : is_short (floor_div den g) ≡ false → is_short_row (divided (row_from den (slice_set F c e) G)) ≡ false
+  long_den long = ap is_short_row parts ∙ rw long refl
+
+  long_list : list_all is_short (slice_set (floor_divided g F) c (floor_div e g)) ≡ false → is_short_row (divided (row_from den (slice_set F c e) G)) ≡ false
+  long_list long = ap is_short_row parts ∙ rw long (and-false (is_short (floor_div den g)))
+
+  pub long_entry : is_short (floor_div e g) ≡ false → is_short_row (divided (row_from den (slice_set F c e) G)) ≡ false
+  long_entry long =
+      long_list (list_all_false is_short (slice_set (floor_divided g F) c (floor_div e g)) c (pos 0) (simp (length-set, length-map) h) (ap is_short (get_or-set_same (floor_divided g F) c (floor_div e g) (pos 0) at_column) ∙ long))
+
+  pub long_coefs : pos 1 ≤ℤ g → list_all is_short (floor_divided g F) ≡ false → is_short_row (divided (row_from den (slice_set F c e) G)) ≡ false
+  long_coefs some long =
+      let here : get_or (floor_divided g F) c (pos 0) ≡ floor_div (pos 0) g = get_or-map (λ x. floor_div x g) F c (pos 0) (pos 0) h ∙ ap (λ z. floor_div z g) none in
+      long_list (list_all_set is_short (floor_divided g F) c (floor_div e g) (pos 0) at_column (ap is_short here ∙ zero_short g some) long)
+
+  pub long_constant : list_all is_short (floor_divided g G) ≡ false → is_short_row (divided (row_from den (slice_set F c e) G)) ≡ false
+  long_constant long =
+      ap is_short_row parts ∙ rw (long, and-false (list_all is_short (slice_set (floor_divided g F) c (floor_div e g)))) (and-false (is_short (floor_div den g)))
+
+-- ---- divisors, entry by entry
+
+module _ (a b : ℤ) (r s : List ℤ) (same : length r ≡ length s) where
+  pub gcd_next : (i : ℕ) (found z now whole : ℤ) → i < length r → z ≡ a *ℤ get_or r i (pos 0) -ℤ b *ℤ get_or s i (pos 0) → now ≡ gcd found z
+      → gcd found (gcd_of (drop i (combine a r b s))) ≡ whole → gcd now (gcd_of (drop (i + 1) (combine a r b s))) ≡ whole
+  gcd_next i found z now whole h e f g =
+      let entry_is : z ≡ get_or (combine a r b s) i (pos 0) = e ∙ sym (combine_at a b r s i same h) in
+      ap (λ x. gcd x (gcd_of (drop (i + 1) (combine a r b s)))) (f ∙ ap (gcd found) entry_is)
+      ∙ gcd_step found (combine a r b s) i (omega (arith, h, same, length_combine a b r s same)) ∙ g
+
+  pub gcd_end : (i : ℕ) (found whole : ℤ) → pos 1 ≤ℤ found → length r ≤ i → gcd found (gcd_of (drop i (combine a r b s))) ≡ whole → found ≡ whole
+  gcd_end i (pos n) whole h k e = rw (drop_all i (combine a r b s) (omega (arith, k, same, length_combine a b r s same))) at e
+  gcd_end i (negsuc n) whole h k e = absurd (omega (arith, ints))
+
+-- ---- quotients, entry by entry
+
+module _ (a b : ℤ) (r s : List ℤ) (same : length r ≡ length s) (d : ℤ) where
+  quotients_length : length (floor_divided d (combine a r b s)) ≡ length r
+  quotients_length = length-map (combine a r b s) (λ x. floor_div x d) ∙ length_combine a b r s same ∙ sym same
+
+  module _ (i : ℕ) (h : i < length r) (now : List ℤ) (is : now ≡ take i (floor_divided d (combine a r b s)) ++ drop i r) where
+    front_length : length (take i (floor_divided d (combine a r b s))) ≡ i
+    front_length = simp length-take (omega (arith, h, quotients_length))
+
+    still : get_or now i (pos 0) ≡ get_or r i (pos 0)
+    still = rw (is, drop_more r i (pos 0) h) (get_or_at (take i (floor_divided d (combine a r b s))) (get_or r i (pos 0)) (drop (i + 1) r) (pos 0) i front_length)
+
+    quotient_here : (z q : ℤ) → z ≡ a *ℤ get_or now i (pos 0) -ℤ b *ℤ get_or s i (pos 0) → q ≡ floor_div z d → q ≡ get_or (floor_divided d (combine a r b s)) i (pos 0)
+    quotient_here z q e f =
+        let entry_is : z ≡ get_or (combine a r b s) i (pos 0) = e ∙ ap (λ x. a *ℤ x -ℤ b *ℤ get_or s i (pos 0)) still ∙ sym (combine_at a b r s i same h) in
+        f ∙ ap (λ x. floor_div x d) entry_is ∙ sym (get_or-map (λ x. floor_div x d) (combine a r b s) i (pos 0) (pos 0) (omega (arith, h, same, length_combine a b r s same)))
+
+    pub quotient_next : (z q : ℤ) → z ≡ a *ℤ get_or now i (pos 0) -ℤ b *ℤ get_or s i (pos 0) → q ≡ floor_div z d
+        → set now i q ≡ take (i + 1) (floor_divided d (combine a r b s)) ++ drop (i + 1) r
+    quotient_next z q e f =
+        let front = take i (floor_divided d (combine a r b s)) in
+        rw (quotient_here z q e f, is, take_more (floor_divided d (combine a r b s)) i (pos 0) (omega (arith, h, quotients_length)), drop_more r i (pos 0) h)
+        (set_at front (get_or r i (pos 0)) (drop (i + 1) r) (get_or (floor_divided d (combine a r b s)) i (pos 0)) i front_length
+        ∙ sym (append_assoc front (get_or (floor_divided d (combine a r b s)) i (pos 0) ∷ []) (drop (i + 1) r)))
+
+    pub quotient_long : (z : ℤ) → z ≡ a *ℤ get_or now i (pos 0) -ℤ b *ℤ get_or s i (pos 0) → is_short (floor_div z d) ≡ false → list_all is_short (floor_divided d (combine a r b s)) ≡ false
+    quotient_long z e long =
+        list_all_false is_short (floor_divided d (combine a r b s)) i (pos 0) (omega (arith, h, quotients_length)) (ap is_short (sym (quotient_here z (floor_div z d) e refl)) ∙ long)
+
+  pub quotient_end : (i : ℕ) → length r ≤ i → (now : List ℤ) → now ≡ take i (floor_divided d (combine a r b s)) ++ drop i r → now ≡ floor_divided d (combine a r b s)
+  quotient_end i h now is =
+      is ∙ rw (take_all i (floor_divided d (combine a r b s)) (omega (arith, h, quotients_length)), drop_all i r h) (append-nil (floor_divided d (combine a r b s)))
+
+pub long_parts : (d : ℤ) (xs ys : List ℤ) → list_all is_short (floor_divided d ys) ≡ false → list_all is_short (floor_divided d (xs ++ ys)) ≡ false
+long_parts d xs ys long =
+    ap (list_all is_short) (map-append (λ x. floor_div x d) xs ys) ∙ behind_false is_short (floor_divided d xs) (floor_divided d ys) long

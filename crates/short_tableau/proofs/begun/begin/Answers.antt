@@ -1,0 +1,27 @@
+use Rattle.std.proofs.Common.{rules, ◌≡◌, ◌∙◌, ap, sym, subst, pos, ◌*ℤ◌, ◌≤ℤ◌, to_z, of_z}
+use Rattle.std.specs.Int.{w64, w128}
+use Rattle.pip_model.specs.Forms.{entry, combine}
+use Rattle.tableau.specs.Tableaus.{row_from}
+use Rattle.short_tableau.specs.Begun.{finished}
+use Rattle.short_tableau.specs.Rows.{row_of}
+use Rattle.short_tableau.proofs.Finished.{combine_zero}
+use Rattle.short_tableau.proofs.ShortParts.{product_positive, substituted_made}
+use Rattle.short_tableau.proofs.begun.begin.Goals as goal
+
+pub returns-clause-value : goal.returns-clause-value
+returns-clause-value c =
+    substituted_made (row_of c.args.p.now) c.args.c (row_from c.args.den c.args.coefs.now c.args.constant.now) _ _ _ _ (search rules) (search rules) (search rules) (search rules)
+
+pub returns-clause-zero : goal.returns-clause-zero
+returns-clause-zero c =
+    let a : to_z w64 (of_z w64 (entry c.args.p.now.coefs.now c.args.c)) ≡ entry c.args.p.now.coefs.now c.args.c = search rules in
+    let b : to_z w64 (of_z w64 (entry c.args.coefs.now c.args.c)) ≡ entry c.args.coefs.now c.args.c = search rules in
+    let whole : finished (to_z w64 (of_z w64 (entry c.args.p.now.coefs.now c.args.c))) c.combine.new.r (to_z w64 (of_z w64 (entry c.args.coefs.now c.args.c))) c.args.p.now.coefs.now c.combine.result
+    ≡ combine (to_z w64 (of_z w64 (entry c.args.p.now.coefs.now c.args.c))) c.args.coefs.now (to_z w64 (of_z w64 (entry c.args.coefs.now c.args.c))) c.args.p.now.coefs.now = search rules in
+    ap (λ xs. entry xs c.args.c) whole
+    ∙ combine_zero (to_z w64 (of_z w64 (entry c.args.p.now.coefs.now c.args.c))) (to_z w64 (of_z w64 (entry c.args.coefs.now c.args.c))) c.args.coefs.now c.args.p.now.coefs.now c.args.c (search rules) c.requires.column b a
+
+pub returns-clause-positive : goal.returns-clause-positive
+returns-clause-positive c =
+    let same : to_z w128 (of_z w128 c.product.result) ≡ c.args.den *ℤ entry c.args.p.now.coefs.now c.args.c = search rules in
+    subst (λ z. pos 1 ≤ℤ z) (sym same) (product_positive c.args.den (entry c.args.p.now.coefs.now c.args.c) c.requires.row.positive c.requires.positive)

@@ -1,0 +1,159 @@
+ghost use Rattle.std.specs.Prelude.{◌≡◌, ◌≤◌, pos, ◌≤ℤ◌, false, length, All, IsTrue, IsFalse, IfSome, IfNone};
+ghost use Rattle.std.specs.List.{list_all};
+ghost use Rattle.pip_model.specs.Forms.{combine, floor_divided};
+ghost use Rattle.pip_model.specs.Numbers.{gcd as gcd_of_two, gcd_of, floor_div as floor_div_of};
+ghost use Rattle.affine_rows.specs.Checks.{Fits};
+ghost use Rattle.tableau.specs.Short.{is_short, IsShort};
+ghost use Rattle.short_tableau.specs.Begun.{finished};
+
+use crate::numbers::{narrow, wide_entry};
+use affine_rows::{floor_div, gcd};
+
+// What the entries of a row and those of the pivot's row are multiplied by: `a*r - b*s`.
+#[derive(Clone, Copy)]
+pub struct Factors {
+    pub of_row: i64,
+    pub of_pivot: i64,
+}
+
+// The greatest common divisor of a number and the entries of `a*r - b*s`.
+fn gcd_with_entries(start: i128, by: Factors, r: &[i64], s: &[i64]) -> i128
+    requires lengths { length r.now ≡ length s.now }
+    requires start { pos 1 ≤ℤ start }
+    requires fits { Fits start }
+    requires of_row { IsShort by.of_row }
+    requires r { All IsShort r.now }
+    requires of_pivot { IsShort by.of_pivot }
+    requires s { All IsShort s.now }
+    ensures value { result ≡ gcd_of_two start (gcd_of (combine by.of_row r.now by.of_pivot s.now)) }
+    ensures positive { pos 1 ≤ℤ result }
+    ensures fits { Fits result }
+{
+    let mut found = start;
+    for i in 0..r.len() {
+        if found == 1 {
+            return 1;
+        }
+        found = gcd(found, wide_entry(by.of_row, r[i], by.of_pivot, s[i]));
+    }
+    found
+}
+
+// The greatest common divisor of a number and all entries.
+fn gcd_with_made(start: i128, entries: &[i64]) -> i128
+    requires start { pos 1 ≤ℤ start }
+    requires fits { Fits start }
+    requires short { All IsShort entries.now }
+    ensures value { result ≡ gcd_of_two start (gcd_of entries.now) }
+    ensures positive { pos 1 ≤ℤ result }
+    ensures fits { Fits result }
+{
+    let mut found = start;
+    for number in entries {
+        if found == 1 {
+            return 1;
+        }
+        found = gcd(found, i128::from(*number));
+    }
+    found
+}
+
+// The greatest common divisor of a number and the entries of `a*r - b*s`, of which so many are made in r.
+pub fn gcd_with_finished(start: i128, by: Factors, r: &[i64], s: &[i64], made: usize) -> i128
+    requires lengths { length r.now ≡ length s.now }
+    requires made { made ≤ length r.now }
+    requires start { pos 1 ≤ℤ start }
+    requires fits { Fits start }
+    requires of_row { IsShort by.of_row }
+    requires r { All IsShort r.now }
+    requires of_pivot { IsShort by.of_pivot }
+    requires s { All IsShort s.now }
+    ensures value { result ≡ gcd_of_two start (gcd_of (finished by.of_row r.now by.of_pivot s.now made)) }
+    ensures positive { pos 1 ≤ℤ result }
+    ensures fits { Fits result }
+{
+    let (front, rest) = r.split_at(made);
+    let (_, pivot_rest) = s.split_at(made);
+    gcd_with_entries(gcd_with_made(start, front), by, rest, pivot_rest)
+}
+
+// The quotient rounded down in 64 bits, where it is short.
+pub fn narrow_quotient(z: i128, d: i128) -> Option<i64>
+    requires positive { pos 1 ≤ℤ d }
+    requires fits { Fits z }
+    ensures value { IfSome result (λ n. n ≡ floor_div_of z d) }
+    ensures short { IfSome result IsShort }
+    ensures long { IfNone result (is_short (floor_div_of z d) ≡ false) }
+{
+    narrow(floor_div(z, d))
+}
+
+// Makes of r the entries of `a*r - b*s`, each divided by d and rounded down, up to the first that is not short; whether
+// all are.
+fn divide_entries(by: Factors, r: &mut [i64], s: &[i64], d: i128) -> bool
+    requires lengths { length r.old ≡ length s.now }
+    requires of_row { IsShort by.of_row }
+    requires r { All IsShort r.old }
+    requires of_pivot { IsShort by.of_pivot }
+    requires s { All IsShort s.now }
+    requires positive { pos 1 ≤ℤ d }
+    ensures value { IsTrue result → r.new ≡ floor_divided d (combine by.of_row r.old by.of_pivot s.now) }
+    ensures short { IsTrue result → All IsShort r.new }
+    ensures long { IsFalse result
+        → list_all is_short (floor_divided d (combine by.of_row r.old by.of_pivot s.now)) ≡ false }
+    ensures length { length r.new ≡ length r.old }
+{
+    for i in 0..r.len() {
+        let number = wide_entry(by.of_row, r[i], by.of_pivot, s[i]);
+        let Some(quotient) = narrow_quotient(number, d) else {
+            return false;
+        };
+        r[i] = quotient;
+    }
+    true
+}
+
+// The quotient of a short number, rounded down.
+#[tactic(auto, using(tableau_row::proofs::Quotients::quotient_short))]
+fn made_quotient(z: i64, d: i128) -> i64
+    requires positive { pos 1 ≤ℤ d }
+    requires short { IsShort z }
+    ensures value { result ≡ floor_div_of z d }
+    ensures short { IsShort result }
+{
+    floor_div(i128::from(z), d) as i64
+}
+
+// Divides each entry, rounded down.
+fn divide_made(entries: &mut [i64], d: i128)
+    requires positive { pos 1 ≤ℤ d }
+    requires short { All IsShort entries.old }
+    ensures value { entries.new ≡ floor_divided d entries.old }
+    ensures short { All IsShort entries.new }
+{
+    for number in entries.iter_mut() {
+        *number = made_quotient(*number, d);
+    }
+}
+
+// Makes of r the entries of `a*r - b*s`, of which so many are made in it, each divided by d and rounded down; whether
+// they are short.
+pub fn divide_finished(by: Factors, r: &mut [i64], s: &[i64], made: usize, d: i128) -> bool
+    requires lengths { length r.old ≡ length s.now }
+    requires made { made ≤ length r.old }
+    requires of_row { IsShort by.of_row }
+    requires r { All IsShort r.old }
+    requires of_pivot { IsShort by.of_pivot }
+    requires s { All IsShort s.now }
+    requires positive { pos 1 ≤ℤ d }
+    ensures value { IsTrue result → r.new ≡ floor_divided d (finished by.of_row r.old by.of_pivot s.now made) }
+    ensures short { IsTrue result → All IsShort r.new }
+    ensures long { IsFalse result
+        → list_all is_short (floor_divided d (finished by.of_row r.old by.of_pivot s.now made)) ≡ false }
+    ensures length { length r.new ≡ length r.old }
+{
+    let (front, rest) = r.split_at_mut(made);
+    let (_, pivot_rest) = s.split_at(made);
+    divide_made(front, d);
+    divide_entries(by, rest, pivot_rest, d)
+}
