@@ -61,10 +61,10 @@ turned_run rows path frames turn = do
   t ← after (setting_of rows path) (turn_of rows path turn)
   finished path frames t
 
--- the same where the node of the second tree that is due is in hand, or the whole tree
-abbrev pub next_run : Path → List Frame → Next → Counted Tree
-next_run path frames (next.Node rows) = whole_run rows path frames
-next_run path frames (next.Tree t) = give t.tree
+-- the same where the node of these rows is in hand, or the whole tree
+abbrev pub next_run : TableauRows → Path → List Frame → Next → Counted Tree
+next_run rows path frames next.Node = whole_run rows path frames
+next_run rows path frames (next.Tree t) = give t.tree
 
 -- marks that the path can go back to
 pub record AreMarks (path : Path) (mark : ContextMark) (count : ℕ) : Type 0 where
@@ -137,6 +137,6 @@ pub record IsNextNode (weight : ℕ) (from : Path) (before : Waiting) (rows : Ta
   pub nearer : dues pending.frames + 1 ≤ dues before.frames + weight
 
 -- such a node is in hand, or the whole tree
-abbrev pub IsNext : ℕ → Path → Waiting → Path → Waiting → Next → Type 0
-IsNext weight from before path pending (next.Node rows) = IsNextNode weight from before rows path pending
-IsNext weight from before path pending (next.Tree t) = t.width ≡ from.quotients.params
+abbrev pub IsNext : ℕ → Path → Waiting → TableauRows → Path → Waiting → Next → Type 0
+IsNext weight from before rows path pending next.Node = IsNextNode weight from before rows path pending
+IsNext weight from before rows path pending (next.Tree t) = t.width ≡ from.quotients.params

@@ -11,10 +11,10 @@ use quast::Quast;
 use std::alloc::Global;
 use tableau::Tableau;
 
-// What is in hand next: a node, or the whole tree.
+// What is in hand next: the node of the rows, or the whole tree.
 #[derive(Drop)]
 pub enum Next {
-    Node(Tableau),
+    Node,
     Tree(Quast),
 }
 
@@ -32,26 +32,27 @@ fn opposite(alloc: Global, condition: &Form) -> Result<Form, WantOfMemory>
     }
 }
 
-// The frames that wait for a tree are closed over it, up to an if whose second tree is due: the path goes back to the
-// node of the if, and its opposite condition joins the context.
+// The frames that wait for a tree are closed over it, up to an if whose second tree is due: the rows are those of its
+// node, the path goes back there, and the opposite condition joins the context.
 pub(crate) fn close(
-    alloc: Global,
     tree: Quast,
+    rows: &mut Tableau,
     path: &mut Path,
     pending: &mut Pending,
 ) -> Result<Next, WantOfMemory>
     requires { IsClosing tree path.old pending.old }
     ensures gives { IfOk result (λ next. (w : Counts) → finished path.old pending.old.frames tree.tree w
-        ≡ next_run path.new pending.new.frames next w) }
-    ensures next { IfOk result (IsNext 0 path.old pending.old path.new pending.new) }
+        ≡ next_run rows.new path.new pending.new.frames next w) }
+    ensures next { IfOk result (IsNext 0 path.old pending.old rows.new path.new pending.new) }
 {
+    let alloc = rows.allocator();
     let mut tree = tree;
     while let Some(frame) = pending.pop() {
         path.depth -= 1;
         match frame {
             Frame::SecondDue {
                 condition,
-                rows,
+                rows: due,
                 context,
                 quotients,
             } => {
@@ -62,7 +63,8 @@ pub(crate) fn close(
                     condition,
                     first: tree,
                 })?;
-                return Ok(Next::Node(rows));
+                *rows = due;
+                return Ok(Next::Node);
             }
             Frame::FirstMade { condition, first } => {
                 tree = Quast::select_within(alloc, condition, first, tree)?

@@ -26,28 +26,27 @@ use quast::Quast;
 use std::alloc::Global;
 use tableau::Tableau;
 
-// The rows below a new parameter: each is over one place more, and the cut of row i by it is added. The residue is
-// the row's.
-fn cut_below(above: Tableau, i: usize, residue: &Form) -> Result<Tableau, WantOfMemory>
-    requires within { i < length above.rows }
-    requires row { IsRow above.unknowns above.width (row_at above.rows i) }
-    requires width { above.width < 2 ^ 64 - 1 }
-    requires residue { residue.now ≡ (cuts.residue_of (row_at above.rows i)).form }
-    ensures { IfOk result (λ rows. rows
+// Makes the rows below a new parameter: each is over one place more, and the cut of row i by it is added. The residue
+// is the row's.
+fn cut_below(rows: &mut Tableau, i: usize, residue: &Form) -> Result<(), WantOfMemory>
+    requires within { i < length rows.old.rows }
+    requires row { IsRow rows.old.unknowns rows.old.width (row_at rows.old.rows i) }
+    requires width { rows.old.width < 2 ^ 64 - 1 }
+    requires residue { residue.now ≡ (cuts.residue_of (row_at rows.old.rows i)).form }
+    ensures { OnOk result (rows.new
         ≡ record {
-          unknowns = above.unknowns;
-          width = above.width + 1;
-          rows = map widened above.rows
-              ++ cuts.parametric_cut (widened (row_at above.rows i)) above.width ∷ [];
+          unknowns = rows.old.unknowns;
+          width = rows.old.width + 1;
+          rows = map widened rows.old.rows
+              ++ cuts.parametric_cut (widened (row_at rows.old.rows i)) rows.old.width ∷ [];
         }) }
 {
-    let mut rows = above;
     let place = rows.width();
     rows.widen_params()?;
     let mut widened = residue.try_clone(rows.allocator())?;
     widened.widen(1)?;
-    parametric_cut_by(&mut rows, i, &widened, place)?;
-    Ok(rows)
+    parametric_cut_by(rows, i, &widened, place)?;
+    Ok(())
 }
 
 // Goes one level down, below a new quotient: it joins the path's quotients, and its two bounds the context.
@@ -75,17 +74,17 @@ fn add_quotient(alloc: Global, path: &mut Path, key: Quotient) -> Result<(), Wan
 
 // An if of a condition: the node of its first tree is next, that of its second is due.
 fn split(
-    rows: Tableau,
+    rows: &Tableau,
     condition: Form,
     path: &mut Path,
     pending: &mut Pending,
 ) -> Result<Next, WantOfMemory>
-    requires running { IsRunning rows path.old pending.old }
+    requires running { IsRunning rows.now path.old pending.old }
     requires nested { path.old.depth + 1 ≤ pending.old.most }
-    requires condition { IsCondition rows.width condition }
-    ensures gives { IfOk result (λ next. (w : Counts) → turned_run rows path.old pending.old.frames
-        (turned.Split condition) w ≡ next_run path.new pending.new.frames next w) }
-    ensures next { IfOk result (IsNext 2 path.old pending.old path.new pending.new) }
+    requires condition { IsCondition rows.now.width condition }
+    ensures gives { IfOk result (λ next. (w : Counts) → turned_run rows.now path.old pending.old.frames
+        (turned.Split condition) w ≡ next_run rows.now path.new pending.new.frames next w) }
+    ensures next { IfOk result (IsNext 2 path.old pending.old rows.now path.new pending.new) }
 {
     let alloc = rows.allocator();
     let holds = condition.try_clone(alloc)?;
@@ -97,47 +96,53 @@ fn split(
         quotients: path.quotients.mark(),
     })?;
     path.enter(holds)?;
-    Ok(Next::Node(rows))
+    Ok(Next::Node)
 }
 
 // The new parameter of the quotient that cuts row i: the node below it is next.
 fn define_below(
-    rows: Tableau,
+    rows: &mut Tableau,
     i: usize,
     key: Quotient,
     path: &mut Path,
     pending: &mut Pending,
 ) -> Result<Next, WantOfMemory>
-    requires running { IsRunning rows path.old pending.old }
+    requires running { IsRunning rows.old path.old pending.old }
     requires nested { path.old.depth + 1 ≤ pending.old.most }
-    requires parameter { IsNewParameter rows path.old.quotients i key }
-    ensures gives { IfOk result (λ next. (w : Counts) → turned_run rows path.old pending.old.frames
-        (turned.Below i key) w ≡ next_run path.new pending.new.frames next w) }
-    ensures next { IfOk result (IsNext 2 path.old pending.old path.new pending.new) }
+    requires parameter { IsNewParameter rows.old path.old.quotients i key }
+    ensures gives { IfOk result (λ next. (w : Counts) → turned_run rows.old path.old pending.old.frames
+        (turned.Below i key) w ≡ next_run rows.new path.new pending.new.frames next w) }
+    ensures next { IfOk result (IsNext 2 path.old pending.old rows.new path.new pending.new) }
 {
     let alloc = rows.allocator();
     let form = key.form.try_clone(alloc)?;
-    let rows = cut_below(rows, i, &key.form)?;
+    cut_below(rows, i, &key.form)?;
     pending.push(Frame::NewParm { form, den: key.den })?;
     add_quotient(alloc, path, key)?;
-    Ok(Next::Node(rows))
+    Ok(Next::Node)
 }
 
 // What is in hand after a turn.
 fn follow(
     turn: Turn,
-    rows: Tableau,
+    rows: &mut Tableau,
     path: &mut Path,
     pending: &mut Pending,
 ) -> Result<Next, WantOfMemory>
-    requires { IsTurned rows path.old pending.old turn }
-    ensures gives { IfOk result (λ next. (w : Counts) → turned_run rows path.old pending.old.frames turn w
-        ≡ next_run path.new pending.new.frames next w) }
-    ensures next { IfOk result (IsNext (weight turn) path.old pending.old path.new pending.new) }
+    requires { IsTurned rows.old path.old pending.old turn }
+    ensures gives { IfOk result (λ next. (w : Counts) → turned_run rows.old path.old pending.old.frames turn w
+        ≡ next_run rows.new path.new pending.new.frames next w) }
+    ensures next { IfOk result (IsNext (weight turn) path.old pending.old rows.new path.new pending.new) }
 {
     match turn {
-        Turn::Closed(tree) => close(rows.allocator(), tree, path, pending),
-        Turn::Again => Ok(Next::Node(rows)),
+        Turn::Closed(tree) => {
+            if pending.is_empty() {
+                Ok(Next::Tree(tree))
+            } else {
+                close(tree, rows, path, pending)
+            }
+        }
+        Turn::Again => Ok(Next::Node),
         Turn::Split(condition) => split(rows, condition, path, pending),
         Turn::Below(i, key) => define_below(rows, i, key, path, pending),
     }
@@ -146,27 +151,26 @@ fn follow(
 // The tree of a node and of the frames that wait for it: the run from it, turn by turn. A node that goes on stays where
 // it is, and so do the forms that are known on its context.
 pub(crate) fn run(
-    node: Tableau,
+    rows: &mut Tableau,
     path: &mut Path,
     pending: &mut Pending,
     work: &mut Work,
 ) -> Result<Quast, Refusal>
-    requires running { IsRunning node path.old pending.old }
+    requires running { IsRunning rows.old path.old pending.old }
     requires budget { pending.old.most ≡ work.old.budget.nesting }
     ensures gives { AgreesCounted tree_in run_fault result work.new
-        (whole_run node path.old pending.old.frames work.old) }
+        (whole_run rows.old path.old pending.old.frames work.old) }
     ensures width { IfOk result (λ tree. tree.width ≡ path.old.quotients.params) }
 {
-    let mut rows = node;
     let mut known = KnownForms::new(rows.allocator());
     loop {
-        let turn = take_turn(&mut rows, path, &mut known, work)?;
+        let turn = take_turn(rows, path, &mut known, work)?;
         if let Turn::Again = turn {
             continue;
         }
         known.forget();
         match follow(turn, rows, path, pending)? {
-            Next::Node(next) => rows = next,
+            Next::Node => {}
             Next::Tree(tree) => return Ok(tree),
         }
     }

@@ -1,4 +1,4 @@
-ghost use Rattle.std.specs.Prelude.{◌≡◌, ◌<◌, ◌≤◌, [], ◌∷◌, length, IfSome, ◌↔◌, OnOk, OnErr, None};
+ghost use Rattle.std.specs.Prelude.{◌≡◌, ◌<◌, ◌≤◌, [], ◌∷◌, length, IfSome, IsTrue, ◌↔◌, OnOk, OnErr, None};
 
 use affine_rows::{Form, WantOfMemory};
 use context::ContextMark;
@@ -60,6 +60,13 @@ impl Pending {
             most,
             stack: Vec::new(alloc),
         }
+    }
+
+    /// Whether nothing waits.
+    pub fn is_empty(&self) -> bool
+        ensures { IsTrue result ↔ self.now.frames ≡ [] }
+    {
+        self.stack.is_empty()
     }
 
     /// One more frame waits. After a refusal those wait that waited before.

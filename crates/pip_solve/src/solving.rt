@@ -1,4 +1,4 @@
-ghost use Rattle.std.specs.Prelude.{◌≡◌, ◌≤◌, IfOk, IsTrue, map};
+ghost use Rattle.std.specs.Prelude.{◌≡◌, ◌≤◌, [], IfOk, OnOk, IsTrue, map};
 ghost use Rattle.pip_model.specs.Forms.{tighten};
 ghost use Rattle.pip_model.specs.Leaves.{IsReached};
 ghost use Rattle.pip_model.specs.Limits.{most_nesting};
@@ -25,33 +25,40 @@ use quast::{Answer, Quast};
 use std::alloc::Global;
 use tableau::Tableau;
 
-// The context of a problem.
-fn context_of(alloc: Global, problem: &Problem) -> Result<Context, WantOfMemory>
-    ensures width { IfOk result (λ k. k.width ≡ problem.now.params) }
-    ensures forms { IfOk result (λ k. k.forms ≡ problem.now.context) }
+// Adds the forms of a problem's context to an empty one.
+fn add_forms(alloc: Global, problem: &Problem, context: &mut Context) -> Result<(), WantOfMemory>
+    requires width { context.old.width ≡ problem.now.params }
+    requires empty { context.old.forms ≡ [] }
+    ensures width { OnOk result (context.new.width ≡ problem.now.params) }
+    ensures forms { OnOk result (context.new.forms ≡ problem.now.context) }
 {
     let forms = problem.context();
-    let mut context = Context::try_new(alloc, problem.params())?;
     context.reserve(forms.len())?;
     for form in forms {
         let copy = form.try_clone(alloc)?;
         context.add(copy);
     }
-    Ok(context)
+    Ok(())
 }
 
-// The path to a problem's first node.
-fn path_of(alloc: Global, problem: &Problem) -> Result<Path, WantOfMemory>
-    ensures { IfOk result (IsFirstPath problem.now) }
+// The path to a problem's first node, but for the forms of its context.
+fn empty_path(alloc: Global, problem: &Problem) -> Path
+    ensures { IsFirstPath (record problem.now { context = [] }) result }
 {
-    let context = context_of(alloc, problem)?;
-    let quotients = Quotients::try_new(alloc, problem.params())?;
-    Ok(Path {
+    Path {
         integer: problem.integer(),
         depth: 0,
-        context,
-        quotients,
-    })
+        context: Context::new(alloc, problem.params()),
+        quotients: Quotients::new(alloc, problem.params()),
+    }
+}
+
+// Makes of such a path the one to the problem's first node.
+fn start_path(alloc: Global, problem: &Problem, path: &mut Path) -> Result<(), WantOfMemory>
+    requires { IsFirstPath (record problem.now { context = [] }) path.old }
+    ensures { OnOk result (IsFirstPath problem.now path.new) }
+{
+    add_forms(alloc, problem, &mut path.context)
 }
 
 // Tightened copies of the rows.
@@ -79,9 +86,12 @@ fn are_tight(rows: &[Form]) -> bool
     true
 }
 
-// The first tableau of a problem; in integer mode its rows are tightened. Where they are tight, no copies are made.
-fn rows_of(alloc: Global, problem: &Problem) -> Result<Tableau, WantOfMemory>
-    ensures rows { IfOk result (λ t. t
+// Makes of a tableau over a problem's unknowns and parameters its first one; in integer mode its rows are tightened.
+// Where they are tight, no copies are made.
+fn start_rows(alloc: Global, problem: &Problem, rows: &mut Tableau) -> Result<(), WantOfMemory>
+    requires unknowns { rows.old.unknowns ≡ problem.now.unknowns }
+    requires width { rows.old.width ≡ problem.now.params }
+    ensures rows { OnOk result (rows.new
         ≡ record {
           unknowns = problem.now.unknowns;
           width = problem.now.params;
@@ -91,10 +101,10 @@ fn rows_of(alloc: Global, problem: &Problem) -> Result<Tableau, WantOfMemory>
     ensures problem { IsProblem problem.now }
 {
     if problem.integer() && !are_tight(problem.rows()) {
-        let rows = tightened(alloc, problem.rows())?;
-        Tableau::start(alloc, problem.unknowns(), problem.params(), &rows)
+        let forms = tightened(alloc, problem.rows())?;
+        rows.restart(&forms)
     } else {
-        Tableau::start(alloc, problem.unknowns(), problem.params(), problem.rows())
+        rows.restart(problem.rows())
     }
 }
 
@@ -114,9 +124,10 @@ fn tree(
         (run_from (setting problem.now) (first_node problem.now) work.old) }
     ensures width { IfOk result (λ tree. tree.width ≡ problem.now.params) }
 {
-    let rows = rows_of(alloc, problem)?;
+    let mut rows = Tableau::new(alloc, problem.unknowns(), problem.params());
+    start_rows(alloc, problem, &mut rows)?;
     let mut pending = Pending::new(alloc, levels);
-    let tree = run(rows, path, &mut pending, work)?;
+    let tree = run(&mut rows, path, &mut pending, work)?;
     Ok(tree)
 }
 
@@ -129,7 +140,8 @@ pub fn context_point(
     ensures gives { IsCountedRun (λ o. o) run_fault result work.old work.new
         (model.point problem.now.params problem.now.context) }
 {
-    let context = context_of(alloc, problem)?;
+    let mut context = Context::new(alloc, problem.params());
+    add_forms(alloc, problem, &mut context)?;
     context.point(alloc, work)
 }
 
@@ -150,7 +162,8 @@ pub fn answer_from(
     match point {
         None => Ok(Answer::Void),
         Some(_) => {
-            let mut path = path_of(alloc, problem)?;
+            let mut path = empty_path(alloc, problem);
+            start_path(alloc, problem, &mut path)?;
             let tree = tree(alloc, problem, &mut path, levels, work)?;
             Ok(Answer::Tree(tree))
         }
@@ -169,7 +182,8 @@ fn answer(
     ensures scope { IfOk result (IsOver problem.now.params) }
 {
     let levels = limits.nesting() as usize;
-    let mut path = path_of(alloc, problem)?;
+    let mut path = empty_path(alloc, problem);
+    start_path(alloc, problem, &mut path)?;
     let Some(_) = path.context.point(alloc, work)? else {
         return Ok(Answer::Void);
     };

@@ -13,7 +13,7 @@ fn from_two(alloc: Global) -> Result<Context, WantOfMemory>
     ensures width { IfOk result (λ k. k.width ≡ 1) }
     ensures room { IfOk result (λ k. 1 ≤ k.spare) }
 {
-    let mut k = Context::try_new(alloc, 1)?;
+    let mut k = Context::new(alloc, 1);
     k.reserve(2)?;
     k.add(Form::try_new(alloc, &[1, -2])?);
     Ok(k)

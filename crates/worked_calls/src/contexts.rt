@@ -14,7 +14,7 @@ fn context_of(alloc: Global, a: i128, b: i128) -> Result<Context, WantOfMemory>
     requires b { Fits b }
     ensures { IfOk result (λ k. k.width ≡ 1) }
 {
-    let mut k = Context::try_new(alloc, 1)?;
+    let mut k = Context::new(alloc, 1);
     k.reserve(1)?;
     k.add(Form::try_new(alloc, &[a, b])?);
     Ok(k)
@@ -90,7 +90,7 @@ fn context_of_three(alloc: Global, first: Form, second: Form) -> Result<Context,
     requires second { length second ≤ 2 }
     ensures { IfOk result (λ k. k.width ≡ 1) }
 {
-    let mut k = Context::try_new(alloc, 1)?;
+    let mut k = Context::new(alloc, 1);
     k.reserve(3)?;
     k.add(Form::try_new(alloc, &[1, 0])?);
     k.add(first);
@@ -146,7 +146,7 @@ fn refutations_are_made(rt: HostRuntime) -> Result<(), Fail> {
 fn a_form_over_no_places_is_refuted(rt: HostRuntime) -> Result<(), Fail> {
     let alloc = rt.alloc();
     let limits = Limits::standard();
-    let mut k = Context::try_new(alloc, 0)?;
+    let mut k = Context::new(alloc, 0);
     k.reserve(1)?;
     k.add(Form::try_new(alloc, &[-1])?);
     let mut w = Work::start(&limits);

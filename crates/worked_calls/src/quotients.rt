@@ -21,7 +21,7 @@ fn has(rt: &impl Abort, form: &Form, wanted: &[i128]) {
 #[test]
 fn a_quotient_is_added(rt: HostRuntime) -> Result<(), Fail> {
     let alloc = rt.alloc();
-    let mut quotients = Quotients::try_new(alloc, 1)?;
+    let mut quotients = Quotients::new(alloc, 1);
     let key = half(alloc)?;
     assert_eq!(rt; quotients.find(&key), None);
     assert_eq!(rt; quotients.add(key)?, 1);

@@ -17,32 +17,32 @@ loop-known-init c = record {
 }
 
 pub follow-requires : goal.follow-requires
-follow-requires c = follows c.args.node c.args.path.now c.args.pending.now c.args.work.now c.loop-known.rows c.loop-known.path c.loop-known.pending c.loop-known.work c.loop-known.invariant.on c.take_turn.new.rows c.take_turn.new.path c.in_ok-turn.turn c.take_turn.new.work c.in_ok-turn.ensures.gives.agrees c.in_ok-turn.ensures.turn c.take_turn.ensures.path c.take_turn.ensures.gives.counted.budget
+follow-requires c = follows c.args.rows.now c.args.path.now c.args.pending.now c.args.work.now c.loop-known.rows c.loop-known.path c.loop-known.pending c.loop-known.work c.loop-known.invariant.on c.take_turn.new.rows c.take_turn.new.path c.in_ok-turn.turn c.take_turn.new.work c.in_ok-turn.ensures.gives.agrees c.in_ok-turn.ensures.turn c.take_turn.ensures.path c.take_turn.ensures.gives.counted.budget
 
 pub loop-known-smaller : goal.loop-known-smaller
 loop-known-smaller c =
-    let n : IsNextNode (weight c.in_ok-turn.turn) c.take_turn.new.path c.loop-known.pending c.in-Node.next c.follow.new.path c.follow.new.pending = search rules in
-    smaller c.args.node c.args.path.now c.args.pending.now c.args.work.now c.loop-known.rows c.loop-known.path c.loop-known.pending c.loop-known.work c.loop-known.invariant.on c.take_turn.new.rows c.take_turn.new.path c.in_ok-turn.turn c.take_turn.new.work c.in_ok-turn.ensures.gives.agrees c.in_ok-turn.ensures.turn c.take_turn.ensures.path c.take_turn.ensures.gives.counted.budget c.in-Node.next c.follow.new.path c.follow.new.pending n
+    let n : IsNextNode (weight c.in_ok-turn.turn) c.take_turn.new.path c.loop-known.pending c.follow.new.rows c.follow.new.path c.follow.new.pending = search rules in
+    smaller c.args.rows.now c.args.path.now c.args.pending.now c.args.work.now c.loop-known.rows c.loop-known.path c.loop-known.pending c.loop-known.work c.loop-known.invariant.on c.take_turn.new.rows c.take_turn.new.path c.in_ok-turn.turn c.take_turn.new.work c.in_ok-turn.ensures.gives.agrees c.in_ok-turn.ensures.turn c.take_turn.ensures.path c.take_turn.ensures.gives.counted.budget c.follow.new.rows c.follow.new.path c.follow.new.pending n
 
 pub loop-known-preserved : goal.loop-known-preserved
 loop-known-preserved c =
-    let n : IsNextNode (weight c.in_ok-turn.turn) c.take_turn.new.path c.loop-known.pending c.in-Node.next c.follow.new.path c.follow.new.pending = search rules in
-    let same : (x : Work) → turned_run c.take_turn.new.rows c.take_turn.new.path c.loop-known.pending.frames c.in_ok-turn.turn x ≡ whole_run c.in-Node.next c.follow.new.path c.follow.new.pending.frames x = rw c.in-Node.is at c.in_ok-next.ensures.gives in
+    let n : IsNextNode (weight c.in_ok-turn.turn) c.take_turn.new.path c.loop-known.pending c.follow.new.rows c.follow.new.path c.follow.new.pending = search rules in
+    let same : (x : Work) → turned_run c.take_turn.new.rows c.take_turn.new.path c.loop-known.pending.frames c.in_ok-turn.turn x ≡ whole_run c.follow.new.rows c.follow.new.path c.follow.new.pending.frames x = rw c.in-Node.is at c.in_ok-follow.ensures.gives in
     record {
-      on = goes_on c.args.node c.args.path.now c.args.pending.now c.args.work.now c.loop-known.rows c.loop-known.path c.loop-known.pending c.loop-known.work c.loop-known.invariant.on c.take_turn.new.rows c.take_turn.new.path c.in_ok-turn.turn c.take_turn.new.work c.in_ok-turn.ensures.gives.agrees c.in_ok-turn.ensures.turn c.take_turn.ensures.path c.take_turn.ensures.gives.counted.budget c.in-Node.next c.follow.new.path c.follow.new.pending n same;
+      on = goes_on c.args.rows.now c.args.path.now c.args.pending.now c.args.work.now c.loop-known.rows c.loop-known.path c.loop-known.pending c.loop-known.work c.loop-known.invariant.on c.take_turn.new.rows c.take_turn.new.path c.in_ok-turn.turn c.take_turn.new.work c.in_ok-turn.ensures.gives.agrees c.in_ok-turn.ensures.turn c.take_turn.ensures.path c.take_turn.ensures.gives.counted.budget c.follow.new.rows c.follow.new.path c.follow.new.pending n same;
       known = known_none c.follow.new.path.context.forms c.follow.new.path.context.width c.take_turn.new.work.budget c.forget.new.self c.forget.ensures;
     }
 
 pub loop-known-smaller-in-Again : goal.loop-known-smaller-in-Again
-loop-known-smaller-in-Again c = smaller_again c.args.node c.args.path.now c.args.pending.now c.args.work.now c.loop-known.rows c.loop-known.path c.loop-known.pending c.loop-known.work c.loop-known.invariant.on c.take_turn.new.rows c.take_turn.new.path c.in_ok-turn.turn c.take_turn.new.work c.in_ok-turn.ensures.gives.agrees c.in_ok-turn.ensures.turn c.take_turn.ensures.path c.take_turn.ensures.gives.counted.budget c.in-Again.is
+loop-known-smaller-in-Again c = smaller_again c.args.rows.now c.args.path.now c.args.pending.now c.args.work.now c.loop-known.rows c.loop-known.path c.loop-known.pending c.loop-known.work c.loop-known.invariant.on c.take_turn.new.rows c.take_turn.new.path c.in_ok-turn.turn c.take_turn.new.work c.in_ok-turn.ensures.gives.agrees c.in_ok-turn.ensures.turn c.take_turn.ensures.path c.take_turn.ensures.gives.counted.budget c.in-Again.is
 
 pub loop-known-preserved-in-Again : goal.loop-known-preserved-in-Again
 loop-known-preserved-in-Again c = record {
-  on = goes_on_again c.args.node c.args.path.now c.args.pending.now c.args.work.now c.loop-known.rows c.loop-known.path c.loop-known.pending c.loop-known.work c.loop-known.invariant.on c.take_turn.new.rows c.take_turn.new.path c.in_ok-turn.turn c.take_turn.new.work c.in_ok-turn.ensures.gives.agrees c.in_ok-turn.ensures.turn c.take_turn.ensures.path c.take_turn.ensures.gives.counted.budget c.in-Again.is;
+  on = goes_on_again c.args.rows.now c.args.path.now c.args.pending.now c.args.work.now c.loop-known.rows c.loop-known.path c.loop-known.pending c.loop-known.work c.loop-known.invariant.on c.take_turn.new.rows c.take_turn.new.path c.in_ok-turn.turn c.take_turn.new.work c.in_ok-turn.ensures.gives.agrees c.in_ok-turn.ensures.turn c.take_turn.ensures.path c.take_turn.ensures.gives.counted.budget c.in-Again.is;
   known = known_on c.loop-known.path.context c.take_turn.new.path.context c.loop-known.work.budget c.take_turn.new.work.budget c.take_turn.new.known c.take_turn.ensures.path.context c.take_turn.ensures.gives.counted.budget c.take_turn.ensures.known;
 }
 
 pub returns-in-Tree-clause-gives : goal.returns-in-Tree-clause-gives
 returns-in-Tree-clause-gives c =
-    let same : (x : Work) → turned_run c.take_turn.new.rows c.take_turn.new.path c.loop-known.pending.frames c.in_ok-turn.turn x ≡ give c.in-Tree.tree.tree x = rw c.in-Tree.is at c.in_ok-next.ensures.gives in
-    ends c.args.node c.args.path.now c.args.pending.now c.args.work.now c.loop-known.rows c.loop-known.path c.loop-known.pending c.loop-known.work c.loop-known.invariant.on c.take_turn.new.rows c.take_turn.new.path c.in_ok-turn.turn c.take_turn.new.work c.in_ok-turn.ensures.gives.agrees c.in_ok-turn.ensures.turn c.take_turn.ensures.path c.take_turn.ensures.gives.counted.budget c.in-Tree.tree.tree same
+    let same : (x : Work) → turned_run c.take_turn.new.rows c.take_turn.new.path c.loop-known.pending.frames c.in_ok-turn.turn x ≡ give c.in-Tree.tree.tree x = rw c.in-Tree.is at c.in_ok-follow.ensures.gives in
+    ends c.args.rows.now c.args.path.now c.args.pending.now c.args.work.now c.loop-known.rows c.loop-known.path c.loop-known.pending c.loop-known.work c.loop-known.invariant.on c.take_turn.new.rows c.take_turn.new.path c.in_ok-turn.turn c.take_turn.new.work c.in_ok-turn.ensures.gives.agrees c.in_ok-turn.ensures.turn c.take_turn.ensures.path c.take_turn.ensures.gives.counted.budget c.in-Tree.tree.tree same

@@ -7,7 +7,7 @@ use Rattle.pip_solve.proofs.node.run.Given as goal
 
 abbrev pub invariant-loop-known : goal.invariant-loop-known
 invariant-loop-known l = record {
-  on : GoesOn l.fn.node l.fn.path l.fn.pending l.fn.work l.rows l.path l.pending l.work;
+  on : GoesOn l.fn.rows l.fn.path l.fn.pending l.fn.work l.rows l.path l.pending l.work;
   known : AreKnown l.path.context.forms l.path.context.width l.work.budget l.known;
 }
 

@@ -7,4 +7,4 @@ pub run-requires-clause-running : goal.run-requires-clause-running
 run-requires-clause-running c =
     let none : c.new-pending.result.frames ≡ [] = search rules in
     let few : c.new-pending.result.most ≤ most_nesting = search rules in
-    starts_running c.args.problem.now c.in_ok-rows.rows c.args.path.now c.new-pending.result c.in_ok-rows.ensures.problem c.in_ok-rows.ensures.rows c.requires.path none few
+    starts_running c.args.problem.now c.start_rows.new.rows c.args.path.now c.new-pending.result c.in_ok-start_rows.ensures.problem c.in_ok-start_rows.ensures.rows c.requires.path none few
