@@ -3,6 +3,7 @@ pub mod Written
 pub mod Values
 pub mod Outputs
 pub mod ByProblem
+pub mod Held
 pub mod Triples
 pub mod Pieces
 pub mod Walked
