@@ -8,7 +8,8 @@ ghost use Rattle.pip_items.specs.ByProblem.{WritesOf, ReadsWhole, StopsAtRefused
 ghost use Rattle.pip_cli.specs.Runs.{IsWordsEnding, WhereTold};
 ghost use Rattle.pip_cli.specs.Ends.{GainsLine, IsNoted, IsAfterInput, EndsAs, AnswersRight, Completes};
 
-use pip_items::{Ending, Status, write_output};
+use pip_endings::{Ending, Status};
+use pip_items::write_output;
 use pip_outside::{Sink, Source};
 use pip_words::read_words;
 use std::alloc::Global;

@@ -7,7 +7,7 @@ ghost use Rattle.pip_items.specs.Outputs.{TakesInputAtMost, EndsByFaults};
 ghost use Rattle.pip_items.specs.ByProblem.{WritesByProblem, StopsAtRefused};
 
 use crate::commands::solve::write_solution;
-use crate::ending::Ending;
+use pip_endings::Ending;
 use pip_outside::{Sink, Source, Window, write_all};
 use pip_stream::next_problem;
 use pip_words::SolveOptions;
