@@ -15,15 +15,15 @@ use Rattle.pip_model.specs.Endings as model
 use Rattle.pip_model.specs.Items.{IsItself}
 use Rattle.pip_model.specs.Output.{IsFirstOutput}
 use Rattle.headline.proofs.FirstItems.{first_items-first}
-use Rattle.pip_items.specs.Endings.{told, IsOfItem}
+use Rattle.pip_endings.specs.Endings.{told, IsOfItem}
 use Rattle.pip_items.specs.Items.{Gained, GainedFront}
 use Rattle.pip_items.specs.Outputs.{EndsByFaults}
 use Rattle.pip_items.specs.ByProblem.{WritesTillEnd, WritesByProblem}
 use Rattle.pip_items.specs.Held.{Extends, HasMoved}
-use Rattle.pip_items.specs.declared.ending.Ending.{Ending as Refused}
-use Rattle.pip_items.specs.declared.ending.Ending.TheVariants as ending
+use Rattle.pip_endings.specs.declared.ending.Ending.{Ending as Refused}
+use Rattle.pip_endings.specs.declared.ending.Ending.TheVariants as ending
 use Rattle.pip_stream.specs.declared.refusal.NextRefusal.{NextRefusal}
-use Rattle.pip_items.specs.Inputs.{next_ending}
+use Rattle.pip_endings.specs.Inputs.{next_ending}
 use Rattle.pip_items.proofs.ByProblem.{Follows, next-no_write, own-not, risen-from}
 
 -- ---- what is told with what is held

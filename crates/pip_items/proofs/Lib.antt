@@ -1,4 +1,3 @@
-pub mod Lines
 pub mod Written
 pub mod Values
 pub mod Outputs

@@ -10,7 +10,7 @@ ghost use Rattle.pip_items.specs.ByProblem.{WritesByProblem, StopsAtRefused};
 ghost use Rattle.pip_items.specs.Held.{Extends, HasMoved};
 
 use crate::commands::solve::write_solution;
-use crate::ending::Ending;
+use pip_endings::Ending;
 use pip_outside::{Failed, Sink, Source, Window, write_all};
 use pip_reader::GroupScan;
 use pip_stream::next_problem;

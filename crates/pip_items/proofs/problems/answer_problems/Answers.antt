@@ -2,8 +2,8 @@ use Rattle.std.proofs.Common.{◌≡◌, ◌-◌, refl, ap, ◌∙◌, arith, ru
 use Rattle.std.proofs.lemmas.Result.{err_from_is_err_and}
 use Rattle.std.specs.Prelude.{Ok, Err}
 use Rattle.std.specs.Io.KnownBytes.{append_known}
-use Rattle.pip_items.specs.declared.ending.Ending.TheVariants as ending
-use Rattle.pip_items.specs.Inputs.{unfilled_ending}
+use Rattle.pip_endings.specs.declared.ending.Ending.TheVariants as ending
+use Rattle.pip_endings.specs.Inputs.{unfilled_ending}
 use Rattle.pip_items.proofs.Held.{extends-moved, extends-same, follows-front, follows-moved, follows-start, held-more, nothing-held, next-writes, own-writes}
 use Rattle.pip_outside.specs.Windows.{HeldBytes}
 use Rattle.pip_words.specs.Words.{options_of}
