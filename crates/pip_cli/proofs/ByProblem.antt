@@ -11,12 +11,12 @@ use Rattle.pip_model.specs.Output.{IsOutput, IsFirstOutput, MayBeAsked}
 use Rattle.headline.proofs.FirstItems.{first_items-first}
 use Rattle.headline.proofs.OutputRight.{output-right, first_output-right}
 use Rattle.headline.proofs.OutputUnique.{output-unique}
-use Rattle.pip_items.specs.Endings.{told, or_memory, ending_of, IsOfItem}
+use Rattle.pip_endings.specs.Endings.{told, or_memory, ending_of, IsOfItem}
+use Rattle.pip_endings.specs.declared.ending.Ending.{Ending as Refused}
+use Rattle.pip_endings.specs.declared.ending.Ending.TheVariants as ending
 use Rattle.pip_items.specs.Items.{Gained, GainedFront}
 use Rattle.pip_items.specs.Outputs.{IsWithin}
 use Rattle.pip_items.specs.ByProblem.{AreEnded, AreAll, WritesTillEnd, WritesByProblem, WritesOf}
-use Rattle.pip_items.specs.declared.ending.Ending.{Ending as Refused}
-use Rattle.pip_items.specs.declared.ending.Ending.TheVariants as ending
 use Rattle.pip_cli.specs.Ends.{AreFirst, AreFirstEnded, EndsByProblem, HasEndedByProblem, EndsAs, AnswersRight, Completes}
 use Rattle.pip_cli.proofs.Asked.{IsAsked}
 use Rattle.pip_cli.proofs.Ends.{IsItemEnd, item_end, ending_from, ends-by, answers-right, completes-by}

@@ -18,11 +18,11 @@ use Rattle.quast_walk.specs.Faults.{tool_fault}
 use Rattle.leaf_certificate.specs.Faults.{certificate_fault}
 use Rattle.headline.proofs.OutputRight.{output-right, first_output-right}
 use Rattle.headline.proofs.OutputUnique.{output-unique}
-use Rattle.pip_items.specs.Endings.{told, or_memory, ending_of, IsOfItem}
+use Rattle.pip_endings.specs.Endings.{told, or_memory, ending_of, IsOfItem}
+use Rattle.pip_endings.specs.declared.ending.Ending.{Ending as Refused}
+use Rattle.pip_endings.specs.declared.ending.Ending.TheVariants as ending
 use Rattle.pip_items.specs.Items.{Gained, GainedFront, WritesTill}
 use Rattle.pip_items.specs.Outputs.{WritesOutput, IsWithin, IsTooLong, bytes_read}
-use Rattle.pip_items.specs.declared.ending.Ending.{Ending as Refused}
-use Rattle.pip_items.specs.declared.ending.Ending.TheVariants as ending
 use Rattle.pip_cli.specs.Ends.{ending_by, GainsLine, IsNoted, AreFirst, EndsWith, HasEnded, AnswersRight, Completes}
 use Rattle.pip_cli.specs.Runs.{WhereTold}
 use Rattle.pip_cli.proofs.Asked.{IsAsked}

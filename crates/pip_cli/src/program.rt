@@ -8,7 +8,8 @@ ghost use Rattle.pip_items.specs.ByProblem.{WritesOf, ReadsWhole, StopsAtRefused
 ghost use Rattle.pip_cli.specs.Runs.{IsWordsEnding, WhereTold};
 ghost use Rattle.pip_cli.specs.Ends.{GainsLine, IsNoted, IsAfterInput, EndsAs, AnswersRight, Completes};
 
-use pip_items::{Ending, Status, write_output};
+use pip_endings::{Ending, Status};
+use pip_items::write_output;
 use pip_outside::{Sink, Source};
 use pip_words::read_words;
 use std::alloc::Global;
@@ -42,10 +43,10 @@ fn run<S: Source, K: Sink>(
 
 /// Does all that the program does and answers its status.
 ///
-/// The words come first. Native problems are read one by one: each is answered and its text written as soon as its
-/// group has ended, before the source is asked again. Every other input is read whole first; the trial reads none. Each
-/// item is read, answered, printed and written, up to the first refusal. Its line goes to the notes; a write of it that
-/// fails changes neither the status nor the sink.
+/// The words come first. Native problems are read one by one: the answers of all whose groups have ended are written
+/// before the source is asked again. Every other input is read whole first; the trial reads none. Each item is read,
+/// answered, printed and written, up to the first refusal. Its line goes to the notes; a write of it that fails changes
+/// neither the status nor the sink.
 pub fn pip_main<S: Source, K: Sink, N: Sink>(
     alloc: Global,
     words: &Vec<String>,

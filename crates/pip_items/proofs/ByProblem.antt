@@ -30,15 +30,15 @@ use Rattle.pip_stream.specs.Windows.{taken_by, bytes_from}
 use Rattle.pip_stream.specs.Next.{ReadsNext, ReadsNone, RefusesNext, StaysOpen, HoldsRest, FindsNext, IsReady}
 use Rattle.pip_stream.specs.declared.refusal.NextRefusal.{NextRefusal}
 use Rattle.pip_stream.specs.declared.refusal.NextRefusal.TheVariants as next
-use Rattle.pip_items.specs.Endings.{told, IsOfItem}
-use Rattle.pip_items.specs.Inputs.{unfilled_ending, next_ending}
+use Rattle.pip_endings.specs.Endings.{told, IsOfItem}
+use Rattle.pip_endings.specs.Inputs.{unfilled_ending, next_ending}
+use Rattle.pip_endings.specs.declared.ending.Ending.{Ending as Refused}
+use Rattle.pip_endings.specs.declared.ending.Ending.TheVariants as ending
 use Rattle.pip_items.specs.Items.{Gained, GainedFront}
 use Rattle.pip_outside.specs.Faults.{HasRisen}
 use Rattle.pip_items.specs.Outputs.{TakesInputAtMost, EndsByFaults, WritesOver, WritesOutput}
 use Rattle.pip_items.proofs.Outputs.{output-taken}
 use Rattle.pip_items.specs.ByProblem.{AreEnded, AreAll, WritesTillEnd, WritesByProblem, WritesOf}
-use Rattle.pip_items.specs.declared.ending.Ending.{Ending as Refused}
-use Rattle.pip_items.specs.declared.ending.Ending.TheVariants as ending
 use Rattle.pip_items.proofs.Written.{LeadTo, nothing, one_more, front_of_one}
 
 pub if-some : {X : Type 0} (P : X → Type 0) (o : Option X) (x : X) → o ≡ Some x → IfSome o P → P x

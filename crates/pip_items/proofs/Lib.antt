@@ -1,8 +1,8 @@
-pub mod Lines
 pub mod Written
 pub mod Values
 pub mod Outputs
 pub mod ByProblem
+pub mod Held
 pub mod Triples
 pub mod Pieces
 pub mod Walked

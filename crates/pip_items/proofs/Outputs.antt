@@ -6,12 +6,12 @@ use Rattle.std.specs.Io.KnownBytes.{Keeps}
 use Rattle.pip_model.specs.Limits.{most_input_bytes}
 use Rattle.pip_model.specs.Commands.{Command, Trial, item_text}
 use Rattle.pip_model.specs.Items.{ItemAt}
-use Rattle.pip_items.specs.Endings.{IsOfItem}
+use Rattle.pip_endings.specs.Endings.{IsOfItem}
+use Rattle.pip_endings.specs.declared.ending.Ending.{Ending}
+use Rattle.pip_endings.specs.declared.ending.Ending.TheVariants as ending
 use Rattle.pip_items.specs.Inputs.{ReadsInput, IsOfInput}
 use Rattle.pip_items.specs.Items.{WritesItems}
 use Rattle.pip_items.specs.Outputs.{WritesOver, WritesOutput, TakesInput}
-use Rattle.pip_items.specs.declared.ending.Ending.{Ending}
-use Rattle.pip_items.specs.declared.ending.Ending.TheVariants as ending
 
 -- an item's refusal, or a failed write
 abbrev pub IsOwn : Result (Unit {0}) Ending → Type 0

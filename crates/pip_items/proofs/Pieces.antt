@@ -5,7 +5,7 @@ use Rattle.pip_model.specs.Listed.{all_fit}
 use Rattle.pip_model.specs.ItemTexts.{pieces_text}
 use Rattle.pip_model.specs.PieceText.{answer_listed}
 use Rattle.pip_model.specs.TreeText.{Spoken}
-use Rattle.pip_items.specs.Endings.{told, pieces_ending}
+use Rattle.pip_endings.specs.Endings.{told, pieces_ending}
 use Rattle.quast_pieces.specs.Pieces.{is_pieces_overflow}
 use Rattle.quast_pieces.specs.declared.refusal.PiecesRefusal.{PiecesRefusal}
 use Rattle.quast_pieces.specs.declared.refusal.PiecesRefusal.TheVariants as refusal

@@ -5,9 +5,9 @@ use Rattle.pip_model.specs.Certificate.{Certificate}
 use Rattle.pip_model.specs.Check.{Checks}
 use Rattle.pip_model.specs.Endings as model
 use Rattle.pip_model.specs.ItemTexts.{verdict_text, certificate_text}
-use Rattle.pip_items.specs.Endings.{told}
+use Rattle.pip_endings.specs.Endings.{told}
+use Rattle.pip_endings.specs.declared.ending.Ending.{Ending}
 use Rattle.pip_items.specs.Triples.{verdict, IsFound}
-use Rattle.pip_items.specs.declared.ending.Ending.{Ending}
 
 where_some : {A : Type 0} (P Q : A → Type 0) (o : Option A) → ((x : A) → P x → Q x) → IfSome o P → IfSome o Q
 where_some P Q None f h = tt

@@ -11,10 +11,10 @@ use Rattle.pip_outside.proofs.Parts.{front_after}
 use Rattle.pip_model.specs.Endings.{Ending, finished}
 use Rattle.pip_model.specs.Items.{ItemAt, Ends, FirstItems, FirstItemsTo, Items, IsItself, NoEnd}
 use Rattle.headline.proofs.FirstItems.{first_items-more, first_items-first, first_items-end}
-use Rattle.pip_items.specs.Endings.{told, IsOfItem}
+use Rattle.pip_endings.specs.Endings.{told, IsOfItem}
+use Rattle.pip_endings.specs.declared.ending.Ending.{Ending as Refused}
+use Rattle.pip_endings.specs.declared.ending.Ending.TheVariants as ending
 use Rattle.pip_items.specs.Items.{Gained, GainedFront, WritesTill, Writes}
-use Rattle.pip_items.specs.declared.ending.Ending.{Ending as Refused}
-use Rattle.pip_items.specs.declared.ending.Ending.TheVariants as ending
 
 concat-more : (ts : List (List ℕ)) (t : List ℕ) → concat (ts ++ t ∷ []) ≡ concat ts ++ t
 concat-more ts t = concat-append ts (t ∷ []) ∙ ap (λ s. concat ts ++ s) (append-nil t)

@@ -7,11 +7,11 @@ use Rattle.pip_model.specs.Endings as model
 use Rattle.pip_model.specs.Items.{FirstItemsTo, IsItself}
 use Rattle.pip_model.specs.Output.{IsOutput, IsFirstOutput}
 use Rattle.pip_reader.specs.Groups.{first_group_end}
-use Rattle.pip_items.specs.Endings.{told}
+use Rattle.pip_endings.specs.Endings.{told}
+use Rattle.pip_endings.specs.declared.ending.Ending.{Ending}
+use Rattle.pip_endings.specs.declared.ending.Ending.TheVariants as ending
 use Rattle.pip_items.specs.Items.{Gained, GainedFront}
 use Rattle.pip_items.specs.Outputs.{WritesOutput}
-use Rattle.pip_items.specs.declared.ending.Ending.{Ending}
-use Rattle.pip_items.specs.declared.ending.Ending.TheVariants as ending
 
 -- whether a command reads problem by problem: each other one that takes an input reads it whole first
 abbrev pub reads_by_problem : Command → Bool

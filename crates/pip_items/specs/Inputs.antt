@@ -2,12 +2,8 @@
 use Rattle.std.specs.Prelude.{◌≡◌, ℕ, ◌<◌, ◌≤◌, List, length, Result, Ok, Err, Vec, ⊤}
 use Rattle.std.specs.declared.alloc.Global.{Global}
 use Rattle.pip_model.specs.Limits.{most_input_bytes}
-use Rattle.pip_outside.specs.declared.window.FillRefusal.{FillRefusal}
-use Rattle.pip_outside.specs.declared.window.FillRefusal.TheVariants as fill
-use Rattle.pip_stream.specs.declared.refusal.NextRefusal.{NextRefusal}
-use Rattle.pip_stream.specs.declared.refusal.NextRefusal.TheVariants as next
-use Rattle.pip_items.specs.declared.ending.Ending.{Ending}
-use Rattle.pip_items.specs.declared.ending.Ending.TheVariants as ending
+use Rattle.pip_endings.specs.declared.ending.Ending.{Ending}
+use Rattle.pip_endings.specs.declared.ending.Ending.TheVariants as ending
 
 -- the whole input, within its limit, or it is too long
 abbrev pub ReadsInput : Result (Vec ℕ Global) Ending → List ℕ → Type 0
@@ -22,14 +18,3 @@ IsOfInput (Err ending.ReadFault) = ⊤
 IsOfInput (Err ending.InputTooLong) = ⊤
 IsOfInput (Err ending.WantOfMemory) = ⊤
 IsOfInput (Err e) = ⊥
-
--- how a run ends where the next problem is not read
-abbrev pub unfilled_ending : FillRefusal → Ending
-unfilled_ending fill.Failed = ending.ReadFault
-unfilled_ending fill.WantOfMemory = ending.WantOfMemory
-
-abbrev pub next_ending : NextRefusal → Ending
-next_ending (next.Read e) = ending.Problem e
-next_ending next.Failed = ending.ReadFault
-next_ending next.InputBytes = ending.InputTooLong
-next_ending next.WantOfMemory = ending.WantOfMemory

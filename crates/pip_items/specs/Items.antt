@@ -5,9 +5,9 @@ use Rattle.std.specs.Io.KnownBytes.{Appends}
 use Rattle.pip_outside.specs.Bytes.{AppendsFront}
 use Rattle.pip_model.specs.Endings as model
 use Rattle.pip_model.specs.Items.{ItemAt, FirstItems, Items, IsItself, NoEnd}
-use Rattle.pip_items.specs.Endings.{told}
-use Rattle.pip_items.specs.declared.ending.Ending.{Ending}
-use Rattle.pip_items.specs.declared.ending.Ending.TheVariants as ending
+use Rattle.pip_endings.specs.Endings.{told}
+use Rattle.pip_endings.specs.declared.ending.Ending.{Ending}
+use Rattle.pip_endings.specs.declared.ending.Ending.TheVariants as ending
 
 -- this text is the one that is wanted, or the refusal is its end; nothing is said of want of memory
 abbrev pub IsTextOfItem : Result (List ℕ) model.Ending → Result (Unit {0}) Ending → List ℕ → Type 0

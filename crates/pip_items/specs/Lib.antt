@@ -1,11 +1,8 @@
-pub mod Statuses
-pub mod Endings
-pub mod Words
-pub mod Lines
 pub mod Inputs
 pub mod Items
 pub mod Outputs
 pub mod ByProblem
+pub mod Held
 pub mod Values
 pub mod Needed
 pub mod Triples

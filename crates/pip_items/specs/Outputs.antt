@@ -6,9 +6,9 @@ use Rattle.pip_model.specs.Limits.{most_input_bytes}
 use Rattle.pip_model.specs.Commands.{Command, Trial}
 use Rattle.pip_model.specs.Output.{IsOutput, IsFirstOutput}
 use Rattle.pip_model.specs.Items.{ItemAt}
+use Rattle.pip_endings.specs.declared.ending.Ending.{Ending}
+use Rattle.pip_endings.specs.declared.ending.Ending.TheVariants as ending
 use Rattle.pip_items.specs.Items.{Writes, WritesItems}
-use Rattle.pip_items.specs.declared.ending.Ending.{Ending}
-use Rattle.pip_items.specs.declared.ending.Ending.TheVariants as ending
 
 -- what is written of the items of an input that is read whole, or nothing where it is not read
 module _ (text : List ℕ → ℕ → ItemAt (List ℕ)) (bytes : List ℕ) (before after : Option (List ℕ)) where

@@ -4,9 +4,9 @@ use Rattle.pip_model.specs.Check.{Checks}
 use Rattle.pip_model.specs.Endings as model
 use Rattle.pip_model.specs.ItemKinds as kinds
 use Rattle.quast.specs.Answers.{answer_of, IsOver}
-use Rattle.pip_items.specs.Endings.{told}
+use Rattle.pip_endings.specs.Endings.{told}
+use Rattle.pip_endings.specs.declared.ending.Ending.{Ending}
 use Rattle.pip_items.specs.declared.commands.triple.Triple.{Triple}
-use Rattle.pip_items.specs.declared.ending.Ending.{Ending}
 
 abbrev pub triple_of : Triple → kinds.Triple
 triple_of t = record { problem = t.problem; answer = answer_of t.answer; certificate = t.certificate }

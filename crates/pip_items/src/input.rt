@@ -4,7 +4,7 @@ ghost use Rattle.pip_outside.specs.Faults.{HasRisen};
 ghost use Rattle.pip_items.specs.Inputs.{ReadsInput, IsOfInput};
 ghost use Rattle.pip_items.specs.Outputs.{TakesInputAtMost};
 
-use crate::ending::Ending;
+use pip_endings::Ending;
 use pip_outside::Source;
 use pip_stream::MOST_INPUT_BYTES;
 use std::alloc::Global;

@@ -1,15 +1,10 @@
-//! The commands over an input: what each reads of it, the text that it makes of each item, and how it ends.
+//! The commands over an input: what each reads of it, and the text that it makes of each item.
 #![tactic(auto)]
 
 mod commands;
-mod ending;
 mod input;
 mod items;
 mod output;
 mod problems;
-mod status;
-mod told;
 
-pub use ending::Ending;
 pub use output::write_output;
-pub use status::Status;

@@ -4,11 +4,11 @@ ghost use Rattle.pip_model.specs.Certificate.{spell_certificate};
 ghost use Rattle.pip_model.specs.ItemTexts.{certified_text};
 ghost use Rattle.pip_model.specs.TreeText.{spell};
 ghost use Rattle.quast.specs.Answers.{answer_of};
-ghost use Rattle.pip_items.specs.Endings.{told, IsOfItem};
+ghost use Rattle.pip_endings.specs.Endings.{told, IsOfItem};
 ghost use Rattle.pip_items.specs.Items.{IsTextOfItem};
 
-use crate::ending::Ending;
 use leaf_certificate::{Certificate, print_certificate};
+use pip_endings::Ending;
 use pip_problem::{Limits, Problem};
 use quast::Answer;
 use quast_text::print_answer;

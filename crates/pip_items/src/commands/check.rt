@@ -1,13 +1,13 @@
 ghost use Rattle.std.specs.Prelude.{◌≡◌, [], length, IfErr};
 ghost use Rattle.pip_model.specs.Commands.{CheckAll, item_text};
 ghost use Rattle.pip_model.specs.ItemTexts.{checked_text};
-ghost use Rattle.pip_items.specs.Endings.{IsOfItem};
+ghost use Rattle.pip_endings.specs.Endings.{IsOfItem};
 ghost use Rattle.pip_items.specs.Items.{IsTextOfItem};
 ghost use Rattle.pip_items.specs.Triples.{IsTriple, triple_of};
 
 use super::triple::{Triple, accept, triple_at};
-use crate::ending::Ending;
 use crate::items::ItemTexts;
+use pip_endings::Ending;
 use std::alloc::Global;
 
 /// Says of each triple that its certificate is accepted.

@@ -8,8 +8,8 @@ ghost use Rattle.quast_text.specs.Spoken.{spoken_of};
 ghost use Rattle.pip_items.specs.Items.{IsTextOfItem};
 
 use super::value::value_of;
-use crate::ending::Ending;
 use crate::items::ItemTexts;
+use pip_endings::Ending;
 use pip_words::ParameterVector;
 use quast_text::{Spoken, print_answer, read_answer};
 use std::alloc::Global;

@@ -2,11 +2,11 @@ ghost use Rattle.std.specs.Prelude.{◌≡◌, [], length, IfErr};
 ghost use Rattle.pip_model.specs.Commands.{Pieces, item_text};
 ghost use Rattle.pip_model.specs.ItemTexts.{pieces_text};
 ghost use Rattle.quast_text.specs.Spoken.{spoken_of};
-ghost use Rattle.pip_items.specs.Endings.{IsOfItem};
+ghost use Rattle.pip_endings.specs.Endings.{IsOfItem};
 ghost use Rattle.pip_items.specs.Items.{IsTextOfItem};
 
-use crate::ending::Ending;
 use crate::items::ItemTexts;
+use pip_endings::Ending;
 use pip_words::PiecesOptions;
 use quast_pieces::print_pieces;
 use quast_text::{Spoken, read_answer};

@@ -1,13 +1,13 @@
 ghost use Rattle.std.specs.Prelude.{◌≡◌, [], length, IfErr};
 ghost use Rattle.pip_model.specs.Commands.{Restrict as model_restrict, item_text};
 ghost use Rattle.pip_model.specs.ItemTexts.{restricted_text};
-ghost use Rattle.pip_items.specs.Endings.{IsOfItem};
+ghost use Rattle.pip_endings.specs.Endings.{IsOfItem};
 ghost use Rattle.pip_items.specs.Items.{IsTextOfItem};
 ghost use Rattle.pip_items.specs.Pairs.{IsPair, pair_of};
 
 use super::pair::{Pair, pair_at};
-use crate::ending::Ending;
 use crate::items::ItemTexts;
+use pip_endings::Ending;
 use pip_problem::Limits;
 use pip_words::WalkOptions;
 use quast_text::print_answer;

@@ -3,13 +3,13 @@ ghost use Rattle.pip_model.specs.Commands.{Same as model_same, item_text};
 ghost use Rattle.pip_model.specs.ItemTexts.{same_text, sameness_text};
 ghost use Rattle.quast_tools.specs.Samenesses.{sameness_of};
 ghost use Rattle.text_parts.specs.Printing.{Appends};
-ghost use Rattle.pip_items.specs.Endings.{IsOfItem};
+ghost use Rattle.pip_endings.specs.Endings.{IsOfItem};
 ghost use Rattle.pip_items.specs.Items.{IsTextOfItem};
 ghost use Rattle.pip_items.specs.Trios.{IsTrio, trio_of};
 
 use super::trio::{Trio, trio_at};
-use crate::ending::Ending;
 use crate::items::ItemTexts;
+use pip_endings::Ending;
 use pip_problem::Limits;
 use pip_words::WalkOptions;
 use quast_tools::{Sameness, same};

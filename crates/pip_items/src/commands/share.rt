@@ -1,15 +1,15 @@
 ghost use Rattle.std.specs.Prelude.{◌≡◌, [], length, IfErr};
 ghost use Rattle.pip_model.specs.Commands.{ShareAll, item_text};
 ghost use Rattle.pip_model.specs.ItemTexts.{shared_text};
-ghost use Rattle.pip_items.specs.Endings.{IsOfItem};
+ghost use Rattle.pip_endings.specs.Endings.{IsOfItem};
 ghost use Rattle.pip_items.specs.Items.{IsTextOfItem};
 ghost use Rattle.pip_items.specs.Triples.{IsTriple, triple_of};
 
 use super::triple::{Triple, accept, triple_at};
-use crate::ending::Ending;
 use crate::items::ItemTexts;
 use certificate_check::share;
 use leaf_certificate::print_certificate;
+use pip_endings::Ending;
 use std::alloc::Global;
 
 /// Writes the certificate of each triple with its shared steps, where it is accepted.

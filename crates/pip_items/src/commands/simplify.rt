@@ -4,8 +4,8 @@ ghost use Rattle.pip_model.specs.ItemTexts.{simplified_text};
 ghost use Rattle.quast_text.specs.Spoken.{spoken_of};
 ghost use Rattle.pip_items.specs.Items.{IsTextOfItem};
 
-use crate::ending::Ending;
 use crate::items::ItemTexts;
+use pip_endings::Ending;
 use pip_words::SimplifyOptions;
 use quast_simplify::simplify_answer;
 use quast_text::{Spoken, print_answer, read_answer};

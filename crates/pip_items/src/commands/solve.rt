@@ -8,12 +8,12 @@ ghost use Rattle.pip_model.specs.Simplified.{simplified};
 ghost use Rattle.pip_model.specs.Values.{simplified_by};
 ghost use Rattle.quast.specs.Answers.{answer_of};
 ghost use Rattle.pip_words.specs.Words.{options_of};
+ghost use Rattle.pip_endings.specs.Endings.{read_ending, IsOfItem};
 ghost use Rattle.pip_items.specs.Items.{IsTextOfItem};
-ghost use Rattle.pip_items.specs.Endings.{read_ending, IsOfItem};
 
 use super::certified::write_certified;
-use crate::ending::Ending;
 use crate::items::ItemTexts;
+use pip_endings::Ending;
 use pip_problem::{Problem, ReadRefusal};
 use pip_solve::solve;
 use pip_words::SolveOptions;

@@ -1,7 +1,7 @@
 ghost use Rattle.pip_model.specs.Commands.{Trial, item_text};
 
-use crate::ending::Ending;
 use crate::items::ItemTexts;
+use pip_endings::Ending;
 use pip_trial::print_trial;
 use pip_words::TrialOptions;
 use std::alloc::Global;

@@ -3,14 +3,14 @@ ghost use Rattle.pip_model.specs.Agreement.{Agrees};
 ghost use Rattle.pip_model.specs.Check as model;
 ghost use Rattle.pip_model.specs.ItemKinds as kinds;
 ghost use Rattle.quast.specs.Answers.{answer_of};
-ghost use Rattle.pip_items.specs.Endings.{told, IsOfItem};
+ghost use Rattle.pip_endings.specs.Endings.{told, IsOfItem};
 ghost use Rattle.pip_items.specs.Items.{IsBehind};
 ghost use Rattle.pip_items.specs.Triples.{IsTriple, triple_of, triple_found, IsFound};
 
 use super::needed::{needed_answer, needed_certificate};
-use crate::ending::Ending;
 use certificate_check::{CheckRefusal, Verdict, check};
 use leaf_certificate::Certificate;
+use pip_endings::Ending;
 use pip_problem::Problem;
 use pip_reader::read_problem;
 use quast::Answer;

@@ -6,11 +6,11 @@ ghost use Rattle.affine_rows.specs.Checks.{Fits};
 ghost use Rattle.quast.specs.Answers.{answer_of, IsOver};
 ghost use Rattle.quast.specs.Components.{IsComponent};
 ghost use Rattle.quast.specs.Places.{IsPoint};
-ghost use Rattle.pip_items.specs.Endings.{told};
+ghost use Rattle.pip_endings.specs.Endings.{told};
 ghost use Rattle.pip_items.specs.Values.{ratios_of, tree_valued, valued};
 
-use crate::ending::Ending;
 use affine_rows::{Form, WantOfMemory};
+use pip_endings::Ending;
 use quast::{Answer, Component, Place, Quast, Scratch};
 use std::alloc::Global;
 

@@ -1,0 +1,5 @@
+pub mod Statuses
+pub mod Endings
+pub mod Words
+pub mod Inputs
+pub mod Lines

@@ -1,0 +1,9 @@
+//! How a run of the program ends: why, its status, and its line on the notes.
+#![tactic(auto)]
+
+mod ending;
+mod status;
+mod told;
+
+pub use ending::Ending;
+pub use status::Status;
