@@ -9,7 +9,7 @@ module _ {X : Type 0} (f : X → X) (old : List X) where
   length_front : (i : ℕ) → i < length old → length (map f (take i old)) ≡ i
   length_front i h = simp (length-map, length-take) (omega arith)
 
-  mapped_read : (i : ℕ) (d : X) → i < length old → get_or (mapped f i old) i d ≡ get_or old i d
+  pub mapped_read : (i : ℕ) (d : X) → i < length old → get_or (mapped f i old) i d ≡ get_or old i d
   mapped_read i d h = rw (drop_more old i d h) (get_or_at (map f (take i old)) (get_or old i d) (drop (i + 1) old) d i (length_front i h))
 
   mapped_more : (i : ℕ) (d : X) → i < length old → set (mapped f i old) i (f (get_or old i d)) ≡ mapped f (i + 1) old

@@ -1,4 +1,4 @@
-pub mod Counting
+pub mod Leaving
 pub mod Turning
 pub mod Pointing
 pub mod WidenedRows

@@ -9,7 +9,7 @@ use Rattle.pip_model.specs.Run.{Work, Outcome, Done, Refused, go_on, give, run_f
 use Rattle.pip_model.specs.Agreement.{AgreesCounted}
 use Rattle.pip_problem.specs.Faults.{run_fault}
 use Rattle.pip_problem.specs.declared.refusal.Refusal as code
-use Rattle.context.specs.Counts.{IsCountedRun}
+use Rattle.run_counts.specs.Counts.{IsCountedRun}
 use Rattle.context.specs.Turns.{node_of}
 use Rattle.context.specs.Remembered.{has_point, finds_point, replayed, asked, first_rows, IsReplay, IsRemembered}
 use Rattle.context.specs.declared.remembered.Remembered.{Remembered}

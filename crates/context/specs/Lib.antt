@@ -1,7 +1,6 @@
-pub mod Counts
 pub mod Remembered
 pub mod Scoped
-pub mod Steps
 pub mod Stops
 pub mod Traces
 pub mod Turns
+pub use Rattle.run_counts.specs.Counts

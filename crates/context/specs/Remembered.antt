@@ -53,12 +53,14 @@ pub record IsFormed (m : Replay) : Type 0 where
   pub width : m.end.width ≡ 0
   pub rows : m.end.unknowns ≤ length m.end.rows
   pub lengths : length m.pivots.rows ≡ length m.columns.items
-  pub each : (i : ℕ) → i < length m.columns.items → IsPivot m.end.unknowns (row_at m.pivots.rows i) (get_or m.columns.items i 0)
+  pub each : (i : ℕ) → i < length m.columns.items
+      → IsPivot m.end.unknowns (row_at m.pivots.rows i) (get_or m.columns.items i 0)
 
 -- with further rows behind them the first rows make these pivots, and go on from the last rows
 pub record IsReplay (first : List Row) (m : Replay) : Type 0 where
   pub run : (rows : List Row) (w : Work) → run_from (point_setting m.end.unknowns) (node_of (first ++ rows)) w
-      ≡ go_on (replayed m.pivots.rows m.columns.items rows w) (λ now. run_from (point_setting m.end.unknowns) (node_of (m.end.rows ++ now)))
+      ≡ go_on (replayed m.pivots.rows m.columns.items rows w)
+      (λ now. run_from (point_setting m.end.unknowns) (node_of (m.end.rows ++ now)))
 
 -- the run of these rows ends at them with a point: no row is below 0, and those of the unknowns are whole
 abbrev pub is_end : ℕ → List Row → Bool
@@ -92,4 +94,5 @@ pub record IsKnown (n : ℕ) (K : List (List ℤ)) (is_known : Bool) (run : Reme
 
 -- where a run shows a point, it ends at once with these rows behind its own, with a point or without one
 abbrev pub EndsWith : List Row → Bool → Type 0
-EndsWith now found = (n : ℕ) (E : List Row) (v : Work) → n ≤ length E → is_end n E ≡ true → finds_point n (E ++ now) v ≡ Done found v
+EndsWith now found =
+    (n : ℕ) (E : List Row) (v : Work) → n ≤ length E → is_end n E ≡ true → finds_point n (E ++ now) v ≡ Done found v

@@ -19,11 +19,15 @@ with_cut T R = record {
 
 -- which turn it was: the first row below 0 and the column that entered there, or the first fraction and its cut
 abbrev pub IsTurnAt : ℕ → List Row → List Row → Turn → Type 0
-IsTurnAt n rows now (code.Bottom r) = (negative_from 0 rows ≡ Some r) × (r < length rows) × (entering rows r ≡ None) × (now ≡ rows)
+IsTurnAt n rows now (code.Bottom r) =
+    (negative_from 0 rows ≡ Some r) × (r < length rows) × (entering rows r ≡ None) × (now ≡ rows)
 IsTurnAt n rows now code.List = (negative_from 0 rows ≡ None) × (first_fraction n rows ≡ None)
-IsTurnAt n rows now (code.Pivot r c) = (negative_from 0 rows ≡ Some r) × (r < length rows) × (entering rows r ≡ Some c) × (c < n) × (length now ≡ length rows)
+IsTurnAt n rows now (code.Pivot r c) =
+    (negative_from 0 rows ≡ Some r) × (r < length rows) × (entering rows r ≡ Some c) × (c < n)
+    × (length now ≡ length rows)
 IsTurnAt n rows now (code.Cut i) =
-    (negative_from 0 rows ≡ None) × (first_fraction n rows ≡ Some i) × (i < length rows) × (now ≡ rows ++ constant_cut (row_at rows i) ∷ [])
+    (negative_from 0 rows ≡ None) × (first_fraction n rows ≡ Some i) × (i < length rows)
+    × (now ≡ rows ++ constant_cut (row_at rows i) ∷ [])
 
 -- an index for each row and each column
 pub record IsTraced (n : ℕ) (rows : List Row) (T : Trace) : Type 0 where

@@ -3,7 +3,7 @@ ghost use Rattle.pip_model.specs.Contexts.{IsContext};
 ghost use Rattle.pip_model.specs.Forms.{widen_to};
 ghost use Rattle.pip_model.specs.Rows.{form_row, row_at};
 ghost use Rattle.pip_problem.specs.Faults.{run_fault};
-ghost use Rattle.context.specs.Counts.{IsCountedRun};
+ghost use Rattle.run_counts.specs.Counts.{IsCountedRun};
 ghost use Rattle.context.specs.Stops.{stop_fault};
 ghost use Rattle.context.specs.Remembered.{IsFormed, IsStopped, turned, replayed, asked, finds_point, first_rows, EndsWith};
 
@@ -14,9 +14,9 @@ use crate::rows::{push_form, start_rows};
 use crate::short_rows::push_short;
 use crate::short_run::run_short;
 use crate::stop::Stop;
-use crate::work::Work;
 use affine_rows::Form;
 use pip_problem::Refusal;
+use run_counts::Work;
 use short_tableau::ShortTableau;
 use std::alloc::Global;
 
@@ -70,8 +70,8 @@ fn go_on(
     run_short(rows, work)
 }
 
-// Whether a point is found, where a run that shows one ends with the only row of this tableau behind its own: the row is
-// not below 0, or it is and no column enters. None where the run goes on.
+// Whether a point is found, where a run that shows one ends with the only row of this tableau behind its own: the row
+// is not below 0, or it is and no column enters. None where the run goes on.
 fn ends_at(row: &ShortTableau) -> Option<bool>
     requires { length row.now.rows ≡ 1 }
     ensures { IfSome result (EndsWith row.now.rows) }

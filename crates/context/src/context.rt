@@ -5,7 +5,7 @@ ghost use Rattle.pip_model.specs.Refuting as refuting;
 ghost use Rattle.pip_model.specs.Run as model;
 ghost use Rattle.affine_rows.specs.Checks.{Fits};
 ghost use Rattle.pip_problem.specs.Faults.{run_fault};
-ghost use Rattle.context.specs.Counts.{IsCountedRun};
+ghost use Rattle.run_counts.specs.Counts.{IsCountedRun};
 ghost use Rattle.context.specs.Remembered.{has_point};
 ghost use Rattle.context.specs.Scoped.{IsKeptContext};
 
@@ -15,10 +15,10 @@ use crate::point_run::find_point;
 use crate::question::Question;
 use crate::refute::refute_forms;
 use crate::remembered::{Remembered, remember};
-use crate::work::Work;
 use affine_rows::{Form, WantOfMemory};
 use leaf_certificate::Refutation;
 use pip_problem::Refusal;
+use run_counts::Work;
 use std::alloc::Global;
 use std::marker::Model;
 

@@ -39,7 +39,7 @@ impl Point {
         self.values.truncate(n);
     }
 
-    /// The point of no places.
+    // The point of no places.
     pub(crate) fn empty(alloc: Global) -> Point
         ensures { result ≡ [] }
     {

@@ -3,16 +3,16 @@ ghost use Rattle.pip_model.specs.Contexts.{IsContext};
 ghost use Rattle.pip_model.specs.Run as model;
 ghost use Rattle.pip_model.specs.Run.{point_setting, run_from};
 ghost use Rattle.pip_problem.specs.Faults.{run_fault};
-ghost use Rattle.context.specs.Counts.{IsCountedRun};
+ghost use Rattle.run_counts.specs.Counts.{IsCountedRun};
 ghost use Rattle.context.specs.Turns.{node_of, HasSameScope};
 ghost use Rattle.context.specs.Remembered.{ended};
 
 use crate::point::{Point, values};
 use crate::point_turn::{Turn, take_turn};
 use crate::rows::start_rows;
-use crate::work::Work;
 use affine_rows::Form;
 use pip_problem::Refusal;
+use run_counts::Work;
 use std::alloc::Global;
 use tableau::Tableau;
 

@@ -5,20 +5,20 @@ ghost use Rattle.pip_model.specs.Rows.{row_at};
 ghost use Rattle.pip_model.specs.Run as model;
 ghost use Rattle.pip_model.specs.Run.{turn_by, MinusAt, AllPlus, point_setting};
 ghost use Rattle.pip_problem.specs.Faults.{run_fault};
-ghost use Rattle.context.specs.Counts.{IsCountedRun};
+ghost use Rattle.run_counts.specs.Counts.{IsCountedRun};
 ghost use Rattle.context.specs.Traces.{IsTurnAt};
 ghost use Rattle.context.specs.Turns.{negative_from, node_of, made, HasSameScope};
 
 use crate::steps::{count_and_cut, enter};
-use crate::work::Work;
 use affine_rows::nonnegative;
 use gomory_cut::first_fraction;
 use pip_problem::Refusal;
+use run_counts::Work;
 use tableau::Tableau;
 
 // What a turn of the run made of the tableau: no column enters at a row below 0, so that it has no point; it shows the
 // point; a pivot on a row and a column, or the cut of a row, and the run goes on.
-pub enum Turn {
+pub(crate) enum Turn {
     Bottom(usize),
     List,
     Pivot(usize, usize),

@@ -4,7 +4,7 @@ use std::alloc::Global;
 // Rows whose room is used again from question to question: the row of the form that is asked, and the rows of a run
 // that goes on. What they held before tells nothing.
 #[derive(Drop)]
-pub struct Question {
+pub(crate) struct Question {
     pub row: ShortTableau,
     pub run: ShortTableau,
 }

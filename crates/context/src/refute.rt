@@ -4,17 +4,17 @@ ghost use Rattle.pip_model.specs.Refuting as model;
 ghost use Rattle.pip_model.specs.Refuting.{refute_by, refute_from};
 ghost use Rattle.affine_rows.specs.Checks.{Fits};
 ghost use Rattle.pip_problem.specs.Faults.{run_fault};
-ghost use Rattle.context.specs.Counts.{IsCountedRun};
+ghost use Rattle.run_counts.specs.Counts.{IsCountedRun};
 ghost use Rattle.context.specs.Traces.{IsTraced, steps_if};
 ghost use Rattle.context.specs.Turns.{node_of};
 
 use crate::point_turn::{Turn, take_turn};
 use crate::rows::start_rows;
 use crate::trace::Trace;
-use crate::work::Work;
 use affine_rows::Form;
 use leaf_certificate::Refutation;
 use pip_problem::Refusal;
+use run_counts::Work;
 use std::alloc::Global;
 use tableau::Tableau;
 

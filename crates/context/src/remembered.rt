@@ -13,7 +13,7 @@ use std::alloc::Global;
 // Pivots of a run without parameters, in order: their rows as they stood before each, and their columns. And the rows
 // that the pivots made of the first ones.
 #[derive(Drop)]
-pub struct Replay {
+pub(crate) struct Replay {
     pub pivots: ShortTableau,
     pub columns: Vec<usize>,
     pub end: ShortTableau,
@@ -22,7 +22,7 @@ pub struct Replay {
 // The pivots of a run or of its beginning, and whether its last rows show a point: none is below 0, and those of the
 // unknowns are whole.
 #[derive(Drop)]
-pub struct Remembered {
+pub(crate) struct Remembered {
     pub run: Replay,
     pub at_end: bool,
 }

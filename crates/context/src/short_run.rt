@@ -1,7 +1,7 @@
 ghost use Rattle.std.specs.Prelude.{◌≡◌, ◌<◌, ◌≤◌, length, OnOk};
 ghost use Rattle.pip_model.specs.Run as model;
 ghost use Rattle.pip_model.specs.Run.{turn_by, run_from, MinusAt, AllPlus, point_setting};
-ghost use Rattle.context.specs.Counts.{IsCountedRun};
+ghost use Rattle.run_counts.specs.Counts.{IsCountedRun};
 ghost use Rattle.context.specs.Stops.{stop_fault};
 ghost use Rattle.context.specs.Turns.{node_of, made, counted_cut, HasSameScope};
 ghost use Rattle.context.specs.Remembered.{ended};
@@ -9,7 +9,7 @@ ghost use Rattle.context.specs.Remembered.{ended};
 use crate::point_turn::Turn;
 use crate::short_rows::first_below;
 use crate::stop::Stop;
-use crate::work::Work;
+use run_counts::Work;
 use short_tableau::ShortTableau;
 
 // At a row below 0: no point where no column enters, else a pivot.

@@ -4,14 +4,13 @@ ghost use Rattle.pip_model.specs.Rows as model;
 ghost use Rattle.pip_model.specs.Rows.{row_at};
 ghost use Rattle.pip_model.specs.Run.{Setting, Node, turn_by, MinusAt};
 ghost use Rattle.pip_problem.specs.Faults.{run_fault};
-ghost use Rattle.context.specs.Counts.{IsCountedRun};
+ghost use Rattle.run_counts.specs.Counts.{IsCountedRun};
 ghost use Rattle.context.specs.Turns.{pivoted, counted_cut, HasSameScope};
 
-use crate::refusal::of_step;
-use crate::work::Work;
 use dual_pivot::{entering, pivot};
 use gomory_cut::constant_cut;
 use pip_problem::Refusal;
+use run_counts::Work;
 use tableau::Tableau;
 
 // The step at a row below 0: which column enters. Where one does, a pivot is counted and then made.
@@ -30,7 +29,7 @@ pub(crate) fn enter(rows: &mut Tableau, r: usize, work: &mut Work) -> Result<Opt
         return Ok(None);
     };
     work.count_pivot()?;
-    pivot(rows, r, c).map_err(of_step)?;
+    pivot(rows, r, c)?;
     Ok(Some(c))
 }
 

@@ -7,7 +7,7 @@ use pip_problem::Refusal;
 
 // Why a run over short numbers ends before its answer: it is refused, or a number is not short.
 #[derive(Drop)]
-pub enum Stop {
+pub(crate) enum Stop {
     Refused(Refusal),
     Long,
 }

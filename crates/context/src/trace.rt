@@ -16,7 +16,7 @@ use tableau::RowView;
 // For each row and each column of a run without parameters the index of the known form that is its quantity, the
 // index of the first step's form, and the steps so far.
 #[derive(Drop)]
-pub struct Trace {
+pub(crate) struct Trace {
     rows: Vec<i128>,
     columns: Vec<i128>,
     first: i128,
@@ -37,7 +37,8 @@ impl Model for Trace {
       steps = t.steps;
     } };
 
-    ghost invariant = { λ t. (All Fits t.rows.items) × (All Fits t.columns.items) × (pos 0 ≤ℤ t.first) × (t.first <ℤ pos (2 ^ 64)) };
+    ghost invariant = { λ t. (All Fits t.rows.items) × (All Fits t.columns.items)
+        × (pos 0 ≤ℤ t.first) × (t.first <ℤ pos (2 ^ 64)) };
 }
 
 // The indices, and behind them those of so many forms from 0 on.

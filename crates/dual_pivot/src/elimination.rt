@@ -2,7 +2,7 @@ ghost use Rattle.std.specs.Prelude.{◌≡◌, ◌<◌, pos, ◌≤ℤ◌, lengt
 ghost use Rattle.pip_model.specs.Forms.{entry};
 ghost use Rattle.pip_model.specs.Rows as model;
 ghost use Rattle.pip_model.specs.Agreement.{IsChecked};
-ghost use Rattle.tableau.specs.Refusals.{is_step_overflow};
+ghost use Rattle.affine_rows.specs.Checks.{is_form_overflow};
 
 use tableau::{StepRefusal, Tableau};
 
@@ -12,7 +12,7 @@ pub fn pivot(t: &mut Tableau, r: usize, c: usize) -> Result<(), StepRefusal>
     requires row { r < length t.old.rows }
     requires column { c < t.old.unknowns }
     requires positive { pos 1 ≤ℤ entry (model.row_at t.old.rows r).coefs c }
-    ensures listed { IsChecked is_step_overflow (model.pivot_listed t.old.rows r c) result }
+    ensures listed { IsChecked is_form_overflow (model.pivot_listed t.old.rows r c) result }
     ensures ok { OnOk result (t.new ≡ record t.old { rows = model.pivot t.old.rows r c }) }
     ensures err { OnErr result (t.new ≡ t.old) }
 {

@@ -20,7 +20,8 @@ spell_leaf shares l = codes "(\n" ++ spell_refutations (groups shares l) ++ code
 
 -- the line of the format and the vector
 abbrev pub spell_head : Bool → Option (List ℤ) → List ℕ
-spell_head shares v = codes "(certificate " ++ signed_decimal (format shares) ++ codes " " ++ spell_vector v ++ codes "\n"
+spell_head shares v =
+    codes "(certificate " ++ signed_decimal (format shares) ++ codes " " ++ spell_vector v ++ codes "\n"
 
 -- the text is read as this certificate, whatever stands behind it; the place after it is that of its last byte
 abbrev pub IsReadBack : List ℕ → Certificate → Type 0

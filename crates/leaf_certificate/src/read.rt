@@ -103,8 +103,8 @@ fn first_certificate(
 /// where there is no `(`. Format 1 and format 2 are read, and the numbers of what is read fit.
 ///
 /// The first token that differs from the format decides the refusal, which keeps the place of that token's first byte
-/// (the number of bytes at their end). A number of more than 127 bits where one is expected is `Wide`. Another format is
-/// `Version` with its number.
+/// (the number of bytes at their end). A number of more than 127 bits where one is expected is `Wide`. Another format
+/// is `Version` with its number.
 pub fn read_certificate(
     alloc: Global,
     bytes: &[u8],

@@ -1,7 +1,5 @@
 ghost use Rattle.std.specs.Prelude.{◌≡◌};
-ghost use Rattle.leaf_certificate.specs.declared.refusal.CertificateRefusal.TheVariants as refusal;
 
-use affine_rows::WantOfMemory;
 use text_steps::TextFault;
 use thiserror::Error;
 
@@ -17,14 +15,6 @@ pub enum CertificateRefusal {
     Version(i128),
     #[error("want of memory")]
     WantOfMemory,
-}
-
-impl From<WantOfMemory> for CertificateRefusal {
-    ghost from_gives = { λ _ e. e ≡ refusal.WantOfMemory };
-
-    fn from(_: WantOfMemory) -> CertificateRefusal {
-        CertificateRefusal::WantOfMemory
-    }
 }
 
 impl From<TextFault> for CertificateRefusal {

@@ -2,7 +2,6 @@ ghost use Rattle.std.specs.Prelude.{◌≡◌};
 ghost use Rattle.leaf_check.specs.declared.fault.Fault.TheVariants as fault;
 
 use affine_rows::WantOfMemory;
-use std::alloc::{AllocError, AllocFailed};
 use std::fmt;
 
 /// A place in a certificate: a leaf, a refutation of it and a step of that, each counted from 1. 0 stands for what
@@ -40,22 +39,6 @@ impl From<WantOfMemory> for Fault {
     ghost from_gives = { λ _ e. e ≡ fault.WantOfMemory };
 
     fn from(_: WantOfMemory) -> Fault {
-        Fault::WantOfMemory
-    }
-}
-
-impl From<AllocError> for Fault {
-    ghost from_gives = { λ _ e. e ≡ fault.WantOfMemory };
-
-    fn from(_: AllocError) -> Fault {
-        Fault::WantOfMemory
-    }
-}
-
-impl<T: Drop> From<AllocFailed<T>> for Fault {
-    ghost from_gives = { λ _ e. e ≡ fault.WantOfMemory };
-
-    fn from(_: AllocFailed<T>) -> Fault {
         Fault::WantOfMemory
     }
 }

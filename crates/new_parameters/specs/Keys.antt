@@ -18,4 +18,5 @@ trimmed (z ∷ zs) = trimmed_with z (trimmed zs)
 -- whether two quotients are one key
 abbrev pub is_same_key : Quotient → Quotient → Bool
 is_same_key =
-    eq_of_both (on (λ k. trimmed (coefficients k.form)) (pointwise int_eq)) (eq_of_both (on (λ k. constant k.form) int_eq) (on (λ k. k.den) int_eq))
+    eq_of_both (on (λ k. trimmed (coefficients k.form)) (pointwise int_eq))
+    (eq_of_both (on (λ k. constant k.form) int_eq) (on (λ k. k.den) int_eq))

@@ -58,7 +58,8 @@ impl Quotient {
 }
 
 impl PartialEq for Quotient {
-    ghost eq = { eq_of_both (on (λ k. trimmed_of (coefficients k.form)) (pointwise int_eq)) (eq_of_both (on (λ k. constant k.form) int_eq) (on (λ k. k.den) int_eq)) };
+    ghost eq = { eq_of_both (on (λ k. trimmed_of (coefficients k.form)) (pointwise int_eq))
+        (eq_of_both (on (λ k. constant k.form) int_eq) (on (λ k. k.den) int_eq)) };
 
     ghost laws = { Prim.search (comparing, rules) depth 9 };
 
@@ -74,7 +75,8 @@ impl Eq for Quotient {
 }
 
 impl Hash for Quotient {
-    ghost hash_input = { λ k. fed.slice fed.i128 (trimmed_of (coefficients k.form)) ++ fed.i128 (constant k.form) ++ fed.i128 k.den };
+    ghost hash_input = { λ k.
+        fed.slice fed.i128 (trimmed_of (coefficients k.form)) ++ fed.i128 (constant k.form) ++ fed.i128 k.den };
 
     ghost respects_eq = { Prim.search (hashing, rules) depth 9 };
 

@@ -104,8 +104,8 @@ AreFirstEnded c bytes n ts = AreEnded c bytes n ts × IsRightFirstOutput c bytes
 
 -- how a run ends that reads problem by problem, and took so many of an input's bytes
 module _ (c : Command) (bytes : List ℕ) (taken : ℕ) (before after : Option (List ℕ)) where
-  -- The sink gained all texts up to the end whose status and line these are, however long the input is. Behind the group
-  -- of a refused problem the source was not asked again.
+  -- The sink gained all texts up to the end whose status and line these are, however long the input is. Behind the
+  -- group of a refused problem the source was not asked again.
   pub record EndsByProblem (Noted : Ending → Type 0) (status : ℕ) : Type 0 where
     pub texts : List (List ℕ)
     pub ending : Ending
@@ -130,4 +130,5 @@ module _ (c : Command) (bytes : List ℕ) (taken : ℕ) (before after : Option (
 
   -- how a run of any command ends
   abbrev pub EndsAs : (Ending → Type 0) → ℕ → Type 0
-  EndsAs Noted status = MatchBool (reads_by_problem c) (HasEndedByProblem Noted status) (HasEnded c bytes before after Noted status)
+  EndsAs Noted status =
+      MatchBool (reads_by_problem c) (HasEndedByProblem Noted status) (HasEnded c bytes before after Noted status)

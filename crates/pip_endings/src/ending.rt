@@ -21,7 +21,7 @@ use pip_words::WordsRefusal;
 use quast_pieces::PiecesRefusal;
 use quast_text::TextRefusal;
 use quast_tools::ToolRefusal;
-use std::alloc::{AllocError, AllocFailed};
+use std::alloc::AllocError;
 
 /// Why a run of the program ends before all is done.
 #[derive(Clone, Copy, Debug, PartialEq, Eq)]
@@ -175,14 +175,6 @@ impl From<affine_rows::WantOfMemory> for Ending {
     ghost from_gives = { λ _ r. r ≡ ending.WantOfMemory };
 
     fn from(_: affine_rows::WantOfMemory) -> Ending {
-        Ending::WantOfMemory
-    }
-}
-
-impl<T: Drop> From<AllocFailed<T>> for Ending {
-    ghost from_gives = { λ _ e. e ≡ ending.WantOfMemory };
-
-    fn from(_: AllocFailed<T>) -> Ending {
         Ending::WantOfMemory
     }
 }

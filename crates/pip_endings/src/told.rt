@@ -25,14 +25,14 @@ use pip_stream::MOST_INPUT_BYTES;
 use quast_text::TextRefusal;
 use quast_tools::ToolRefusal;
 
-/// What is told of an ending: its status and its line.
+// What is told of an ending: its status and its line.
 #[derive(Clone, Copy)]
 pub(crate) struct Told {
     pub(crate) status: Status,
     pub(crate) line: Line,
 }
 
-/// A line as the words that it begins with, and numbers behind them.
+// A line as the words that it begins with, and numbers behind them.
 #[derive(Clone, Copy)]
 pub(crate) enum Line {
     /// A number, if there is one.
@@ -44,7 +44,7 @@ pub(crate) enum Line {
 }
 
 impl Told {
-    /// Writes the line to the notes. It takes no memory.
+    // Writes the line to the notes. It takes no memory.
     pub(crate) fn write_line<N: Sink>(&self, notes: &mut N) -> Result<(), Failed>
         requires { 0 < length (words_of self.now.line) }
         ensures bytes { WritesAll (N.written notes.old) (N.written notes.new) result (notes_of (ending_told self.now)) }
@@ -177,7 +177,7 @@ fn placed(status: Status, words: &'static str, spot: Spot) -> Told
     }
 }
 
-/// What is told of an ending.
+// What is told of an ending.
 pub(crate) fn tell(ending: Ending) -> Told
     ensures told { ending_told result ≡ ending_of ending }
     ensures words { 0 < length (words_of result.line) }

@@ -32,8 +32,8 @@ module _ (c : Command) (bytes : List ℕ) (n : ℕ) where
     pub within : place ≤ n
     pub open_still : first_group_end (drop place (take n bytes)) ≡ None
 
-  -- The texts are all up to an end. Where a problem is refused whose group ends, the n bytes that were taken are at most a
-  -- piece less one more than lead to that: the source was not asked again.
+  -- The texts are all up to an end. Where a problem is refused whose group ends, the n bytes that were taken are at
+  -- most a piece less one more than lead to that: the source was not asked again.
   pub record AreAll (e : model.Ending) (ts : List (List ℕ)) : Type 0 where
     pub place : ℕ
     pub texts : FirstItemsTo (item_text c bytes) IsItself 0 ts place
@@ -52,7 +52,8 @@ module _ (c : Command) (bytes : List ℕ) (taken : ℕ) (before after : Option (
   WritesByProblem (Err ending.Usage) = ⊥
   WritesByProblem (Err ending.ReadFault) = Gained (AreEnded c bytes taken) before after
   WritesByProblem (Err ending.WriteFault) = GainedFront (IsFirstOutput c bytes) before after
-  WritesByProblem (Err ending.InputTooLong) = (most_input_bytes < length bytes) × Gained (AreEnded c bytes most_input_bytes) before after
+  WritesByProblem (Err ending.InputTooLong) =
+      (most_input_bytes < length bytes) × Gained (AreEnded c bytes most_input_bytes) before after
   WritesByProblem (Err e) = WritesTillEnd (told e)
 
   -- the same of any command
@@ -71,5 +72,6 @@ pub record IsRefusedAt (c : Command) (bytes : List ℕ) (place : ℕ) : Type 0 w
 -- A command that reads problem by problem does not call the source again once the group of a refused problem has ended.
 abbrev pub StopsAtRefused : {S : Type 0} → (S → S → Type 0) → (S → ℕ) → S → S → Command → List ℕ → Type 0
 StopsAtRefused Calls taken old new c bytes =
-    reads_by_problem c ≡ true → (place n : ℕ) → IsRefusedAt c bytes place → first_group_end (drop place bytes) ≡ Some n →
+    reads_by_problem c ≡ true → (place n : ℕ) → IsRefusedAt c bytes place
+    → first_group_end (drop place bytes) ≡ Some n →
     CallsWithin Calls taken old new 0 (place + n)

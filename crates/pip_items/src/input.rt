@@ -9,8 +9,8 @@ use pip_outside::Source;
 use pip_stream::MOST_INPUT_BYTES;
 use std::alloc::Global;
 
-/// All bytes that a source has left, up to the most that an input may have. No more is asked for than one byte past
-/// these.
+// All bytes that a source has left, up to the most that an input may have. No more is asked for than one byte past
+// these.
 pub(crate) fn read_input<S: Source>(alloc: Global, source: &mut S) -> Result<Vec<u8>, Ending>
     ensures bytes { IfSome (S.left source.old) (ReadsInput result) }
     ensures own { IsOfInput result }

@@ -8,7 +8,7 @@ use pip_endings::Ending;
 use pip_outside::{Sink, write_all};
 use std::alloc::Global;
 
-/// A command that makes a text of each item of an input.
+// A command that makes a text of each item of an input.
 pub(crate) trait ItemTexts {
     /// The text of the item at a place with the place after it, none where no item is left, or the end.
     ghost text_at: { Self → List ℕ → ℕ → ItemAt (List ℕ) };
@@ -16,7 +16,7 @@ pub(crate) trait ItemTexts {
     /// The last place that may stand behind an item.
     ghost last_place: { Self → List ℕ → ℕ };
 
-    /// Puts the text of the item at `at` into `text` and answers the place after the item.
+    // Puts the text of the item at `at` into `text` and answers the place after the item.
     fn write_text(
         &self,
         alloc: Global,
@@ -31,7 +31,7 @@ pub(crate) trait ItemTexts {
         ensures after { IfOk result (λ found. IfSome found (IsBehind at (last_place self.now bytes.now))) };
 }
 
-/// Writes the texts of the items in order, up to the first refusal.
+// Writes the texts of the items in order, up to the first refusal.
 pub(crate) fn write_items<C: ItemTexts, K: Sink>(
     alloc: Global,
     command: &C,

@@ -39,8 +39,8 @@ fn write_over_input<C: ItemTexts, S: Source, K: Sink>(
     write_items(alloc, command, &input, sink)
 }
 
-/// Writes the text that a command makes of each item, up to the first refusal. Native problems are read and answered one
-/// by one; any other input is read whole first, and the trial reads none.
+/// Writes the text that a command makes of each item, up to the first refusal. Native problems are read and answered
+/// one by one; any other input is read whole first, and the trial reads none.
 pub fn write_output<S: Source, K: Sink>(
     alloc: Global,
     command: &Command,

@@ -91,9 +91,9 @@ fn answer_problems<S: Source, K: Sink>(
     Ok(())
 }
 
-/// Writes the answers of the native problems of an input, up to the first refusal. The answers of all problems whose
-/// groups have ended are written before the source is asked again. No more is held than a problem and a piece less one,
-/// and answers of problems that one piece holds.
+// Writes the answers of the native problems of an input, up to the first refusal. The answers of all problems whose
+// groups have ended are written before the source is asked again. No more is held than a problem and a piece less one,
+// and answers of problems that one piece holds.
 pub(crate) fn write_problems<S: Source, K: Sink>(
     alloc: Global,
     options: &SolveOptions,

@@ -1,5 +1,5 @@
 -- Forms that are made of others: their lengths, entries and products.
-use Rattle.std.proofs.Common.{◌≡◌, ◌∙◌, refl, ap, sym, ℕ, zero, suc, ◌+◌, ◌-◌, ◌<◌, ◌≤◌, ℤ, pos, ◌+ℤ◌, ◌*ℤ◌, neg_ℤ, arith, Bool, true, false, List, [], ◌∷◌, ◌++◌, length, append-nil, length-append, eqb-true, ltb-true, ltb-false}
+use Rattle.std.proofs.Common.{◌≡◌, ◌∙◌, refl, ap, sym, ℕ, zero, suc, ◌+◌, ◌-◌, ◌<◌, ◌≤◌, ℤ, pos, ◌+ℤ◌, ◌-ℤ◌, ◌*ℤ◌, neg_ℤ, arith, Bool, true, false, List, [], ◌∷◌, ◌++◌, length, append-nil, length-append, eqb-true, ltb-true, ltb-false}
 use Rattle.std.proofs.lemmas.Int.{ints}
 use Rattle.std.proofs.Math.ListN.{get_or-append}
 use Rattle.std.proofs.lemmas.List.{length-map, length-replicate, length-take, get_or-take}
@@ -61,6 +61,17 @@ constant-plus c z some =
 
 times_zero : (g : ℤ) → pos 0 ≡ g *ℤ pos 0
 times_zero g = omega (arith, ints)
+
+products_none : (a b : ℤ) → pos 0 ≡ a *ℤ pos 0 -ℤ b *ℤ pos 0
+products_none a b = omega (arith, ints)
+
+pub entry-combine : (a : ℤ) (us : List ℤ) (b : ℤ) (vs : List ℤ) (k : ℕ) → length us ≡ length vs
+    → entry (combine a us b vs) k ≡ a *ℤ entry us k -ℤ b *ℤ entry vs k
+entry-combine a [] b [] k e = products_none a b
+entry-combine a [] b (y ∷ vs) k e = absurd (omega arith)
+entry-combine a (x ∷ us) b [] k e = absurd (omega arith)
+entry-combine a (x ∷ us) b (y ∷ vs) zero e = refl
+entry-combine a (x ∷ us) b (y ∷ vs) (suc k) e = entry-combine a us b vs k (omega arith)
 
 pub entry-scale : (g : ℤ) (xs : List ℤ) (k : ℕ) → entry (scale g xs) k ≡ g *ℤ entry xs k
 entry-scale g [] k = times_zero g

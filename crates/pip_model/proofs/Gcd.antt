@@ -1,12 +1,13 @@
 -- Greatest common divisors: of natural numbers, of integers, of lists; of multiples, and what is left in lowest terms.
-use Rattle.std.proofs.Common.{◌≡◌, ◌∙◌, refl, ap, sym, subst, ℕ, zero, suc, ◌+◌, ◌*◌, ◌/◌, ◌%◌, ◌<◌, ◌≤◌, ℤ, pos, negsuc, ◌≤ℤ◌, nat_abs, unsigned_abs, arith, List, [], ◌∷◌}
+use Rattle.std.proofs.Common.{◌≡◌, ◌∙◌, refl, ap, sym, subst, ℕ, zero, suc, ◌+◌, ◌*◌, ◌/◌, ◌%◌, ◌<◌, ◌≤◌, ℤ, pos, negsuc, neg_ℤ, ◌≤ℤ◌, nat_abs, unsigned_abs, arith, List, [], ◌∷◌, length}
 use Rattle.std.proofs.lemmas.Int.{ints, unsigned_abs-mul}
-use Rattle.std.proofs.lemmas.Nat.Gcd.{IsGcd-from_zero, IsGcd-from_mod, same_from_IsGcd, mod-eq-zero_of_dvd, le_of_dvd, dvd_refl, dvd_trans, dvd_antisymm}
+use Rattle.std.proofs.lemmas.Nat.Gcd.{IsGcd-swap, IsGcd-from_zero, IsGcd-from_mod, same_from_IsGcd, mod-eq-zero_of_dvd, le_of_dvd, dvd_refl, dvd_trans, dvd_antisymm}
 use Rattle.std.proofs.Math.Nat.{div-add-mod, mod-lt, mul-add-mod_self_left, mod-eq_of_lt, mul-lt-mul_of_pos_left, one-dvd, pos_of_dvd_of_pos, dvd-mul_right}
 use Rattle.std.specs.Int.{IsGcd, ◌∣◌}
+use Rattle.std.specs.Prelude.{slice_set}
 use Rattle.std.specs.List.{AllByRecursion}
 use Rattle.pip_model.specs.Numbers.{floor_div, euclid, gcd, gcd_of}
-use Rattle.pip_model.specs.Forms.{entry, remove, floor_divided}
+use Rattle.pip_model.specs.Forms.{entry, negate, remove, floor_divided}
 use Rattle.pip_model.proofs.Division.{Multiple, signed, gcd-divides, gcd_of-divides, all_through, floor-exact, gcd_of-natural, euclid-IsGcd}
 
 -- ---- natural numbers
@@ -78,6 +79,18 @@ times-one g (suc (suc k)) h e = absurd (omega arith)
 pub gcd_assoc : (a b c : ℤ) → gcd (gcd a b) c ≡ gcd a (gcd b c)
 gcd_assoc a b c = ap pos (common-assoc (unsigned_abs a) (unsigned_abs b) (unsigned_abs c))
 
+gcd_comm : (a b : ℤ) → gcd a b ≡ gcd b a
+gcd_comm a b = ap pos (euclid_only (unsigned_abs b) (unsigned_abs a) (common (unsigned_abs a) (unsigned_abs b)) (IsGcd-swap _ _ _ (common-IsGcd (unsigned_abs a) (unsigned_abs b))))
+
+gcd_swap : (a b z : ℤ) → gcd a (gcd b z) ≡ gcd b (gcd a z)
+gcd_swap a b z = sym (gcd_assoc a b z) ∙ ap (λ g. gcd g z) (gcd_comm a b) ∙ gcd_assoc b a z
+
+pub size_opposite : (x : ℤ) → unsigned_abs (neg_ℤ x) ≡ unsigned_abs x
+size_opposite x = omega (arith, ints)
+
+pub gcd_opposite : (x z : ℤ) → gcd (neg_ℤ x) z ≡ gcd x z
+gcd_opposite x z = rw (size_opposite x) refl
+
 pub gcd_one : (z : ℤ) → gcd (pos 1) z ≡ pos 1
 gcd_one z = ap pos (common-one (unsigned_abs z))
 
@@ -126,6 +139,17 @@ gcd_of-greatest d (c ∷ cs) all = gcd-greatest d c (gcd_of cs) all.0 (gcd_of-gr
 -- the divisor of a list, begun at 0
 pub gcd_zero : (xs : List ℤ) → gcd (pos 0) (gcd_of xs) ≡ gcd_of xs
 gcd_zero xs = let g = gcd_of-natural xs in rw g.1 (gcd-zero g.0)
+
+pub gcd_of_negate : (xs : List ℤ) → gcd_of (negate xs) ≡ gcd_of xs
+gcd_of_negate [] = refl
+gcd_of_negate (x ∷ xs) = gcd_opposite x (gcd_of (negate xs)) ∙ ap (gcd x) (gcd_of_negate xs)
+
+-- a number that changes places with an entry
+pub gcd_exchanged : (d : ℤ) (xs : List ℤ) (c : ℕ) → c < length xs → gcd (entry xs c) (gcd_of (slice_set xs c d)) ≡ gcd d (gcd_of xs)
+gcd_exchanged d [] c h = absurd (omega arith)
+gcd_exchanged d (x ∷ xs) zero h = gcd_swap x d (gcd_of xs)
+gcd_exchanged d (x ∷ xs) (suc c) h =
+    gcd_swap (entry xs c) x (gcd_of (slice_set xs c d)) ∙ ap (gcd x) (gcd_exchanged d xs c (omega arith)) ∙ gcd_swap x d (gcd_of xs)
 
 pub gcd_of-remove : (q : ℕ) (c : List ℤ) → entry c q ≡ pos 0 → gcd_of (remove q c) ≡ gcd_of c
 gcd_of-remove q [] e = refl

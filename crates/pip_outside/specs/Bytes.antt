@@ -19,6 +19,7 @@ WritesAll old new r bytes = MatchResult r (λ _. Appends old new bytes) (λ _. A
 abbrev pub TakesSome : {E : Type 0} → Result ℕ E → List ℕ → Type 0
 TakesSome r piece = MatchResult r (λ n. 0 < length piece → 0 < n) (λ _. Unit {0})
 
--- a writer of std gained the bytes that a write tells; at a failure a front of the piece, since its flush may have failed
+-- a writer of std gained the bytes that a write tells; at a failure a front of the piece, since its flush may have
+-- failed
 abbrev pub WriterTakes : {E : Type 0} → Option (List ℕ) → Option (List ℕ) → Result ℕ E → List ℕ → Type 0
 WriterTakes old new r piece = MatchResult r (λ n. Appends old new (take n piece)) (λ _. AppendsFront old new piece)

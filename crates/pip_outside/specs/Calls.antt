@@ -9,7 +9,8 @@ module _ {S : Type 0} (Calls : S → S → Type 0) where
   CallsOnce old new (Err refusal.WantOfMemory) = new ≡ old
   CallsOnce old new r = Calls old new
 
-  -- It is not called, or its last call comes where fewer than n bytes are taken, these among them that were held before.
+  -- It is not called, or its last call comes where fewer than n bytes are taken, these among them that were held
+  -- before.
   abbrev pub CallsWithin : (taken : S → ℕ) (old new : S) (held n : ℕ) → Type 0
   CallsWithin taken old new held n =
       (new ≡ old) ⊎ ((last : S) × Calls last new × (held + taken last < taken old + n))

@@ -2,7 +2,8 @@
 use Rattle.std.specs.Prelude.{ℕ, ◌+◌, ◌-◌, ◌^◌, min, List}
 use Rattle.std.specs.List.{Contains}
 
--- a call moves at most `piece` bytes; the calls whose numbers, from 0, stand in `fails` fail; `call` is the number of the next one
+-- a call moves at most `piece` bytes; the calls whose numbers, from 0, stand in `fails` fail; `call` is the number
+-- of the next one
 pub record CallPlan : Type 0 where
   pub piece : ℕ
   pub fails : List ℕ

@@ -1,7 +1,7 @@
 ghost use Rattle.std.specs.Prelude.{◌≡◌, ◌<◌, ◌≤◌, [], take, length};
 
-/// Copies a front of the bytes into the front of `buf`, at most `most` of them, and answers how many.
-pub fn copy_front(bytes: &[u8], most: usize, buf: &mut [u8]) -> usize
+// Copies a front of the bytes into the front of `buf`, at most `most` of them, and answers how many.
+pub(crate) fn copy_front(bytes: &[u8], most: usize, buf: &mut [u8]) -> usize
     requires { 0 < most }
     ensures bound { result ≤ length buf.new }
     ensures piece { result ≤ most }

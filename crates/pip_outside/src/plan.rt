@@ -3,7 +3,7 @@ ghost use Rattle.pip_outside.specs.Plans.{first_plan, FailsNext, after_call};
 
 use std::marker::Model;
 
-/// Which calls fail, and how many bytes each of the others moves at most.
+// Which calls fail, and how many bytes each of the others moves at most.
 #[derive(Drop)]
 pub(crate) struct Plan {
     piece: usize,
@@ -41,7 +41,7 @@ impl Plan {
         self.piece
     }
 
-    /// Counts a call, and says whether it is one that fails.
+    // Counts a call, and says whether it is one that fails.
     pub(crate) fn fails_next(&mut self) -> bool
         ensures fails { IsTrue result ↔ FailsNext self.old }
         ensures counted { self.new ≡ after_call self.old }

@@ -8,7 +8,7 @@ use crate::source::Source;
 use std::alloc::{AllocError, Global};
 use std::marker::Model;
 
-/// The most bytes that one call asks a source for.
+// The most bytes that one call asks a source for.
 const PIECE: usize = 4096;
 
 /// Why no bytes come into a window: the source failed, or memory was refused.

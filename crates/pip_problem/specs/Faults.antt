@@ -1,5 +1,7 @@
 -- The definitions' words for the refusals of the code; want of memory has none.
 use Rattle.std.specs.Prelude.{Option, Some, None}
+use Rattle.affine_rows.specs.declared.memory.FormRefusal.{FormRefusal}
+use Rattle.affine_rows.specs.declared.memory.FormRefusal.TheVariants as form
 use Rattle.pip_problem.specs.declared.refusal.Refusal.{Refusal}
 use Rattle.pip_problem.specs.declared.refusal.Refusal.TheVariants as refusal
 use Rattle.pip_problem.specs.declared.refusal.ReadRefusal.{ReadRefusal}
@@ -22,3 +24,8 @@ read_fault (read.Limit kind z) = Some (reading.Limit kind z)
 read_fault (read.BigParameter z) = Some (reading.BigParameter z)
 read_fault (read.OptionWord word) = Some (reading.OptionWord word)
 read_fault read.WantOfMemory = None
+
+-- the refusal of a run whose form is refused
+abbrev pub of_form : FormRefusal → Refusal
+of_form form.Overflow = refusal.Overflow
+of_form form.WantOfMemory = refusal.WantOfMemory

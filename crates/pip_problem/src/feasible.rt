@@ -10,7 +10,7 @@ ghost use Rattle.affine_rows.specs.Checks.{Fits, is_overflow};
 use crate::problem::Problem;
 use affine_rows::{Form, MOST_PARAMETERS, MOST_UNKNOWNS, Overflow};
 
-/// The most unknowns and parameters together.
+// The most unknowns and parameters together.
 const MOST_PLACES: usize = MOST_UNKNOWNS + MOST_PARAMETERS;
 
 // The point and then the parameters, in the front of an array.

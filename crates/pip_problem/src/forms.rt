@@ -4,9 +4,9 @@ use affine_rows::{Form, WantOfMemory};
 use std::alloc::Global;
 use std::marker::Model;
 
-/// A list of forms.
+// A list of forms.
 #[derive(Drop)]
-pub struct FormList {
+pub(crate) struct FormList {
     items: Vec<Form>,
 }
 

@@ -20,7 +20,8 @@ impl Model for Limits {
 
     ghost view = { λ l. record { pivots = l.pivots; cuts = l.cuts; splits = l.splits; nesting = l.nesting } };
 
-    ghost invariant = { λ l. IsBudget (record { pivots = l.pivots; cuts = l.cuts; splits = l.splits; nesting = l.nesting }) };
+    ghost invariant = { λ l.
+        IsBudget (record { pivots = l.pivots; cuts = l.cuts; splits = l.splits; nesting = l.nesting }) };
 }
 
 impl Limits {

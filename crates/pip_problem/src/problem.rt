@@ -26,9 +26,23 @@ impl Model for Problem {
 
     ghost Value = { Described };
 
-    ghost view = { λ p. record { unknowns = p.unknowns; params = p.params; rows = p.rows; context = p.context; integer = p.integer; comment = p.comment } };
+    ghost view = { λ p. record {
+      unknowns = p.unknowns;
+      params = p.params;
+      rows = p.rows;
+      context = p.context;
+      integer = p.integer;
+      comment = p.comment;
+    } };
 
-    ghost invariant = { λ p. IsProblem (record { unknowns = p.unknowns; params = p.params; rows = p.rows; context = p.context; integer = p.integer; comment = p.comment }) };
+    ghost invariant = { λ p. IsProblem (record {
+      unknowns = p.unknowns;
+      params = p.params;
+      rows = p.rows;
+      context = p.context;
+      integer = p.integer;
+      comment = p.comment;
+    }) };
 }
 
 impl Problem {

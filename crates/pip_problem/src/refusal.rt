@@ -2,7 +2,7 @@ ghost use Rattle.std.specs.Prelude.{◌≡◌};
 ghost use Rattle.pip_problem.specs.declared.refusal.Refusal.TheVariants as run;
 ghost use Rattle.pip_problem.specs.declared.refusal.ReadRefusal.TheVariants as read;
 
-use affine_rows::{Overflow, WantOfMemory};
+use affine_rows::{FormRefusal, Overflow, WantOfMemory};
 use pip_model::{LimitKind, Option_};
 use std::alloc::{AllocError, AllocFailed};
 use text_steps::TextFault;
@@ -38,6 +38,19 @@ impl From<WantOfMemory> for Refusal {
 
     fn from(_: WantOfMemory) -> Refusal {
         Refusal::WantOfMemory
+    }
+}
+
+impl From<FormRefusal> for Refusal {
+    ghost use Rattle.pip_problem.specs.Faults.{of_form};
+
+    ghost from_gives = { λ form e. e ≡ of_form form };
+
+    fn from(form: FormRefusal) -> Refusal {
+        match form {
+            FormRefusal::Overflow => Refusal::Overflow,
+            FormRefusal::WantOfMemory => Refusal::WantOfMemory,
+        }
     }
 }
 

@@ -9,7 +9,15 @@ use Rattle.pip_reader.specs.Header.{sizes, mode}
 
 -- the problem of these parts
 abbrev pub problem_of : Parts → Problem
-problem_of p = record { unknowns = p.sizes.unknowns; params = p.sizes.params; rows = p.rows.items; context = p.context.items; integer = p.integer; comment = p.comment }
+problem_of p =
+    record {
+      unknowns = p.sizes.unknowns;
+      params = p.sizes.params;
+      rows = p.rows.items;
+      context = p.context.items;
+      integer = p.integer;
+      comment = p.comment;
+    }
 
 abbrev pub problem_by_steps : List ℕ → ℕ → Reads Problem
 problem_by_steps bytes place = do
@@ -20,4 +28,14 @@ problem_by_steps bytes place = do
   rows ← form_block bytes s.0.rows (s.0.unknowns + 1 + s.0.params) s.0.unknowns integer.1
   context ← block bytes s.0.context_rows (s.0.params + 1) rows.1
   after ← expect bytes RightParen context.1
-  Ok (record { unknowns = s.0.unknowns; params = s.0.params; rows = rows.0; context = context.0; integer = integer.0; comment = comment.0 }, after)
+  Ok (
+    record {
+      unknowns = s.0.unknowns;
+      params = s.0.params;
+      rows = rows.0;
+      context = context.0;
+      integer = integer.0;
+      comment = comment.0;
+    },
+    after,
+  )

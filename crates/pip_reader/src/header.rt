@@ -8,9 +8,9 @@ use affine_rows::{MOST_CONTEXT_ROWS, MOST_PARAMETERS, MOST_ROWS, MOST_UNKNOWNS};
 use pip_problem::{LimitKind, ReadRefusal, no_big_parameter, within};
 use text_steps::{Reads, number};
 
-/// How many unknowns, parameters, tableau rows and context rows a problem has.
+// How many unknowns, parameters, tableau rows and context rows a problem has.
 #[derive(Clone, Copy)]
-pub struct Sizes {
+pub(crate) struct Sizes {
     pub unknowns: usize,
     pub params: usize,
     pub rows: usize,

@@ -3,7 +3,7 @@ use Rattle.std.proofs.Common.{◌≡◌, ap, ◌⊎◌, inl, inr, ℕ, ℤ, ◌-
 use Rattle.std.proofs.lemmas.List.Elements.{All-push, All-same}
 use Rattle.pip_model.specs.Run.{Work, Budget, Done, Plus, class}
 use Rattle.run_laws.proofs.CountedAgain.{class-again}
-use Rattle.context.specs.declared.work.Counts.{Counts}
+use Rattle.run_counts.specs.declared.work.Counts.{Counts}
 use Rattle.context.specs.Scoped.{ScopedForms, IsKeptContext}
 use Rattle.pip_solve.specs.declared.known.KnownForm.{KnownForm}
 use Rattle.pip_solve.specs.declared.known.KnownForms.{KnownForms}

@@ -130,7 +130,8 @@ weight (code.Split c) = 2
 weight (code.Below i k) = 2
 
 -- a node is in hand after another, or after a tree, nearer to the end by a weight and the second trees that are due
-pub record IsNextNode (weight : ℕ) (from : Path) (before : Waiting) (rows : TableauRows) (path : Path) (pending : Waiting) : Type 0 where
+pub record IsNextNode (weight : ℕ) (from : Path) (before : Waiting) (rows : TableauRows) (path : Path)
+    (pending : Waiting) : Type 0 where
   pub running : IsRunning rows path pending
   pub most : pending.most ≡ before.most
   pub params : path.quotients.params ≡ from.quotients.params

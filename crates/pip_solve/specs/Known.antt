@@ -6,9 +6,11 @@ use Rattle.context.specs.Counts.{HasRoomFor, counted_more}
 use Rattle.pip_solve.specs.declared.known.KnownForm.{KnownForm}
 use Rattle.pip_solve.specs.declared.known.KnownForms.{KnownForms}
 
--- after any work of the budget that has room for its counts, the form's class on a context of w places is Plus, with these counts
+-- after any work of the budget that has room for its counts, the form's class on a context of w places is Plus,
+-- with these counts
 pub record IsKnownForm (K : List (List ℤ)) (w : ℕ) (b : Budget) (known : KnownForm) : Type 0 where
-  pub again : (v : Work) → v.budget ≡ b → HasRoomFor v known.counts → run.class K w known.form v ≡ Done run.Plus (counted_more v known.counts)
+  pub again : (v : Work) → v.budget ≡ b → HasRoomFor v known.counts
+      → run.class K w known.form v ≡ Done run.Plus (counted_more v known.counts)
 
 abbrev pub AreKnown : List (List ℤ) → ℕ → Budget → KnownForms → Type 0
 AreKnown K w b known = All (IsKnownForm K w b) known.forms.items

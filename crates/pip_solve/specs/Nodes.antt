@@ -10,11 +10,13 @@ use Rattle.new_parameters.specs.Scopes.{size}
 use Rattle.pip_solve.specs.declared.path.Path.{Path}
 
 abbrev pub node_of : TableauRows → Path → Node
-node_of t path = record { rows = t.rows; context = path.context.forms; quotients = path.quotients.quotients; depth = path.depth }
+node_of t path =
+    record { rows = t.rows; context = path.context.forms; quotients = path.quotients.quotients; depth = path.depth }
 
 -- what stays the same in the run of a problem
 abbrev pub setting_of : TableauRows → Path → Setting
-setting_of t path = record { unknowns = t.unknowns; params = path.quotients.params; integer = path.integer; class = class }
+setting_of t path =
+    record { unknowns = t.unknowns; params = path.quotients.params; integer = path.integer; class = class }
 
 -- the tableau and the path are over the same parameters and quotients, and within the limits
 pub record IsNode (t : TableauRows) (path : Path) : Type 0 where

@@ -66,7 +66,9 @@ pub record IsNewParameter (t : TableauRows) (q : Scope) (i : ℕ) (k : Quotient)
   pub wide : length k.form ≡ t.width + 1
   pub absent : find_from q.params q.quotients k ≡ None
 
--- what a turn promises of the node that it leaves to be made: that a tree is over the node's scope and has no if and no newparm, that the rows stay, that a condition and a quotient are of the scope and one level down is within the nesting
+-- what a turn promises of the node that it leaves to be made: that a tree is over the node's scope and has no if
+-- and no newparm, that the rows stay, that a condition and a quotient are of the scope and one level down is within
+-- the nesting
 abbrev pub TurnIs : TableauRows → TableauRows → Path → ℕ → Turn → Type 0
 TurnIs t now path most (code.Closed tree) = (tree.width ≡ t.width) × (nesting tree.tree ≡ 0)
 TurnIs t now path most code.Again = (now.unknowns ≡ t.unknowns) × (now.width ≡ t.width) × (t.unknowns ≤ length now.rows)

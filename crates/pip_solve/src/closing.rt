@@ -13,7 +13,7 @@ use tableau::Tableau;
 
 // What is in hand next: the node of the rows, or the whole tree.
 #[derive(Drop)]
-pub enum Next {
+pub(crate) enum Next {
     Node,
     Tree(Quast),
 }

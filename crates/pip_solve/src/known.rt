@@ -10,14 +10,14 @@ const MOST_KNOWN: usize = 64;
 
 // A form that was found at least 0 on a context, and what was counted for that.
 #[derive(Drop)]
-pub struct KnownForm {
+pub(crate) struct KnownForm {
     pub form: Form,
     pub counts: Counts,
 }
 
 // The forms that were found at least 0 on a context, up to some number.
 #[derive(Drop)]
-pub struct KnownForms {
+pub(crate) struct KnownForms {
     pub forms: Vec<KnownForm>,
 }
 

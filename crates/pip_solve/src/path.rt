@@ -9,7 +9,7 @@ use new_parameters::Quotients;
 // Where a run stands: the mode of its problem, how many if and newparm nodes are above, and the context and the
 // quotients of the path to here.
 #[derive(Drop)]
-pub struct Path {
+pub(crate) struct Path {
     pub integer: bool,
     pub depth: u64,
     pub context: Context,

@@ -21,7 +21,7 @@ use tableau::Tableau;
 // The signs of a node's rows: no row is below 0 or of both signs, or the first row below 0, or else the condition of
 // the first row of both signs.
 #[derive(Drop)]
-pub enum Signs {
+pub(crate) enum Signs {
     AllPlus,
     MinusAt(usize),
     UnknownBy(Form),

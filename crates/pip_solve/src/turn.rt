@@ -29,7 +29,7 @@ use tableau::Tableau;
 // What a turn makes of a node: its tree, a node to go on from, an if of a condition, or a new parameter by the row at
 // a place.
 #[derive(Drop)]
-pub enum Turn {
+pub(crate) enum Turn {
     Closed(Quast),
     Again,
     Split(Form),

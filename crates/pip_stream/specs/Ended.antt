@@ -26,16 +26,20 @@ pub record HoldsItem (w : HeldBytes) (n : ℕ) : Type 0 where
 -- the window where the search for the end of a group ends
 abbrev pub IsEnded : HeldBytes → Result ℕ NextRefusal → Type 0
 IsEnded w (Ok n) = HoldsItem w n
-IsEnded w (Err next.InputBytes) = (first_group_end (take (length w.held - 1) w.held) ≡ None) × (taken_by w ≡ most_input_bytes + 1)
+IsEnded w (Err next.InputBytes) =
+    (first_group_end (take (length w.held - 1) w.held) ≡ None) × (taken_by w ≡ most_input_bytes + 1)
 IsEnded w (Err next.Failed) = (first_group_end w.held ≡ None) × (taken_by w ≤ most_input_bytes)
 IsEnded w (Err next.WantOfMemory) = taken_by w ≤ most_input_bytes
 IsEnded w (Err (next.Read e)) = ⊥
 
 -- What is read of the first n bytes, which are dropped where they are a problem.
 abbrev pub IsRead : HeldBytes → HeldBytes → ℕ → Result (Option (Problem × ℕ)) NextRefusal → Type 0
-IsRead old new n (Ok (Some x)) = (x.1 ≡ n) × (first_group_end old.held ≡ Some n) × (read_native (take n old.held) 0 ≡ Ok (Some (x.0, n))) × (new ≡ record old { held = drop n old.held; base = old.base + n })
+IsRead old new n (Ok (Some x)) =
+    (x.1 ≡ n) × (first_group_end old.held ≡ Some n) × (read_native (take n old.held) 0 ≡ Ok (Some (x.0, n)))
+    × (new ≡ record old { held = drop n old.held; base = old.base + n })
 IsRead old new n (Ok None) = ⊥
-IsRead old new n (Err (next.Read e)) = IfSome (read_fault e) (λ f. moved old.base (read_native (take n old.held) 0) ≡ Err f) × (new ≡ old)
+IsRead old new n (Err (next.Read e)) =
+    IfSome (read_fault e) (λ f. moved old.base (read_native (take n old.held) 0) ≡ Err f) × (new ≡ old)
 IsRead old new n (Err next.WantOfMemory) = new ≡ old
 IsRead old new n (Err next.Failed) = ⊥
 IsRead old new n (Err next.InputBytes) = ⊥

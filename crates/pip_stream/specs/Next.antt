@@ -14,7 +14,8 @@ use Rattle.pip_stream.specs.declared.refusal.NextRefusal.TheVariants as next
 
 -- a window and what is left in its source before a call, and after it
 module _ (old : HeldBytes) (left : List ℕ) (new : HeldBytes) (now : Option (List ℕ)) where
-  -- The problem that is read of the input from the held bytes on. Its group has n bytes, which are dropped with those before it.
+  -- The problem that is read of the input from the held bytes on. Its group has n bytes, which are dropped with
+  -- those before it.
   pub record ReadsNext (P : Problem) (n : ℕ) : Type 0 where
     pub start : ℕ
     pub opened : next_open 0 (bytes_from old left) ≡ Some start

@@ -45,9 +45,9 @@ fn take_item(
 /// left.
 ///
 /// The window holds the bytes that were taken and belong to no problem before. Bytes before a `(` are dropped at once.
-/// The problem is read as soon as its group has ended, before the source is asked again, and its bytes are dropped. What
-/// is read of the item's bytes alone is what is read of the whole input. After a refusal the window holds what it held
-/// then.
+/// The problem is read as soon as its group has ended, before the source is asked again, and its bytes are dropped.
+/// What is read of the item's bytes alone is what is read of the whole input. After a refusal the window holds what
+/// it held then.
 #[tactic(none)]
 pub fn next_problem<S: Source>(
     alloc: Global,

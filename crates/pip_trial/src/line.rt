@@ -15,7 +15,7 @@ fn push_count(line: &mut Vec<u8>, name: &[u8], count: u128) -> Result<(), WantOf
     Ok(())
 }
 
-/// The line of a trial of so many problems.
+// The line of a trial of so many problems.
 pub(crate) fn line_of(alloc: Global, count: u16, tally: &Tally) -> Result<Vec<u8>, WantOfMemory>
     ensures { IfOk result (λ line. line.items ≡ tally_line count tally.now) }
 {

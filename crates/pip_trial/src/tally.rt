@@ -27,7 +27,7 @@ impl Model for Tally {
 }
 
 impl Tally {
-    /// Nothing counted.
+    // Nothing counted.
     pub(crate) fn new() -> Tally
         ensures { result ≡ none_counted }
     {
@@ -85,7 +85,7 @@ impl Tally {
         }
     }
 
-    /// Counts the nodes of an answer.
+    // Counts the nodes of an answer.
     pub(crate) fn count_answer(&mut self, answer: &Answer)
         requires { HasRoom (answer_size (answer_of answer.now)) self.old }
         ensures { self.new ≡ tally_answer (answer_of answer.now) self.old }
@@ -96,7 +96,7 @@ impl Tally {
         }
     }
 
-    /// Counts a problem that was refused.
+    // Counts a problem that was refused.
     pub(crate) fn count_refused(&mut self)
         requires { HasRoom 1 self.old }
         ensures { self.new ≡ record self.old { refused = self.old.refused + 1 } }

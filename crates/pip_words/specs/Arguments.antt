@@ -48,7 +48,8 @@ command_with name rules = (fold with_rule (new_app name) rules).top
 abbrev pub solve_shape : Shape
 solve_shape = command_with (codes "solve") (
     flag_rule (codes "polylib") ∷ flag_rule (codes "simplify") ∷ flag_rule (codes "certificate")
-    ∷ setting_rule (codes "pivots") ∷ setting_rule (codes "cuts") ∷ setting_rule (codes "splits") ∷ setting_rule (codes "nesting") ∷ [])
+    ∷ setting_rule (codes "pivots") ∷ setting_rule (codes "cuts") ∷ setting_rule (codes "splits")
+    ∷ setting_rule (codes "nesting") ∷ [])
 
 abbrev pub eval_shape : Shape
 eval_shape = command_with (codes "eval") (values_rule (codes "parameter") ∷ [])
@@ -75,11 +76,13 @@ restrict_shape = command_with (codes "restrict") (
 
 abbrev pub same_shape : Shape
 same_shape = command_with (codes "same") (
-    needed_rule (codes "parameters") ∷ setting_rule (codes "pivots") ∷ setting_rule (codes "cuts") ∷ setting_rule (codes "splits") ∷ [])
+    needed_rule (codes "parameters") ∷ setting_rule (codes "pivots") ∷ setting_rule (codes "cuts")
+    ∷ setting_rule (codes "splits") ∷ [])
 
 abbrev pub least_shape : Shape
 least_shape = command_with (codes "least") (
-    needed_rule (codes "parameters") ∷ setting_rule (codes "pivots") ∷ setting_rule (codes "cuts") ∷ setting_rule (codes "splits") ∷ setting_rule (codes "nesting") ∷ [])
+    needed_rule (codes "parameters") ∷ setting_rule (codes "pivots") ∷ setting_rule (codes "cuts")
+    ∷ setting_rule (codes "splits") ∷ setting_rule (codes "nesting") ∷ [])
 
 -- the program, of which a command is required
 abbrev pub bare_app : App
@@ -87,4 +90,5 @@ bare_app = record (new_app (codes "pip")) { top = record (new_app (codes "pip"))
 
 abbrev pub pip_app : App
 pip_app = fold with_subcommand bare_app (
-    solve_shape ∷ eval_shape ∷ simplify_shape ∷ check_shape ∷ share_shape ∷ trial_shape ∷ pieces_shape ∷ restrict_shape ∷ same_shape ∷ least_shape ∷ [])
+    solve_shape ∷ eval_shape ∷ simplify_shape ∷ check_shape ∷ share_shape ∷ trial_shape ∷ pieces_shape
+    ∷ restrict_shape ∷ same_shape ∷ least_shape ∷ [])

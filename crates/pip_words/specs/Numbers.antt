@@ -6,7 +6,8 @@ use Rattle.pip_model.specs.Tokens.{is_digit, natural_of}
 -- the number that one or more decimal digits spell, if it is at most `most`
 abbrev pub number_of : ℕ → List ℕ → Option ℕ
 number_of most text =
-    if not (length text == 0) && (list_all is_digit text && nat_le (natural_of text) most) then Some (natural_of text) else None
+    if not (length text == 0)
+    && (list_all is_digit text && nat_le (natural_of text) most) then Some (natural_of text) else None
 
 -- the value of a parameter: such a number that fits
 abbrev pub parameter_of : List ℕ → Option ℤ

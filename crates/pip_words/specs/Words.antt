@@ -172,7 +172,8 @@ command_given words = command_of (map string_bytes words.items)
 
 -- ---- what is read
 
--- what is read, seen by `view`, is what the words give, and they give nothing where they are refused; nothing is said of want of memory
+-- what is read, seen by `view`, is what the words give, and they give nothing where they are refused; nothing is
+-- said of want of memory
 abbrev pub Gives : {X Y : Type 0} → (X → Y) → Option Y → Result X WordsRefusal → Type 0
 Gives view wanted (Ok x) = wanted ≡ Some (view x)
 Gives view wanted (Err refusal.Usage) = wanted ≡ None

@@ -7,7 +7,7 @@ use crate::names;
 use clap::{Arg, ArgAction, Command};
 use std::alloc::{AllocError, Global};
 
-/// An argument of a command, by its name.
+// An argument of a command, by its name.
 #[derive(Clone, Copy)]
 pub(crate) enum Argument<'a> {
     /// `--NAME`, which takes no value.
@@ -20,7 +20,7 @@ pub(crate) enum Argument<'a> {
     Values(&'a str),
 }
 
-/// A command's name and its arguments.
+// A command's name and its arguments.
 #[derive(Clone, Copy)]
 pub(crate) struct Entry<'a> {
     pub(crate) name: &'a str,
@@ -67,7 +67,7 @@ fn with_commands<'a>(
     Ok(program)
 }
 
-/// The program's commands with their arguments, for `clap`.
+// The program's commands with their arguments, for `clap`.
 pub(crate) fn pip<'a>(alloc: Global) -> Result<Command<'a>, AllocError>
     ensures { IfOk result (λ command. app_of command ≡ pip_app) }
 {

@@ -2,7 +2,7 @@ ghost use Rattle.std.specs.Prelude.{◌≡◌, ◌≤◌, IfSome, IsTrue};
 ghost use Rattle.pip_model.specs.Numbers.{fits, is_nonneg};
 ghost use Rattle.pip_words.specs.Numbers.{number_of, parameter_of};
 
-/// The number that one or more decimal digits spell, if it is at most `most`.
+// The number that one or more decimal digits spell, if it is at most `most`.
 pub(crate) fn number(text: &[u8], most: u128) -> Option<u128>
     ensures value { result ≡ number_of most text.now }
     ensures within { IfSome result (λ n. n ≤ most) }
@@ -24,7 +24,7 @@ pub(crate) fn number(text: &[u8], most: u128) -> Option<u128>
     Some(value)
 }
 
-/// The same for the size of a budget.
+// The same for the size of a budget.
 pub(crate) fn short_number(text: &[u8], most: u64) -> Option<u64>
     ensures value { result ≡ number_of most text.now }
     ensures within { IfSome result (λ n. n ≤ most) }
@@ -35,7 +35,7 @@ pub(crate) fn short_number(text: &[u8], most: u64) -> Option<u64>
     }
 }
 
-/// The value of a parameter: a number that fits.
+// The value of a parameter: a number that fits.
 pub(crate) fn parameter(text: &[u8]) -> Option<i128>
     ensures value { result ≡ parameter_of text.now }
     ensures fitting { IfSome result (λ z. IsTrue (fits z)) }

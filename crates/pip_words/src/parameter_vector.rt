@@ -23,7 +23,7 @@ impl Model for ParameterVector {
 impl ParameterVector {
     ghost use Rattle.pip_words.specs.ParameterVector.{IsParameterVector};
 
-    /// The vector of no parameters.
+    // The vector of no parameters.
     pub(crate) fn new(alloc: Global) -> ParameterVector
         ensures { result ≡ [] }
     {
@@ -32,7 +32,7 @@ impl ParameterVector {
         }
     }
 
-    /// The vector of these entries.
+    // The vector of these entries.
     pub(crate) fn from_entries(entries: Vec<i128>) -> ParameterVector
         requires { IsParameterVector entries.items }
         ensures { result ≡ entries.items }

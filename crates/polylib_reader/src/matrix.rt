@@ -13,9 +13,9 @@ use pip_problem::{LimitKind, ReadRefusal};
 use std::alloc::Global;
 use text_steps::Reads;
 
-/// A matrix that was read.
+// A matrix that was read.
 #[derive(Drop)]
-pub struct Matrix {
+pub(crate) struct Matrix {
     /// The number of parameters of a context matrix, of unknowns of a constraint matrix.
     pub size: usize,
     /// The inequalities of its rows.

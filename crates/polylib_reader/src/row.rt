@@ -14,9 +14,9 @@ use pip_problem::{LimitKind, ReadRefusal};
 use std::alloc::Global;
 use text_steps::Reads;
 
-/// What a row's first entry says.
+// What a row's first entry says.
 #[derive(Clone, Copy)]
-pub struct RowHead {
+pub(crate) struct RowHead {
     pub equality: bool,
     /// How many inequalities there are with this row's.
     pub count: usize,

@@ -5,9 +5,9 @@ ghost use Rattle.polylib_reader.specs.Words.{is_word_byte, word_of};
 
 use affine_rows::blank;
 
-/// A longest run of bytes that are neither blanks nor `#`; it is empty at the end of the bytes.
+// A longest run of bytes that are neither blanks nor `#`; it is empty at the end of the bytes.
 #[derive(Clone, Copy)]
-pub struct Word<'a> {
+pub(crate) struct Word<'a> {
     pub text: &'a [u8],
     pub start: usize,
     pub after: usize,

@@ -26,4 +26,5 @@ pub record IsQuast (q : ScopedTree) : Type 0 where
 
 abbrev pub scoped_code : Coded ScopedTree
 scoped_code =
-    code_by (ℕ × Tree) (coded× coded_ℕ tree_code) (λ q. (q.width, q.tree)) (λ p. record { width = p.0; tree = p.1 }) (λ _. refl)
+    code_by (ℕ × Tree) (coded× coded_ℕ tree_code) (λ q. (q.width, q.tree)) (λ p. record { width = p.0; tree = p.1 })
+    (λ _. refl)

@@ -36,9 +36,9 @@ fn are_same_components(a: &[Component], b: &[Component]) -> bool
     true
 }
 
-/// Whether the trees are the same.
+// Whether the trees are the same.
 #[tactic(auto, using(crate::proofs::Comparisons::same_number_test))]
-pub fn is_same_tree(a: &Node, b: &Node) -> bool
+pub(crate) fn is_same_tree(a: &Node, b: &Node) -> bool
     ensures { result ≡ same_tree (tree_of a.now) (tree_of b.now) }
 {
     match (a, b) {

@@ -27,8 +27,8 @@ fn are_zero_at(components: &[Component], i: usize) -> bool
     components.iter().all(|c| is_zero_at(c.form(), i))
 }
 
-/// Whether coefficient `i` is 0 in every form of the tree.
-pub fn is_unused(node: &Node, i: usize) -> bool
+// Whether coefficient `i` is 0 in every form of the tree.
+pub(crate) fn is_unused(node: &Node, i: usize) -> bool
     ensures { result ≡ is_unused i (tree_of node.now) }
 {
     match node {
@@ -41,8 +41,8 @@ pub fn is_unused(node: &Node, i: usize) -> bool
     }
 }
 
-/// Drops coefficient `i`, which is 0 in every form of the tree; the later new parameters are numbered one lower.
-pub fn drop_place(node: &mut Node, i: usize)
+// Drops coefficient `i`, which is 0 in every form of the tree; the later new parameters are numbered one lower.
+pub(crate) fn drop_place(node: &mut Node, i: usize)
     requires { TreeLacksPlace i (tree_of node.old) }
     ensures { tree_of node.new ≡ without i (tree_of node.old) }
 {

@@ -17,6 +17,7 @@ spell_term d c = codes " " ++ spell_fraction c d
 abbrev pub spell_component : Component → List ℕ
 spell_component c = codes "#[" ++ spell_fractions c.den c.form ++ codes "]\n"
 
--- the text is read as this answer over np parameters, whatever stands behind it; the place after it is that of its last byte
+-- the text is read as this answer over np parameters, whatever stands behind it; the place after it is that of its
+-- last byte
 abbrev pub IsReadBack : List ℕ → ℕ → Spoken → Type 0
 IsReadBack text np s = (rest : List ℕ) → read_answer (text ++ rest) 0 np ≡ Ok (Some (s, length text - 1))

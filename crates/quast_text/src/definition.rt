@@ -11,9 +11,9 @@ use affine_rows::{Form, Kind, token};
 use std::alloc::Global;
 use text_steps::{Reads, expect, expect_word, number};
 
-/// A form over a divisor, whose floor a new parameter is.
+// A form over a divisor, whose floor a new parameter is.
 #[derive(Drop)]
-pub struct Quotient {
+pub(crate) struct Quotient {
     pub form: Form,
     pub divisor: i128,
 }

@@ -14,9 +14,9 @@ use std::alloc::Global;
 use std::marker::Model;
 use text_steps::Reads;
 
-/// A fraction in lowest terms, its denominator at least 1.
+// A fraction in lowest terms, its denominator at least 1.
 #[derive(Drop)]
-pub struct Fraction {
+pub(crate) struct Fraction {
     numerator: i128,
     denominator: i128,
 }

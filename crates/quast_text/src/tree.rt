@@ -16,9 +16,9 @@ use quast::Quast;
 use std::alloc::Global;
 use text_steps::{Reads, expect, same_bracket, spells};
 
-/// Which tree begins behind a `(`.
+// Which tree begins behind a `(`.
 #[derive(Clone, Copy, Debug, PartialEq, Eq)]
-pub enum Head {
+pub(crate) enum Head {
     Ends,
     Lists,
     Chooses,

@@ -26,7 +26,8 @@ pub record IsList (w : ℕ) (cs : List Component) : Type 0 where
   pub width : width_of cs ≡ w
   pub components : All (IsComponent (width_of cs)) cs
 
--- two lists over w places of as many components, some of which are left; the tree that is made has at most n nested nodes
+-- two lists over w places of as many components, some of which are left; the tree that is made has at most n nested
+-- nodes
 pub record IsRest (w n : ℕ) (r : Rest) : Type 0 where
   pub first : IsList w r.first.now
   pub second : IsList w r.second.now
@@ -35,9 +36,14 @@ pub record IsRest (w n : ℕ) (r : Rest) : Type 0 where
   pub depth : r.depth ≤ n
   pub most : n ≤ most_nesting
 
--- the lesser of the lists, by the components that are left; where the first that is left is not below the second, their difference being e
+-- the lesser of the lists, by the components that are left; where the first that is left is not below the second,
+-- their difference being e
 abbrev pub rest_chosen : Rest → Visit → Walking Tree
-rest_chosen r h = least_lists (model.Leaf r.first.now) (model.Leaf r.second.now) (drop r.next r.first.now) (drop r.next r.second.now) h
+rest_chosen r h =
+    least_lists (model.Leaf r.first.now) (model.Leaf r.second.now) (drop r.next r.first.now)
+    (drop r.next r.second.now) h
 
 abbrev pub rest_not_below : Rest → List ℤ → Visit → Walking Tree
-rest_not_below r e h = not_below (model.Leaf r.second.now) e (λ g. least_lists (model.Leaf r.first.now) (model.Leaf r.second.now) (drop (r.next + 1) r.first.now) (drop (r.next + 1) r.second.now) g) h
+rest_not_below r e h =
+    not_below (model.Leaf r.second.now) e (λ g. least_lists (model.Leaf r.first.now) (model.Leaf r.second.now)
+    (drop (r.next + 1) r.first.now) (drop (r.next + 1) r.second.now) g) h

@@ -20,7 +20,7 @@ use affine_rows::Forms;
 use context::{Context, Work};
 use pip_problem::Limits;
 use quast::{Answer, Quast};
-use quast_walk::{AtLeaf, Leaf, Reading, ToolRefusal, context_of, levels, point};
+use quast_walk::{Leaf, Reading, ToolRefusal, context_of, levels, point};
 use std::alloc::Global;
 
 // The lesser of two answers on the rows' context, which has a point. A `void` answer counts as bottom.
@@ -41,13 +41,7 @@ fn choose_answers(
     ensures width { IfOk result (λ made. made.width ≡ context.old.width) }
     ensures nested { IfOk result (λ made. nesting made.tree ≤ work.old.budget.nesting) }
 {
-    let reading = Reading {
-        alloc,
-        parameters: context.mark().width,
-        between: 0,
-        at_leaf: AtLeaf::Second(second),
-        depth: 0,
-    };
+    let reading = Reading::start(alloc, context, second);
     match first {
         Answer::Void => choose_second(&reading, Leaf::Bottom, second, context, work),
         Answer::Tree(tree) => choose_node(&reading, tree.root(), context, work),

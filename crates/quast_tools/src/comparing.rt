@@ -19,7 +19,7 @@ use affine_rows::Forms;
 use context::{Context, Point, Work};
 use pip_problem::Limits;
 use quast::Answer;
-use quast_walk::{AtLeaf, Leaf, Reading, ToolRefusal, context_of, levels, point};
+use quast_walk::{Leaf, Reading, ToolRefusal, context_of, levels, point};
 use std::alloc::Global;
 
 // The first point at which two answers differ on the rows' context, which has a point.
@@ -38,13 +38,7 @@ fn search_answers(
         (answer_of second.now) work.old) }
     ensures numbers { IfOk result (HasNumbers context.old.width) }
 {
-    let reading = Reading {
-        alloc,
-        parameters: context.mark().width,
-        between: 0,
-        at_leaf: AtLeaf::Second(second),
-        depth: 0,
-    };
+    let reading = Reading::start(alloc, context, second);
     match first {
         Answer::Void => search_second(&reading, Leaf::Void, second, context, work),
         Answer::Tree(tree) => search_node(&reading, tree.root(), context, work),

@@ -177,7 +177,8 @@ pub fn restrict(
     requires { IsOver rows.now.width answer.now }
     ensures gives { Agrees answer_of tool_fault result (without_counts
         (model.restrict rows.now.width rows.now.forms (answer_of answer.now) (start_work limits.now))) }
-    ensures right { IfOk result (λ a. IsRestriction rows.now.width rows.now.forms (answer_of answer.now) (answer_of a)) }
+    ensures right { IfOk result
+        (λ a. IsRestriction rows.now.width rows.now.forms (answer_of answer.now) (answer_of a)) }
     ensures refusal { IfErr result
         (λ e. IfSome (tool_fault e) (IsRestrictRefusal rows.now.width rows.now.forms (answer_of answer.now))) }
     ensures well_formed { IfOk result (λ a. IsWellFormedAnswer rows.now.width (answer_of a)) }

@@ -28,9 +28,9 @@ second_ready m w width q t is over quast few wide =
     rw (is, wide) (second-scoped m h q.tree few scoped)
 
 -- the first tree
-pub first_ready : (w width : ℕ) (q : ScopedTree) (t : Tree) → t ≡ q.tree → q.width ≡ w → IsQuast q → IsTrue (is_scoped w (spread_tree width 0 t))
-first_ready w width q t is over quast =
-    subst (λ (u : Tree). IsTrue (is_scoped w u)) (sym (spread_tree-none width t ∙ is)) (subst (λ (n : ℕ). IsTrue (is_scoped n q.tree)) over quast.well_formed.scoped)
+pub first_ready : (w : ℕ) (q : ScopedTree) (t : Tree) → t ≡ q.tree → q.width ≡ w → IsQuast q → IsTrue (is_scoped w (spread_tree w 0 t))
+first_ready w q t is over quast =
+    subst (λ (u : Tree). IsTrue (is_scoped w u)) (sym (spread_tree-none w t ∙ is)) (subst (λ (n : ℕ). IsTrue (is_scoped n q.tree)) over quast.well_formed.scoped)
 
 -- a count that was refused
 pub counted_stops : {A : Type 0} (part : Counted A) (o : Option run.Refusal) (w0 w1 : Work) → IfSome o (λ f. part w0 ≡ Refused f w1) → IfSome (by_run_fault o) (λ f. by_run part w0 ≡ Stopped f w1)

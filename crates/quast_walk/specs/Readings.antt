@@ -1,4 +1,5 @@
--- How a tree is read: its forms have zeros at the places that another tree's new parameters took, and at its leaves another answer is walked, or a leaf of another one is met.
+-- How a tree is read: its forms have zeros at the places that another tree's new parameters took, and at its leaves
+-- another answer is walked, or a leaf of another one is met.
 use Rattle.std.specs.Prelude.{◌≡◌, ℕ, ◌+◌, ◌*◌, ◌≤◌, IsTrue, List, length, ⊤}
 use Rattle.pip_model.specs.Forms.{width, widen_to}
 use Rattle.pip_model.specs.Tree as model

@@ -30,7 +30,8 @@ pub record IsUnder (before : ScopedForms) (c : List ℤ) (now : ScopedForms) : T
 -- one place more, at which the quotient stands, and its two bounds
 pub record IsBelow (before : ScopedForms) (q : Quotient) (now : ScopedForms) : Type 0 where
   pub width : now.width ≡ before.width + 1
-  pub forms : now.forms ≡ before.forms ++ lower_bound (before.width + 1) before.width q ∷ upper_bound (before.width + 1) before.width q ∷ []
+  pub forms : now.forms ≡ before.forms ++ lower_bound (before.width + 1) before.width q
+      ∷ upper_bound (before.width + 1) before.width q ∷ []
   pub spare : before.spare ≤ now.spare + 2
 
 -- more forms, and no less room than they leave

@@ -1,6 +1,7 @@
 ghost use Rattle.std.specs.Prelude.{◌≡◌, ◌+◌, ◌-◌, ◌^◌, ◌<◌, ◌≤◌};
 ghost use Rattle.quast_walk.specs.declared.reading.AtLeaf.TheVariants as at;
 
+use context::Context;
 use quast::{Answer, Component};
 use std::alloc::Global;
 
@@ -31,17 +32,33 @@ pub struct Reading<'t> {
 }
 
 impl<'t> Reading<'t> {
+    /// How the first of two answers is read over a context: at its leaves the second one is walked.
+    pub fn start(alloc: Global, context: &Context, second: &'t Answer) -> Reading<'t>
+        ensures { result ≡ record {
+          alloc = alloc;
+          parameters = context.now.width;
+          between = 0;
+          at_leaf = at.Second second.entry;
+          depth = 0;
+        } }
+    {
+        Reading {
+            alloc,
+            parameters: context.mark().width,
+            between: 0,
+            at_leaf: AtLeaf::Second(second),
+            depth: 0,
+        }
+    }
+
     /// The same reading one node down.
     pub fn deeper(&self) -> Reading<'t>
         requires { self.now.depth < 2 ^ 64 - 1 }
         ensures { result ≡ record self.now { depth = self.now.depth + 1 } }
     {
         Reading {
-            alloc: self.alloc,
-            parameters: self.parameters,
-            between: self.between,
-            at_leaf: self.at_leaf,
             depth: self.depth + 1,
+            ..*self
         }
     }
 
@@ -52,11 +69,9 @@ impl<'t> Reading<'t> {
         ensures { result ≡ record self.now { between = places - self.now.parameters; at_leaf = at.Meet leaf.entry } }
     {
         Reading {
-            alloc: self.alloc,
-            parameters: self.parameters,
             between: places - self.parameters,
             at_leaf: AtLeaf::Meet(leaf),
-            depth: self.depth,
+            ..*self
         }
     }
 }

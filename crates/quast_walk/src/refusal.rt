@@ -1,7 +1,7 @@
 ghost use Rattle.std.specs.Prelude.{◌≡◌};
 ghost use Rattle.quast_walk.specs.declared.refusal.ToolRefusal.TheVariants as tool;
 
-use affine_rows::{FormRefusal, Overflow, WantOfMemory};
+use affine_rows::{FormRefusal, WantOfMemory};
 use pip_problem::Refusal;
 use thiserror::Error;
 
@@ -42,14 +42,6 @@ impl From<Refusal> for ToolRefusal {
             Refusal::Nesting(limit) => ToolRefusal::Nesting(limit),
             Refusal::WantOfMemory => ToolRefusal::WantOfMemory,
         }
-    }
-}
-
-impl From<Overflow> for ToolRefusal {
-    ghost from_gives = { λ _ e. e ≡ tool.Overflow };
-
-    fn from(_: Overflow) -> ToolRefusal {
-        ToolRefusal::Overflow
     }
 }
 

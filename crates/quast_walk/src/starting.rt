@@ -52,7 +52,7 @@ pub fn point(
 /// formed over them.
 pub fn levels(answer: &Answer) -> usize
     ensures few { result ≤ most_nesting }
-    ensures nesting { answer_nesting answer.now ≤ result }
+    ensures value { result ≡ answer_nesting answer.now }
     ensures formed { (w : ℕ) → IsOver w answer.now → IsWellFormedAnswer w (answer_of answer.now) }
 {
     match answer {

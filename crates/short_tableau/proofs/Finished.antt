@@ -5,18 +5,18 @@ use Rattle.std.proofs.Math.IntN.{*ℤ_comm}
 use Rattle.std.proofs.Math.Bool.{and-false}
 use Rattle.std.proofs.lemmas.Bool.{lt-ltb}
 use Rattle.std.proofs.lemmas.List.{take_at, drop_at, take_all, drop_all, take-append-drop, length-take, length-map, drop_more, take_more, set_at, get_or_at, map-set, map-append, get_or-map, get_or-set_same}
-use Rattle.std.proofs.lemmas.List.Folds.{list_all-append}
+use Rattle.std.proofs.lemmas.List.Folds.{list_all-append, list_all_at}
 use Rattle.std.specs.Prelude.{slice_set}
 use Rattle.std.specs.List.{list_all}
+use Rattle.pip_model.proofs.Forms.{length-combine, entry-combine}
 use Rattle.pip_model.specs.Numbers.{gcd, gcd_of, floor_div}
 use Rattle.pip_model.specs.Forms.{combine, entry, floor_divided}
 use Rattle.pip_model.specs.Rows.{Row, divided}
-use Rattle.pip_model.proofs.Gcd.{gcd_assoc, gcd_zero}
+use Rattle.pip_model.proofs.Gcd.{gcd_assoc, gcd_zero, gcd_exchanged}
 use Rattle.affine_rows.proofs.Divisors.{gcd_step}
-use Rattle.tableau_row.proofs.Places.{take_combine, drop_combine, length_combine}
+use Rattle.tableau_row.proofs.Places.{take_combine, drop_combine}
 use Rattle.tableau_row.proofs.Quotients.{quotient_short}
 use Rattle.tableau_row.proofs.RowLaws.{divided_row}
-use Rattle.tableau_row.proofs.Solved.{gcd_exchanged}
 use Rattle.tableau.proofs.Combining.{combined}
 use Rattle.tableau.specs.Short.{is_short}
 use Rattle.tableau.specs.Tableaus.{row_from}
@@ -25,18 +25,12 @@ use Rattle.short_tableau.specs.declared.begun.Begun.{Begun}
 
 -- ---- the entries of a*r - b*s
 
-pub combine_at : (a b : ℤ) (r s : List ℤ) (i : ℕ) → length r ≡ length s → i < length r → get_or (combine a r b s) i (pos 0) ≡ a *ℤ get_or r i (pos 0) -ℤ b *ℤ get_or s i (pos 0)
-combine_at a b [] s i e h = absurd (omega arith)
-combine_at a b (x ∷ r) [] i e h = absurd (omega arith)
-combine_at a b (x ∷ r) (y ∷ s) zero e h = refl
-combine_at a b (x ∷ r) (y ∷ s) (suc i) e h = combine_at a b r s i (omega arith) (omega arith)
-
 none_left : (a b : ℤ) → a *ℤ b -ℤ b *ℤ a ≡ pos 0
 none_left a b = let e = *ℤ_comm a b in omega (arith, ints, e)
 
 -- the entry at which r is b and s is a
 pub combine_zero : (a b : ℤ) (r s : List ℤ) (c : ℕ) → length r ≡ length s → c < length r → b ≡ entry r c → a ≡ entry s c → entry (combine a r b s) c ≡ pos 0
-combine_zero a b r s c same h e f = combine_at a b r s c same h ∙ rw (sym e, sym f) (none_left a b)
+combine_zero a b r s c same h e f = entry-combine a r b s c same ∙ rw (sym e, sym f) (none_left a b)
 
 -- ---- the entries in front of a place are made
 
@@ -45,7 +39,7 @@ module _ (a b : ℤ) (r s : List ℤ) (k : ℕ) where
   finished_combined now same h e =
       let front = combine a (take k r) b (take k s) in
       let lengths : length (take k r) ≡ length (take k s) = simp length-take (omega arith) in
-      let size : length front ≡ k = length_combine a b (take k r) (take k s) lengths ∙ simp length-take (omega arith) in
+      let size : length front ≡ k = length-combine a (take k r) b (take k s) lengths ∙ simp length-take (omega arith) in
       rw (e, take_at front (drop k r) k size, drop_at front (drop k r) k size, take_combine a b r s k, drop_combine a b r s k)
       (take-append-drop k (combine a r b s))
 
@@ -55,7 +49,7 @@ module _ (a b : ℤ) (r s : List ℤ) (k : ℕ) where
   pub finished_length : length r ≡ length s → k ≤ length r → length (finished a r b s k) ≡ length r
   finished_length same h =
       let lengths : length (drop k r) ≡ length (drop k s) = simp length-drop (omega arith) in
-      let made = length_combine a b (drop k r) (drop k s) lengths in
+      let made = length-combine a (drop k r) b (drop k s) lengths in
       simp (length-append, length-take, made, length-drop) (omega arith)
 
 -- the row that is begun is the row itself where all entries are made
@@ -76,11 +70,6 @@ pub divided_parts : (d : ℤ) (xs ys front rest : List ℤ) → front ≡ floor_
 divided_parts d xs ys front rest e f = rw (e, f) (sym (map-append (λ x. floor_div x d) xs ys))
 
 -- ---- lists of which not all pass
-
-pub list_all_false : {X : Type 0} (q : X → Bool) (xs : List X) (i : ℕ) (d : X) → i < length xs → q (get_or xs i d) ≡ false → list_all q xs ≡ false
-list_all_false q [] i d h e = absurd (omega arith)
-list_all_false q (x ∷ xs) zero d h e = rw e refl
-list_all_false q (x ∷ xs) (suc i) d h e = rw (list_all_false q xs i d (omega arith) e) (and-false (q x))
 
 pub behind_false : {X : Type 0} (q : X → Bool) (xs ys : List X) → list_all q ys ≡ false → list_all q (xs ++ ys) ≡ false
 behind_false q xs ys e = list_all-append q xs ys ∙ rw e (and-false (list_all q xs))
@@ -130,7 +119,7 @@ module _ (den e g : ℤ) (F G : List ℤ) (c : ℕ) (is : g ≡ gcd (gcd (gcd de
 
   pub long_entry : is_short (floor_div e g) ≡ false → is_short_row (divided (row_from den (slice_set F c e) G)) ≡ false
   long_entry long =
-      long_list (list_all_false is_short (slice_set (floor_divided g F) c (floor_div e g)) c (pos 0) (simp (length-set, length-map) h) (ap is_short (get_or-set_same (floor_divided g F) c (floor_div e g) (pos 0) at_column) ∙ long))
+      long_list (list_all_at is_short (slice_set (floor_divided g F) c (floor_div e g)) c (pos 0) (simp (length-set, length-map) h) (ap is_short (get_or-set_same (floor_divided g F) c (floor_div e g) (pos 0) at_column) ∙ long))
 
   pub long_coefs : pos 1 ≤ℤ g → list_all is_short (floor_divided g F) ≡ false → is_short_row (divided (row_from den (slice_set F c e) G)) ≡ false
   long_coefs some long =
@@ -147,19 +136,19 @@ module _ (a b : ℤ) (r s : List ℤ) (same : length r ≡ length s) where
   pub gcd_next : (i : ℕ) (found z now whole : ℤ) → i < length r → z ≡ a *ℤ get_or r i (pos 0) -ℤ b *ℤ get_or s i (pos 0) → now ≡ gcd found z
       → gcd found (gcd_of (drop i (combine a r b s))) ≡ whole → gcd now (gcd_of (drop (i + 1) (combine a r b s))) ≡ whole
   gcd_next i found z now whole h e f g =
-      let entry_is : z ≡ get_or (combine a r b s) i (pos 0) = e ∙ sym (combine_at a b r s i same h) in
+      let entry_is : z ≡ get_or (combine a r b s) i (pos 0) = e ∙ sym (entry-combine a r b s i same) in
       ap (λ x. gcd x (gcd_of (drop (i + 1) (combine a r b s)))) (f ∙ ap (gcd found) entry_is)
-      ∙ gcd_step found (combine a r b s) i (omega (arith, h, same, length_combine a b r s same)) ∙ g
+      ∙ gcd_step found (combine a r b s) i (omega (arith, h, same, length-combine a r b s same)) ∙ g
 
   pub gcd_end : (i : ℕ) (found whole : ℤ) → pos 1 ≤ℤ found → length r ≤ i → gcd found (gcd_of (drop i (combine a r b s))) ≡ whole → found ≡ whole
-  gcd_end i (pos n) whole h k e = rw (drop_all i (combine a r b s) (omega (arith, k, same, length_combine a b r s same))) at e
+  gcd_end i (pos n) whole h k e = rw (drop_all i (combine a r b s) (omega (arith, k, same, length-combine a r b s same))) at e
   gcd_end i (negsuc n) whole h k e = absurd (omega (arith, ints))
 
 -- ---- quotients, entry by entry
 
 module _ (a b : ℤ) (r s : List ℤ) (same : length r ≡ length s) (d : ℤ) where
   quotients_length : length (floor_divided d (combine a r b s)) ≡ length r
-  quotients_length = length-map (combine a r b s) (λ x. floor_div x d) ∙ length_combine a b r s same ∙ sym same
+  quotients_length = length-map (combine a r b s) (λ x. floor_div x d) ∙ length-combine a r b s same
 
   module _ (i : ℕ) (h : i < length r) (now : List ℤ) (is : now ≡ take i (floor_divided d (combine a r b s)) ++ drop i r) where
     front_length : length (take i (floor_divided d (combine a r b s))) ≡ i
@@ -170,8 +159,8 @@ module _ (a b : ℤ) (r s : List ℤ) (same : length r ≡ length s) (d : ℤ) w
 
     quotient_here : (z q : ℤ) → z ≡ a *ℤ get_or now i (pos 0) -ℤ b *ℤ get_or s i (pos 0) → q ≡ floor_div z d → q ≡ get_or (floor_divided d (combine a r b s)) i (pos 0)
     quotient_here z q e f =
-        let entry_is : z ≡ get_or (combine a r b s) i (pos 0) = e ∙ ap (λ x. a *ℤ x -ℤ b *ℤ get_or s i (pos 0)) still ∙ sym (combine_at a b r s i same h) in
-        f ∙ ap (λ x. floor_div x d) entry_is ∙ sym (get_or-map (λ x. floor_div x d) (combine a r b s) i (pos 0) (pos 0) (omega (arith, h, same, length_combine a b r s same)))
+        let entry_is : z ≡ get_or (combine a r b s) i (pos 0) = e ∙ ap (λ x. a *ℤ x -ℤ b *ℤ get_or s i (pos 0)) still ∙ sym (entry-combine a r b s i same) in
+        f ∙ ap (λ x. floor_div x d) entry_is ∙ sym (get_or-map (λ x. floor_div x d) (combine a r b s) i (pos 0) (pos 0) (omega (arith, h, same, length-combine a r b s same)))
 
     pub quotient_next : (z q : ℤ) → z ≡ a *ℤ get_or now i (pos 0) -ℤ b *ℤ get_or s i (pos 0) → q ≡ floor_div z d
         → set now i q ≡ take (i + 1) (floor_divided d (combine a r b s)) ++ drop (i + 1) r
@@ -183,7 +172,7 @@ module _ (a b : ℤ) (r s : List ℤ) (same : length r ≡ length s) (d : ℤ) w
 
     pub quotient_long : (z : ℤ) → z ≡ a *ℤ get_or now i (pos 0) -ℤ b *ℤ get_or s i (pos 0) → is_short (floor_div z d) ≡ false → list_all is_short (floor_divided d (combine a r b s)) ≡ false
     quotient_long z e long =
-        list_all_false is_short (floor_divided d (combine a r b s)) i (pos 0) (omega (arith, h, quotients_length)) (ap is_short (sym (quotient_here z (floor_div z d) e refl)) ∙ long)
+        list_all_at is_short (floor_divided d (combine a r b s)) i (pos 0) (omega (arith, h, quotients_length)) (ap is_short (sym (quotient_here z (floor_div z d) e refl)) ∙ long)
 
   pub quotient_end : (i : ℕ) → length r ≤ i → (now : List ℤ) → now ≡ take i (floor_divided d (combine a r b s)) ++ drop i r → now ≡ floor_divided d (combine a r b s)
   quotient_end i h now is =

@@ -1,8 +1,8 @@
 -- Rows in their places.
 use Rattle.std.proofs.Common.{◌≡◌, refl, ap, sym, ◌∙◌, subst, ℕ, zero, suc, ◌+◌, ◌-◌, ◌*◌, ◌<◌, ◌≤◌, ℤ, Bool, true, false, ◌&&◌, List, [], ◌∷◌, ◌++◌, length, map, take, drop, arith, append-nil, length-append, length-drop}
 use Rattle.std.specs.Prelude.{slice_set}
-use Rattle.std.proofs.lemmas.List.{take_at, drop_at, take-append-le, drop-append-le, get_or_at, set_at, length-map, length-take, drop_more, map-append, take_all, drop_all, take-append-drop, get_or-map}
-use Rattle.std.proofs.lemmas.List.Folds.{list_all-append}
+use Rattle.std.proofs.lemmas.List.{take_at, drop_at, take-append-le, drop-append-le, get_or_at, set_at, length-map, map-append, take_all, drop_all, take-append-drop, get_or-map}
+use Rattle.std.proofs.lemmas.List.Folds.{list_all-append, list_all_at}
 use Rattle.std.proofs.Math.Bool.{and-false}
 use Rattle.std.specs.List.{list_all}
 use Rattle.std.proofs.lemmas.List.Elements.{All-same, All-set, All-take, All-drop, All-push, All-append, All-cons, All-nil}
@@ -13,7 +13,6 @@ use Rattle.tableau.proofs.Numbers.{row_again}
 use Rattle.affine_rows.proofs.Mapped.{mapped}
 use Rattle.tableau.specs.Tableaus.{TableauRows, with_row}
 use Rattle.short_tableau.specs.Begun.{is_short_row}
-use Rattle.short_tableau.proofs.Finished.{list_all_false}
 use Rattle.short_tableau.specs.Dense.{row_size, rows_in, IsShortReduced, IsDense}
 
 one_more : (i l : ℕ) → suc i * l ≡ l + i * l
@@ -139,16 +138,11 @@ row_short n k i zs front mid back whole h dense =
 pub mapped_all : (f : Row → Row) (old : List Row) (i : ℕ) → length old ≤ i → mapped f i old ≡ map f old
 mapped_all f old i h = rw (take_all i old h, drop_all i old h) (append-nil (map f old))
 
-pub unmapped : (f : Row → Row) (old now : List Row) (i : ℕ) → i < length old → now ≡ mapped f i old → row_at now i ≡ row_at old i
-unmapped f old now i h e =
-    rw (e, drop_more old i (form_row 0 []) h)
-    (get_or_at (map f (take i old)) (row_at old i) (drop (i + 1) old) (form_row 0 []) i (simp (length-map, length-take) (omega (arith, h))))
-
 -- ---- a row that is not short
 
 pub long_row : (f : Row → Row) (rows : List Row) (i : ℕ) → i < length rows → is_short_row (f (row_at rows i)) ≡ false → list_all is_short_row (map f rows) ≡ false
 long_row f rows i h e =
-    list_all_false is_short_row (map f rows) i (form_row 0 []) (simp length-map h) (ap is_short_row (get_or-map f rows i (form_row 0 []) (form_row 0 []) h) ∙ e)
+    list_all_at is_short_row (map f rows) i (form_row 0 []) (simp length-map h) (ap is_short_row (get_or-map f rows i (form_row 0 []) (form_row 0 []) h) ∙ e)
 
 -- ---- the pivot
 

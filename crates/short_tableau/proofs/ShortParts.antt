@@ -5,6 +5,7 @@ use Rattle.std.specs.Prelude.{slice_set, slice_index_or}
 use Rattle.std.proofs.lemmas.Bool.{lt-ltb}
 use Rattle.std.proofs.lemmas.List.{take_at, drop_at, length-map}
 use Rattle.std.proofs.lemmas.List.Elements.{All-set, All-replicate}
+use Rattle.pip_model.proofs.Forms.{length-combine}
 use Rattle.pip_model.specs.Numbers.{gcd, gcd_of}
 use Rattle.pip_model.proofs.Gcd.{gcd_between, quotient_positive}
 use Rattle.pip_model.specs.Forms.{entry, combine}
@@ -16,7 +17,6 @@ use Rattle.tableau.specs.Tableaus.{IsRow, row_from}
 use Rattle.tableau.proofs.ShortRows.{fits_short}
 use Rattle.tableau.proofs.Contents.{content-one}
 use Rattle.tableau.proofs.Flat.{unit_fits}
-use Rattle.tableau.proofs.Places.{length_combine}
 use Rattle.tableau.proofs.Substituting.{eliminated_none, eliminated_reduced}
 use Rattle.short_tableau.specs.Dense.{IsShortReduced}
 
@@ -63,12 +63,12 @@ divided_positive r h =
 eliminated_coefs : (n c : ℕ) (p r : Row) → length p.coefs ≡ n → length r.coefs ≡ n → length (eliminated p c r).coefs ≡ n
 eliminated_coefs n c p r hp hr =
     length-map (substituted p c r).coefs _ ∙ length-set (combine (entry p.coefs c) r.coefs (entry r.coefs c) p.coefs) c _
-    ∙ length_combine (entry p.coefs c) (entry r.coefs c) r.coefs p.coefs (hr ∙ sym hp) ∙ hp
+    ∙ length-combine (entry p.coefs c) r.coefs (entry r.coefs c) p.coefs (hr ∙ sym hp) ∙ hr
 
 eliminated_constant : (w c : ℕ) (p r : Row) → length p.constant ≡ w → length r.constant ≡ w → length (eliminated p c r).constant ≡ w
 eliminated_constant w c p r hp hr =
     length-map (substituted p c r).constant _
-    ∙ length_combine (entry p.coefs c) (entry r.coefs c) r.constant p.constant (hr ∙ sym hp) ∙ hp
+    ∙ length-combine (entry p.coefs c) r.constant (entry r.coefs c) p.constant (hr ∙ sym hp) ∙ hr
 
 pub turned_row : (n c : ℕ) (p r made : Row) → IsShortReduced n p → IsShortReduced n r → pos 1 ≤ℤ entry p.coefs c → made ≡ eliminated p c r → IsShortRow made → IsShortReduced n made
 turned_row n c p r made hp hr h e short =

@@ -1,11 +1,10 @@
-ghost use Rattle.std.specs.Prelude.{◌≡◌, ◌-◌, ◌<◌, ◌≤◌, pos, ◌≤ℤ◌, false, length, All, IfSome, IfNone};
+ghost use Rattle.std.specs.Prelude.{◌≡◌, ◌-◌, ◌<◌, ◌≤◌, pos, ◌≤ℤ◌, false, length, IfSome, IfNone};
 ghost use Rattle.pip_model.specs.Forms.{entry};
 ghost use Rattle.pip_model.specs.Numbers.{gcd as gcd_of_two, gcd_of};
 ghost use Rattle.pip_model.specs.Rows as model;
-ghost use Rattle.affine_rows.specs.Checks.{Fits};
 ghost use Rattle.tableau.specs.Short.{IsShort, IsShortRow};
 ghost use Rattle.tableau.specs.Tableaus.{IsRow, IsOwnRow, row_from};
-ghost use Rattle.short_tableau.specs.Begun.{finished, begun_row, is_short_row};
+ghost use Rattle.short_tableau.specs.Begun.{finished, begun_row, is_short_row, IsBegun};
 ghost use Rattle.short_tableau.specs.Rows.{row_of};
 
 use crate::numbers::{combine, narrow, product};
@@ -17,7 +16,7 @@ use affine_rows::gcd;
 // what the two rows are multiplied by, and how many of its coefficients and of its constants are made. The others are
 // still those of the row before.
 #[derive(Clone, Copy)]
-pub struct Begun {
+pub(crate) struct Begun {
     pub by: Factors,
     pub den: i128,
     pub entry: i128,
@@ -26,7 +25,13 @@ pub struct Begun {
 }
 
 // Begins to put row p, solved for column c, into a row: up to the first coefficient and constant that is not short.
-pub fn begin(p: &ShortRow<'_>, c: usize, den: i64, coefs: &mut [i64], constant: &mut [i64]) -> Begun
+pub(crate) fn begin(
+    p: &ShortRow<'_>,
+    c: usize,
+    den: i64,
+    coefs: &mut [i64],
+    constant: &mut [i64],
+) -> Begun
     requires p { IsRow (length coefs.old) (length constant.old - 1) (row_of p.now) }
     requires row { IsOwnRow (row_from den coefs.old constant.old) }
     requires column { c < length coefs.old }
@@ -35,16 +40,9 @@ pub fn begin(p: &ShortRow<'_>, c: usize, den: i64, coefs: &mut [i64], constant: 
     requires row_short { IsShortRow (row_from den coefs.old constant.old) }
     ensures value { begun_row result (row_of p.now) c coefs.new constant.new
         ≡ model.substituted (row_of p.now) c (row_from den coefs.old constant.old) }
-    ensures zero { entry (finished result.by.of_row coefs.new result.by.of_pivot p.now.coefs.now result.coefs) c ≡ pos 0 }
-    ensures of_row { IsShort result.by.of_row }
-    ensures of_pivot { IsShort result.by.of_pivot }
-    ensures positive { pos 1 ≤ℤ result.den }
-    ensures den_fits { Fits result.den }
-    ensures entry_fits { Fits result.entry }
-    ensures coefs_made { result.coefs ≤ length coefs.new }
-    ensures constant_made { result.constant ≤ length constant.new }
-    ensures coefs_short { All IsShort coefs.new }
-    ensures constant_short { All IsShort constant.new }
+    ensures zero { entry (finished result.by.of_row coefs.new result.by.of_pivot p.now.coefs.now result.coefs) c
+        ≡ pos 0 }
+    ensures begun { IsBegun result coefs.new constant.new }
     ensures coefs { length coefs.new ≡ length coefs.old }
     ensures constant { length constant.new ≡ length constant.old }
 {
@@ -62,7 +60,7 @@ pub fn begin(p: &ShortRow<'_>, c: usize, den: i64, coefs: &mut [i64], constant: 
 }
 
 // The denominator and the entry in the column, where they are short and all other numbers are made.
-pub fn short_ends(begun: &Begun, coefs: usize, constant: usize) -> Option<(i64, i64)>
+pub(crate) fn short_ends(begun: &Begun, coefs: usize, constant: usize) -> Option<(i64, i64)>
     ensures den { IfSome result (λ x. x.0 ≡ begun.now.den) }
     ensures entry { IfSome result (λ x. x.1 ≡ begun.now.entry) }
     ensures den_short { IfSome result (λ x. IsShort x.0) }
@@ -80,19 +78,12 @@ pub fn short_ends(begun: &Begun, coefs: usize, constant: usize) -> Option<(i64, 
 fn divisor(p: &ShortRow<'_>, begun: &Begun, coefs: &[i64], constant: &[i64]) -> i128
     requires coefs { length coefs.now ≡ length p.now.coefs.now }
     requires constant { length constant.now ≡ length p.now.constant.now }
-    requires of_row { IsShort begun.now.by.of_row }
-    requires of_pivot { IsShort begun.now.by.of_pivot }
-    requires positive { pos 1 ≤ℤ begun.now.den }
-    requires den_fits { Fits begun.now.den }
-    requires entry_fits { Fits begun.now.entry }
     requires p_short { IsShortRow (row_of p.now) }
-    requires coefs_short { All IsShort coefs.now }
-    requires constant_short { All IsShort constant.now }
-    requires coefs_made { begun.now.coefs ≤ length coefs.now }
-    requires constant_made { begun.now.constant ≤ length constant.now }
+    requires begun { IsBegun begun.now coefs.now constant.now }
     ensures value { result ≡ gcd_of_two (gcd_of_two (gcd_of_two begun.now.den begun.now.entry)
         (gcd_of (finished begun.now.by.of_row coefs.now begun.now.by.of_pivot p.now.coefs.now begun.now.coefs)))
-        (gcd_of (finished begun.now.by.of_row constant.now begun.now.by.of_pivot p.now.constant.now begun.now.constant)) }
+        (gcd_of (finished begun.now.by.of_row constant.now begun.now.by.of_pivot p.now.constant.now
+        begun.now.constant)) }
     ensures positive { pos 1 ≤ℤ result }
 {
     let first = gcd(begun.den, begun.entry);
@@ -102,7 +93,7 @@ fn divisor(p: &ShortRow<'_>, begun: &Begun, coefs: &[i64], constant: &[i64]) -> 
 
 // Makes what is left of the row, divided by the greatest common divisor of its numbers; the new denominator, none where
 // a number is not short then.
-pub fn finish(
+pub(crate) fn finish(
     p: &ShortRow<'_>,
     c: usize,
     begun: &Begun,
@@ -112,18 +103,10 @@ pub fn finish(
     requires coefs { length coefs.old ≡ length p.now.coefs.now }
     requires constant { length constant.old ≡ length p.now.constant.now }
     requires column { c < length coefs.old }
-    requires zero { entry (finished begun.now.by.of_row coefs.old begun.now.by.of_pivot p.now.coefs.now begun.now.coefs) c
-        ≡ pos 0 }
-    requires of_row { IsShort begun.now.by.of_row }
-    requires of_pivot { IsShort begun.now.by.of_pivot }
-    requires positive { pos 1 ≤ℤ begun.now.den }
-    requires den_fits { Fits begun.now.den }
-    requires entry_fits { Fits begun.now.entry }
+    requires zero { entry
+        (finished begun.now.by.of_row coefs.old begun.now.by.of_pivot p.now.coefs.now begun.now.coefs) c ≡ pos 0 }
     requires p_short { IsShortRow (row_of p.now) }
-    requires coefs_short { All IsShort coefs.old }
-    requires constant_short { All IsShort constant.old }
-    requires coefs_made { begun.now.coefs ≤ length coefs.old }
-    requires constant_made { begun.now.constant ≤ length constant.old }
+    requires begun { IsBegun begun.now coefs.old constant.old }
     ensures value { IfSome result (λ d. row_from d coefs.new constant.new
         ≡ model.divided (begun_row begun.now (row_of p.now) c coefs.old constant.old)) }
     ensures short { IfSome result (λ d. IsShortRow (row_from d coefs.new constant.new)) }

@@ -78,7 +78,7 @@ fn make_cut(row: &mut [i64], unknowns: usize)
 }
 
 // Appends the numbers of the cut by row i of so many. A refusal leaves all as it was.
-pub fn push_cut_row(
+pub(crate) fn push_cut_row(
     numbers: &mut Vec<i64>,
     unknowns: usize,
     rows: usize,

@@ -57,7 +57,7 @@ fn exact_product(a: i64, b: i64) -> i128
 
 // The product of short numbers, and its bound.
 #[tactic(auto, using(tableau_row::proofs::ShortRows::product_bound))]
-pub fn product(a: i64, b: i64) -> i128
+pub(crate) fn product(a: i64, b: i64) -> i128
     requires a { IsShort a }
     requires b { IsShort b }
     ensures value { result ≡ a *ℤ b }
@@ -68,7 +68,7 @@ pub fn product(a: i64, b: i64) -> i128
 }
 
 // The number in 64 bits, where it is short.
-pub fn narrow(z: i128) -> Option<i64>
+pub(crate) fn narrow(z: i128) -> Option<i64>
     ensures value { IfSome result (λ n. n ≡ z) }
     ensures short { IfSome result IsShort }
     ensures long { IfNone result (is_short z ≡ false) }
@@ -91,7 +91,7 @@ fn wide_difference(a: i128, b: i128) -> i128
 }
 
 // `a*x - b*y` for short numbers.
-pub fn wide_entry(a: i64, x: i64, b: i64, y: i64) -> i128
+pub(crate) fn wide_entry(a: i64, x: i64, b: i64, y: i64) -> i128
     requires a { IsShort a }
     requires x { IsShort x }
     requires b { IsShort b }
@@ -142,7 +142,7 @@ fn entry(a: i64, x: i64, b: i64, y: i64) -> Option<i64>
 }
 
 // Makes `a*r - b*s` of r, entry by entry, up to the first that is not short; how many are made.
-pub fn combine(a: i64, r: &mut [i64], b: i64, s: &[i64]) -> usize
+pub(crate) fn combine(a: i64, r: &mut [i64], b: i64, s: &[i64]) -> usize
     requires lengths { length r.old ≡ length s.now }
     requires a { IsShort a }
     requires r { All IsShort r.old }
@@ -163,7 +163,7 @@ pub fn combine(a: i64, r: &mut [i64], b: i64, s: &[i64]) -> usize
 }
 
 // The greatest common divisor of a number and all entries.
-pub fn gcd_with(start: i64, entries: &[i64]) -> i64
+pub(crate) fn gcd_with(start: i64, entries: &[i64]) -> i64
     requires start { pos 1 ≤ℤ start }
     requires start_short { IsShort start }
     requires short { All IsShort entries.now }
@@ -182,7 +182,7 @@ pub fn gcd_with(start: i64, entries: &[i64]) -> i64
 }
 
 // What the quotient rounded down leaves, in `0 .. d - 1`.
-pub fn floor_mod(a: i64, d: i64) -> i64
+pub(crate) fn floor_mod(a: i64, d: i64) -> i64
     requires positive { pos 1 ≤ℤ d }
     requires short { IsShort d }
     ensures value { result ≡ floor_mod_of a d }
@@ -192,7 +192,7 @@ pub fn floor_mod(a: i64, d: i64) -> i64
 }
 
 // Divides each entry, rounded down.
-pub fn divide_all(entries: &mut [i64], d: i64)
+pub(crate) fn divide_all(entries: &mut [i64], d: i64)
     requires positive { pos 1 ≤ℤ d }
     requires short { All IsShort entries.old }
     ensures value { entries.new ≡ floor_divided d entries.old }

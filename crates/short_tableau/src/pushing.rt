@@ -23,7 +23,7 @@ fn append_row(numbers: &mut Vec<i64>, row: &ShortRow<'_>) -> Result<(), WantOfMe
 }
 
 // Appends the numbers of a row. A refusal leaves all as it was.
-pub fn push_row(numbers: &mut Vec<i64>, row: &ShortRow<'_>) -> Result<(), WantOfMemory>
+pub(crate) fn push_row(numbers: &mut Vec<i64>, row: &ShortRow<'_>) -> Result<(), WantOfMemory>
     ensures ok { OnOk result (numbers.new.items ≡ numbers.old.items ++ numbers_of (row_of row.now)) }
     ensures err { OnErr result (numbers.new.items ≡ numbers.old.items) }
 {
@@ -36,7 +36,11 @@ pub fn push_row(numbers: &mut Vec<i64>, row: &ShortRow<'_>) -> Result<(), WantOf
 }
 
 // Appends the numbers of the row of column c. A refusal leaves all as it was.
-pub fn push_unit_row(numbers: &mut Vec<i64>, unknowns: usize, c: usize) -> Result<(), WantOfMemory>
+pub(crate) fn push_unit_row(
+    numbers: &mut Vec<i64>,
+    unknowns: usize,
+    c: usize,
+) -> Result<(), WantOfMemory>
     requires { c < unknowns }
     ensures ok { OnOk result (numbers.new.items ≡ numbers.old.items ++ numbers_of (unit_row unknowns 0 c)) }
     ensures err { OnErr result (numbers.new.items ≡ numbers.old.items) }
@@ -67,7 +71,7 @@ fn append_short(numbers: &mut Vec<i64>, entries: &[i128]) -> Result<bool, WantOf
 
 // Appends the numbers of the row of a form that is read over all columns, up to the first that is not short; whether
 // all are.
-pub fn append_form(
+pub(crate) fn append_form(
     numbers: &mut Vec<i64>,
     unknowns: usize,
     form: &[i128],

@@ -14,14 +14,14 @@ use tableau::short_floor_div;
 
 // A row: its denominator, its coefficients, and its constant form, which is a constant.
 #[derive(Clone, Copy)]
-pub struct ShortRow<'t> {
+pub(crate) struct ShortRow<'t> {
     pub den: i64,
     pub coefs: &'t [i64],
     pub constant: &'t [i64],
 }
 
 // The row of these numbers over so many columns.
-pub fn view_of(row: &[i64], unknowns: usize) -> ShortRow<'_>
+pub(crate) fn view_of(row: &[i64], unknowns: usize) -> ShortRow<'_>
     requires { length row.now ≡ row_size unknowns }
     ensures { row_of result ≡ row_of_numbers unknowns row.now }
 {
@@ -35,7 +35,7 @@ pub fn view_of(row: &[i64], unknowns: usize) -> ShortRow<'_>
 }
 
 // Divides a row by the greatest common divisor of its numbers; the new denominator.
-pub fn divide_parts(den: i64, coefs: &mut [i64], constant: &mut [i64]) -> i64
+pub(crate) fn divide_parts(den: i64, coefs: &mut [i64], constant: &mut [i64]) -> i64
     requires positive { pos 1 ≤ℤ den }
     requires short { IsShortRow (row_from den coefs.old constant.old) }
     ensures value { row_from result coefs.new constant.new ≡ model.divided (row_from den coefs.old constant.old) }
@@ -90,7 +90,7 @@ fn eliminate_parts(
 
 // Makes of the numbers of a row those after the pivot on row p and column c; whether they are short. A row that is 0 in
 // the column stays.
-pub fn eliminate(row: &mut [i64], p: &ShortRow<'_>, c: usize) -> bool
+pub(crate) fn eliminate(row: &mut [i64], p: &ShortRow<'_>, c: usize) -> bool
     requires size { length row.old ≡ row_size (length p.now.coefs.now) }
     requires p { IsShortReduced (length p.now.coefs.now) (row_of p.now) }
     requires row { IsShortReduced (length p.now.coefs.now) (row_of_numbers (length p.now.coefs.now) row.old) }
@@ -128,7 +128,7 @@ fn clear_all(numbers: &mut [i64])
 }
 
 // Makes of the numbers of a row those of the row of column c.
-pub fn make_unit(row: &mut [i64], unknowns: usize, c: usize)
+pub(crate) fn make_unit(row: &mut [i64], unknowns: usize, c: usize)
     requires size { length row.old ≡ row_size unknowns }
     requires column { c < unknowns }
     ensures value { row_of_numbers unknowns row.new ≡ model.unit_row unknowns 0 c }

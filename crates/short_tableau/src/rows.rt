@@ -10,7 +10,7 @@ ghost use Rattle.short_tableau.specs.Rows.{row_of};
 use crate::row::{ShortRow, eliminate, make_unit, view_of};
 
 // Where the numbers of row i begin.
-pub fn place_of(unknowns: usize, rows: usize, i: usize, numbers: &[i64]) -> usize
+pub(crate) fn place_of(unknowns: usize, rows: usize, i: usize, numbers: &[i64]) -> usize
     requires dense { length numbers.now ≡ rows * row_size unknowns }
     requires row { i < rows }
     ensures value { result ≡ i * row_size unknowns }
@@ -20,7 +20,7 @@ pub fn place_of(unknowns: usize, rows: usize, i: usize, numbers: &[i64]) -> usiz
 }
 
 // Row i of so many.
-pub fn row_in(numbers: &[i64], unknowns: usize, rows: usize, i: usize) -> ShortRow<'_>
+pub(crate) fn row_in(numbers: &[i64], unknowns: usize, rows: usize, i: usize) -> ShortRow<'_>
     requires dense { IsDense unknowns rows numbers.now }
     requires row { i < rows }
     ensures { row_of result ≡ model.row_at (rows_in unknowns rows numbers.now) i }
@@ -53,7 +53,7 @@ fn turn_at(numbers: &mut [i64], rows: usize, i: usize, p: &ShortRow<'_>, c: usiz
 }
 
 // Makes of so many rows what they are after the pivot on row p and column c; whether their numbers are short.
-pub fn turn_rows(numbers: &mut [i64], rows: usize, p: &ShortRow<'_>, c: usize) -> bool
+pub(crate) fn turn_rows(numbers: &mut [i64], rows: usize, p: &ShortRow<'_>, c: usize) -> bool
     requires dense { IsDense (length p.now.coefs.now) rows numbers.old }
     requires p { IsShortReduced (length p.now.coefs.now) (row_of p.now) }
     requires column { c < length p.now.coefs.now }
@@ -118,7 +118,13 @@ fn turn_sides(
 }
 
 // Makes of so many rows those after the pivot on row r and column c; whether their numbers are short.
-pub fn pivot_rows(numbers: &mut [i64], unknowns: usize, rows: usize, r: usize, c: usize) -> bool
+pub(crate) fn pivot_rows(
+    numbers: &mut [i64],
+    unknowns: usize,
+    rows: usize,
+    r: usize,
+    c: usize,
+) -> bool
     requires dense { IsDense unknowns rows numbers.old }
     requires row { r < rows }
     requires column { c < unknowns }

@@ -164,8 +164,9 @@ impl ShortTableau {
         Ok(())
     }
 
-    /// Adds the cut by row i: where the row's quantity is whole, the sum of the fractional parts of its coefficients times
-    /// the columns' quantities is at least that of the opposite of its constant. A refusal leaves all as it was.
+    /// Adds the cut by row i: where the row's quantity is whole, the sum of the fractional parts of its coefficients
+    /// times the columns' quantities is at least that of the opposite of its constant. A refusal leaves all as it
+    /// was.
     pub fn push_cut(&mut self, i: usize) -> Result<(), WantOfMemory>
         requires { i < length self.old.rows }
         ensures ok { OnOk result (self.new ≡ with_row self.old (constant_cut (model.row_at self.old.rows i))) }

@@ -11,7 +11,7 @@ use affine_rows::{floor_div, gcd};
 
 // What the entries of a row and those of the pivot's row are multiplied by: `a*r - b*s`.
 #[derive(Clone, Copy)]
-pub struct Factors {
+pub(crate) struct Factors {
     pub of_row: i64,
     pub of_pivot: i64,
 }
@@ -59,7 +59,7 @@ fn gcd_with_made(start: i128, entries: &[i64]) -> i128
 }
 
 // The greatest common divisor of a number and the entries of `a*r - b*s`, of which so many are made in r.
-pub fn gcd_with_finished(start: i128, by: Factors, r: &[i64], s: &[i64], made: usize) -> i128
+pub(crate) fn gcd_with_finished(start: i128, by: Factors, r: &[i64], s: &[i64], made: usize) -> i128
     requires lengths { length r.now ≡ length s.now }
     requires made { made ≤ length r.now }
     requires start { pos 1 ≤ℤ start }
@@ -78,7 +78,7 @@ pub fn gcd_with_finished(start: i128, by: Factors, r: &[i64], s: &[i64], made: u
 }
 
 // The quotient rounded down in 64 bits, where it is short.
-pub fn narrow_quotient(z: i128, d: i128) -> Option<i64>
+pub(crate) fn narrow_quotient(z: i128, d: i128) -> Option<i64>
     requires positive { pos 1 ≤ℤ d }
     requires fits { Fits z }
     ensures value { IfSome result (λ n. n ≡ floor_div_of z d) }
@@ -138,7 +138,7 @@ fn divide_made(entries: &mut [i64], d: i128)
 
 // Makes of r the entries of `a*r - b*s`, of which so many are made in it, each divided by d and rounded down; whether
 // they are short.
-pub fn divide_finished(by: Factors, r: &mut [i64], s: &[i64], made: usize, d: i128) -> bool
+pub(crate) fn divide_finished(by: Factors, r: &mut [i64], s: &[i64], made: usize, d: i128) -> bool
     requires lengths { length r.old ≡ length s.now }
     requires made { made ≤ length r.old }
     requires of_row { IsShort by.of_row }

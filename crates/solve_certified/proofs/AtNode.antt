@@ -1,6 +1,6 @@
 -- The walk at a node: a choice, or the definition of a quotient.
-use Rattle.std.proofs.Common.{◌≡◌, refl, ap, sym, subst, ◌∙◌, ℕ, ◌+◌, ◌≤◌, ℤ, pos, Bool, true, false, ◌&&◌, List, [], ◌∷◌, ◌++◌, length, take, length-append, append-nil, eqb-true, arith}
-use Rattle.std.specs.Prelude.{Option, Some, None, IfSome, IsTrue, IsFalse, if◌then◌else◌, int_le}
+use Rattle.std.proofs.Common.{◌≡◌, refl, ap, sym, subst, ◌∙◌, ℕ, ◌+◌, ◌≤◌, ℤ, pos, true, ◌&&◌, List, [], ◌∷◌, ◌++◌, length, take, length-append, append-nil, eqb-true, arith}
+use Rattle.std.specs.Prelude.{Option, Some, None, IfSome, IsTrue, IsFalse, int_le}
 use Rattle.std.proofs.lemmas.List.{take_at}
 use Rattle.pip_model.specs.Forms.{opposite, constant}
 use Rattle.pip_model.specs.Listed.{all_fit, opposite_listed}
@@ -13,6 +13,10 @@ use Rattle.pip_model.specs.Certificate.{Certificate}
 use Rattle.pip_model.specs.Run.{Work, Outcome, Done, Refused, Refusal, Overflow}
 use Rattle.pip_model.specs.Made.{PathQuotient}
 use Rattle.pip_model.proofs.Tests.{both}
+use Rattle.affine_rows.specs.Checks.{is_form_overflow}
+use Rattle.affine_rows.specs.declared.memory.FormRefusal.{FormRefusal}
+use Rattle.affine_rows.specs.declared.memory.FormRefusal.TheVariants as form
+use Rattle.pip_problem.specs.Faults.{run_fault, of_form}
 use Rattle.solve_certified.specs.Trails.{TrailForms, below_quotient}
 use Rattle.solve_certified.specs.Walks.{made_below, are_whole, IsAt}
 use Rattle.solve_certified.proofs.MadeBelow.{choice_stop, choice_next, choice_unfit, definition_next, definition_unfit}
@@ -25,9 +29,9 @@ along : (o : Option Refusal) (x y : Outcome Certificate) (u : Work) → x ≡ y 
 along o x y u e h = subst (λ (z : Outcome Certificate). IfRefused o z u) (sym e) h
 
 -- a form that is refused
-refused_at : (overflow : Bool) (x : Outcome Certificate) (u : Work) (o : Option Refusal) → o ≡ (if overflow then Some Overflow else None) → (overflow ≡ true → x ≡ Refused Overflow u) → IfRefused o x u
-refused_at true x u o e h = subst (λ (p : Option Refusal). IfRefused p x u) (sym e) (h refl)
-refused_at false x u o e h = subst (λ (p : Option Refusal). IfRefused p x u) (sym e) tt
+refused_at : (f : FormRefusal) (x : Outcome Certificate) (u : Work) → (is_form_overflow f ≡ true → x ≡ Refused Overflow u) → IfRefused (run_fault (of_form f)) x u
+refused_at form.Overflow x u h = h refl
+refused_at form.WantOfMemory x u h = tt
 
 module _ (P : Problem) (q : TrailForms) (c : Certificate) (w : Work) (t : Tree) where
   module _ (v : List ℤ) (a b : Tree) (is : t ≡ If v a b) (q1 : TrailForms) (down : q1 ≡ record q { forms = q.forms ++ v ∷ [] }) where
@@ -42,11 +46,11 @@ module _ (P : Problem) (q : TrailForms) (c : Certificate) (w : Work) (t : Tree) 
     select_stop (Some e) u h = here ∙ choice_stop P q c w v a b e u (sym first_is ∙ h)
 
     module _ (d : Certificate) (u : Work) (done : made_below P q1 c a w ≡ Done d u) where
-      pub select_unfit : (overflow : Bool) (o : Option Refusal) → 1 ≤ P.unknowns → IsTrue (are_whole P.unknowns t) → (IsTrue overflow → IsFalse (all_fit (opposite_listed v))) → o ≡ (if overflow then Some Overflow else None)
-          → IfSome o (λ e. made_below P q c t w ≡ Refused e u)
-      select_unfit overflow o some whole h e =
+      pub select_unfit : (f : FormRefusal) → 1 ≤ P.unknowns → IsTrue (are_whole P.unknowns t) → (IsTrue (is_form_overflow f) → IsFalse (all_fit (opposite_listed v)))
+          → IfSome (run_fault (of_form f)) (λ e. made_below P q c t w ≡ Refused e u)
+      select_unfit f some whole h =
           let parts = both (are_whole P.unknowns a) (are_whole P.unknowns b) (subst (λ (s : Tree). are_whole P.unknowns s ≡ true) is whole) in
-          refused_at overflow (made_below P q c t w) u o e (λ y. here ∙ choice_unfit P q c w v a b d u (sym first_is ∙ done) some parts.1 (h y))
+          refused_at f (made_below P q c t w) u (λ y. here ∙ choice_unfit P q c w v a b d u (sym first_is ∙ done) some parts.1 (h y))
 
       module _ (q2 : TrailForms) (up : q2 ≡ record q { forms = q.forms ++ opposite v ∷ [] }) (fit : IsTrue (all_fit (opposite_listed v))) where
         pub select_next : made_below P q c t w ≡ made_below P q2 d b u
@@ -62,11 +66,11 @@ module _ (P : Problem) (q : TrailForms) (c : Certificate) (w : Work) (t : Tree) 
     abbrev pub bound_form : List ℤ
     bound_form = upper_bound (q.scope + 1) q.scope (record { form = v; den = d })
 
-    pub define_unfit : (overflow : Bool) (o : Option Refusal) → 1 ≤ P.unknowns → IsTrue (are_whole P.unknowns t) → (IsTrue overflow → IsFalse (all_fit (constant bound_form ∷ []))) → o ≡ (if overflow then Some Overflow else None)
-        → IfSome o (λ e. made_below P q c t w ≡ Refused e w)
-    define_unfit overflow o some whole h e =
+    pub define_unfit : (f : FormRefusal) → 1 ≤ P.unknowns → IsTrue (are_whole P.unknowns t) → (IsTrue (is_form_overflow f) → IsFalse (all_fit (constant bound_form ∷ [])))
+        → IfSome (run_fault (of_form f)) (λ e. made_below P q c t w ≡ Refused e w)
+    define_unfit f some whole h =
         let inner = subst (λ (s : Tree). are_whole P.unknowns s ≡ true) is whole in
-        refused_at overflow (made_below P q c t w) w o e (λ y. define_here ∙ definition_unfit P q c w v d a some inner (h y))
+        refused_at f (made_below P q c t w) w (λ y. define_here ∙ definition_unfit P q c w v d a some inner (h y))
 
     module _ (q1 : TrailForms) (down : q1 ≡ below_quotient q v d) (fit : IsTrue (all_fit (constant bound_form ∷ []))) where
       pub define_next : made_below P q c t w ≡ made_below P q1 c a w

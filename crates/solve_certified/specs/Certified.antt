@@ -11,5 +11,6 @@ abbrev pub certificate_in : Result certificate.Certificate Overflow → Option c
 certificate_in (Ok c) = Some c
 certificate_in (Err e) = None
 
-abbrev pub certified_of : Answer × Result certificate.Certificate Overflow → tree.Answer × Option certificate.Certificate
+abbrev pub certified_of : Answer × Result certificate.Certificate Overflow
+    → tree.Answer × Option certificate.Certificate
 certified_of r = (answer_of r.0, certificate_in r.1)

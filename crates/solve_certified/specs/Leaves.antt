@@ -13,7 +13,8 @@ use Rattle.solve_certified.specs.declared.refutation.Scope.{Scope}
 -- refutation r of a leaf, from 0
 abbrev pub made_at : Problem → LeafCase → List PathQuotient → ℕ → Counted Refutation
 made_at P L ks r =
-    made_refutation P L ks (unknowns_at P L.list r) (joined (leaf_forms P L) (slice_index_or (leaf_premises P L L.list) r nothing))
+    made_refutation P L ks (unknowns_at P L.list r)
+    (joined (leaf_forms P L) (slice_index_or (leaf_premises P L L.list) r nothing))
 
 abbrev pub made_proofs : Problem → LeafCase → List PathQuotient → Counted LeafProofs
 made_proofs P L ks = do

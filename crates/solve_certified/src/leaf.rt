@@ -1,15 +1,12 @@
-ghost use Rattle.std.specs.Prelude.{◌≡◌, ◌+◌, ◌<◌, length, OnOk, IsTrue, Some, None, option_copied, if◌then◌else◌};
+ghost use Rattle.std.specs.Prelude.{◌≡◌, ◌+◌, ◌<◌, length, OnOk, IsTrue, option_copied};
 ghost use Rattle.pip_model.specs.Agreement.{AgreesCounted};
 ghost use Rattle.pip_model.specs.Check.{is_whole_list, scope_forms};
-ghost use Rattle.pip_model.specs.Run as run;
 ghost use Rattle.pip_problem.specs.Faults.{run_fault};
-ghost use Rattle.affine_rows.specs.Checks.{is_form_overflow};
 ghost use Rattle.certificate_check.specs.Leaves.{case_of, own_premises, IsLeaf};
 ghost use Rattle.solve_certified.specs.Leaves.{made_at, made_proofs, IsScopeOf};
 ghost use Rattle.solve_certified.specs.Goals.{unknowns_at};
 
 use crate::refutation::Scope;
-use affine_rows::FormRefusal;
 use certificate_check::{Known, Leaf, refutation_count};
 use context::Work;
 use leaf_certificate::{LeafProofs, Refutation};
@@ -21,16 +18,6 @@ use std::alloc::Global;
 pub(crate) struct LeafMaking<'a> {
     pub(crate) leaf: Leaf<'a>,
     pub(crate) scope: Scope<'a>,
-}
-
-// The refusal of a run whose form is refused so.
-pub(crate) fn of_form(refusal: FormRefusal) -> Refusal
-    ensures { run_fault result ≡ (if is_form_overflow refusal then Some run.Overflow else None) }
-{
-    match refusal {
-        FormRefusal::Overflow => Refusal::Overflow,
-        FormRefusal::WantOfMemory => Refusal::WantOfMemory,
-    }
 }
 
 impl LeafMaking<'_> {
@@ -73,9 +60,7 @@ impl LeafMaking<'_> {
         ensures known { OnOk result (known.new ≡ known.old) }
     {
         let before = known.len();
-        if let Err(refusal) = self.leaf.push_goal(alloc, known, r) {
-            return Err(of_form(refusal));
-        }
+        self.leaf.push_goal(alloc, known, r)?;
         let steps = self.scope.refute(alloc, known, self.unknowns(r), work)?;
         known.truncate(before);
         Ok(steps)

@@ -101,8 +101,8 @@ impl Scope<'_> {
         Ok(places)
     }
 
-    // The steps by which the known forms have no point over what is in scope and n unknowns: those of the quotients, and
-    // then those of the point's run.
+    // The steps by which the known forms have no point over what is in scope and n unknowns: those of the quotients,
+    // and then those of the point's run.
     pub(crate) fn refute(
         &self,
         alloc: Global,

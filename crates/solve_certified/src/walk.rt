@@ -5,7 +5,7 @@ ghost use Rattle.quast.specs.Trees.{tree_of};
 ghost use Rattle.certificate_check.specs.Walks.{leaf_tree};
 ghost use Rattle.solve_certified.specs.Walks.{made_below, IsAt};
 
-use crate::leaf::{LeafMaking, of_form};
+use crate::leaf::LeafMaking;
 use crate::refutation::Scope;
 use crate::trail::Trail;
 use certificate_check::Leaf;
@@ -87,18 +87,14 @@ impl Walk<'_> {
                 trail.push(self.alloc, v)?;
                 self.make_node(trail, a, made, work)?;
                 trail.back_to(mark);
-                if let Err(refusal) = trail.push_opposite(self.alloc, v) {
-                    return Err(of_form(refusal));
-                }
+                trail.push_opposite(self.alloc, v)?;
                 self.make_node(trail, b, made, work)?;
                 trail.back_to(mark);
                 Ok(())
             }
             Node::Define(v, d, a) => {
                 let mark = trail.mark();
-                if let Err(refusal) = trail.push_quotient(self.alloc, v, *d) {
-                    return Err(of_form(refusal));
-                }
+                trail.push_quotient(self.alloc, v, *d)?;
                 self.make_node(trail, a, made, work)?;
                 trail.back_to(mark);
                 Ok(())

@@ -14,6 +14,7 @@ use Rattle.tableau.specs.declared.kept.Kept.{Kept}
 use Rattle.tableau.specs.declared.kept.Kept.TheVariants as kept
 use Rattle.tableau.specs.declared.kept.Place.{Place}
 use Rattle.tableau.proofs.Flat.{with_plain, with_unit, rows_more, rows_unit}
+use Rattle.tableau.proofs.Turning.{all_kept}
 
 -- ---- the rows in front and behind
 
@@ -33,6 +34,15 @@ kept_behind n w zs ks i h = record {
   reduced = All-drop (λ k. IsReduced (row_kept n w zs k)) i ks h.reduced;
   short = All-drop (IsKnown n w zs) i ks h.short;
   plain = All-drop (IsPlain n w zs) i ks h.plain;
+}
+
+pub kept_flat : (n w : ℕ) (zs : List ℤ) (ks : List Kept) → IsFlat n w zs ks → AreKept n w zs ks
+kept_flat n w zs ks h = record {
+  places = h.places;
+  rows = all_kept (IsRow n w) (row_kept n w zs) ks h.rows;
+  reduced = all_kept IsReduced (row_kept n w zs) ks h.reduced;
+  short = h.short;
+  plain = h.plain;
 }
 
 -- ---- the places of a run

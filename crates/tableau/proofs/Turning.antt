@@ -2,7 +2,7 @@
 use Rattle.std.proofs.Common.{◌≡◌, refl, ap, sym, ◌∙◌, subst, ℕ, zero, suc, ◌+◌, ◌-◌, ◌<◌, ◌≤◌, ◌≢◌, ℤ, pos, ◌≤ℤ◌, ◌*ℤ◌, true, ◌&&◌, List, [], ◌∷◌, ◌++◌, length, map, flat_map, take, drop, replicate, arith, append_assoc, get_or, get_or-set_other}
 use Rattle.std.specs.Prelude.{IsTrue, All, slice_set}
 use Rattle.std.proofs.lemmas.List.{take-append-drop, get_or-take, get_or-drop, map-append, get_or-replicate, length-set, length-map, take-map, drop-map, get_or-map}
-use Rattle.std.proofs.lemmas.List.Elements.{All-head, All-tail, All-same, All-take, All-drop}
+use Rattle.std.proofs.lemmas.List.Elements.{All-head, All-tail}
 use Rattle.std.proofs.lemmas.Int.{ints}
 use Rattle.pip_model.specs.Numbers.{fits}
 use Rattle.pip_model.specs.Forms.{entry, scale, width}
@@ -145,12 +145,6 @@ turned_pivot f xs front back p r c n w h e g same hp =
 -- a fact of each row, at the rows in front and behind
 pub all_kept : {X : Type 0} (P : Row → Type 0) (f : X → Row) (xs : List X) → All P (map f xs) → All (λ x. P (f x)) xs
 all_kept P f xs h = λ k d lt. subst P (get_or-map f xs k d (f d) lt) (h k (f d) (simp length-map lt))
-
-pub front_all : {X : Type 0} (P : Row → Type 0) (f : X → Row) (xs front : List X) (r : ℕ) → front ≡ take r xs → All P (map f xs) → All (λ x. P (f x)) front
-front_all P f xs front r e h = All-same (λ x. P (f x)) front (take r xs) e (All-take (λ x. P (f x)) r xs (all_kept P f xs h))
-
-pub back_all : {X : Type 0} (P : Row → Type 0) (f : X → Row) (xs back : List X) (r : ℕ) → back ≡ drop r xs → All P (map f xs) → All (λ x. P (f x)) back
-back_all P f xs back r e h = All-same (λ x. P (f x)) back (drop r xs) e (All-drop (λ x. P (f x)) r xs (all_kept P f xs h))
 
 pub row_is : {X : Type 0} (f : X → Row) (xs : List X) (r : ℕ) (d : X) → r < length xs → f (get_or xs r d) ≡ row_at (map f xs) r
 row_is f xs r d h = sym (get_or-map f xs r d (form_row 0 []) h)

@@ -43,6 +43,11 @@ abbrev pub IsPlace : ℕ → ℕ → ℕ → Kept → Type 0
 IsPlace n w len (kept.Unit c) = c < n
 IsPlace n w len (kept.At p) = p.first + row_length n w ≤ len
 
+-- rows over the columns and places of those that are lent
+pub record IsOver (t : KeptRows) (v : Lent) : Type 0 where
+  pub unknowns : t.unknowns ≡ v.unknowns
+  pub width : t.width ≡ v.width
+
 -- whether all numbers of the row are known to be short
 abbrev pub kept_short : Kept → Bool
 kept_short (kept.Unit c) = true
@@ -60,9 +65,6 @@ abbrev pub IsPlain : ℕ → ℕ → List ℤ → Kept → Type 0
 IsPlain n w numbers (kept.Unit c) = Unit {0}
 IsPlain n w numbers (kept.At p) = is_unit_row (row_from_place n w numbers p.first) ≡ false
 
-abbrev pub IsPlainLent : Lent → Kept → Type 0
-IsPlainLent v k = IsPlain v.unknowns v.width v.numbers.now k
-
 -- the rows that are not the row of a column, number after number
 abbrev pub flat_numbers : List Row → List ℤ
 flat_numbers rows = flat_map numbers_of (filter (λ r. not (is_unit_row r)) rows)
@@ -77,13 +79,23 @@ pub record IsFlat (n w : ℕ) (numbers : List ℤ) (ks : List Kept) : Type 0 whe
   pub flat : numbers ≡ flat_numbers (rows_kept n w numbers ks)
   pub few : length numbers ≤ length ks * row_length n w
 
--- rows that are kept among these numbers, each with what is known of it
+-- a row that is kept among these numbers, with what is known of it; several
+pub record IsKept (n w : ℕ) (numbers : List ℤ) (k : Kept) : Type 0 where
+  pub place : IsPlace n w (length numbers) k
+  pub row : IsRow n w (row_kept n w numbers k)
+  pub reduced : IsReduced (row_kept n w numbers k)
+  pub short : IsKnown n w numbers k
+  pub plain : IsPlain n w numbers k
+
 pub record AreKept (n w : ℕ) (numbers : List ℤ) (ks : List Kept) : Type 0 where
   pub places : All (IsPlace n w (length numbers)) ks
   pub rows : All (λ k. IsRow n w (row_kept n w numbers k)) ks
   pub reduced : All (λ k. IsReduced (row_kept n w numbers k)) ks
   pub short : All (IsKnown n w numbers) ks
   pub plain : All (IsPlain n w numbers) ks
+
+abbrev pub IsLent : Lent → Kept → Type 0
+IsLent v k = IsKept v.unknowns v.width v.numbers.now k
 
 abbrev pub AreLent : Lent → List Kept → Type 0
 AreLent v ks = AreKept v.unknowns v.width v.numbers.now ks

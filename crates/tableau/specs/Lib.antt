@@ -1,5 +1,4 @@
 pub mod KeptRows
-pub mod Refusals
 pub mod Tableaus
 pub use Rattle.tableau_row.specs.Flat
 pub use Rattle.tableau_row.specs.Rows

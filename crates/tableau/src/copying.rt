@@ -1,5 +1,5 @@
 ghost use Rattle.std.specs.Prelude.{◌≡◌, ◌+◌, ◌-◌, ◌<◌, ◌≤◌, ◌++◌, length, map, take, drop, All, IfOk, vec_len, vec_capacity};
-ghost use Rattle.tableau.specs.KeptRows.{AreLent, IsPlace, IsKnownLent, IsPlainLent, IsRun, IsMovable, moved_kept, row_length, lent_row, lent_rows, with_more, with_rows};
+ghost use Rattle.tableau.specs.KeptRows.{IsOver, IsLent, AreLent, IsRun, IsMovable, moved_kept, row_length, lent_row, lent_rows, with_more, with_rows};
 ghost use Rattle.tableau_row.specs.Rows.{IsRow, IsReduced};
 
 use crate::flat_rows::FlatRows;
@@ -65,13 +65,8 @@ fn append_run(numbers: &mut Vec<i128>, others: &[i128], first: usize, end: usize
 // Adds a kept row that is lent.
 pub(crate) fn copy_kept(next: &mut FlatRows, lent: &Lent<'_>, one: Kept)
     requires room { length next.old.rows < next.old.most }
-    requires unknowns { next.old.unknowns ≡ lent.now.unknowns }
-    requires width { next.old.width ≡ lent.now.width }
-    requires place { IsPlace lent.now.unknowns lent.now.width (length lent.now.numbers.now) one }
-    requires row { IsRow lent.now.unknowns lent.now.width (lent_row lent.now one) }
-    requires reduced { IsReduced (lent_row lent.now one) }
-    requires short { IsKnownLent lent.now one }
-    requires plain { IsPlainLent lent.now one }
+    requires over { IsOver next.old lent.now }
+    requires one { IsLent lent.now one }
     ensures { next.new ≡ with_more next.old (lent_row lent.now one) }
 {
     match one {
@@ -97,8 +92,7 @@ impl FlatRows {
     // Adds kept rows that are lent, and whose numbers follow one another from a place on to another.
     pub(crate) fn push_run(&mut self, lent: &Lent<'_>, kept: &[Kept], first: usize, end: usize)
         requires room { length self.old.rows + length kept.now ≤ self.old.most }
-        requires unknowns { self.old.unknowns ≡ lent.now.unknowns }
-        requires width { self.old.width ≡ lent.now.width }
+        requires over { IsOver self.old lent.now }
         requires lent { AreLent lent.now kept.now }
         requires run { IsRun (row_length lent.now.unknowns lent.now.width) first end kept.now }
         ensures { self.new ≡ with_rows self.old (lent_rows lent.now kept.now) }

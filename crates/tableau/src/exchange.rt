@@ -1,10 +1,10 @@
-ghost use Rattle.std.specs.Prelude.{◌≡◌, ◌+◌, ◌-◌, ◌<◌, ◌≤◌, pos, ◌≤ℤ◌, false, [], ◌∷◌, length, take, map, flat_map, All, IsTrue, IfSome, OnSome, OnErr, OnOk};
+ghost use Rattle.std.specs.Prelude.{◌≡◌, ◌+◌, ◌-◌, ◌<◌, ◌≤◌, pos, ◌≤ℤ◌, false, [], ◌∷◌, length, take, map, flat_map, IsTrue, IfSome, OnSome, OnErr, OnOk};
 ghost use Rattle.pip_model.specs.Forms.{entry};
 ghost use Rattle.pip_model.specs.Listed.{all_fit};
 ghost use Rattle.pip_model.specs.Rows as model;
 ghost use Rattle.pip_model.specs.Agreement.{IsChecked};
 ghost use Rattle.affine_rows.specs.Checks.{is_overflow};
-ghost use Rattle.tableau.specs.KeptRows.{AreLent, AreSteady, IsFlat, IsPlace, IsKnownLent, IsPlainLent, IsRun, IsSteady, SameShape, lent_row, lent_rows, row_length, with_more, with_rows, unit_run};
+ghost use Rattle.tableau.specs.KeptRows.{IsOver, IsLent, AreLent, AreSteady, IsFlat, IsRun, IsSteady, SameShape, lent_row, lent_rows, row_length, with_more, with_rows, unit_run};
 ghost use Rattle.tableau_row.specs.Rows.{IsRow, IsOwnRow, IsReduced};
 ghost use Rattle.tableau_row.specs.Views.{row_of};
 
@@ -54,15 +54,10 @@ fn turn_row(
     one: Kept,
 ) -> Result<(), Overflow>
     requires room { length next.old.rows < next.old.most }
-    requires unknowns { next.old.unknowns ≡ lent.now.unknowns }
-    requires width { next.old.width ≡ lent.now.width }
+    requires over { IsOver next.old lent.now }
     requires units { lent.now.units.now ≡ unit_run lent.now.unknowns lent.now.width }
-    requires place { IsPlace lent.now.unknowns lent.now.width (length lent.now.numbers.now) one }
+    requires one { IsLent lent.now one }
     requires p { IsRow lent.now.unknowns lent.now.width (row_of p.now) }
-    requires row { IsRow lent.now.unknowns lent.now.width (lent_row lent.now one) }
-    requires reduced { IsReduced (lent_row lent.now one) }
-    requires short { IsKnownLent lent.now one }
-    requires plain { IsPlainLent lent.now one }
     requires column { c < lent.now.unknowns }
     requires positive { pos 1 ≤ℤ entry p.now.coefs.now c }
     ensures listed { IsChecked is_overflow (model.eliminated_listed (row_of p.now) c (lent_row lent.now one)) result }
@@ -89,15 +84,10 @@ fn turn_kept(
     one: Kept,
 ) -> Result<(), Overflow>
     requires room { length next.old.rows < next.old.most }
-    requires unknowns { next.old.unknowns ≡ lent.now.unknowns }
-    requires width { next.old.width ≡ lent.now.width }
+    requires over { IsOver next.old lent.now }
     requires units { lent.now.units.now ≡ unit_run lent.now.unknowns lent.now.width }
-    requires place { IsPlace lent.now.unknowns lent.now.width (length lent.now.numbers.now) one }
+    requires one { IsLent lent.now one }
     requires p { IsRow lent.now.unknowns lent.now.width (row_of p.now) }
-    requires row { IsRow lent.now.unknowns lent.now.width (lent_row lent.now one) }
-    requires reduced { IsReduced (lent_row lent.now one) }
-    requires short { IsKnownLent lent.now one }
-    requires plain { IsPlainLent lent.now one }
     requires p_reduced { IsTrue p.now.short → IsReduced (row_of p.now) }
     requires column { c < lent.now.unknowns }
     requires positive { pos 1 ≤ℤ entry p.now.coefs.now c }
@@ -116,12 +106,10 @@ fn turn_kept(
 }
 
 // The place behind the row's numbers, which stand at the place if it has any, where the row is known to stay as it is
-// in the pivot on row p and column c: the row of another column, or a short one under a short p that is 0 in the column.
+// in the pivot on row p and column c: the row of another column, or a short one under a short p that is 0 in the
+// column.
 fn steady_end(p: &RowView<'_>, c: usize, lent: &Lent<'_>, one: Kept, at: usize) -> Option<usize>
-    requires place { IsPlace lent.now.unknowns lent.now.width (length lent.now.numbers.now) one }
-    requires row { IsRow lent.now.unknowns lent.now.width (lent_row lent.now one) }
-    requires reduced { IsReduced (lent_row lent.now one) }
-    requires short { IsKnownLent lent.now one }
+    requires one { IsLent lent.now one }
     requires p { IsRow lent.now.unknowns lent.now.width (row_of p.now) }
     requires column { c < lent.now.unknowns }
     requires positive { pos 1 ≤ℤ entry p.now.coefs.now c }
@@ -173,16 +161,17 @@ fn push_steady<'k>(
     first: usize,
 ) -> (&'k [Kept], usize)
     requires room { length next.old.rows + length kept.now ≤ next.old.most }
-    requires unknowns { next.old.unknowns ≡ lent.now.unknowns }
-    requires width { next.old.width ≡ lent.now.width }
+    requires over { IsOver next.old lent.now }
     requires lent { AreLent lent.now kept.now }
     requires p { IsRow lent.now.unknowns lent.now.width (row_of p.now) }
     requires column { c < lent.now.unknowns }
     requires positive { pos 1 ≤ℤ entry p.now.coefs.now c }
     ensures lent { AreLent lent.now result.0.now }
-    ensures listed { all_fit (flat_map (λ one. model.eliminated_listed (row_of p.now) c (lent_row lent.now one)) result.0.now)
+    ensures listed { all_fit
+        (flat_map (λ one. model.eliminated_listed (row_of p.now) c (lent_row lent.now one)) result.0.now)
         ≡ all_fit (flat_map (λ one. model.eliminated_listed (row_of p.now) c (lent_row lent.now one)) kept.now) }
-    ensures rows { with_rows next.new (map (λ one. model.eliminated (row_of p.now) c (lent_row lent.now one)) result.0.now)
+    ensures rows { with_rows next.new
+        (map (λ one. model.eliminated (row_of p.now) c (lent_row lent.now one)) result.0.now)
         ≡ with_rows next.old (map (λ one. model.eliminated (row_of p.now) c (lent_row lent.now one)) kept.now) }
     ensures fewer { length result.0.now ≤ length kept.now }
     ensures count { length next.new.rows + length result.0.now ≡ length next.old.rows + length kept.now }
@@ -205,14 +194,9 @@ fn turn_rows(
     first: usize,
 ) -> Result<(), Overflow>
     requires room { length next.old.rows + length kept.now ≤ next.old.most }
-    requires unknowns { next.old.unknowns ≡ lent.now.unknowns }
-    requires width { next.old.width ≡ lent.now.width }
+    requires over { IsOver next.old lent.now }
     requires units { lent.now.units.now ≡ unit_run lent.now.unknowns lent.now.width }
-    requires places { All (IsPlace lent.now.unknowns lent.now.width (length lent.now.numbers.now)) kept.now }
-    requires rows { All (λ one. IsRow lent.now.unknowns lent.now.width (lent_row lent.now one)) kept.now }
-    requires reduced { All (λ one. IsReduced (lent_row lent.now one)) kept.now }
-    requires short { All (IsKnownLent lent.now) kept.now }
-    requires plain { All (IsPlainLent lent.now) kept.now }
+    requires lent { AreLent lent.now kept.now }
     requires p { IsRow lent.now.unknowns lent.now.width (row_of p.now) }
     requires p_reduced { IsTrue p.now.short → IsReduced (row_of p.now) }
     requires column { c < lent.now.unknowns }
@@ -248,8 +232,7 @@ fn turn_all(
 ) -> Result<(), Overflow>
     requires empty { next.old.rows ≡ [] }
     requires room { length kept.now ≤ next.old.most }
-    requires unknowns { next.old.unknowns ≡ lent.now.unknowns }
-    requires width { next.old.width ≡ lent.now.width }
+    requires over { IsOver next.old lent.now }
     requires units { lent.now.units.now ≡ unit_run lent.now.unknowns lent.now.width }
     requires flat { IsFlat lent.now.unknowns lent.now.width lent.now.numbers.now kept.now }
     requires row { r < length kept.now }

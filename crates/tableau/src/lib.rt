@@ -7,12 +7,11 @@ mod exchange;
 mod flat_rows;
 mod kept;
 mod pushing;
-mod refusal;
 mod row_rounding;
 mod tableau;
 mod unit_run;
 mod widening;
 
-pub use refusal::StepRefusal;
+pub use affine_rows::FormRefusal as StepRefusal;
 pub use tableau::Tableau;
 pub use tableau_row::{RowView, short_floor_div, short_gcd};

@@ -1,9 +1,9 @@
-ghost use Rattle.std.specs.Prelude.{◌≡◌, ◌+◌, ◌<◌, ◌≤◌, [], length, map, slice_set, All, OnErr, OnOk};
+ghost use Rattle.std.specs.Prelude.{◌≡◌, ◌+◌, ◌<◌, ◌≤◌, [], length, map, slice_set, OnErr, OnOk};
 ghost use Rattle.pip_model.specs.Rows as model;
 ghost use Rattle.pip_model.specs.Cuts.{rounded, rounded_listed};
 ghost use Rattle.pip_model.specs.Agreement.{IsChecked};
 ghost use Rattle.affine_rows.specs.Checks.{is_overflow};
-ghost use Rattle.tableau.specs.KeptRows.{IsFlat, IsPlace, IsKnownLent, IsPlainLent, SameShape, lent_row, lent_rows, with_rows, unit_run};
+ghost use Rattle.tableau.specs.KeptRows.{IsOver, AreLent, IsFlat, SameShape, lent_rows, with_rows, unit_run};
 ghost use Rattle.tableau_row.specs.Rows.{IsRow, IsReduced};
 
 use crate::copying::copy_kept;
@@ -14,14 +14,9 @@ use affine_rows::Overflow;
 // Adds the kept rows.
 fn copy_rows(next: &mut FlatRows, lent: &Lent<'_>, kept: &[Kept])
     requires room { length next.old.rows + length kept.now ≤ next.old.most }
-    requires unknowns { next.old.unknowns ≡ lent.now.unknowns }
-    requires width { next.old.width ≡ lent.now.width }
+    requires over { IsOver next.old lent.now }
     requires units { lent.now.units.now ≡ unit_run lent.now.unknowns lent.now.width }
-    requires places { All (IsPlace lent.now.unknowns lent.now.width (length lent.now.numbers.now)) kept.now }
-    requires rows { All (λ one. IsRow lent.now.unknowns lent.now.width (lent_row lent.now one)) kept.now }
-    requires reduced { All (λ one. IsReduced (lent_row lent.now one)) kept.now }
-    requires short { All (IsKnownLent lent.now) kept.now }
-    requires plain { All (IsPlainLent lent.now) kept.now }
+    requires lent { AreLent lent.now kept.now }
     ensures { next.new ≡ with_rows next.old (lent_rows lent.now kept.now) }
 {
     for one in kept {
@@ -39,8 +34,7 @@ fn round_all(
 ) -> Result<(), Overflow>
     requires empty { next.old.rows ≡ [] }
     requires room { length kept.now ≤ next.old.most }
-    requires unknowns { next.old.unknowns ≡ lent.now.unknowns }
-    requires width { next.old.width ≡ lent.now.width }
+    requires over { IsOver next.old lent.now }
     requires units { lent.now.units.now ≡ unit_run lent.now.unknowns lent.now.width }
     requires flat { IsFlat lent.now.unknowns lent.now.width lent.now.numbers.now kept.now }
     requires row { r < length kept.now }

@@ -1,7 +1,6 @@
-ghost use Rattle.std.specs.Prelude.{◌≡◌, ◌+◌, ◌<◌, ◌≤◌, length, map, All};
+ghost use Rattle.std.specs.Prelude.{◌≡◌, ◌+◌, ◌<◌, ◌≤◌, length, map};
 ghost use Rattle.pip_model.specs.Rows as model;
-ghost use Rattle.tableau.specs.KeptRows.{IsPlace, IsKnownLent, lent_row, with_more, with_rows, unit_run};
-ghost use Rattle.tableau_row.specs.Rows.{IsRow, IsReduced};
+ghost use Rattle.tableau.specs.KeptRows.{AreLent, IsLent, lent_row, with_more, with_rows, unit_run};
 
 use crate::flat_rows::FlatRows;
 use crate::kept::{Kept, Lent};
@@ -12,10 +11,7 @@ fn widen_kept(next: &mut FlatRows, lent: &Lent<'_>, one: Kept)
     requires unknowns { next.old.unknowns ≡ lent.now.unknowns }
     requires width { next.old.width ≡ lent.now.width + 1 }
     requires units { lent.now.units.now ≡ unit_run lent.now.unknowns lent.now.width }
-    requires place { IsPlace lent.now.unknowns lent.now.width (length lent.now.numbers.now) one }
-    requires row { IsRow lent.now.unknowns lent.now.width (lent_row lent.now one) }
-    requires reduced { IsReduced (lent_row lent.now one) }
-    requires short { IsKnownLent lent.now one }
+    requires one { IsLent lent.now one }
     ensures { next.new ≡ with_more next.old (model.widened (lent_row lent.now one)) }
 {
     match one {
@@ -30,10 +26,7 @@ fn widen_rows(next: &mut FlatRows, lent: &Lent<'_>, kept: &[Kept])
     requires unknowns { next.old.unknowns ≡ lent.now.unknowns }
     requires width { next.old.width ≡ lent.now.width + 1 }
     requires units { lent.now.units.now ≡ unit_run lent.now.unknowns lent.now.width }
-    requires places { All (IsPlace lent.now.unknowns lent.now.width (length lent.now.numbers.now)) kept.now }
-    requires rows { All (λ one. IsRow lent.now.unknowns lent.now.width (lent_row lent.now one)) kept.now }
-    requires reduced { All (λ one. IsReduced (lent_row lent.now one)) kept.now }
-    requires short { All (IsKnownLent lent.now) kept.now }
+    requires lent { AreLent lent.now kept.now }
     ensures { next.new ≡ with_rows next.old (map (λ one. model.widened (lent_row lent.now one)) kept.now) }
 {
     for one in kept {

@@ -6,6 +6,7 @@ use Rattle.std.proofs.lemmas.Bool.{ltb-true, lt-ltb}
 use Rattle.std.proofs.lemmas.List.{drop_more, take_more, set_at, get_or_at, length-take, take_all, drop_all}
 use Rattle.std.proofs.lemmas.List.Elements.{All-push}
 use Rattle.std.proofs.Common.{append-nil}
+use Rattle.pip_model.proofs.Forms.{length-combine}
 use Rattle.pip_model.specs.Numbers.{fits}
 use Rattle.pip_model.specs.Forms.{combine, remove}
 use Rattle.pip_model.specs.Listed.{all_fit, combine_listed}
@@ -13,7 +14,7 @@ use Rattle.affine_rows.proofs.Short.{product_fits, short_fits}
 use Rattle.affine_rows.specs.Checks.{Fits}
 use Rattle.affine_rows.proofs.Combined.{listed_at}
 use Rattle.tableau_row.specs.Short.{is_short}
-use Rattle.tableau_row.proofs.Places.{length_combine, listed_but, remove_parts, set_combine}
+use Rattle.tableau_row.proofs.Places.{listed_but, remove_parts, set_combine}
 use Rattle.tableau_row.proofs.Unchanged.{set-same}
 use Rattle.std.proofs.lemmas.Int.{ints}
 
@@ -65,7 +66,7 @@ module _ (a b : ℤ) (r s : List ℤ) (same : length r ≡ length s) (i : ℕ) (
   front_lengths = simp length-take (omega arith)
 
   front_length : length (combine a (take i r) b (take i s)) ≡ i
-  front_length = length_combine a b (take i r) (take i s) front_lengths ∙ simp length-take (omega arith)
+  front_length = length-combine a (take i r) b (take i s) front_lengths ∙ simp length-take (omega arith)
 
   combined_read : get_or (combined a r b s i) i (pos 0) ≡ get_or r i (pos 0)
   combined_read = rw (drop_more r i (pos 0) h) (get_or_at (combine a (take i r) b (take i s)) (get_or r i (pos 0)) (drop (i + 1) r) (pos 0) i front_length)

@@ -2,6 +2,7 @@
 use Rattle.std.proofs.Common.{◌≡◌, refl, ap, sym, ◌∙◌, ℕ, zero, suc, ◌+◌, ◌<◌, ℤ, ◌*ℤ◌, pos, ◌&&◌, List, [], ◌∷◌, ◌++◌, length, take, drop, arith, append_assoc}
 use Rattle.std.proofs.lemmas.List.{length-take, drop_more}
 use Rattle.std.proofs.lemmas.List.Folds.{list_all-append}
+use Rattle.pip_model.proofs.Forms.{length-combine}
 use Rattle.pip_model.specs.Numbers.{fits}
 use Rattle.std.specs.Prelude.{slice_set}
 use Rattle.pip_model.specs.Forms.{combine, entry, remove}
@@ -48,12 +49,6 @@ drop_combine a b (x ∷ r) [] (suc c) = combine_nil a b (drop c r)
     combine_nil a b (x ∷ r) = refl
 drop_combine a b (x ∷ r) (y ∷ s) (suc c) = drop_combine a b r s c
 
-pub length_combine : (a b : ℤ) (r s : List ℤ) → length r ≡ length s → length (combine a r b s) ≡ length s
-length_combine a b [] [] e = refl
-length_combine a b [] (y ∷ s) e = absurd (omega arith)
-length_combine a b (x ∷ r) [] e = absurd (omega arith)
-length_combine a b (x ∷ r) (y ∷ s) e = ap suc (length_combine a b r s (omega arith))
-
 -- a list with another element at place c
 pub set_parts : {X : Type 0} (xs : List X) (c : ℕ) (e : X) → c < length xs → slice_set xs c e ≡ take c xs ++ e ∷ drop (c + 1) xs
 set_parts [] c e h = absurd (omega arith)
@@ -66,7 +61,7 @@ set_parts (x ∷ xs) (suc c) e h =
 pub set_combine : (a b e : ℤ) (r s : List ℤ) (c : ℕ) → length r ≡ length s → c < length s
     → combine a (take c r) b (take c s) ++ e ∷ combine a (drop (c + 1) r) b (drop (c + 1) s) ≡ slice_set (combine a r b s) c e
 set_combine a b e r s c same h =
-    let k : c < length (combine a r b s) = rw (length_combine a b r s same) h in
+    let k : c < length (combine a r b s) = rw (length-combine a r b s same, same) h in
     rw (take_combine a b r s c, drop_combine a b r s (c + 1)) (sym (set_parts (combine a r b s) c e k))
 
 pub remove_parts : (c : ℕ) (xs : List ℤ) → remove c xs ≡ take c xs ++ drop (c + 1) xs

@@ -1,15 +1,14 @@
 -- The row of a column after the pivot on a row and that column: the row solved for the column.
-use Rattle.std.proofs.Common.{◌≡◌, ◌∙◌, refl, ap, sym, ℕ, zero, suc, ◌+◌, ◌<◌, ℤ, pos, neg_ℤ, ◌≤ℤ◌, ◌*ℤ◌, ◌-ℤ◌, unsigned_abs, arith, List, [], ◌∷◌, ◌++◌, length, take, drop, replicate, get_or, append_assoc, length-set}
+use Rattle.std.proofs.Common.{◌≡◌, ◌∙◌, refl, ap, sym, ℕ, zero, suc, ◌+◌, ◌<◌, ℤ, pos, neg_ℤ, ◌≤ℤ◌, ◌*ℤ◌, ◌-ℤ◌, arith, List, [], ◌∷◌, ◌++◌, length, take, drop, replicate, get_or, append_assoc, length-set}
 use Rattle.std.specs.Prelude.{slice_set, IsTrue, All}
 use Rattle.std.proofs.lemmas.Int.{ints}
 use Rattle.std.proofs.lemmas.List.{length-map, map-append, length-replicate, take_more, take-map, drop-map}
 use Rattle.std.proofs.lemmas.List.Elements.{All-map, All-replicate, All-set}
-use Rattle.std.proofs.lemmas.Nat.Gcd.{IsGcd-swap}
 use Rattle.pip_model.specs.Numbers.{gcd, gcd_of}
 use Rattle.pip_model.specs.Forms.{entry, combine, negate}
 use Rattle.pip_model.specs.Listed.{all_fit}
 use Rattle.pip_model.specs.Rows.{Row, substituted, divided, eliminated, eliminated_listed, unit_row}
-use Rattle.pip_model.proofs.Gcd.{common, common-IsGcd, euclid_only, gcd_assoc}
+use Rattle.pip_model.proofs.Gcd.{size_opposite, gcd_assoc, gcd_opposite, gcd_of_negate, gcd_exchanged}
 use Rattle.pip_model.proofs.Forms.{entry-negate}
 use Rattle.tableau_row.specs.Flat.{numbers_of}
 use Rattle.tableau_row.specs.Rows.{IsRow, IsReduced, content}
@@ -58,29 +57,6 @@ substituted_unit n w c p e f h =
     ) refl
 
 -- ---- its numbers are those of the row but for their order and signs
-
-gcd_comm : (a b : ℤ) → gcd a b ≡ gcd b a
-gcd_comm a b = ap pos (euclid_only (unsigned_abs b) (unsigned_abs a) (common (unsigned_abs a) (unsigned_abs b)) (IsGcd-swap _ _ _ (common-IsGcd (unsigned_abs a) (unsigned_abs b))))
-
-gcd_swap : (a b z : ℤ) → gcd a (gcd b z) ≡ gcd b (gcd a z)
-gcd_swap a b z = sym (gcd_assoc a b z) ∙ ap (λ g. gcd g z) (gcd_comm a b) ∙ gcd_assoc b a z
-
-size_opposite : (x : ℤ) → unsigned_abs (neg_ℤ x) ≡ unsigned_abs x
-size_opposite x = omega (arith, ints)
-
-gcd_opposite : (x z : ℤ) → gcd (neg_ℤ x) z ≡ gcd x z
-gcd_opposite x z = rw (size_opposite x) refl
-
-gcd_of_negate : (xs : List ℤ) → gcd_of (negate xs) ≡ gcd_of xs
-gcd_of_negate [] = refl
-gcd_of_negate (x ∷ xs) = gcd_opposite x (gcd_of (negate xs)) ∙ ap (gcd x) (gcd_of_negate xs)
-
--- a number that changes places with an entry
-pub gcd_exchanged : (d : ℤ) (xs : List ℤ) (c : ℕ) → c < length xs → gcd (entry xs c) (gcd_of (slice_set xs c d)) ≡ gcd d (gcd_of xs)
-gcd_exchanged d [] c h = absurd (omega arith)
-gcd_exchanged d (x ∷ xs) zero h = gcd_swap x d (gcd_of xs)
-gcd_exchanged d (x ∷ xs) (suc c) h =
-    gcd_swap (entry xs c) x (gcd_of (slice_set xs c d)) ∙ ap (gcd x) (gcd_exchanged d xs c (omega arith)) ∙ gcd_swap x d (gcd_of xs)
 
 length_negate : (xs : List ℤ) → length (negate xs) ≡ length xs
 length_negate xs = simp length-map refl

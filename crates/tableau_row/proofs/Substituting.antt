@@ -5,6 +5,7 @@ use Rattle.std.proofs.lemmas.Grind.{flat_map-append}
 use Rattle.std.proofs.lemmas.Int.{ints}
 use Rattle.std.proofs.lemmas.List.{set-append_right}
 use Rattle.std.proofs.lemmas.List.Folds.{list_all-append}
+use Rattle.pip_model.proofs.Forms.{length-combine}
 use Rattle.pip_model.specs.Numbers.{fits}
 use Rattle.pip_model.specs.Forms.{combine, entry, remove}
 use Rattle.pip_model.specs.Listed.{all_fit, combine_listed}
@@ -13,7 +14,6 @@ use Rattle.affine_rows.specs.Checks.{Fits}
 use Rattle.tableau_row.specs.Flat.{numbers_of}
 use Rattle.tableau_row.specs.Rows.{IsRow, IsReduced, row_from}
 use Rattle.tableau_row.proofs.Contents.{content-divided}
-use Rattle.tableau_row.proofs.Places.{length_combine}
 use Rattle.tableau_row.proofs.Unchanged.{eliminated-none}
 
 -- the listed numbers of a row, part by part
@@ -50,8 +50,8 @@ substituted_is_row : (n w c : ℕ) (p r : Row) → IsRow n w p → IsRow n w r �
 substituted_is_row n w c p r hp hr h den_fits coefs_fit constant_fit = record {
   positive = some_product r.den (entry p.coefs c) hr.positive h;
   den_fits = den_fits;
-  coefs = length-set _ c _ ∙ length_combine _ _ r.coefs p.coefs (hr.coefs ∙ sym hp.coefs) ∙ hp.coefs;
-  constant = length_combine _ _ r.constant p.constant (hr.constant ∙ sym hp.constant) ∙ hp.constant;
+  coefs = length-set _ c _ ∙ length-combine _ r.coefs _ p.coefs (hr.coefs ∙ sym hp.coefs) ∙ hr.coefs;
+  constant = length-combine _ r.constant _ p.constant (hr.constant ∙ sym hp.constant) ∙ hr.constant;
   coefs_fit = coefs_fit;
   constant_fit = constant_fit;
 }

@@ -1,4 +1,5 @@
--- What the contracts of reading steps say: what was read and where it ends is what the definition gives, and a refusal is the definition's fault.
+-- What the contracts of reading steps say: what was read and where it ends is what the definition gives, and a
+-- refusal is the definition's fault.
 use Rattle.std.specs.Prelude.{◌≡◌, ◌<◌, ◌≤◌, ℕ, List, length, Option, Some, None, IfSome, Result, Ok, Err}
 use Rattle.pip_model.specs.Reading.{Fault, Syntax, Wide, Reads}
 use Rattle.text_steps.specs.declared.fault.TextFault.{TextFault}

@@ -3,7 +3,7 @@ use polylib_reader::read_matrices;
 use std::alloc::Global;
 use std::test::Fail;
 
-/// The sizes, the mode, the tableau and the context of a text, or its refusal.
+// The sizes, the mode, the tableau and the context of a text, or its refusal.
 fn read(alloc: Global, text: &str) -> Result<String, Fail> {
     match read_matrices(alloc, text.as_bytes()) {
         Ok(p) => {

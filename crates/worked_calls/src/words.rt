@@ -2,7 +2,7 @@ use pip_words::{Command, WalkOptions, WordsRefusal, read_words};
 use std::alloc::{AllocError, Global};
 use std::test::Fail;
 
-/// The options of a walk, behind its command.
+// The options of a walk, behind its command.
 fn walk(alloc: Global, name: &str, options: &WalkOptions) -> Result<String, AllocError> {
     let limits = &options.limits;
     format!(in alloc;
@@ -16,7 +16,7 @@ fn walk(alloc: Global, name: &str, options: &WalkOptions) -> Result<String, Allo
     )
 }
 
-/// The command that a line's words give, in words of the test.
+// The command that a line's words give, in words of the test.
 fn read(alloc: Global, line: &str) -> Result<String, Fail> {
     let mut words: Vec<String> = Vec::new(alloc);
     for word in line.split(' ') {

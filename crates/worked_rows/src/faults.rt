@@ -10,7 +10,7 @@ const TWICE: &str = "((a) 1 0 1 0 -1 1 (#[1 -3]) ())((a) 1 0 1 0 -1 1 (#[1 -3]) 
 
 const TEXTS: &str = "((a)\n(list\n#[ 3]\n)\n)\n((a)\n(list\n#[ 3]\n)\n)\n";
 
-/// The call that fails: of the source, the sink or the notes.
+// The call that fails: of the source, the sink or the notes.
 #[derive(Clone, Copy, Debug)]
 enum Fault {
     Read(u64),
@@ -18,7 +18,7 @@ enum Fault {
     Note(u64),
 }
 
-/// What the sink and the notes hold at the end of a run, and its status.
+// What the sink and the notes hold at the end of a run, and its status.
 #[derive(Clone, Copy)]
 struct End<'t> {
     output: &'t [u8],
@@ -26,7 +26,7 @@ struct End<'t> {
     status: u8,
 }
 
-/// Solves an input over ends that move a byte at a time, one of which fails.
+// Solves an input over ends that move a byte at a time, one of which fails.
 fn fails(
     rt: &impl Abort,
     alloc: Global,

@@ -8,7 +8,7 @@ use std::test::Fail;
 
 const ANSWER: &str = "((a)\n(list\n#[ 3]\n)\n)\n";
 
-/// An input, the reads of it that fail, how many answers are written, the line on the notes and the status.
+// An input, the reads of it that fail, how many answers are written, the line on the notes and the status.
 #[derive(Clone, Copy)]
 struct Read {
     input: &'static str,

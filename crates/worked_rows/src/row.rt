@@ -4,10 +4,10 @@ use std::alloc::{AllocError, Global};
 use std::process::Abort;
 use std::test::Fail;
 
-/// A worked row: the words with a blank between two of them, the input, what the sink and the notes gain, and the
-/// status.
+// A worked row: the words with a blank between two of them, the input, what the sink and the notes gain, and the
+// status.
 #[derive(Clone, Copy, Debug)]
-pub struct Row {
+pub(crate) struct Row {
     pub name: &'static str,
     pub words: &'static str,
     pub input: &'static str,
@@ -16,8 +16,8 @@ pub struct Row {
     pub status: u8,
 }
 
-/// The words of a line.
-pub fn words_of(alloc: Global, line: &str) -> Result<Vec<String>, AllocError> {
+// The words of a line.
+pub(crate) fn words_of(alloc: Global, line: &str) -> Result<Vec<String>, AllocError> {
     let mut words = Vec::new(alloc);
     for word in line.split(' ') {
         words.push(String::from_str(alloc, word)?)?;
@@ -25,13 +25,18 @@ pub fn words_of(alloc: Global, line: &str) -> Result<Vec<String>, AllocError> {
     Ok(words)
 }
 
-/// Runs a row over memory, in pieces of seven bytes.
-pub fn check(rt: &impl Abort, alloc: Global, row: &Row) -> Result<(), Fail> {
+// Runs a row over memory, in pieces of seven bytes.
+pub(crate) fn check(rt: &impl Abort, alloc: Global, row: &Row) -> Result<(), Fail> {
     check_on(rt, alloc, row, row.input.as_bytes().to_vec(alloc)?)
 }
 
-/// Runs a row over another input than its own.
-pub fn check_on(rt: &impl Abort, alloc: Global, row: &Row, input: Vec<u8>) -> Result<(), Fail> {
+// Runs a row over another input than its own.
+pub(crate) fn check_on(
+    rt: &impl Abort,
+    alloc: Global,
+    row: &Row,
+    input: Vec<u8>,
+) -> Result<(), Fail> {
     let words = words_of(alloc, row.words)?;
     let mut source = MemorySource::new(input, 7, Vec::new(alloc));
     let mut sink = MemorySink::new(Vec::new(alloc), 7, Vec::new(alloc));

@@ -10,7 +10,7 @@ use crate::items::ItemTexts;
 use pip_endings::Ending;
 use std::alloc::Global;
 
-/// Says of each triple that its certificate is accepted.
+// Says of each triple that its certificate is accepted.
 pub(crate) struct Check;
 
 // Puts the verdict into `text` where the certificate is accepted.

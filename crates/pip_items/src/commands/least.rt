@@ -14,7 +14,7 @@ use quast_text::print_answer;
 use quast_tools::least;
 use std::alloc::Global;
 
-/// Makes of two answers the lesser one, under a context.
+// Makes of two answers the lesser one, under a context.
 #[derive(Drop)]
 pub(crate) struct Least<'a>(pub(crate) &'a WalkOptions);
 

@@ -20,8 +20,8 @@ pub(super) struct Pair {
     pub(super) first: Spoken,
 }
 
-/// The pair that begins with the first `(` at or behind a place, and the place behind it; none exactly where there is no
-/// `(`.
+/// The pair that begins with the first `(` at or behind a place, and the place behind it; none exactly where there is
+/// no `(`.
 pub(super) fn pair_at(
     alloc: Global,
     bytes: &[u8],

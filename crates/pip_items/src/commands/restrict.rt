@@ -14,7 +14,7 @@ use quast_text::print_answer;
 use quast_tools::restrict;
 use std::alloc::Global;
 
-/// Restricts answers to their contexts.
+// Restricts answers to their contexts.
 #[derive(Drop)]
 pub(crate) struct Restrict<'a>(pub(crate) &'a WalkOptions);
 
@@ -28,7 +28,8 @@ fn write_restricted(
     requires pair { IsPair pair.now.rows.width pair.now }
     requires empty { text.old.items ≡ [] }
     ensures own { IfErr result IsOfItem }
-    ensures text { IsTextOfItem (restricted_text limits.now pair.now.rows.width (pair_of pair.now)) result text.new.items }
+    ensures text { IsTextOfItem (restricted_text limits.now pair.now.rows.width (pair_of pair.now))
+        result text.new.items }
 {
     let answer = restrict(alloc, &pair.rows, &pair.first.answer, limits)?;
     print_answer(&pair.first.comment, &answer, text)?;

@@ -16,7 +16,7 @@ use quast_tools::{Sameness, same};
 use std::alloc::{AllocError, Global};
 use text_parts::{put, put_row};
 
-/// Says whether two answers have the same values under a context, or where they differ.
+// Says whether two answers have the same values under a context, or where they differ.
 #[derive(Drop)]
 pub(crate) struct Same<'a>(pub(crate) &'a WalkOptions);
 

@@ -12,7 +12,7 @@ use leaf_certificate::print_certificate;
 use pip_endings::Ending;
 use std::alloc::Global;
 
-/// Writes the certificate of each triple with its shared steps, where it is accepted.
+// Writes the certificate of each triple with its shared steps, where it is accepted.
 pub(crate) struct Share;
 
 // Puts the text of the shared certificate into `text` where the certificate is accepted.

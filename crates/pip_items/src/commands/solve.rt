@@ -43,7 +43,8 @@ fn write_answer(
 ) -> Result<(), Ending>
     requires { text.old.items ≡ [] }
     ensures own { IfErr result IsOfItem }
-    ensures text { IsTextOfItem (solved_text options.now.simplify options.now.limits problem.now) result text.new.items }
+    ensures text { IsTextOfItem (solved_text options.now.simplify options.now.limits problem.now)
+        result text.new.items }
 {
     let answer = solve(alloc, problem, &options.limits)?;
     let answer = simplified_if(options.simplify, answer);
@@ -85,7 +86,7 @@ fn matrices_at(
     Ok(Some((problem, 1)))
 }
 
-/// `solve` of the one PolyLib problem of an input.
+// `solve` of the one PolyLib problem of an input.
 #[derive(Drop)]
 pub(crate) struct Matrices<'a>(pub &'a SolveOptions);
 

@@ -2,7 +2,7 @@ use Rattle.std.proofs.Common.{rules, ◌≡◌, ◌∙◌, ◌<◌, sym, get_or,
 use Rattle.pip_model.specs.Rows.{row_at}
 use Rattle.pip_model.specs.Run.{Done}
 use Rattle.context.specs.Remembered.{turned}
-use Rattle.context.proofs.Counting.{counted_on}
+use Rattle.run_counts.proofs.Counting.{counted_on}
 use Rattle.context.proofs.Replaying.{replayed-on}
 use Rattle.context.proofs.asking.replay.Goals as goal
 

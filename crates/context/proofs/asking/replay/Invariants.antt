@@ -1,5 +1,5 @@
 use Rattle.std.proofs.Common.{◌≡◌, length, drop}
-use Rattle.context.specs.Counts.{HasCounted}
+use Rattle.run_counts.specs.Counts.{HasCounted}
 use Rattle.context.specs.Remembered.{replayed}
 use Rattle.context.proofs.asking.replay.Given as goal
 

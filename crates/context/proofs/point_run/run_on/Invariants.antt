@@ -1,6 +1,6 @@
 use Rattle.std.proofs.Common.{◌≡◌, ◌≤◌, length}
 use Rattle.pip_model.specs.Run.{run_from, point_setting, left}
-use Rattle.context.specs.Counts.{HasCounted}
+use Rattle.run_counts.specs.Counts.{HasCounted}
 use Rattle.context.specs.Turns.{node_of, HasSameScope}
 use Rattle.context.proofs.point_run.run_on.Given as goal
 

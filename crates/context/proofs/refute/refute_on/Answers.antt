@@ -8,7 +8,8 @@ use Rattle.pip_model.specs.Refuting.{refute_from, with_step, last_step}
 use Rattle.tableau.specs.Views.{row_of}
 use Rattle.context.specs.Traces.{with_cut}
 use Rattle.context.specs.Turns.{negative_from, node_of}
-use Rattle.context.proofs.Counting.{counted_on, scope_on}
+use Rattle.run_counts.proofs.Counting.{counted_on}
+use Rattle.context.proofs.Leaving.{scope_on}
 use Rattle.context.proofs.Tracing.{bottom-made, pivot-made, cut-made, traced-pivot, traced-cut, refutes-on, refutes-less, refutes-bottom}
 use Rattle.context.proofs.refute.refute_on.Goals as goal
 

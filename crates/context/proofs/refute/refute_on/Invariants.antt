@@ -1,7 +1,7 @@
 use Rattle.std.proofs.Common.{◌≡◌, ◌≤◌, length}
 use Rattle.pip_model.specs.Run.{left}
 use Rattle.pip_model.specs.Refuting.{refute_from}
-use Rattle.context.specs.Counts.{HasCounted}
+use Rattle.run_counts.specs.Counts.{HasCounted}
 use Rattle.context.specs.Traces.{IsTraced}
 use Rattle.context.specs.Turns.{node_of, HasSameScope}
 use Rattle.context.proofs.refute.refute_on.Given as goal

@@ -5,7 +5,8 @@ use Rattle.pip_model.specs.Tree.{Bottom}
 use Rattle.pip_model.specs.Run.{Again, Closed, Done, Refused, turn, point_setting, leaf}
 use Rattle.context.specs.Stops.{stop_fault}
 use Rattle.context.specs.Turns.{node_of}
-use Rattle.context.proofs.Counting.{counted_none, counted_on, scope_none, scope_on}
+use Rattle.run_counts.proofs.Counting.{counted_none, counted_on}
+use Rattle.context.proofs.Leaving.{scope_none, scope_on}
 use Rattle.context.proofs.Pointing.{run_goes_on, run_less, run_closed, run_refused}
 use Rattle.context.proofs.short_run.run_short.Goals as goal
 

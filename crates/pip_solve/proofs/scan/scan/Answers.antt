@@ -4,7 +4,8 @@ use Rattle.std.proofs.lemmas.Grind.{common_steps}
 use Rattle.pip_model.specs.Rows.{row_at}
 use Rattle.pip_model.specs.Run.{Minus, Done, Refused, class}
 use Rattle.pip_problem.specs.Faults.{run_fault}
-use Rattle.context.proofs.Counting.{counted_on, kept_on}
+use Rattle.run_counts.proofs.Counting.{counted_on}
+use Rattle.context.proofs.Leaving.{kept_on}
 use Rattle.sign_split.specs.Classes.{class_of}
 use Rattle.pip_solve.specs.Signs.{kept_signs}
 use Rattle.pip_solve.proofs.Scanning.{scanned_on, scanned_minus, refused_from, not_minus}

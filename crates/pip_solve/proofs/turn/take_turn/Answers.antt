@@ -4,7 +4,7 @@ use Rattle.std.proofs.lemmas.Grind.{common_steps}
 use Rattle.pip_model.specs.Run.{AllPlus, Done, Refused, turn_by}
 use Rattle.pip_model.specs.Agreement.{AgreesCounted}
 use Rattle.pip_problem.specs.Faults.{run_fault}
-use Rattle.context.proofs.Counting.{counted_on}
+use Rattle.run_counts.proofs.Counting.{counted_on}
 use Rattle.new_parameters.specs.Scopes.{size}
 use Rattle.pip_solve.specs.Nodes.{node_of, setting_of}
 use Rattle.pip_solve.specs.Signs.{signs_of, scanned}

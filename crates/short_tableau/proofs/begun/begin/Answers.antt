@@ -21,7 +21,17 @@ returns-clause-zero c =
     ap (λ xs. entry xs c.args.c) whole
     ∙ combine_zero (to_z w64 (of_z w64 (entry c.args.p.now.coefs.now c.args.c))) (to_z w64 (of_z w64 (entry c.args.coefs.now c.args.c))) c.args.coefs.now c.args.p.now.coefs.now c.args.c (search rules) c.requires.column b a
 
-pub returns-clause-positive : goal.returns-clause-positive
-returns-clause-positive c =
+pub returns-clause-begun : goal.returns-clause-begun
+returns-clause-begun c =
     let same : to_z w128 (of_z w128 c.product.result) ≡ c.args.den *ℤ entry c.args.p.now.coefs.now c.args.c = search rules in
-    subst (λ z. pos 1 ≤ℤ z) (sym same) (product_positive c.args.den (entry c.args.p.now.coefs.now c.args.c) c.requires.row.positive c.requires.positive)
+    record {
+      of_row = search rules;
+      of_pivot = search rules;
+      positive = subst (λ z. pos 1 ≤ℤ z) (sym same) (product_positive c.args.den (entry c.args.p.now.coefs.now c.args.c) c.requires.row.positive c.requires.positive);
+      den_fits = search rules;
+      entry_fits = search rules;
+      coefs_made = search rules;
+      constant_made = search rules;
+      coefs_short = search rules;
+      constant_short = search rules;
+    }

@@ -14,7 +14,7 @@ returns-in_err-den-clause-long c =
     let w = c.args.begun.now in
     let linear = finished w.by.of_row c.args.coefs.now w.by.of_pivot c.args.p.now.coefs.now w.coefs in
     let constants = finished w.by.of_row c.args.constant.now w.by.of_pivot c.args.p.now.constant.now w.constant in
-    let size = finished_length w.by.of_row w.by.of_pivot c.args.coefs.now c.args.p.now.coefs.now w.coefs c.requires.coefs c.requires.coefs_made in
+    let size = finished_length w.by.of_row w.by.of_pivot c.args.coefs.now c.args.p.now.coefs.now w.coefs c.requires.coefs c.requires.begun.coefs_made in
     let long : is_short (floor_div c.args.begun.now.den c.divisor-divisor.result) ≡ false = search rules in
     rw c.from_residual.ensures
     (long_den w.den w.entry c.divisor-divisor.result linear constants
@@ -25,7 +25,7 @@ returns-in_err-entry-clause-long c =
     let w = c.args.begun.now in
     let linear = finished w.by.of_row c.args.coefs.now w.by.of_pivot c.args.p.now.coefs.now w.coefs in
     let constants = finished w.by.of_row c.args.constant.now w.by.of_pivot c.args.p.now.constant.now w.constant in
-    let size = finished_length w.by.of_row w.by.of_pivot c.args.coefs.now c.args.p.now.coefs.now w.coefs c.requires.coefs c.requires.coefs_made in
+    let size = finished_length w.by.of_row w.by.of_pivot c.args.coefs.now c.args.p.now.coefs.now w.coefs c.requires.coefs c.requires.begun.coefs_made in
     let long : is_short (floor_div c.args.begun.now.entry c.divisor-divisor.result) ≡ false = search rules in
     rw c.from_residual-in_err-entry.ensures
     (long_entry w.den w.entry c.divisor-divisor.result linear constants
@@ -36,7 +36,7 @@ returns-then-not-divide_finished-clause-long c =
     let w = c.args.begun.now in
     let linear = finished w.by.of_row c.args.coefs.now w.by.of_pivot c.args.p.now.coefs.now w.coefs in
     let constants = finished w.by.of_row c.args.constant.now w.by.of_pivot c.args.p.now.constant.now w.constant in
-    let size = finished_length w.by.of_row w.by.of_pivot c.args.coefs.now c.args.p.now.coefs.now w.coefs c.requires.coefs c.requires.coefs_made in
+    let size = finished_length w.by.of_row w.by.of_pivot c.args.coefs.now c.args.p.now.coefs.now w.coefs c.requires.coefs c.requires.begun.coefs_made in
     let long : list_all is_short (floor_divided c.divisor-divisor.result (finished c.args.begun.now.by.of_row c.args.coefs.now c.args.begun.now.by.of_pivot c.args.p.now.coefs.now c.args.begun.now.coefs)) ≡ false = search rules in
     long_coefs w.den w.entry c.divisor-divisor.result linear constants
     c.args.c c.divisor-divisor.ensures.value (omega (arith, size, c.requires.column)) c.requires.zero c.divisor-divisor.ensures.positive long
@@ -46,7 +46,7 @@ returns-then-not-divide_finished-2-clause-long c =
     let w = c.args.begun.now in
     let linear = finished w.by.of_row c.args.coefs.now w.by.of_pivot c.args.p.now.coefs.now w.coefs in
     let constants = finished w.by.of_row c.args.constant.now w.by.of_pivot c.args.p.now.constant.now w.constant in
-    let size = finished_length w.by.of_row w.by.of_pivot c.args.coefs.now c.args.p.now.coefs.now w.coefs c.requires.coefs c.requires.coefs_made in
+    let size = finished_length w.by.of_row w.by.of_pivot c.args.coefs.now c.args.p.now.coefs.now w.coefs c.requires.coefs c.requires.begun.coefs_made in
     let long : list_all is_short (floor_divided c.divisor-divisor.result (finished c.args.begun.now.by.of_row c.args.constant.now c.args.begun.now.by.of_pivot c.args.p.now.constant.now c.args.begun.now.constant)) ≡ false = search rules in
     long_constant w.den w.entry c.divisor-divisor.result linear constants
     c.args.c c.divisor-divisor.ensures.value (omega (arith, size, c.requires.column)) c.requires.zero long
@@ -56,7 +56,7 @@ returns-clause-value c =
     let w = c.args.begun.now in
     let linear = finished w.by.of_row c.args.coefs.now w.by.of_pivot c.args.p.now.coefs.now w.coefs in
     let constants = finished w.by.of_row c.args.constant.now w.by.of_pivot c.args.p.now.constant.now w.constant in
-    let size = finished_length w.by.of_row w.by.of_pivot c.args.coefs.now c.args.p.now.coefs.now w.coefs c.requires.coefs c.requires.coefs_made in
+    let size = finished_length w.by.of_row w.by.of_pivot c.args.coefs.now c.args.p.now.coefs.now w.coefs c.requires.coefs c.requires.begun.coefs_made in
     let d = to_z w64 (of_z w64 c.in_ok-den.den) in
     let e = to_z w64 (of_z w64 c.in_ok-entry.entry) in
     let den : to_z w64 (of_z w64 c.in_ok-den.den) ≡ floor_div c.args.begun.now.den c.divisor-divisor.result = search rules in

@@ -11,8 +11,8 @@ use Rattle.short_tableau.proofs.row.eliminate_parts.Goals as goal
 pub divide_parts-requires-clause-short : goal.divide_parts-requires-clause-short
 divide_parts-requires-clause-short c = record {
   den = search rules;
-  coefs = All-set IsShort _ _ _ (search rules) c.begin-begun.ensures.coefs_short;
-  constant = c.begin-begun.ensures.constant_short;
+  coefs = All-set IsShort _ _ _ (search rules) c.begin-begun.ensures.begun.coefs_short;
+  constant = c.begin-begun.ensures.begun.constant_short;
 }
 
 pub returns-in-Some-clause-value : goal.returns-in-Some-clause-value

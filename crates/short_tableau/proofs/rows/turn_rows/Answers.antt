@@ -1,11 +1,11 @@
-use Rattle.std.proofs.Common.{rules, ◌∙◌, ap, sym, arith, length, refl, []}
+use Rattle.std.proofs.Common.{rules, ◌∙◌, ap, sym, arith, length, refl, List, []}
 use Rattle.std.specs.Prelude.{IsTrue, IsFalse}
-use Rattle.pip_model.specs.Rows.{Row, form_row, eliminated}
-use Rattle.affine_rows.proofs.Mapped.{mapped_step}
+use Rattle.pip_model.specs.Rows.{Row, row_at, form_row, eliminated}
+use Rattle.affine_rows.proofs.Mapped.{mapped_read, mapped_step}
 use Rattle.short_tableau.specs.Begun.{is_short_row}
 use Rattle.short_tableau.specs.Dense.{rows_in}
 use Rattle.short_tableau.specs.Rows.{row_of}
-use Rattle.short_tableau.proofs.Places.{length_rows, long_row, mapped_all, unmapped}
+use Rattle.short_tableau.proofs.Places.{length_rows, long_row, mapped_all}
 use Rattle.short_tableau.proofs.rows.turn_rows.Goals as goal
 
 pub loop-i-preserved : goal.loop-i-preserved
@@ -34,5 +34,5 @@ returns-then-not-turn_at-clause-long c = λ all.
     let long : IsFalse c.turn_at.result = search rules in
     long_row (eliminated (row_of c.args.p.now) c.args.c) (rows_in n c.args.rows c.args.numbers.now) c.loop-i.i (omega (arith, h))
     (ap (λ (r : Row). is_short_row (eliminated (row_of c.args.p.now) c.args.c r))
-    (sym (unmapped (eliminated (row_of c.args.p.now) c.args.c) old (rows_in n c.args.rows c.loop-i.numbers) c.loop-i.i (omega (arith, h)) c.loop-i.invariant.rows))
+    (sym (ap (λ (rs : List Row). row_at rs c.loop-i.i) c.loop-i.invariant.rows ∙ mapped_read (eliminated (row_of c.args.p.now) c.args.c) old c.loop-i.i (form_row 0 []) (omega (arith, h))))
     ∙ c.turn_at.ensures.long long)

@@ -5,7 +5,7 @@ use Rattle.pip_model.specs.Listed.{opposite_listed, all_fit}
 use Rattle.pip_model.specs.Run.{Work, Outcome, Done, Refused, Refusal, go_on, give, point, class_by_points}
 use Rattle.pip_problem.specs.Faults.{run_fault}
 use Rattle.context.specs.Remembered.{has_point}
-use Rattle.context.proofs.Counting.{counted_on}
+use Rattle.run_counts.proofs.Counting.{counted_on}
 use Rattle.sign_split.proofs.Opposites.{opposite_length, turned_back, back_fits}
 use Rattle.sign_split.proofs.classify.class_by_points.Goals as goal
 

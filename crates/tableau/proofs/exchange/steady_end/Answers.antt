@@ -21,9 +21,9 @@ returns-then-lent-at-eq0-clause-steady c =
     let p = row_of c.args.p.now in
     let r = lent_row l c.args.one in
     let p_short : IsShortRow p = search rules in
-    let r_short : IsShortRow r = c.requires.short (subst (λ (x : Kept). IsTrue (kept_short x)) (sym c.in-At.is) c.if-place.true) in
-    let within = subst (IsPlace l.unknowns l.width (length l.numbers.now)) c.in-At.is c.requires.place in
+    let r_short : IsShortRow r = c.requires.one.short (subst (λ (x : Kept). IsTrue (kept_short x)) (sym c.in-At.is) c.if-place.true) in
+    let within = subst (IsPlace l.unknowns l.width (length l.numbers.now)) c.in-At.is c.requires.one.place in
     let read : entry l.numbers.now (c.args.at + 1 + c.args.c) ≡ pos 0 = search rules in
     let none = subst (λ (x : Kept). entry (lent_row l x).coefs c.args.c ≡ pos 0) (sym c.in-At.is)
     (place_entry l.unknowns l.width c.args.c c.in-At.place.first l.numbers.now c.requires.column within ∙ ap (λ i. entry l.numbers.now (i + 1 + c.args.c)) c.if-place-at.true ∙ read) in
-    short_steady l.unknowns l.width c.args.c p r c.requires.p c.requires.row c.requires.column c.requires.positive none c.requires.reduced p_short r_short
+    short_steady l.unknowns l.width c.args.c p r c.requires.p c.requires.one.row c.requires.column c.requires.positive none c.requires.one.reduced p_short r_short

@@ -3,25 +3,26 @@ use Rattle.std.proofs.lemmas.Grind.{common_steps}
 use Rattle.std.proofs.lemmas.List.{length-map}
 use Rattle.pip_model.specs.Forms.{entry}
 use Rattle.pip_model.specs.Rows.{Row, row_at, form_row}
-use Rattle.tableau.specs.KeptRows.{row_kept, rows_kept}
-use Rattle.tableau_row.specs.Rows.{IsRow, IsReduced}
+use Rattle.tableau.specs.KeptRows.{AreLent, row_kept, rows_kept}
+use Rattle.tableau_row.specs.Rows.{IsReduced}
 use Rattle.tableau_row.specs.Views.{row_of}
-use Rattle.tableau.proofs.Turning.{turned_sides, turned_pivot, front_all, back_all, row_is, row_formed}
+use Rattle.tableau.proofs.Runs.{kept_front, kept_behind, kept_flat}
+use Rattle.tableau.proofs.Turning.{turned_sides, turned_pivot, row_is, row_formed}
 use Rattle.tableau.proofs.exchange.turn_all.Goals as goal
 
-pub turn_rows-requires-clause-rows : goal.turn_rows-requires-clause-rows
-turn_rows-requires-clause-rows c =
+pub turn_rows-requires-clause-lent : goal.turn_rows-requires-clause-lent
+turn_rows-requires-clause-lent c =
     let l = c.args.lent.now in
-    let f = row_kept l.unknowns l.width l.numbers.now in
-    let rows = rows_kept l.unknowns l.width l.numbers.now c.args.kept.now in
-    front_all (IsRow l.unknowns l.width) f c.args.kept.now c.split_at.result.0.now c.args.r (search rules) c.requires.flat.rows
+    let ks = c.args.kept.now in
+    let front_is : c.split_at.result.0.now ≡ take c.args.r ks = search rules in
+    subst (AreLent l) (sym front_is) (kept_front l.unknowns l.width l.numbers.now ks c.args.r (kept_flat l.unknowns l.width l.numbers.now ks c.requires.flat))
 
-pub turn_rows-requires-clause-reduced : goal.turn_rows-requires-clause-reduced
-turn_rows-requires-clause-reduced c =
+pub turn_rows-requires-2-clause-lent : goal.turn_rows-requires-2-clause-lent
+turn_rows-requires-2-clause-lent c =
     let l = c.args.lent.now in
-    let f = row_kept l.unknowns l.width l.numbers.now in
-    let rows = rows_kept l.unknowns l.width l.numbers.now c.args.kept.now in
-    front_all IsReduced f c.args.kept.now c.split_at.result.0.now c.args.r (search rules) c.requires.flat.reduced
+    let ks = c.args.kept.now in
+    let back_is : c.split_at-2.result.1.now ≡ drop (c.args.r + 1) ks = search rules in
+    subst (AreLent l) (sym back_is) (kept_behind l.unknowns l.width l.numbers.now ks (c.args.r + 1) (kept_flat l.unknowns l.width l.numbers.now ks c.requires.flat))
 
 pub turn_rows-requires-clause-p : goal.turn_rows-requires-clause-p
 turn_rows-requires-clause-p c =
@@ -49,20 +50,6 @@ returns-in_err-turn_rows-clause-listed c =
     let back_is : c.split_at-2.result.1.now ≡ drop (c.args.r + 1) c.args.kept.now = search rules in
     let sides = turned_sides f c.args.kept.now c.split_at.result.0.now c.split_at-2.result.1.now (row_of c.row-p.result) c.args.r c.args.c front_is back_is p_is in
     grind (arith, common_steps, sides)
-
-pub turn_rows-requires-2-clause-rows : goal.turn_rows-requires-2-clause-rows
-turn_rows-requires-2-clause-rows c =
-    let l = c.args.lent.now in
-    let f = row_kept l.unknowns l.width l.numbers.now in
-    let rows = rows_kept l.unknowns l.width l.numbers.now c.args.kept.now in
-    back_all (IsRow l.unknowns l.width) f c.args.kept.now c.split_at-2.result.1.now (c.args.r + 1) (search rules) c.requires.flat.rows
-
-pub turn_rows-requires-2-clause-reduced : goal.turn_rows-requires-2-clause-reduced
-turn_rows-requires-2-clause-reduced c =
-    let l = c.args.lent.now in
-    let f = row_kept l.unknowns l.width l.numbers.now in
-    let rows = rows_kept l.unknowns l.width l.numbers.now c.args.kept.now in
-    back_all IsReduced f c.args.kept.now c.split_at-2.result.1.now (c.args.r + 1) (search rules) c.requires.flat.reduced
 
 pub turn_rows-requires-2-clause-p : goal.turn_rows-requires-2-clause-p
 turn_rows-requires-2-clause-p c =

@@ -13,5 +13,5 @@ returns-then-row-c-eq0-clause-ok c =
     let r = lent_row l c.args.one in
     let zero : entry c.row-row.result.coefs.now c.args.c ≡ pos 0 = search rules in
     let none = subst (λ (x : Row). entry x.coefs c.args.c ≡ pos 0) c.row-row.ensures zero in
-    let stays = eliminated_none l.unknowns l.width (row_of c.args.p.now) c.args.c r c.requires.p c.requires.row c.requires.positive none c.requires.reduced in
+    let stays = eliminated_none l.unknowns l.width (row_of c.args.p.now) c.args.c r c.requires.p c.requires.one.row c.requires.positive none c.requires.one.reduced in
     c.copy_kept.ensures ∙ ap (with_more t) stays

@@ -1,42 +1,28 @@
-use Rattle.std.proofs.Common.{refl, rules, ap, ◌≡◌, ◌∙◌, ◌+◌, subst, take, drop, map}
+use Rattle.std.proofs.Common.{refl, rules, ap, sym, ◌≡◌, ◌∙◌, ◌+◌, subst, take, drop, map}
 use Rattle.std.proofs.lemmas.List.{length-map}
 use Rattle.std.specs.Prelude.{IsTrue, IsFalse, slice_set}
 use Rattle.pip_model.specs.Listed.{all_fit}
 use Rattle.pip_model.specs.Rows.{Row, row_at}
 use Rattle.pip_model.specs.Cuts.{rounded, rounded_listed}
-use Rattle.tableau.specs.KeptRows.{KeptRows, with_more, row_kept, rows_kept, with_rows}
-use Rattle.tableau_row.specs.Rows.{IsRow, IsReduced}
+use Rattle.tableau.specs.KeptRows.{KeptRows, AreLent, with_more, row_kept, rows_kept, with_rows}
 use Rattle.tableau_row.specs.Views.{row_of}
-use Rattle.tableau.proofs.Turning.{joined_rows, replaced_row, front_all, back_all, row_is, row_formed}
+use Rattle.tableau.proofs.Runs.{kept_front, kept_behind, kept_flat}
+use Rattle.tableau.proofs.Turning.{joined_rows, replaced_row, row_is, row_formed}
 use Rattle.tableau.proofs.row_rounding.round_all.Goals as goal
 
-pub copy_rows-requires-clause-rows : goal.copy_rows-requires-clause-rows
-copy_rows-requires-clause-rows c =
+pub copy_rows-requires-clause-lent : goal.copy_rows-requires-clause-lent
+copy_rows-requires-clause-lent c =
     let l = c.args.lent.now in
-    let f = row_kept l.unknowns l.width l.numbers.now in
-    let rows = rows_kept l.unknowns l.width l.numbers.now c.args.kept.now in
-    front_all (IsRow l.unknowns l.width) f c.args.kept.now c.split_at.result.0.now c.args.r (search rules) c.requires.flat.rows
+    let ks = c.args.kept.now in
+    let front_is : c.split_at.result.0.now ≡ take c.args.r ks = search rules in
+    subst (AreLent l) (sym front_is) (kept_front l.unknowns l.width l.numbers.now ks c.args.r (kept_flat l.unknowns l.width l.numbers.now ks c.requires.flat))
 
-pub copy_rows-requires-clause-reduced : goal.copy_rows-requires-clause-reduced
-copy_rows-requires-clause-reduced c =
+pub copy_rows-requires-2-clause-lent : goal.copy_rows-requires-2-clause-lent
+copy_rows-requires-2-clause-lent c =
     let l = c.args.lent.now in
-    let f = row_kept l.unknowns l.width l.numbers.now in
-    let rows = rows_kept l.unknowns l.width l.numbers.now c.args.kept.now in
-    front_all IsReduced f c.args.kept.now c.split_at.result.0.now c.args.r (search rules) c.requires.flat.reduced
-
-pub copy_rows-requires-2-clause-rows : goal.copy_rows-requires-2-clause-rows
-copy_rows-requires-2-clause-rows c =
-    let l = c.args.lent.now in
-    let f = row_kept l.unknowns l.width l.numbers.now in
-    let rows = rows_kept l.unknowns l.width l.numbers.now c.args.kept.now in
-    back_all (IsRow l.unknowns l.width) f c.args.kept.now c.split_at-2.result.1.now (c.args.r + 1) (search rules) c.requires.flat.rows
-
-pub copy_rows-requires-2-clause-reduced : goal.copy_rows-requires-2-clause-reduced
-copy_rows-requires-2-clause-reduced c =
-    let l = c.args.lent.now in
-    let f = row_kept l.unknowns l.width l.numbers.now in
-    let rows = rows_kept l.unknowns l.width l.numbers.now c.args.kept.now in
-    back_all IsReduced f c.args.kept.now c.split_at-2.result.1.now (c.args.r + 1) (search rules) c.requires.flat.reduced
+    let ks = c.args.kept.now in
+    let back_is : c.split_at-2.result.1.now ≡ drop (c.args.r + 1) ks = search rules in
+    subst (AreLent l) (sym back_is) (kept_behind l.unknowns l.width l.numbers.now ks (c.args.r + 1) (kept_flat l.unknowns l.width l.numbers.now ks c.requires.flat))
 
 pub push_rounded-requires-clause-row : goal.push_rounded-requires-clause-row
 push_rounded-requires-clause-row c =

@@ -23,16 +23,17 @@ returns-in_err-make_node-in-Select-clause-gives t c =
     let p = err_from_is_err_and c.from_residual-in_err-make_node-in-Select.result c.from_residual-in_err-make_node-in-Select.ensures.1 in
     rw (p.1, p.2) (select_stop P q c.args.made.now c.args.work.now T c.in-Select.v a b is c.push.new.self c.in_ok-push-in-Select.ensures (run_fault c.in_err-make_node-in-Select.field-0.0) c.make_node.new.work (rw c.deref.ensures at c.in_err-make_node-in-Select.ensures.gives))
 
-pub returns-in-Err-clause-gives : goal.returns-in-Err-clause-gives
-returns-in-Err-clause-gives t c =
+pub returns-in_err-push_opposite-in-Select-clause-gives : goal.returns-in_err-push_opposite-in-Select-clause-gives
+returns-in_err-push_opposite-in-Select-clause-gives t c =
     let P = c.args.self.now.problem.now in
     let q = c.args.trail.now in
     let T = tree_of c.args.node.now in
     let a = tree_of c.in-Select.a.value in
     let b = tree_of c.in-Select.b.value in
     let is = ap tree_of c.in-Select.is in
-    select_unfit P q c.args.made.now c.args.work.now T c.in-Select.v a b is c.push.new.self c.in_ok-push-in-Select.ensures c.make_node.new.made c.make_node.new.work (rw c.deref.ensures at c.in_ok-make_node-in-Select.ensures.gives)
-    (is_form_overflow c.in-Err.refusal) (run_fault c.of_form.result) c.requires.at.some c.requires.at.whole c.in-Err.ensures.listed c.of_form.ensures
+    let p = err_from_is_err_and c.from_residual-in_err-push_opposite-in-Select.result c.from_residual-in_err-push_opposite-in-Select.ensures.1 in
+    rw (p.1, p.2) (select_unfit P q c.args.made.now c.args.work.now T c.in-Select.v a b is c.push.new.self c.in_ok-push-in-Select.ensures c.make_node.new.made c.make_node.new.work (rw c.deref.ensures at c.in_ok-make_node-in-Select.ensures.gives)
+    c.in_err-push_opposite-in-Select.field-0.0 c.requires.at.some c.requires.at.whole c.in_err-push_opposite-in-Select.ensures.listed)
 
 pub make_node-requires-in-Select : goal.make_node-requires-in-Select
 make_node-requires-in-Select t c =
@@ -66,16 +67,17 @@ returns-in_err-make_node-in-Select-2-clause-gives t c =
     rw (p.1, p.2) (select_later P q c.args.made.now c.args.work.now T c.in-Select.v a b is c.push.new.self c.in_ok-push-in-Select.ensures c.make_node.new.made c.make_node.new.work (rw c.deref.ensures at c.in_ok-make_node-in-Select.ensures.gives) c.push_opposite.new.self up fit
     (run_fault c.in_err-make_node-in-Select-2.field-0.0) c.make_node-in-Select.new.work (rw c.deref-in-Select.ensures at c.in_err-make_node-in-Select-2.ensures.gives))
 
-pub returns-in-Err-push_quotient-clause-gives : goal.returns-in-Err-push_quotient-clause-gives
-returns-in-Err-push_quotient-clause-gives t c =
+pub returns-in_err-push_quotient-in-Define-clause-gives : goal.returns-in_err-push_quotient-in-Define-clause-gives
+returns-in_err-push_quotient-in-Define-clause-gives t c =
     let P = c.args.self.now.problem.now in
     let q = c.args.trail.now in
     let T = tree_of c.args.node.now in
     let a = tree_of c.in-Define.a.value in
     let is = ap tree_of c.in-Define.is in
     let k : Quotient = record { form = c.in-Define.v; den = c.in-Define.d } in
-    let unfit : IsTrue (is_form_overflow c.in-Err-push_quotient.refusal) → IsFalse (all_fit (constant (upper_bound (q.scope + 1) q.scope k) ∷ [])) = search rules in
-    define_unfit P q c.args.made.now c.args.work.now T c.in-Define.v c.in-Define.d a is (is_form_overflow c.in-Err-push_quotient.refusal) (run_fault c.of_form-in-Err-push_quotient.result) c.requires.at.some c.requires.at.whole unfit c.of_form-in-Err-push_quotient.ensures
+    let unfit : IsTrue (is_form_overflow c.in_err-push_quotient-in-Define.field-0.0) → IsFalse (all_fit (constant (upper_bound (q.scope + 1) q.scope k) ∷ [])) = search rules in
+    let p = err_from_is_err_and c.from_residual-in_err-push_quotient-in-Define.result c.from_residual-in_err-push_quotient-in-Define.ensures.1 in
+    rw (p.1, p.2) (define_unfit P q c.args.made.now c.args.work.now T c.in-Define.v c.in-Define.d a is c.in_err-push_quotient-in-Define.field-0.0 c.requires.at.some c.requires.at.whole unfit)
 
 pub make_node-requires-in-Define : goal.make_node-requires-in-Define
 make_node-requires-in-Define t c =

@@ -17,8 +17,8 @@ pub append_run-requires-clause-room : goal.append_run-requires-clause-room
 append_run-requires-clause-room c =
     let s = c.self.inside in
     let l = c.args.lent.now in
-    let n : s.unknowns ≡ l.unknowns = ap (λ (t : KeptRows). t.unknowns) c.self.view_is ∙ c.requires.unknowns in
-    let w : s.width ≡ l.width = ap (λ (t : KeptRows). t.width) c.self.view_is ∙ c.requires.width in
+    let n : s.unknowns ≡ l.unknowns = ap (λ (t : KeptRows). t.unknowns) c.self.view_is ∙ c.requires.over.unknowns in
+    let w : s.width ≡ l.width = ap (λ (t : KeptRows). t.width) c.self.view_is ∙ c.requires.over.width in
     let run = subst (λ i. IsRun (row_length i s.width) c.args.first c.args.end c.args.kept.now) (sym n) (subst (λ i. IsRun (row_length l.unknowns i) c.args.first c.args.end c.args.kept.now) (sym w) c.requires.run) in
     let room : length s.kept.items + length c.args.kept.now ≤ s.most = grind (arith, common_steps) in
     let many : vec_len s.numbers ≡ length s.numbers.items = search rules in
@@ -29,8 +29,8 @@ pub append_moved-requires-clause-places : goal.append_moved-requires-clause-plac
 append_moved-requires-clause-places c =
     let s = c.self.inside in
     let l = c.args.lent.now in
-    let n : s.unknowns ≡ l.unknowns = ap (λ (t : KeptRows). t.unknowns) c.self.view_is ∙ c.requires.unknowns in
-    let w : s.width ≡ l.width = ap (λ (t : KeptRows). t.width) c.self.view_is ∙ c.requires.width in
+    let n : s.unknowns ≡ l.unknowns = ap (λ (t : KeptRows). t.unknowns) c.self.view_is ∙ c.requires.over.unknowns in
+    let w : s.width ≡ l.width = ap (λ (t : KeptRows). t.width) c.self.view_is ∙ c.requires.over.width in
     let run = subst (λ i. IsRun (row_length i s.width) c.args.first c.args.end c.args.kept.now) (sym n) (subst (λ i. IsRun (row_length l.unknowns i) c.args.first c.args.end c.args.kept.now) (sym w) c.requires.run) in
     let rows : length s.kept.items + length c.args.kept.now ≤ s.most = grind (arith, common_steps) in
     let many : vec_len s.numbers ≡ length s.numbers.items = search rules in
@@ -48,8 +48,8 @@ pub invariant_of-self : goal.invariant_of-self
 invariant_of-self c =
     let s = c.self.inside in
     let l = c.args.lent.now in
-    let n : s.unknowns ≡ l.unknowns = ap (λ (t : KeptRows). t.unknowns) c.self.view_is ∙ c.requires.unknowns in
-    let w : s.width ≡ l.width = ap (λ (t : KeptRows). t.width) c.self.view_is ∙ c.requires.width in
+    let n : s.unknowns ≡ l.unknowns = ap (λ (t : KeptRows). t.unknowns) c.self.view_is ∙ c.requires.over.unknowns in
+    let w : s.width ≡ l.width = ap (λ (t : KeptRows). t.width) c.self.view_is ∙ c.requires.over.width in
     let run = subst (λ i. IsRun (row_length i s.width) c.args.first c.args.end c.args.kept.now) (sym n) (subst (λ i. IsRun (row_length l.unknowns i) c.args.first c.args.end c.args.kept.now) (sym w) c.requires.run) in
     let lent = subst (λ i. AreKept i s.width l.numbers.now c.args.kept.now) (sym n) (subst (λ i. AreKept l.unknowns i l.numbers.now c.args.kept.now) (sym w) c.requires.lent) in
     let to : c.len-to.result ≡ length s.numbers.items = search rules in
@@ -60,8 +60,8 @@ pub returns : goal.returns
 returns c =
     let s = c.self.inside in
     let l = c.args.lent.now in
-    let n : s.unknowns ≡ l.unknowns = ap (λ (t : KeptRows). t.unknowns) c.self.view_is ∙ c.requires.unknowns in
-    let w : s.width ≡ l.width = ap (λ (t : KeptRows). t.width) c.self.view_is ∙ c.requires.width in
+    let n : s.unknowns ≡ l.unknowns = ap (λ (t : KeptRows). t.unknowns) c.self.view_is ∙ c.requires.over.unknowns in
+    let w : s.width ≡ l.width = ap (λ (t : KeptRows). t.width) c.self.view_is ∙ c.requires.over.width in
     let run = subst (λ i. IsRun (row_length i s.width) c.args.first c.args.end c.args.kept.now) (sym n) (subst (λ i. IsRun (row_length l.unknowns i) c.args.first c.args.end c.args.kept.now) (sym w) c.requires.run) in
     let lent = subst (λ i. AreKept i s.width l.numbers.now c.args.kept.now) (sym n) (subst (λ i. AreKept l.unknowns i l.numbers.now c.args.kept.now) (sym w) c.requires.lent) in
     let to : c.len-to.result ≡ length s.numbers.items = search rules in

@@ -4,20 +4,15 @@ use Rattle.pip_model.specs.Agreement.{IsChecked}
 use Rattle.pip_model.specs.Rows.{Row, eliminated, eliminated_listed}
 use Rattle.affine_rows.specs.Checks.{is_overflow}
 use Rattle.tableau.specs.KeptRows.{KeptRows, row_kept, with_rows}
-use Rattle.tableau_row.specs.Rows.{IsRow, IsReduced}
 use Rattle.tableau_row.specs.Views.{row_of}
-use Rattle.tableau.proofs.Turning.{all_kept, map_twice, flat_map-map}
+use Rattle.tableau.proofs.Runs.{kept_flat}
+use Rattle.tableau.proofs.Turning.{map_twice, flat_map-map}
 use Rattle.tableau.proofs.flat_rows.FlatRows.put_in.Goals as goal
 
-pub turn_rows-requires-clause-rows : goal.turn_rows-requires-clause-rows
-turn_rows-requires-clause-rows c =
+pub turn_rows-requires-clause-lent : goal.turn_rows-requires-clause-lent
+turn_rows-requires-clause-lent c =
     let s = c.self.inside in
-    rw (c.as_slice.ensures.value, c.as_slice-2.ensures.value) (all_kept (IsRow s.unknowns s.width) (row_kept s.unknowns s.width s.numbers.items) s.kept.items c.self.invariant.0.rows)
-
-pub turn_rows-requires-clause-reduced : goal.turn_rows-requires-clause-reduced
-turn_rows-requires-clause-reduced c =
-    let s = c.self.inside in
-    rw (c.as_slice.ensures.value, c.as_slice-2.ensures.value) (all_kept IsReduced (row_kept s.unknowns s.width s.numbers.items) s.kept.items c.self.invariant.0.reduced)
+    rw (c.as_slice.ensures.value, c.as_slice-2.ensures.value) (kept_flat s.unknowns s.width s.numbers.items s.kept.items c.self.invariant.0)
 
 pub returns-clause-listed : goal.returns-clause-listed
 returns-clause-listed c =

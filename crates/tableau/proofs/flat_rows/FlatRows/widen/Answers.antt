@@ -1,19 +1,14 @@
 use Rattle.std.proofs.Common.{◌≡◌, ◌∙◌, ap, sym, map}
 use Rattle.pip_model.specs.Rows.{widened}
 use Rattle.tableau.specs.KeptRows.{KeptRows, row_kept, with_rows}
-use Rattle.tableau_row.specs.Rows.{IsRow, IsReduced}
-use Rattle.tableau.proofs.Turning.{all_kept, map_twice}
+use Rattle.tableau.proofs.Runs.{kept_flat}
+use Rattle.tableau.proofs.Turning.{map_twice}
 use Rattle.tableau.proofs.flat_rows.FlatRows.widen.Goals as goal
 
-pub widen_rows-requires-clause-rows : goal.widen_rows-requires-clause-rows
-widen_rows-requires-clause-rows c =
+pub widen_rows-requires-clause-lent : goal.widen_rows-requires-clause-lent
+widen_rows-requires-clause-lent c =
     let s = c.self.inside in
-    rw (c.as_slice.ensures.value, c.as_slice-2.ensures.value) (all_kept (IsRow s.unknowns s.width) (row_kept s.unknowns s.width s.numbers.items) s.kept.items c.self.invariant.0.rows)
-
-pub widen_rows-requires-clause-reduced : goal.widen_rows-requires-clause-reduced
-widen_rows-requires-clause-reduced c =
-    let s = c.self.inside in
-    rw (c.as_slice.ensures.value, c.as_slice-2.ensures.value) (all_kept IsReduced (row_kept s.unknowns s.width s.numbers.items) s.kept.items c.self.invariant.0.reduced)
+    rw (c.as_slice.ensures.value, c.as_slice-2.ensures.value) (kept_flat s.unknowns s.width s.numbers.items s.kept.items c.self.invariant.0)
 
 pub returns : goal.returns
 returns c =

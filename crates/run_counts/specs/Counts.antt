@@ -2,7 +2,7 @@
 use Rattle.std.specs.Prelude.{◌≡◌, ◌+◌, ◌≤◌, Option, Result}
 use Rattle.pip_model.specs.Run.{Work, Counted, Refusal}
 use Rattle.pip_model.specs.Agreement.{AgreesCounted}
-use Rattle.context.specs.declared.work.Counts.{Counts}
+use Rattle.run_counts.specs.declared.work.Counts.{Counts}
 
 -- the budget is as before, and no count fell
 pub record HasCounted (before now : Work) : Type 0 where
@@ -11,14 +11,17 @@ pub record HasCounted (before now : Work) : Type 0 where
   pub cuts : before.cuts ≤ now.cuts
   pub splits : before.splits ≤ now.splits
 
--- what a call answered, seen by `view`, is what this part of the run gives after what was counted before, and it has counted the same
-pub record IsCountedRun {X Y E : Type 0} (view : X → Y) (fault : E → Option Refusal) (result : Result X E) (before now : Work) (part : Counted Y) : Type 0 where
+-- what a call answered, seen by `view`, is what this part of the run gives after what was counted before, and it
+-- has counted the same
+pub record IsCountedRun {X Y E : Type 0} (view : X → Y) (fault : E → Option Refusal) (result : Result X E)
+    (before now : Work) (part : Counted Y) : Type 0 where
   pub agrees : AgreesCounted view fault result now (part before)
   pub counted : HasCounted before now
 
 -- so much is counted more
 abbrev pub counted_more : Work → Counts → Work
-counted_more w counts = record w { pivots = w.pivots + counts.pivots; cuts = w.cuts + counts.cuts; splits = w.splits + counts.splits }
+counted_more w counts =
+    record w { pivots = w.pivots + counts.pivots; cuts = w.cuts + counts.cuts; splits = w.splits + counts.splits }
 
 -- so much more has room in the budget
 pub record HasRoomFor (w : Work) (counts : Counts) : Type 0 where

@@ -1,21 +1,8 @@
--- What parts of a run count together, and the rows and the context that they leave.
+-- The rows and the context that parts of a run leave together.
 use Rattle.std.proofs.Common.{refl, ◌∙◌, arith}
-use Rattle.pip_model.specs.Run.{Work}
 use Rattle.tableau.specs.Tableaus.{TableauRows}
-use Rattle.context.specs.Counts.{HasCounted}
 use Rattle.context.specs.Scoped.{ScopedForms, IsKeptContext}
 use Rattle.context.specs.Turns.{HasSameScope}
-
-pub counted_none : (w : Work) → HasCounted w w
-counted_none w = record { budget = refl; pivots = omega arith; cuts = omega arith; splits = omega arith }
-
-pub counted_on : (before between now : Work) → HasCounted before between → HasCounted between now → HasCounted before now
-counted_on before between now a b = record {
-  budget = b.budget ∙ a.budget;
-  pivots = omega (arith, a.pivots, b.pivots);
-  cuts = omega (arith, a.cuts, b.cuts);
-  splits = omega (arith, a.splits, b.splits);
-}
 
 pub scope_none : (t : TableauRows) → HasSameScope t t
 scope_none t = record { unknowns = refl; width = refl; rows = λ h. h }

@@ -3,7 +3,7 @@ ghost use Rattle.pip_model.specs.Run as model;
 ghost use Rattle.pip_model.specs.Run.{IsBudget, start_work};
 ghost use Rattle.pip_model.specs.Agreement.{AgreesCounted};
 ghost use Rattle.pip_problem.specs.Faults.{run_fault};
-ghost use Rattle.context.specs.Counts.{IsCountedRun, HasRoomFor, counted_more};
+ghost use Rattle.run_counts.specs.Counts.{IsCountedRun, HasRoomFor, counted_more};
 
 use pip_problem::{Limits, Refusal};
 use std::marker::Model;
@@ -128,8 +128,8 @@ impl Work {
         true
     }
 
-    // Counts no more than before.
-    pub(crate) fn back_to(&mut self, counts: Counts)
+    /// Counts no more than it did when it was so much.
+    pub fn back_to(&mut self, counts: Counts)
         requires pivots { counts.pivots ≤ self.old.pivots }
         requires cuts { counts.cuts ≤ self.old.cuts }
         requires splits { counts.splits ≤ self.old.splits }

@@ -1,0 +1,15 @@
+-- What parts of a run count together.
+use Rattle.std.proofs.Common.{refl, ◌∙◌, arith}
+use Rattle.pip_model.specs.Run.{Work}
+use Rattle.run_counts.specs.Counts.{HasCounted}
+
+pub counted_none : (w : Work) → HasCounted w w
+counted_none w = record { budget = refl; pivots = omega arith; cuts = omega arith; splits = omega arith }
+
+pub counted_on : (before between now : Work) → HasCounted before between → HasCounted between now → HasCounted before now
+counted_on before between now a b = record {
+  budget = b.budget ∙ a.budget;
+  pivots = omega (arith, a.pivots, b.pivots);
+  cuts = omega (arith, a.cuts, b.cuts);
+  splits = omega (arith, a.splits, b.splits);
+}
