@@ -1,3 +1,3 @@
-pub mod Checks
-pub mod Forms
-pub mod Tokens
+pub use Rattle.affine_forms.specs.Checks
+pub use Rattle.affine_forms.specs.Forms
+pub use Rattle.text_tokens.specs.Tokens

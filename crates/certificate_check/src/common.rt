@@ -4,8 +4,8 @@ ghost use Rattle.certificate_check.specs.Sharing.{sized};
 
 use crate::numbering::{Numbering, Renumbering};
 use crate::renumbered::renumbered_steps;
-use affine_rows::WantOfMemory;
-use leaf_certificate::{Refutation, Step};
+use affine_forms::WantOfMemory;
+use certificate_parts::{Refutation, Step};
 use std::alloc::Global;
 
 // Whether the step names no form of its refutation's own.

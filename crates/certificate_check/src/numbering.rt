@@ -1,6 +1,6 @@
 ghost use Rattle.std.specs.Prelude.{◌≡◌, ◌+◌, pos};
 ghost use Rattle.pip_model.specs.Share as model;
-ghost use Rattle.affine_rows.specs.Checks.{Fits};
+ghost use Rattle.affine_forms.specs.Checks.{Fits};
 ghost use Rattle.certificate_check.specs.Sharing.{index_of};
 
 // How the known forms of a refutation are numbered: first those of its leaf, then those of its own, then its steps'.

@@ -3,9 +3,9 @@ ghost use Rattle.pip_model.specs.Forms.{opposite, constant};
 ghost use Rattle.pip_model.specs.Listed.{opposite_listed};
 ghost use Rattle.pip_model.specs.Cuts.{Quotient, lower_bound as lower_bound_of, upper_bound as upper_bound_of};
 ghost use Rattle.pip_model.specs.Agreement.{IsChecked};
-ghost use Rattle.affine_rows.specs.Checks.{Fits, is_form_overflow};
+ghost use Rattle.affine_forms.specs.Checks.{Fits, is_form_overflow};
 
-use affine_rows::{Form, FormRefusal, WantOfMemory, lower_bound, upper_bound};
+use affine_forms::{Form, FormRefusal, WantOfMemory, lower_bound, upper_bound};
 use std::alloc::Global;
 use std::marker::Model;
 

@@ -1,11 +1,11 @@
 ghost use Rattle.std.specs.Prelude.{◌≡◌, map, IsTrue, IfOk};
 ghost use Rattle.pip_model.specs.Share as model;
-ghost use Rattle.leaf_certificate.specs.Fitting.{terms_fit};
+ghost use Rattle.certificate_parts.specs.Fitting.{terms_fit};
 ghost use Rattle.certificate_check.specs.Sharing.{index_of};
 
 use crate::numbering::Renumbering;
-use affine_rows::WantOfMemory;
-use leaf_certificate::{Refutation, Step, Terms};
+use affine_forms::WantOfMemory;
+use certificate_parts::{Refutation, Step, Terms};
 use std::alloc::Global;
 
 // The pairs with other indices.

@@ -10,8 +10,8 @@ ghost use Rattle.certificate_check.specs.Sharing.{counts_from, own_sizes as own_
 use crate::common::shared_steps;
 use crate::numbering::{Numbering, Renumbering};
 use crate::renumbered::{refutation, renumbered_steps};
-use affine_rows::WantOfMemory;
-use leaf_certificate::{Certificate, LeafProofs, Refutation};
+use affine_forms::WantOfMemory;
+use certificate_parts::{Certificate, LeafProofs, Refutation};
 use pip_problem::Problem;
 use quast::{Answer, Component, Node};
 use std::alloc::Global;

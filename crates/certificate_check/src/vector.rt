@@ -4,10 +4,10 @@ ghost use Rattle.pip_model.specs.Numbers.{is_nonneg};
 ghost use Rattle.pip_model.specs.Problem.{is_vector as is_vector_of};
 ghost use Rattle.pip_model.specs.Agreement.{Agrees};
 ghost use Rattle.pip_model.specs.Check as model;
-ghost use Rattle.affine_rows.specs.Checks.{Fits};
+ghost use Rattle.affine_forms.specs.Checks.{Fits};
 ghost use Rattle.leaf_check.specs.Faults.{fault_of};
 
-use affine_rows::{Form, Overflow, nonnegative};
+use affine_forms::{Form, Overflow, nonnegative};
 use leaf_check::{Fault, Spot};
 
 // The place of what stands before the first leaf.

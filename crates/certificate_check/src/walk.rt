@@ -1,7 +1,7 @@
 ghost use Rattle.std.specs.Prelude.{◌≡◌, ◌^◌, ◌+◌, ◌<◌, ◌≤◌, Some, None, ⊤, length, slice_index_or, option_copied, IfOk, OnOk, MatchOption, if◌then◌else◌};
 ghost use Rattle.pip_model.specs.Tree as tree;
 ghost use Rattle.pip_model.specs.Agreement.{Agrees};
-ghost use Rattle.affine_rows.specs.Checks.{is_form_overflow};
+ghost use Rattle.affine_forms.specs.Checks.{is_form_overflow};
 ghost use Rattle.quast.specs.Trees.{tree_of};
 ghost use Rattle.leaf_check.specs.Faults.{fault_of};
 ghost use Rattle.leaf_check.specs.Leaves.{AreWide};
@@ -9,8 +9,8 @@ ghost use Rattle.certificate_check.specs.Paths.{first_list as first_list_of, no_
 ghost use Rattle.certificate_check.specs.Walks.{below, leaf_tree, IsAt};
 
 use crate::path::Path;
-use affine_rows::FormRefusal;
-use leaf_certificate::LeafProofs;
+use affine_forms::FormRefusal;
+use certificate_parts::LeafProofs;
 use leaf_check::{Fault, Leaf, Spot, has_shape};
 use pip_problem::Problem;
 use quast::{Component, Node};

@@ -29,7 +29,7 @@ use Rattle.run_laws.proofs.PointRight.{IsPointOf, point_right}
 use Rattle.certificate_laws.proofs.TreeShape.{Shaped}
 use Rattle.certificate_laws.proofs.LeafFacts.{AllPairs, pairs-kept, AllQuotients, LeafFacts, SizedList, leaf_facts}
 use Rattle.pip_model.specs.RefutedPoint.{IsRefutedPoint}
-use Rattle.certificate_laws.proofs.SameRun.{refute-same}
+use Rattle.refutation_laws.proofs.SameRun.{refute-same}
 use Rattle.certificate_laws.proofs.MadeRefutation.{IsPremises, narrow_context, known_long}
 use Rattle.certificate_laws.proofs.MadeLeaves.{Ready, leaf_ready}
 use Rattle.certificate_laws.proofs.FitSteps.{most_index, UpTo, AllUpTo, fits_up_to, up_to_indices, term_fits, positive_fits, StepsFit, steps_fit_append, IfFits, AllFit, refute_fits, fit_widened}

@@ -28,7 +28,7 @@ use Rattle.certificate_laws.proofs.Tracing.{one_at}
 use Rattle.certificate_laws.proofs.RefuteRun.{IfRefuted}
 use Rattle.certificate_laws.proofs.FirstTrace.{units_from, units-append, AllWithin, length_narrow, indices_named, Starts, refute_right}
 use Rattle.pip_model.specs.RefutedPoint.{IsRefutedPoint}
-use Rattle.certificate_laws.proofs.SameRun.{refute-same}
+use Rattle.refutation_laws.proofs.SameRun.{refute-same}
 use Rattle.certificate_laws.proofs.LeafFacts.{AllQuotients}
 use Rattle.certificate_laws.proofs.QuotientSteps.{entry-unit_form, Places, Stands, quotient_steps_good, length-quotient_steps}
 use Rattle.pip_model.proofs.RingLaws.{one-*ℤ}

@@ -12,7 +12,7 @@ use Rattle.pip_problem.specs.Faults.{run_fault}
 use Rattle.pip_problem.specs.declared.refusal.Refusal.{Refusal}
 use Rattle.run_laws.proofs.ContextRight.{point-tells, narrow_of}
 use Rattle.run_laws.proofs.PointRefusals.{point-refusal}
-use Rattle.certificate_laws.proofs.SameRun.{refute-same}
+use Rattle.refutation_laws.proofs.SameRun.{refute-same}
 
 module _ (w : ℕ) (K : List (List ℤ)) (before after : Work) (h : IsContext w K) where
   pub point_means : (r : Result (Option (List ℤ)) Refusal) → AgreesCounted (λ o. o) run_fault r after (point w K before) → IfOk r (PointTells w K)

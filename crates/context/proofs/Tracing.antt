@@ -13,7 +13,7 @@ use Rattle.pip_model.specs.Refuting.{Trace, traced, pivot_trace, cut_trace, with
 use Rattle.pip_model.proofs.Forms.{length-count}
 use Rattle.pip_model.proofs.Fuel.{again_less, falls-constant_class}
 use Rattle.run_laws.proofs.RowsAt.{length_slice_set}
-use Rattle.certificate_laws.proofs.RefuteSteps.{signs_from, next_trace, refute-again, refute-closed, refute-refused}
+use Rattle.refutation_laws.proofs.RefuteSteps.{signs_from, next_trace, refute-again, refute-closed, refute-refused}
 use Rattle.tableau.specs.Tableaus.{TableauRows}
 use Rattle.context.specs.Turns.{negative_from, node_of}
 use Rattle.context.specs.Traces.{with_cut, steps_if, IsTraced}

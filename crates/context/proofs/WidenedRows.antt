@@ -4,7 +4,7 @@ use Rattle.std.proofs.lemmas.List.{drop_more, drop_all, take_all, take-append-le
 use Rattle.pip_model.specs.Numbers.{gcd, gcd_of, floor_div}
 use Rattle.pip_model.specs.Forms.{floor_divided, width, coefficients, constant, widen_to}
 use Rattle.pip_model.specs.Rows.{Row, divided, form_row}
-use Rattle.affine_rows.proofs.Divisors.{gcd_one, floor_divided_one}
+use Rattle.affine_forms.proofs.Divisors.{gcd_one, floor_divided_one}
 
 abbrev whole_row : List ℤ → List ℤ → Row
 whole_row coefs constant = record { den = pos 1; coefs = coefs; constant = constant }

@@ -14,7 +14,7 @@ use crate::rows::{push_form, start_rows};
 use crate::short_rows::push_short;
 use crate::short_run::run_short;
 use crate::stop::Stop;
-use affine_rows::Form;
+use affine_forms::Form;
 use pip_problem::Refusal;
 use run_counts::Work;
 use short_tableau::ShortTableau;

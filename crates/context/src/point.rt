@@ -4,7 +4,7 @@ ghost use Rattle.pip_model.specs.Tree.{Component};
 ghost use Rattle.pip_model.specs.Rows.{row_at};
 ghost use Rattle.pip_model.specs.Run.{row_component};
 
-use affine_rows::{WantOfMemory, floor_div, gcd_with};
+use affine_forms::{WantOfMemory, floor_div, gcd_with};
 use std::alloc::Global;
 use std::marker::Model;
 use tableau::Tableau;

@@ -10,7 +10,7 @@ ghost use Rattle.context.specs.Remembered.{ended};
 use crate::point::{Point, values};
 use crate::point_turn::{Turn, take_turn};
 use crate::rows::start_rows;
-use affine_rows::Form;
+use affine_forms::Form;
 use pip_problem::Refusal;
 use run_counts::Work;
 use std::alloc::Global;

@@ -10,7 +10,7 @@ ghost use Rattle.context.specs.Traces.{IsTurnAt};
 ghost use Rattle.context.specs.Turns.{negative_from, node_of, made, HasSameScope};
 
 use crate::steps::{count_and_cut, enter};
-use affine_rows::nonnegative;
+use affine_forms::nonnegative;
 use gomory_cut::first_fraction;
 use pip_problem::Refusal;
 use run_counts::Work;

@@ -1,9 +1,9 @@
 ghost use Rattle.std.specs.Prelude.{◌≡◌, ◌++◌, length, All, OnOk};
 ghost use Rattle.pip_model.specs.Refuting as model;
-ghost use Rattle.affine_rows.specs.Checks.{Fits};
+ghost use Rattle.affine_forms.specs.Checks.{Fits};
 
-use affine_rows::{WantOfMemory, positive};
-use leaf_certificate::Terms;
+use affine_forms::{WantOfMemory, positive};
+use certificate_parts::Terms;
 
 /// Puts the indices whose multipliers are above 0 behind the pairs, each with its multiplier, in order.
 pub fn push_positive(

@@ -6,7 +6,7 @@ ghost use Rattle.context.specs.Remembered.{IsFormed, IsReplay, IsRemembered, fir
 
 use crate::short_rows::{first_below, start_short};
 use crate::stop::Stop;
-use affine_rows::{Form, WantOfMemory};
+use affine_forms::{Form, WantOfMemory};
 use short_tableau::ShortTableau;
 use std::alloc::Global;
 

@@ -7,7 +7,7 @@ ghost use Rattle.context.specs.Stops.{stop_fault};
 ghost use Rattle.context.specs.Turns.{negative_from};
 
 use crate::stop::Stop;
-use affine_rows::{Form, WantOfMemory};
+use affine_forms::{Form, WantOfMemory};
 use short_tableau::ShortTableau;
 
 // Adds the row of one form, whose numbers have to be short.

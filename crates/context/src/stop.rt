@@ -2,7 +2,7 @@ ghost use Rattle.std.specs.Prelude.{◌≡◌};
 ghost use Rattle.context.specs.declared.stop.Stop.TheVariants as stop;
 ghost use Rattle.pip_problem.specs.declared.refusal.Refusal.TheVariants as code;
 
-use affine_rows::WantOfMemory;
+use affine_forms::WantOfMemory;
 use pip_problem::Refusal;
 
 // Why a run over short numbers ends before its answer: it is refused, or a number is not short.

@@ -1,14 +1,14 @@
 ghost use Rattle.std.specs.Prelude.{◌≡◌, ◌^◌, ◌<◌, ◌++◌, pos, ◌≤ℤ◌, ◌<ℤ◌, length, slice_set, All, IfOk, OnOk};
 ghost use Rattle.pip_model.specs.Forms.{entry};
 ghost use Rattle.pip_model.specs.Refuting.{indices, first_trace, with_step, last_step};
-ghost use Rattle.affine_rows.specs.Checks.{Fits};
+ghost use Rattle.affine_forms.specs.Checks.{Fits};
 ghost use Rattle.tableau.specs.Tableaus.{IsRow};
 ghost use Rattle.tableau.specs.Views.{row_of};
 ghost use Rattle.context.specs.Traces.{with_cut};
 
 use crate::positive_terms::push_positive;
-use affine_rows::{WantOfMemory, negate_all, remainders};
-use leaf_certificate::{Refutation, Step, Terms};
+use affine_forms::{WantOfMemory, negate_all, remainders};
+use certificate_parts::{Refutation, Step, Terms};
 use std::alloc::Global;
 use std::marker::Model;
 use tableau::RowView;
@@ -26,7 +26,7 @@ pub(crate) struct Trace {
 impl Model for Trace {
     ghost use Rattle.std.specs.Prelude.{◌^◌, pos, ◌+ℤ◌, ◌≤ℤ◌, ◌<ℤ◌, All, length};
     ghost use Rattle.pip_model.specs.Refuting as model;
-    ghost use Rattle.affine_rows.specs.Checks.{Fits};
+    ghost use Rattle.affine_forms.specs.Checks.{Fits};
 
     ghost Value = { model.Trace };
 

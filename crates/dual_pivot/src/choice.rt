@@ -2,11 +2,11 @@ ghost use Rattle.std.specs.Prelude.{◌≡◌, ◌*ℤ◌, ◌+◌, ◌<◌, ◌
 ghost use Rattle.pip_model.specs.Rows as model;
 ghost use Rattle.pip_model.specs.Agreement.{IsChecked};
 ghost use Rattle.pip_model.specs.Forms.{entry};
-ghost use Rattle.affine_rows.specs.Checks.{is_overflow, IsFitted};
+ghost use Rattle.affine_forms.specs.Checks.{is_overflow, IsFitted};
 ghost use Rattle.tableau.specs.Views.{row_of};
 ghost use Rattle.dual_pivot.specs.Choices.{product_at, compared, better, better_listed, unit_entry, IsCandidate};
 
-use affine_rows::{Overflow, positive, times};
+use affine_forms::{Overflow, positive, times};
 use tableau::{RowView, Tableau};
 
 // The product of a number with the coefficient of column k in the row of column c.

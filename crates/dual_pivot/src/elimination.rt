@@ -2,7 +2,7 @@ ghost use Rattle.std.specs.Prelude.{◌≡◌, ◌<◌, pos, ◌≤ℤ◌, lengt
 ghost use Rattle.pip_model.specs.Forms.{entry};
 ghost use Rattle.pip_model.specs.Rows as model;
 ghost use Rattle.pip_model.specs.Agreement.{IsChecked};
-ghost use Rattle.affine_rows.specs.Checks.{is_form_overflow};
+ghost use Rattle.affine_forms.specs.Checks.{is_form_overflow};
 
 use tableau::{StepRefusal, Tableau};
 

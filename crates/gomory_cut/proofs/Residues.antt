@@ -10,7 +10,7 @@ use Rattle.pip_model.specs.Numbers.{floor_mod}
 use Rattle.pip_model.specs.Forms.{coefficients, constant, entry, residue, widen}
 use Rattle.pip_model.specs.Rows.{Row, widened}
 use Rattle.pip_model.specs.Cuts.{residue_of}
-use Rattle.affine_rows.specs.Forms.{IsResidue}
+use Rattle.affine_forms.specs.Forms.{IsResidue}
 
 mod_is_residue : (z d : ℤ) → pos 1 ≤ℤ d → IsResidue d (floor_mod z d)
 mod_is_residue z (pos zero) h = absurd (omega (arith, ints))

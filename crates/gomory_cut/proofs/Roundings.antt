@@ -8,7 +8,7 @@ use Rattle.pip_model.specs.Forms.{entry, negate, residue, width}
 use Rattle.pip_model.specs.Rows.{Row, divided}
 use Rattle.pip_model.specs.Cuts.{residue_of, rounding, parametric_cut}
 use Rattle.tableau.specs.Tableaus.{row_from}
-use Rattle.affine_rows.proofs.Units.{add_unit, widen_same}
+use Rattle.affine_forms.proofs.Units.{add_unit, widen_same}
 
 from_zero : (z g : ℤ) → g ≡ pos 0 → neg_ℤ g +ℤ z ≡ z
 from_zero z g e = omega (arith, ints, e)

@@ -3,10 +3,10 @@ ghost use Rattle.pip_model.specs.Forms.{entry, negate};
 ghost use Rattle.pip_model.specs.Rows.{row_at};
 ghost use Rattle.pip_model.specs.Cuts as model;
 ghost use Rattle.pip_model.specs.Agreement.{IsChecked};
-ghost use Rattle.affine_rows.specs.Checks.{Fits, is_overflow};
+ghost use Rattle.affine_forms.specs.Checks.{Fits, is_overflow};
 ghost use Rattle.tableau.specs.Tableaus.{with_row, with_rounded};
 
-use affine_rows::{Form, Overflow, WantOfMemory, negate_all, negate_around, remainders, residues};
+use affine_forms::{Form, Overflow, WantOfMemory, negate_all, negate_around, remainders, residues};
 use tableau::Tableau;
 
 /// Adds the cut by a row whose residue is a constant: where the row's quantity is whole, the sum of the fractional

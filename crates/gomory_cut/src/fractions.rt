@@ -1,11 +1,11 @@
 ghost use Rattle.std.specs.Prelude.{◌≡◌, ◌+◌, ◌<◌, ◌≤◌, true, false, length, option_map, All, IfOk, IfSome, IfNone, OnSome};
 ghost use Rattle.pip_model.specs.Rows as model;
 ghost use Rattle.pip_model.specs.Cuts as cuts;
-ghost use Rattle.affine_rows.specs.Forms.{IsResidue};
+ghost use Rattle.affine_forms.specs.Forms.{IsResidue};
 ghost use Rattle.gomory_cut.specs.Fractions.{IsFractionOf};
 ghost use Rattle.tableau.specs.Tableaus.{IsRow};
 
-use affine_rows::{Form, WantOfMemory, is_whole, residues};
+use affine_forms::{Form, WantOfMemory, is_whole, residues};
 use std::alloc::Global;
 use tableau::Tableau;
 

@@ -1,5 +1,5 @@
-pub mod Fitting
-pub mod Vectors
+pub use Rattle.certificate_parts.specs.Fitting
+pub use Rattle.certificate_parts.specs.Vectors
 pub mod Printing
 pub mod Faults
 pub mod Sequences

@@ -4,16 +4,16 @@ ghost use Rattle.pip_model.specs.Moved.{is_closed};
 ghost use Rattle.pip_model.specs.Certificate as model;
 ghost use Rattle.pip_model.specs.Printed.{certificate_fits};
 ghost use Rattle.pip_model.specs.Agreement.{Agrees};
-ghost use Rattle.affine_rows.specs.Checks.{Fits};
+ghost use Rattle.affine_forms.specs.Checks.{Fits};
 ghost use Rattle.text_steps.specs.Steps.{fault_of, AreRead, IsRead};
 ghost use Rattle.leaf_certificate.specs.Faults.{certificate_fault};
 ghost use Rattle.leaf_certificate.specs.Sequences.{numbers_to_end};
-ghost use Rattle.leaf_certificate.specs.Vectors.{numbers_of};
+ghost use Rattle.certificate_parts.specs.Vectors.{numbers_of};
 
-use crate::certificate::Certificate;
+use certificate_parts::Certificate;
 use crate::read_leaf::read_leaves;
 use crate::refusal::CertificateRefusal;
-use affine_rows::{Kind, next_open, token};
+use text_tokens::{Kind, next_open, token};
 use std::alloc::Global;
 use text_steps::{Reads, TextFault, expect, expect_word, number, same_bracket, spells};
 

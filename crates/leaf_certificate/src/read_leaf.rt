@@ -3,10 +3,10 @@ ghost use Rattle.pip_model.specs.Certificate as model;
 ghost use Rattle.text_steps.specs.Steps.{fault_of, AreRead, IsRead};
 ghost use Rattle.leaf_certificate.specs.Sequences.{refutations_to_end, leaves_to_end};
 
-use crate::certificate::Certificate;
-use crate::leaf::{LeafProofs, Refutation};
+use certificate_parts::Certificate;
+use certificate_parts::{LeafProofs, Refutation};
 use crate::read_step::read_refutation;
-use affine_rows::{Kind, token};
+use text_tokens::{Kind, token};
 use std::alloc::Global;
 use text_steps::{Reads, TextFault, expect, same_bracket};
 

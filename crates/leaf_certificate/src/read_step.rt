@@ -1,12 +1,12 @@
 ghost use Rattle.std.specs.Prelude.{◌≡◌, ◌≤◌, ◌<◌, length, All, IfOk};
 ghost use Rattle.pip_model.specs.Certificate as model;
-ghost use Rattle.affine_rows.specs.Checks.{Fits};
+ghost use Rattle.affine_forms.specs.Checks.{Fits};
 ghost use Rattle.text_steps.specs.Steps.{fault_of, AreRead, IsRead};
 ghost use Rattle.leaf_certificate.specs.Sequences.{terms_to_end, steps_to_end};
 
-use crate::leaf::Refutation;
-use crate::step::{Step, Terms};
-use affine_rows::{Kind, token};
+use certificate_parts::Refutation;
+use certificate_parts::{Step, Terms};
+use text_tokens::{Kind, token};
 use std::alloc::Global;
 use text_steps::{Reads, TextFault, expect, number, same_bracket};
 

@@ -11,7 +11,7 @@ use Rattle.pip_model.specs.Check.{plus_term, plus_term_listed, put_in, put_in_li
 use Rattle.pip_model.specs.Agreement.{IsChecked}
 use Rattle.pip_model.proofs.Fitting.{fit_behind, fit_never}
 use Rattle.pip_model.proofs.Forms.{length-add, length-plus, constant-plus, length-widened}
-use Rattle.affine_rows.proofs.Units.{negate_unit}
+use Rattle.affine_forms.proofs.Units.{negate_unit}
 use Rattle.leaf_check.proofs.Making.{length-unit}
 
 -- ---- a row at the components

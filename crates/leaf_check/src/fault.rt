@@ -1,7 +1,7 @@
 ghost use Rattle.std.specs.Prelude.{◌≡◌};
 ghost use Rattle.leaf_check.specs.declared.fault.Fault.TheVariants as fault;
 
-use affine_rows::WantOfMemory;
+use affine_forms::WantOfMemory;
 use std::fmt;
 
 /// A place in a certificate: a leaf, a refutation of it and a step of that, each counted from 1. 0 stands for what

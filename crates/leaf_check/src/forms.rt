@@ -1,12 +1,12 @@
 ghost use Rattle.std.specs.Prelude.{◌≡◌, ◌+◌, ◌-◌, ◌≤◌, ◌<◌, ◌++◌, [], ◌∷◌, pos, length, map, All, IfOk, OnOk};
 ghost use Rattle.pip_model.specs.Forms.{unit_form, widen_to};
 ghost use Rattle.pip_model.specs.Check as model;
-ghost use Rattle.affine_rows.specs.Checks.{Fits};
-ghost use Rattle.affine_rows.specs.Forms.{IsForm};
+ghost use Rattle.affine_forms.specs.Checks.{Fits};
+ghost use Rattle.affine_forms.specs.Forms.{IsForm};
 
 use crate::known::Known;
 use crate::sum::zeros;
-use affine_rows::{Form, WantOfMemory};
+use affine_forms::{Form, WantOfMemory};
 use std::alloc::Global;
 
 // A form over so many places that is a number at one of them.

@@ -5,14 +5,14 @@ ghost use Rattle.pip_model.specs.Listed.{opposite_listed};
 ghost use Rattle.pip_model.specs.Tree.{Component};
 ghost use Rattle.pip_model.specs.Agreement.{IsChecked};
 ghost use Rattle.pip_model.specs.Check as model;
-ghost use Rattle.affine_rows.specs.Checks.{Fits, is_overflow, is_form_overflow};
-ghost use Rattle.affine_rows.specs.Forms.{IsForm};
+ghost use Rattle.affine_forms.specs.Checks.{Fits, is_overflow, is_form_overflow};
+ghost use Rattle.affine_forms.specs.Forms.{IsForm};
 ghost use Rattle.quast.specs.Components.{IsComponent};
 
 use crate::forms::widened;
 use crate::known::Known;
 use crate::sum::add_multiple;
-use affine_rows::{Form, FormRefusal, Overflow, WantOfMemory, lower_bound, rounding};
+use affine_forms::{Form, FormRefusal, Overflow, WantOfMemory, lower_bound, rounding};
 use quast::Component;
 use std::alloc::Global;
 

@@ -7,8 +7,8 @@ ghost use Rattle.leaf_check.specs.Faults.{fault_of, spot_of};
 
 use crate::fault::{Fault, Spot};
 use crate::step::derive;
-use affine_rows::{Form, WantOfMemory};
-use leaf_certificate::Step;
+use affine_forms::{Form, WantOfMemory};
+use certificate_parts::Step;
 use std::alloc::Global;
 use std::marker::Model;
 

@@ -1,13 +1,13 @@
 ghost use Rattle.std.specs.Prelude.{◌≡◌, ◌+◌, ◌≤ℤ◌, ◌<◌, ◌++◌, [], ◌∷◌, pos, length, All, IfOk};
 ghost use Rattle.pip_model.specs.Agreement.{Agrees};
 ghost use Rattle.pip_model.specs.Check as model;
-ghost use Rattle.affine_rows.specs.Checks.{Fits};
+ghost use Rattle.affine_forms.specs.Checks.{Fits};
 ghost use Rattle.leaf_check.specs.Faults.{fault_of, spot_of};
 
 use crate::fault::{Fault, Spot};
 use crate::sum::{add_terms, zeros};
-use affine_rows::{Form, divide_all, divides};
-use leaf_certificate::Step;
+use affine_forms::{Form, divide_all, divides};
+use certificate_parts::Step;
 use std::alloc::Global;
 
 // Whether d divides each coefficient.

@@ -2,11 +2,11 @@ ghost use Rattle.std.specs.Prelude.{◌≡◌, ◌+◌, ◌+ℤ◌, pos, replica
 ghost use Rattle.pip_model.specs.Numbers.{is_nonneg};
 ghost use Rattle.pip_model.specs.Agreement.{IsChecked, Agrees};
 ghost use Rattle.pip_model.specs.Check as model;
-ghost use Rattle.affine_rows.specs.Checks.{Fits, is_overflow};
+ghost use Rattle.affine_forms.specs.Checks.{Fits, is_overflow};
 ghost use Rattle.leaf_check.specs.Faults.{fault_of, spot_of};
 
 use crate::fault::{Fault, Spot};
-use affine_rows::{Form, Overflow, WantOfMemory, plus, times};
+use affine_forms::{Form, Overflow, WantOfMemory, plus, times};
 use std::alloc::Global;
 
 // A sum of no terms, over so many places.

@@ -5,8 +5,8 @@ ghost use Rattle.leaf_check.specs.Faults.{fault_of};
 
 use crate::fault::{Fault, Spot};
 use crate::known::Known;
-use affine_rows::WantOfMemory;
-use leaf_certificate::LeafProofs;
+use affine_forms::WantOfMemory;
+use certificate_parts::LeafProofs;
 use pip_problem::Problem;
 use std::alloc::Global;
 

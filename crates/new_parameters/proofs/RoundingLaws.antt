@@ -10,11 +10,11 @@ use Rattle.pip_model.specs.Cuts.{Quotient, rounding, upper_bound}
 use Rattle.pip_model.proofs.Fitting.{fits-below, fit_cons}
 use Rattle.pip_model.proofs.Forms.{length-coefficients, length-widened, constant-plus}
 use Rattle.pip_model.proofs.Bounds.{length-rounding}
-use Rattle.affine_rows.specs.Checks.{Fits, is_form_overflow}
-use Rattle.affine_rows.specs.declared.memory.FormRefusal.{FormRefusal}
-use Rattle.affine_rows.specs.declared.memory.FormRefusal.TheVariants.{Overflow}
-use Rattle.affine_rows.specs.Forms.{IsResidue}
-use Rattle.affine_rows.proofs.QuotientForms.{rounding_made}
+use Rattle.affine_forms.specs.Checks.{Fits, is_form_overflow}
+use Rattle.affine_forms.specs.declared.memory.FormRefusal.{FormRefusal}
+use Rattle.affine_forms.specs.declared.memory.FormRefusal.TheVariants.{Overflow}
+use Rattle.affine_forms.specs.Forms.{IsResidue}
+use Rattle.affine_forms.proofs.QuotientForms.{rounding_made}
 use Rattle.new_parameters.specs.Scopes.{IsQuotient}
 use Rattle.new_parameters.proofs.Trimming.{padded}
 

@@ -1,7 +1,7 @@
 -- The vector of a path: its parameters, and then its quotients.
 use Rattle.std.specs.Prelude.{ℕ, ◌+◌, ◌-◌, ◌^◌, ◌<◌, ◌≤◌, pos, List, [], ◌∷◌, length, slice_index_or, All, ⊤}
 use Rattle.pip_model.specs.Cuts.{Quotient}
-use Rattle.affine_rows.specs.Forms.{IsResidue}
+use Rattle.affine_forms.specs.Forms.{IsResidue}
 
 -- how many parameters there are, and the quotients in the order of their places
 pub record Scope : Type 0 where

@@ -4,7 +4,7 @@ ghost use Rattle.pip_model.specs.Cuts as model;
 ghost use Rattle.new_parameters.specs.Scopes.{IsQuotient};
 
 use crate::quotient::Quotient;
-use affine_rows::{Form, FormRefusal, WantOfMemory};
+use affine_forms::{Form, FormRefusal, WantOfMemory};
 use std::alloc::Global;
 
 /// The form `-g + d*q` over so many places, where q is a new parameter at a place at which g is 0.
@@ -19,7 +19,7 @@ pub fn rounding(
     requires free { place < width_of k.now.form → entry k.now.form place ≡ pos 0 }
     ensures { IfOk result (λ form. form ≡ model.rounding width place k.now) }
 {
-    affine_rows::rounding(alloc, width, place, k.form.as_slice(), k.den)
+    affine_forms::rounding(alloc, width, place, k.form.as_slice(), k.den)
 }
 
 // The form `d*q + d - 1 - g`: its constant fits, since that of g lies in 0 .. d - 1.
@@ -35,7 +35,7 @@ pub(crate) fn upper_bound(
     requires free { place < width_of k.now.form → entry k.now.form place ≡ pos 0 }
     ensures { IfOk result (λ form. form ≡ model.upper_bound width place k.now) }
 {
-    match affine_rows::upper_bound(alloc, width, place, k.form.as_slice(), k.den) {
+    match affine_forms::upper_bound(alloc, width, place, k.form.as_slice(), k.den) {
         Ok(form) => Ok(form),
         Err(FormRefusal::WantOfMemory) => Err(WantOfMemory),
         Err(FormRefusal::Overflow) => unreachable!(),

@@ -7,7 +7,7 @@ ghost use Rattle.std.specs.Ordering.{int_eq, on, eq_of_both};
 ghost use Rattle.pip_model.specs.Forms.{coefficients, constant};
 ghost use Rattle.new_parameters.specs.Keys.{trimmed as trimmed_of};
 
-use affine_rows::Form;
+use affine_forms::Form;
 use std::hash::{Hash, Hasher};
 use std::marker::Model;
 

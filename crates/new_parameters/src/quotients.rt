@@ -5,7 +5,7 @@ ghost use Rattle.new_parameters.specs.Scopes.{IsQuotient, quotient_at, size};
 
 use crate::bounds::upper_bound;
 use crate::quotient::Quotient;
-use affine_rows::{Form, WantOfMemory, lower_bound};
+use affine_forms::{Form, WantOfMemory, lower_bound};
 use indexmap::IndexSet;
 use std::alloc::Global;
 use std::marker::Model;

@@ -9,8 +9,8 @@ use Rattle.clap.specs.Words.{Row, Text, fault_of, subcommand_of, first_of, all_o
 use Rattle.pip_model.specs.Tokens.{is_digit, natural_of}
 use Rattle.pip_model.specs.Limits.{most_params, most_pivots, most_cuts, most_splits, most_nesting}
 use Rattle.pip_model.specs.Run.{Budget, IsBudget, standard_budget}
-use Rattle.pip_model.specs.Commands.{Command, Eval, Simplify, Pieces, Restrict, Same, Least}
-use Rattle.pip_model.specs.Output.{MayBeAsked}
+use Rattle.program_model.specs.Commands.{Command, Eval, Simplify, Pieces, Restrict, Same, Least}
+use Rattle.program_model.specs.Output.{MayBeAsked}
 use Rattle.pip_items.specs.Outputs.{IsWithin}
 use Rattle.pip_words.specs.Arguments.{pip_app}
 use Rattle.pip_words.specs.Numbers.{number_of, most_drawn}

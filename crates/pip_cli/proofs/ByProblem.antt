@@ -4,10 +4,10 @@ use Rattle.std.specs.Prelude.{Result, Ok, Err, MatchBool}
 use Rattle.std.specs.List.{concat}
 use Rattle.std.specs.Io.KnownBytes.{Appends}
 use Rattle.pip_model.specs.Limits.{most_input_bytes}
-use Rattle.pip_model.specs.Endings.{Ending, finished}
-use Rattle.pip_model.specs.Items.{IsItself}
-use Rattle.pip_model.specs.Commands.{Command, SolveOptions, Solve, item_text}
-use Rattle.pip_model.specs.Output.{IsOutput, IsFirstOutput, MayBeAsked}
+use Rattle.program_model.specs.Endings.{Ending, finished}
+use Rattle.program_model.specs.Items.{IsItself}
+use Rattle.program_model.specs.Commands.{Command, SolveOptions, Solve, item_text}
+use Rattle.program_model.specs.Output.{IsOutput, IsFirstOutput, MayBeAsked}
 use Rattle.headline.proofs.FirstItems.{first_items-first}
 use Rattle.headline.proofs.OutputRight.{output-right, first_output-right}
 use Rattle.headline.proofs.OutputUnique.{output-unique}

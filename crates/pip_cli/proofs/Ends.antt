@@ -8,9 +8,9 @@ use Rattle.pip_outside.specs.Bytes.{WritesAll}
 use Rattle.pip_outside.specs.Faults.{CountsFaults}
 use Rattle.pip_model.specs.Reading.{Fault, Syntax, Wide, Limit, BigParameter, OptionWord, TooNested, Components, Version}
 use Rattle.pip_model.specs.Run.{Refusal, Overflow, Pivots, Cuts, Splits, Nesting}
-use Rattle.pip_model.specs.Endings.{Ending, finished, fault_ending, refusal_ending, tool_ending, notes_of}
-use Rattle.pip_model.specs.Commands.{Command}
-use Rattle.pip_model.specs.Output.{IsOutput, IsFirstOutput}
+use Rattle.program_model.specs.Endings.{Ending, finished, fault_ending, refusal_ending, tool_ending, notes_of}
+use Rattle.program_model.specs.Commands.{Command}
+use Rattle.program_model.specs.Output.{IsOutput, IsFirstOutput}
 use Rattle.pip_problem.specs.Faults.{run_fault, read_fault}
 use Rattle.quast_text.specs.Faults.{text_fault}
 use Rattle.pip_model.specs.Walks.{ToolRefusal, ByRun, Negative, Lengths}

@@ -5,11 +5,11 @@ use Rattle.std.specs.List.{concat}
 use Rattle.std.specs.Io.KnownBytes.{Appends, Keeps}
 use Rattle.pip_outside.specs.Bytes.{AppendsFront}
 use Rattle.pip_outside.specs.Faults.{HasRisen}
-use Rattle.pip_model.specs.Endings.{Ending, all_done, wrong_words, read_failed, write_failed, memory_refused, past_limit}
-use Rattle.pip_model.specs.Endings.{finished, usage_ending, read_fault_ending, write_fault_ending, memory_ending}
-use Rattle.pip_model.specs.Endings.{input_ending, notes_of}
-use Rattle.pip_model.specs.Commands.{Command}
-use Rattle.pip_model.specs.Output.{IsOutput, IsFirstOutput, IsRightOutput, IsRightFirstOutput}
+use Rattle.program_model.specs.Endings.{Ending, all_done, wrong_words, read_failed, write_failed, memory_refused, past_limit}
+use Rattle.program_model.specs.Endings.{finished, usage_ending, read_fault_ending, write_fault_ending, memory_ending}
+use Rattle.program_model.specs.Endings.{input_ending, notes_of}
+use Rattle.program_model.specs.Commands.{Command}
+use Rattle.program_model.specs.Output.{IsOutput, IsFirstOutput, IsRightOutput, IsRightFirstOutput}
 use Rattle.pip_endings.specs.Endings.{ending_of}
 use Rattle.pip_endings.specs.declared.ending.Ending.{Ending as Refused}
 use Rattle.pip_items.specs.Items.{Gained, GainedFront}

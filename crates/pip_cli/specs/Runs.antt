@@ -1,6 +1,6 @@
 -- How a run without a command ends, and what is promised where the outside tells.
 use Rattle.std.specs.Prelude.{List, ℕ, Option, IfSome, Result, Err, ⊤}
-use Rattle.pip_model.specs.Commands.{Command}
+use Rattle.program_model.specs.Commands.{Command}
 use Rattle.pip_endings.specs.declared.ending.Ending.{Ending}
 use Rattle.pip_endings.specs.declared.ending.Ending.TheVariants as ending
 use Rattle.pip_items.specs.Outputs.{bytes_read}

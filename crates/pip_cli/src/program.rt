@@ -1,7 +1,7 @@
 ghost use Rattle.std.specs.Prelude.{◌≡◌, ◌≢◌, ◌⊎◌, ◌-◌, None, Ok, IsErrOf, IfSome};
 ghost use Rattle.std.specs.Io.KnownBytes.{IsAtEnd};
 ghost use Rattle.pip_outside.specs.Faults.{HasRisen};
-ghost use Rattle.pip_model.specs.Endings.{all_done, wrong_words, read_failed, write_failed, memory_refused, memory_ending};
+ghost use Rattle.program_model.specs.Endings.{all_done, wrong_words, read_failed, write_failed, memory_refused, memory_ending};
 ghost use Rattle.pip_words.specs.Words.{command_given};
 ghost use Rattle.pip_items.specs.Outputs.{TakesInput, TakesInputAtMost, IsRead, EndsByFaults};
 ghost use Rattle.pip_items.specs.ByProblem.{WritesOf, ReadsWhole, StopsAtRefused};

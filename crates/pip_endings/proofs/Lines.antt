@@ -6,7 +6,7 @@ use Rattle.std.specs.Io.KnownBytes.{Appends}
 use Rattle.pip_outside.specs.Bytes.{AppendsFront, WritesAll}
 use Rattle.pip_outside.proofs.Parts.{front_longer, front_after, writes_after}
 use Rattle.std.proofs.KnownBytes.{Appends-trans}
-use Rattle.pip_model.specs.Endings.{Ending, notes_of, spot_text}
+use Rattle.program_model.specs.Endings.{Ending, notes_of, spot_text}
 use Rattle.certificate_check.specs.Faults.{spot_of}
 use Rattle.leaf_check.specs.declared.fault.Spot.{Spot}
 use Rattle.pip_endings.specs.Lines.{with_count, second_said, lengths_said, digits_of, place_said, words_of, line_of}

@@ -1,6 +1,6 @@
 -- How the refusals of the code end a run: a status, and the line on the notes.
 use Rattle.std.specs.Prelude.{Option, Some, None, option_map, unwrap_or, ⊤}
-use Rattle.pip_model.specs.Endings as model
+use Rattle.program_model.specs.Endings as model
 use Rattle.pip_problem.specs.Faults.{run_fault, read_fault}
 use Rattle.pip_problem.specs.declared.refusal.Refusal.{Refusal}
 use Rattle.pip_problem.specs.declared.refusal.ReadRefusal.{ReadRefusal}

@@ -1,7 +1,7 @@
 -- What is told of an ending: its status, and its line as words and numbers behind them.
 use Rattle.std.specs.Prelude.{ℤ, ℕ, List, [], ◌++◌, codes, decimal, Option, Some, None}
 use Rattle.std.specs.Fmt.{signed_decimal}
-use Rattle.pip_model.specs.Endings.{Ending}
+use Rattle.program_model.specs.Endings.{Ending}
 use Rattle.leaf_check.specs.declared.fault.Spot.{Spot}
 use Rattle.pip_endings.specs.Statuses.{number_of}
 use Rattle.pip_endings.specs.declared.told.Told.{Told}

@@ -1,6 +1,6 @@
 -- The numbers of the statuses.
 use Rattle.std.specs.Prelude.{ℕ}
-use Rattle.pip_model.specs.Endings as model
+use Rattle.program_model.specs.Endings as model
 use Rattle.pip_endings.specs.declared.status.Status.{Status}
 use Rattle.pip_endings.specs.declared.status.Status.TheVariants as status
 

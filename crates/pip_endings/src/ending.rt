@@ -2,7 +2,7 @@ ghost use Rattle.std.specs.Prelude.{◌≡◌};
 ghost use Rattle.pip_endings.specs.Statuses.{number_of};
 ghost use Rattle.pip_outside.specs.Bytes.{WritesAll};
 ghost use Rattle.pip_outside.specs.Faults.{CountsFaults};
-ghost use Rattle.pip_model.specs.Endings.{notes_of};
+ghost use Rattle.program_model.specs.Endings.{notes_of};
 ghost use Rattle.pip_endings.specs.Endings.{ending_of, pieces_ending};
 ghost use Rattle.pip_problem.specs.declared.refusal.Refusal.TheVariants as run;
 ghost use Rattle.pip_endings.specs.declared.ending.Ending.TheVariants as ending;
@@ -11,7 +11,7 @@ ghost use Rattle.pip_endings.specs.Inputs.{unfilled_ending, next_ending};
 
 use crate::status::Status;
 use crate::told::tell;
-use affine_rows::Overflow;
+use affine_forms::Overflow;
 use certificate_check::Spot;
 use leaf_certificate::CertificateRefusal;
 use pip_outside::{Failed, FillRefusal, Sink};
@@ -20,7 +20,7 @@ use pip_stream::NextRefusal;
 use pip_words::WordsRefusal;
 use quast_pieces::PiecesRefusal;
 use quast_text::TextRefusal;
-use quast_tools::ToolRefusal;
+use quast_walk::ToolRefusal;
 use std::alloc::AllocError;
 
 /// Why a run of the program ends before all is done.
@@ -171,10 +171,10 @@ impl From<Failed> for Ending {
     }
 }
 
-impl From<affine_rows::WantOfMemory> for Ending {
+impl From<affine_forms::WantOfMemory> for Ending {
     ghost from_gives = { λ _ r. r ≡ ending.WantOfMemory };
 
-    fn from(_: affine_rows::WantOfMemory) -> Ending {
+    fn from(_: affine_forms::WantOfMemory) -> Ending {
         Ending::WantOfMemory
     }
 }

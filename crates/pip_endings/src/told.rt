@@ -1,7 +1,7 @@
 ghost use Rattle.std.specs.Prelude.{◌≡◌, ◌++◌, ◌<◌, Some, None, pos, length, codes, decimal};
 ghost use Rattle.pip_outside.specs.Bytes.{WritesAll};
 ghost use Rattle.pip_outside.specs.Faults.{CountsFaults};
-ghost use Rattle.pip_model.specs.Endings.{memory_ending, kind_name, option_name, fault_ending, check_ending, tool_ending, notes_of};
+ghost use Rattle.program_model.specs.Endings.{memory_ending, kind_name, option_name, fault_ending, check_ending, tool_ending, notes_of};
 ghost use Rattle.pip_model.specs.Reading.{Syntax, Wide};
 ghost use Rattle.pip_endings.specs.declared.status.Status.TheVariants as statuses;
 ghost use Rattle.pip_endings.specs.declared.told.Line.TheVariants as lines;
@@ -15,7 +15,7 @@ ghost use Rattle.pip_endings.specs.Lines.{digits_of, numbered, with_count, front
 
 use crate::ending::Ending;
 use crate::status::Status;
-use affine_rows::MOST_NESTING;
+use affine_forms::MOST_NESTING;
 use certificate_check::Spot;
 use itoa::Buffer;
 use leaf_certificate::CertificateRefusal;
@@ -23,7 +23,7 @@ use pip_outside::{Failed, Sink, write_all};
 use pip_problem::{LimitKind, Option_, ReadRefusal, Refusal};
 use pip_stream::MOST_INPUT_BYTES;
 use quast_text::TextRefusal;
-use quast_tools::ToolRefusal;
+use quast_walk::ToolRefusal;
 
 // What is told of an ending: its status and its line.
 #[derive(Clone, Copy)]

@@ -7,9 +7,9 @@ use Rattle.pip_model.specs.Problem.{Problem}
 use Rattle.pip_model.specs.Reading.{Fault}
 use Rattle.pip_model.specs.Moved.{moved}
 use Rattle.pip_model.specs.NativeText.{read_native}
-use Rattle.pip_model.specs.Endings.{Ending}
-use Rattle.pip_model.specs.Items.{ItemAt, Gives, FirstItemsTo, IsItself, or_ending, text_with, text_of_item}
-use Rattle.pip_model.specs.Commands.{Command, SolveOptions, Solve, text_of}
+use Rattle.program_model.specs.Endings.{Ending}
+use Rattle.program_model.specs.Items.{ItemAt, Gives, FirstItemsTo, IsItself, or_ending, text_with, text_of_item}
+use Rattle.program_model.specs.Commands.{Command, SolveOptions, Solve, text_of}
 use Rattle.text_laws.proofs.EndedProblems.{read_native-ends}
 use Rattle.pip_reader.specs.Groups.{first_group_end}
 use Rattle.pip_stream.specs.Windows.{taken_by}

@@ -15,11 +15,11 @@ use Rattle.pip_model.specs.Problem.{Problem}
 use Rattle.pip_model.specs.Reading.{Fault}
 use Rattle.pip_model.specs.Moved.{moved, is_closed}
 use Rattle.pip_model.specs.NativeText.{read_native}
-use Rattle.pip_model.specs.Endings.{Ending, finished, fault_ending}
-use Rattle.pip_model.specs.ItemKinds.{matrix_item, problem_item}
-use Rattle.pip_model.specs.Items.{ItemAt, or_ending, text_with, text_of_item, IsItself, NoEnd, Ends}
-use Rattle.pip_model.specs.Commands.{SolveOptions, Solve, item_text, text_of}
-use Rattle.pip_model.specs.Output.{IsFirstOutput}
+use Rattle.program_model.specs.Endings.{Ending, finished, fault_ending}
+use Rattle.program_model.specs.ItemKinds.{matrix_item, problem_item}
+use Rattle.program_model.specs.Items.{ItemAt, or_ending, text_with, text_of_item, IsItself, NoEnd, Ends}
+use Rattle.program_model.specs.Commands.{SolveOptions, Solve, item_text, text_of}
+use Rattle.program_model.specs.Output.{IsFirstOutput}
 use Rattle.text_laws.proofs.LocalProblems.{read_native-moved}
 use Rattle.text_laws.proofs.ReadProblems.{read_native-none}
 use Rattle.text_laws.proofs.Items.{next_open-closed}

@@ -10,10 +10,10 @@ use Rattle.pip_outside.specs.Bytes.{AppendsFront}
 use Rattle.pip_outside.specs.Faults.{HasRisen}
 use Rattle.pip_outside.proofs.Parts.{front_after}
 use Rattle.pip_outside.specs.Windows.{HeldBytes}
-use Rattle.pip_model.specs.Commands.{SolveOptions, Solve, Command, item_text}
-use Rattle.pip_model.specs.Endings as model
-use Rattle.pip_model.specs.Items.{IsItself}
-use Rattle.pip_model.specs.Output.{IsFirstOutput}
+use Rattle.program_model.specs.Commands.{SolveOptions, Solve, Command, item_text}
+use Rattle.program_model.specs.Endings as model
+use Rattle.program_model.specs.Items.{IsItself}
+use Rattle.program_model.specs.Output.{IsFirstOutput}
 use Rattle.headline.proofs.FirstItems.{first_items-first}
 use Rattle.pip_endings.specs.Endings.{told, IsOfItem}
 use Rattle.pip_items.specs.Items.{Gained, GainedFront}

@@ -4,8 +4,8 @@ use Rattle.std.specs.Prelude.{Result, Ok, Err, IfSome, IfErr, Vec}
 use Rattle.std.specs.declared.alloc.Global.{Global}
 use Rattle.std.specs.Io.KnownBytes.{Keeps}
 use Rattle.pip_model.specs.Limits.{most_input_bytes}
-use Rattle.pip_model.specs.Commands.{Command, Trial, item_text}
-use Rattle.pip_model.specs.Items.{ItemAt}
+use Rattle.program_model.specs.Commands.{Command, Trial, item_text}
+use Rattle.program_model.specs.Items.{ItemAt}
 use Rattle.pip_endings.specs.Endings.{IsOfItem}
 use Rattle.pip_endings.specs.declared.ending.Ending.{Ending}
 use Rattle.pip_endings.specs.declared.ending.Ending.TheVariants as ending

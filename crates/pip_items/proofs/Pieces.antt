@@ -2,7 +2,7 @@
 use Rattle.std.proofs.Common.{◌≡◌, refl, false, IsTrue}
 use Rattle.std.specs.Prelude.{Err, IfSome, IsFalse}
 use Rattle.pip_model.specs.Listed.{all_fit}
-use Rattle.pip_model.specs.ItemTexts.{pieces_text}
+use Rattle.program_model.specs.ItemTexts.{pieces_text}
 use Rattle.pip_model.specs.PieceText.{answer_listed}
 use Rattle.pip_model.specs.TreeText.{Spoken}
 use Rattle.pip_endings.specs.Endings.{told, pieces_ending}

@@ -1,8 +1,8 @@
 -- A context and two answers, read one after the other.
 use Rattle.std.proofs.Common.{◌≡◌, ◌∙◌, ap, ℕ, ℤ, List, Option, Some, None}
 use Rattle.std.specs.Prelude.{Result, Ok, Err, IfSome}
-use Rattle.pip_model.specs.Endings.{Ending}
-use Rattle.pip_model.specs.ItemKinds.{needed_answer, trio_by}
+use Rattle.program_model.specs.Endings.{Ending}
+use Rattle.program_model.specs.ItemKinds.{needed_answer, trio_by}
 use Rattle.pip_model.specs.Reading.{◌>>=◌}
 use Rattle.pip_model.specs.TreeText.{Spoken}
 

@@ -3,8 +3,8 @@ use Rattle.std.proofs.Common.{◌≡◌}
 use Rattle.std.specs.Prelude.{Ok, Err, IfSome, Option, Some, None}
 use Rattle.pip_model.specs.Certificate.{Certificate}
 use Rattle.pip_model.specs.Check.{Checks}
-use Rattle.pip_model.specs.Endings as model
-use Rattle.pip_model.specs.ItemTexts.{verdict_text, certificate_text}
+use Rattle.program_model.specs.Endings as model
+use Rattle.program_model.specs.ItemTexts.{verdict_text, certificate_text}
 use Rattle.pip_endings.specs.Endings.{told}
 use Rattle.pip_endings.specs.declared.ending.Ending.{Ending}
 use Rattle.pip_items.specs.Triples.{verdict, IsFound}

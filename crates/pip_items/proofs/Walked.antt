@@ -1,8 +1,8 @@
 -- From what a walk answers to its text.
 use Rattle.std.proofs.Common.{◌≡◌, ap, List, ℕ, Option, Some, None, option_map}
 use Rattle.std.specs.Prelude.{Ok, Err, IfSome}
-use Rattle.pip_model.specs.Endings as model
-use Rattle.pip_model.specs.ItemTexts.{made_text, made_line, sameness_text}
+use Rattle.program_model.specs.Endings as model
+use Rattle.program_model.specs.ItemTexts.{made_text, made_line, sameness_text}
 use Rattle.pip_model.specs.ToolAgreement.{without_counts}
 use Rattle.pip_model.specs.Tools.{Sameness}
 use Rattle.pip_model.specs.Tree.{Answer}

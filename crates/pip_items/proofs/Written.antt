@@ -8,8 +8,8 @@ use Rattle.std.specs.List.{concat}
 use Rattle.std.specs.Io.KnownBytes.{Appends}
 use Rattle.pip_outside.specs.Bytes.{AppendsFront}
 use Rattle.pip_outside.proofs.Parts.{front_after}
-use Rattle.pip_model.specs.Endings.{Ending, finished}
-use Rattle.pip_model.specs.Items.{ItemAt, Ends, FirstItems, FirstItemsTo, Items, IsItself, NoEnd}
+use Rattle.program_model.specs.Endings.{Ending, finished}
+use Rattle.program_model.specs.Items.{ItemAt, Ends, FirstItems, FirstItemsTo, Items, IsItself, NoEnd}
 use Rattle.headline.proofs.FirstItems.{first_items-more, first_items-first, first_items-end}
 use Rattle.pip_endings.specs.Endings.{told, IsOfItem}
 use Rattle.pip_endings.specs.declared.ending.Ending.{Ending as Refused}

@@ -2,10 +2,10 @@
 use Rattle.std.specs.Prelude.{◌≡◌, ℕ, ◌+◌, ◌<◌, ◌≤◌, Bool, true, false, not, ⊤, MatchBool, List, length, take, drop, Option, Some, None, Result, Ok, Err}
 use Rattle.pip_outside.specs.Calls.{CallsWithin}
 use Rattle.pip_model.specs.Limits.{most_input_bytes}
-use Rattle.pip_model.specs.Commands.{Command, Solve, Trial, item_text}
-use Rattle.pip_model.specs.Endings as model
-use Rattle.pip_model.specs.Items.{FirstItemsTo, IsItself}
-use Rattle.pip_model.specs.Output.{IsOutput, IsFirstOutput}
+use Rattle.program_model.specs.Commands.{Command, Solve, Trial, item_text}
+use Rattle.program_model.specs.Endings as model
+use Rattle.program_model.specs.Items.{FirstItemsTo, IsItself}
+use Rattle.program_model.specs.Output.{IsOutput, IsFirstOutput}
 use Rattle.pip_reader.specs.Groups.{first_group_end}
 use Rattle.pip_endings.specs.Endings.{told}
 use Rattle.pip_endings.specs.declared.ending.Ending.{Ending}

@@ -3,8 +3,8 @@ use Rattle.std.specs.Prelude.{◌≡◌, ℕ, ◌<◌, ◌≤◌, List, Option, 
 use Rattle.std.specs.List.{concat}
 use Rattle.std.specs.Io.KnownBytes.{Appends}
 use Rattle.pip_outside.specs.Bytes.{AppendsFront}
-use Rattle.pip_model.specs.Endings as model
-use Rattle.pip_model.specs.Items.{ItemAt, FirstItems, Items, IsItself, NoEnd}
+use Rattle.program_model.specs.Endings as model
+use Rattle.program_model.specs.Items.{ItemAt, FirstItems, Items, IsItself, NoEnd}
 use Rattle.pip_endings.specs.Endings.{told}
 use Rattle.pip_endings.specs.declared.ending.Ending.{Ending}
 use Rattle.pip_endings.specs.declared.ending.Ending.TheVariants as ending

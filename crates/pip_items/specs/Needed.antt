@@ -1,8 +1,8 @@
 -- Parts of an item that have to be there.
 use Rattle.std.specs.Prelude.{ℕ, List, Result}
 use Rattle.pip_model.specs.Certificate.{Certificate, read_certificate}
-use Rattle.pip_model.specs.Endings.{Ending}
-use Rattle.pip_model.specs.Items.{or_ending, needed}
+use Rattle.program_model.specs.Endings.{Ending}
+use Rattle.program_model.specs.Items.{or_ending, needed}
 use Rattle.pip_model.specs.Reading.{◌>>=◌}
 use Rattle.pip_model.specs.TreeText as text
 use Rattle.quast_text.specs.Spoken.{spoken_of}

@@ -3,9 +3,9 @@ use Rattle.std.specs.Prelude.{◌≡◌, ◌⊎◌, ℕ, ◌+◌, ◌<◌, ◌�
 use Rattle.std.specs.Io.KnownBytes.{Keeps}
 use Rattle.pip_outside.specs.Faults.{HasRisen}
 use Rattle.pip_model.specs.Limits.{most_input_bytes}
-use Rattle.pip_model.specs.Commands.{Command, Trial}
-use Rattle.pip_model.specs.Output.{IsOutput, IsFirstOutput}
-use Rattle.pip_model.specs.Items.{ItemAt}
+use Rattle.program_model.specs.Commands.{Command, Trial}
+use Rattle.program_model.specs.Output.{IsOutput, IsFirstOutput}
+use Rattle.program_model.specs.Items.{ItemAt}
 use Rattle.pip_endings.specs.declared.ending.Ending.{Ending}
 use Rattle.pip_endings.specs.declared.ending.Ending.TheVariants as ending
 use Rattle.pip_items.specs.Items.{Writes, WritesItems}

@@ -1,6 +1,6 @@
 -- A context and two answers.
 use Rattle.std.specs.Prelude.{◌≡◌, ℕ, Option, Some, None}
-use Rattle.pip_model.specs.ItemKinds as kinds
+use Rattle.program_model.specs.ItemKinds as kinds
 use Rattle.quast.specs.Answers.{IsOver}
 use Rattle.quast_text.specs.Spoken.{spoken_of}
 use Rattle.pip_items.specs.declared.commands.trio.Trio.{Trio}

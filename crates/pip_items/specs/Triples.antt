@@ -1,8 +1,8 @@
 -- A problem, an answer and a certificate, and what the check finds of them.
 use Rattle.std.specs.Prelude.{◌≡◌, ℕ, true, Option, Some, None, IfSome, Result, Ok, Err}
 use Rattle.pip_model.specs.Check.{Checks}
-use Rattle.pip_model.specs.Endings as model
-use Rattle.pip_model.specs.ItemKinds as kinds
+use Rattle.program_model.specs.Endings as model
+use Rattle.program_model.specs.ItemKinds as kinds
 use Rattle.quast.specs.Answers.{answer_of, IsOver}
 use Rattle.pip_endings.specs.Endings.{told}
 use Rattle.pip_endings.specs.declared.ending.Ending.{Ending}

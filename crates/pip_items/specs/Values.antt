@@ -4,7 +4,7 @@ use Rattle.pip_model.specs.Listed.{all_fit}
 use Rattle.pip_model.specs.Run.{Overflow}
 use Rattle.pip_model.specs.Tree.{Tree, Component, reduced, Answer, tree_value}
 use Rattle.pip_model.specs.Values.{tree_value_listed, value_tree, answer_at, answer_at_listed}
-use Rattle.pip_model.specs.Endings.{Ending, refusal_ending}
+use Rattle.program_model.specs.Endings.{Ending, refusal_ending}
 
 -- each number over its component's denominator, in lowest terms
 abbrev pub ratios_of : List Component → List ℤ → List Component

@@ -1,6 +1,6 @@
 ghost use Rattle.std.specs.Prelude.{◌≡◌, ◌≤◌, ℕ, List, [], IfOk, IfErr, IfSome, IsErrOf};
 ghost use Rattle.pip_outside.specs.Faults.{HasRisen};
-ghost use Rattle.pip_model.specs.Items.{ItemAt};
+ghost use Rattle.program_model.specs.Items.{ItemAt};
 ghost use Rattle.pip_endings.specs.Endings.{IsOfItem};
 ghost use Rattle.pip_items.specs.Items.{IsTextAt, IsBehind, WritesItems};
 

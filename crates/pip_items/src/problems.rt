@@ -3,7 +3,7 @@ ghost use Rattle.std.specs.Io.KnownBytes.{append_known, IsAtEnd};
 ghost use Rattle.pip_outside.specs.Bytes.{AppendsFront, WritesAll};
 ghost use Rattle.pip_outside.specs.Faults.{CountsFaults};
 ghost use Rattle.pip_reader.specs.Groups.{first_group_end};
-ghost use Rattle.pip_model.specs.Commands.{Solve};
+ghost use Rattle.program_model.specs.Commands.{Solve};
 ghost use Rattle.pip_words.specs.Words.{options_of};
 ghost use Rattle.pip_items.specs.Outputs.{TakesInputAtMost, EndsByFaults};
 ghost use Rattle.pip_items.specs.ByProblem.{WritesByProblem, StopsAtRefused};

@@ -1,7 +1,7 @@
 -- The definitions' words for the refusals of the code; want of memory has none.
 use Rattle.std.specs.Prelude.{Option, Some, None}
-use Rattle.affine_rows.specs.declared.memory.FormRefusal.{FormRefusal}
-use Rattle.affine_rows.specs.declared.memory.FormRefusal.TheVariants as form
+use Rattle.affine_forms.specs.declared.memory.FormRefusal.{FormRefusal}
+use Rattle.affine_forms.specs.declared.memory.FormRefusal.TheVariants as form
 use Rattle.pip_problem.specs.declared.refusal.Refusal.{Refusal}
 use Rattle.pip_problem.specs.declared.refusal.Refusal.TheVariants as refusal
 use Rattle.pip_problem.specs.declared.refusal.ReadRefusal.{ReadRefusal}

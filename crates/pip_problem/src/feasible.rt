@@ -5,10 +5,10 @@ ghost use Rattle.pip_model.specs.Problem.{all_nonneg as all_nonneg_of, rows_list
 ghost use Rattle.pip_model.specs.Limits.{most_unknowns, most_params};
 ghost use Rattle.pip_model.specs.WellFormed.{IsRow};
 ghost use Rattle.pip_model.specs.Agreement.{IsChecked};
-ghost use Rattle.affine_rows.specs.Checks.{Fits, is_overflow};
+ghost use Rattle.affine_forms.specs.Checks.{Fits, is_overflow};
 
 use crate::problem::Problem;
-use affine_rows::{Form, MOST_PARAMETERS, MOST_UNKNOWNS, Overflow};
+use affine_forms::{Form, MOST_PARAMETERS, MOST_UNKNOWNS, Overflow};
 
 // The most unknowns and parameters together.
 const MOST_PLACES: usize = MOST_UNKNOWNS + MOST_PARAMETERS;

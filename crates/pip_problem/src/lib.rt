@@ -5,13 +5,11 @@ mod feasible;
 mod forms;
 mod limits;
 mod problem;
-mod reading;
 mod refusal;
 
-pub use affine_rows::{Bytes, MOST_PARAMETERS};
+pub use affine_forms::{Bytes, MOST_PARAMETERS};
 pub use feasible::is_feasible;
 pub use limits::Limits;
 pub use pip_model::{LimitKind, Option_};
 pub use problem::Problem;
-pub use reading::{no_big_parameter, within};
 pub use refusal::{ReadRefusal, Refusal};

@@ -1,7 +1,7 @@
 ghost use Rattle.std.specs.Prelude.{◌≡◌};
 ghost use Rattle.pip_model.specs.Run.{IsBudget, standard_budget};
 
-use affine_rows::MOST_NESTING;
+use affine_forms::MOST_NESTING;
 use std::marker::Model;
 
 /// The budgets of a run: how many pivots, cuts and splits a problem may take, and how deep its tree may be nested.

@@ -2,7 +2,7 @@ ghost use Rattle.std.specs.Prelude.{◌≡◌, IfOk};
 ghost use Rattle.pip_model.specs.WellFormed.{IsProblem};
 
 use crate::forms::FormList;
-use affine_rows::{Bytes, Form, WantOfMemory};
+use affine_forms::{Bytes, Form, WantOfMemory};
 use std::alloc::Global;
 use std::marker::Model;
 

@@ -2,10 +2,9 @@ ghost use Rattle.std.specs.Prelude.{◌≡◌};
 ghost use Rattle.pip_problem.specs.declared.refusal.Refusal.TheVariants as run;
 ghost use Rattle.pip_problem.specs.declared.refusal.ReadRefusal.TheVariants as read;
 
-use affine_rows::{FormRefusal, Overflow, WantOfMemory};
+use affine_forms::{FormRefusal, Overflow, WantOfMemory};
 use pip_model::{LimitKind, Option_};
 use std::alloc::{AllocError, AllocFailed};
-use text_steps::TextFault;
 use thiserror::Error;
 
 /// Why a problem is not solved. The number in a budget's refusal is the limit.
@@ -92,20 +91,5 @@ impl<T: Drop> From<AllocFailed<T>> for ReadRefusal {
 
     fn from(_: AllocFailed<T>) -> ReadRefusal {
         ReadRefusal::WantOfMemory
-    }
-}
-
-impl From<TextFault> for ReadRefusal {
-    ghost use Rattle.text_steps.specs.Steps.{fault_of};
-    ghost use Rattle.pip_problem.specs.Faults.{read_fault};
-
-    ghost from_gives = { λ fault e. read_fault e ≡ fault_of fault };
-
-    fn from(fault: TextFault) -> ReadRefusal {
-        match fault {
-            TextFault::Syntax(place) => ReadRefusal::Syntax(place),
-            TextFault::Wide(place) => ReadRefusal::Wide(place),
-            TextFault::WantOfMemory => ReadRefusal::WantOfMemory,
-        }
     }
 }

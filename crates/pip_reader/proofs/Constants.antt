@@ -2,7 +2,7 @@
 use Rattle.std.proofs.Common.{◌≡◌, ℕ, suc, ◌+◌, ◌-◌, ◌<◌, ℤ, pos, List, ◌∷◌, ◌++◌, length, take, drop, get_or, refl, length-append, length-take, length-drop, arith}
 use Rattle.std.specs.Prelude.{All, map, Ok, Err}
 use Rattle.std.proofs.lemmas.List.Elements.{All-append, All-take, All-drop, All-get_or, All-push}
-use Rattle.affine_rows.specs.Checks.{Fits}
+use Rattle.affine_forms.specs.Checks.{Fits}
 use Rattle.pip_model.specs.Reading.{Reads, ◌>>=◌, row, rows}
 use Rattle.pip_model.specs.NativeText.{form_of_row}
 use Rattle.text_steps.proofs.Fronts.{one_more, read_as}

@@ -3,7 +3,7 @@ use Rattle.std.proofs.Common.{◌≡◌, refl, ℕ, ℤ, Bool, true, List, Ok, E
 use Rattle.std.specs.Prelude.{Option, Some, None, IfOk}
 use Rattle.pip_model.specs.Reading.{Fault}
 use Rattle.pip_model.specs.Agreement.{Agrees}
-use Rattle.affine_rows.specs.Forms.{FormsOfWidth}
+use Rattle.affine_forms.specs.Forms.{FormsOfWidth}
 use Rattle.pip_problem.specs.declared.refusal.ReadRefusal.{ReadRefusal}
 use Rattle.pip_problem.specs.Faults.{read_fault}
 use Rattle.pip_reader.specs.Contexts.{context_found}

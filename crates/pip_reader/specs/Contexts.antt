@@ -5,7 +5,7 @@ use Rattle.pip_model.specs.declared.LimitKind.TheVariants.{ContextRows}
 use Rattle.pip_model.specs.Limits.{most_context_rows}
 use Rattle.pip_model.specs.Tokens.{token}
 use Rattle.pip_model.specs.Reading.{Fault, Limit, ◌>>=◌, same_bracket, expect, row}
-use Rattle.affine_rows.specs.Forms.{FormsOfWidth}
+use Rattle.affine_forms.specs.Forms.{FormsOfWidth}
 
 -- the next row of n numbers of a context in which so many may follow, none at its `)`
 abbrev pub next_row : List ℕ → ℕ → ℕ → ℕ → Result (Option (List ℤ × ℕ)) Fault

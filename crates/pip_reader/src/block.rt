@@ -4,7 +4,8 @@ ghost use Rattle.pip_problem.specs.Faults.{read_fault};
 ghost use Rattle.pip_reader.specs.Rows as model;
 
 use crate::row::form_row;
-use affine_rows::{Form, Kind};
+use affine_forms::Form;
+use text_tokens::Kind;
 use pip_problem::ReadRefusal;
 use std::alloc::Global;
 use text_steps::{Reads, expect};

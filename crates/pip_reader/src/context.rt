@@ -8,7 +8,8 @@ ghost use Rattle.text_steps.specs.Steps.{AreRead, IsRead};
 ghost use Rattle.pip_problem.specs.Faults.{read_fault};
 ghost use Rattle.pip_reader.specs.Contexts.{next_row as next_row_of, context_found};
 
-use affine_rows::{Form, Forms, Kind, MOST_CONTEXT_ROWS, next_open, token};
+use affine_forms::{Form, Forms, MOST_CONTEXT_ROWS};
+use text_tokens::{Kind, next_open, token};
 use pip_problem::{LimitKind, ReadRefusal};
 use std::alloc::Global;
 use text_steps::{Reads, expect, row, same_bracket};

@@ -4,9 +4,9 @@ ghost use Rattle.text_steps.specs.Steps.{IsRead};
 ghost use Rattle.pip_problem.specs.Faults.{read_fault};
 ghost use Rattle.pip_reader.specs.Header as model;
 
-use affine_rows::{MOST_CONTEXT_ROWS, MOST_PARAMETERS, MOST_ROWS, MOST_UNKNOWNS};
-use pip_problem::{LimitKind, ReadRefusal, no_big_parameter, within};
-use text_steps::{Reads, number};
+use affine_forms::{MOST_CONTEXT_ROWS, MOST_PARAMETERS, MOST_ROWS, MOST_UNKNOWNS};
+use pip_problem::{LimitKind, ReadRefusal};
+use text_steps::{Reads, no_big_parameter, number, within};
 
 // How many unknowns, parameters, tableau rows and context rows a problem has.
 #[derive(Clone, Copy)]

@@ -2,7 +2,7 @@ ghost use Rattle.std.specs.Prelude.{◌≡◌, ◌↔◌, ◌+◌, ◌<◌, ◌�
 ghost use Rattle.pip_model.specs.Reading.{open_after as open_after_of};
 ghost use Rattle.pip_reader.specs.Groups.{IsScanned, NoBracket, first_group_end, group_end_from, place_behind};
 
-use affine_rows::open_after;
+use text_tokens::open_after;
 use std::marker::Model;
 
 // Whether no byte is a bracket. Each byte is tested, whatever the others are.

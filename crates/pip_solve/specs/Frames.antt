@@ -5,7 +5,7 @@ use Rattle.pip_model.specs.Contexts.{IsContext}
 use Rattle.pip_model.specs.Limits.{most_nesting}
 use Rattle.pip_model.specs.Tree.{Tree, If, NewParm, nesting}
 use Rattle.pip_model.specs.Run.{Counted, ◌>>=◌, give, run_from}
-use Rattle.affine_rows.specs.Checks.{Fits}
+use Rattle.affine_forms.specs.Checks.{Fits}
 use Rattle.tableau.specs.Tableaus.{TableauRows}
 use Rattle.quast.specs.Trees.{ScopedTree}
 use Rattle.context.specs.declared.context.ContextMark.{ContextMark}

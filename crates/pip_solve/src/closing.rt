@@ -6,7 +6,7 @@ ghost use Rattle.pip_solve.specs.Frames.{finished, next_run, IsClosing, IsNext};
 
 use crate::path::Path;
 use crate::pending::{Frame, Pending};
-use affine_rows::{Form, WantOfMemory};
+use affine_forms::{Form, WantOfMemory};
 use quast::Quast;
 use std::alloc::Global;
 use tableau::Tableau;

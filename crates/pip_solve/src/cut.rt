@@ -15,7 +15,7 @@ ghost use Rattle.pip_solve.specs.Turns.{turn_of, TurnIs};
 
 use crate::path::Path;
 use crate::turn::Turn;
-use affine_rows::{Form, Overflow, WantOfMemory};
+use affine_forms::{Form, Overflow, WantOfMemory};
 use context::{Work, count_and_cut};
 use gomory_cut::{Fraction, parametric_cut_by, residue_of, rewrite};
 use new_parameters::{Quotient, rounding};

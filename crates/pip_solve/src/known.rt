@@ -1,7 +1,7 @@
 ghost use Rattle.std.specs.Prelude.{◌≡◌, ◌⊎◌, [], ◌∷◌, ◌++◌, Contains, IfSome};
-ghost use Rattle.affine_rows.specs.Forms.{IsForm};
+ghost use Rattle.affine_forms.specs.Forms.{IsForm};
 
-use affine_rows::Form;
+use affine_forms::Form;
 use context::Counts;
 use std::alloc::Global;
 

@@ -17,7 +17,7 @@ use crate::known::KnownForms;
 use crate::path::Path;
 use crate::pending::{Frame, Pending};
 use crate::turn::{Turn, take_turn};
-use affine_rows::{Form, WantOfMemory};
+use affine_forms::{Form, WantOfMemory};
 use context::Work;
 use gomory_cut::parametric_cut_by;
 use new_parameters::Quotient;

@@ -2,7 +2,7 @@ ghost use Rattle.std.specs.Prelude.{◌^◌, ◌+◌, ◌-◌, ◌<◌, ◌≤�
 ghost use Rattle.pip_model.specs.Contexts.{IsContext};
 ghost use Rattle.pip_solve.specs.Nodes.{IsBelow, IsBack};
 
-use affine_rows::{Form, WantOfMemory};
+use affine_forms::{Form, WantOfMemory};
 use context::{Context, ContextMark};
 use new_parameters::Quotients;
 

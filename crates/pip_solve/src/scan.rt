@@ -2,7 +2,7 @@ ghost use Rattle.std.specs.Prelude.{◌≡◌, ℕ, ℤ, ◌+◌, ◌<◌, ◌�
 ghost use Rattle.pip_model.specs.Rows.{row_at};
 ghost use Rattle.pip_model.specs.Run as model;
 ghost use Rattle.pip_model.specs.Run.{AllPlus, Done, Plus};
-ghost use Rattle.affine_rows.specs.Forms.{IsForm};
+ghost use Rattle.affine_forms.specs.Forms.{IsForm};
 ghost use Rattle.pip_problem.specs.Faults.{run_fault};
 ghost use Rattle.context.specs.Counts.{IsCountedRun, HasCounted};
 ghost use Rattle.context.specs.Scoped.{IsKeptContext};
@@ -11,7 +11,7 @@ ghost use Rattle.pip_solve.specs.Known.{AreKnown};
 ghost use Rattle.pip_solve.specs.Signs.{signs_of, kept_signs, keep_class, scanned, IsCondition, ClassIs, SignsAre};
 
 use crate::known::KnownForms;
-use affine_rows::Form;
+use affine_forms::Form;
 use context::{Context, Work};
 use pip_problem::Refusal;
 use sign_split::{Class, class_of_entries, is_nowhere_below};

@@ -17,7 +17,7 @@ ghost use Rattle.pip_solve.specs.Starts.{IsFirstPath};
 use crate::node::run;
 use crate::path::Path;
 use crate::pending::Pending;
-use affine_rows::{Form, WantOfMemory};
+use affine_forms::{Form, WantOfMemory};
 use context::{Context, Point, Work};
 use new_parameters::Quotients;
 use pip_problem::{Limits, Problem, Refusal};

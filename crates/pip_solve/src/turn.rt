@@ -17,7 +17,7 @@ use crate::cut::cut_turn;
 use crate::known::KnownForms;
 use crate::path::Path;
 use crate::scan::{Signs, scan};
-use affine_rows::{Form, WantOfMemory};
+use affine_forms::{Form, WantOfMemory};
 use context::{Work, enter_and_pivot};
 use gomory_cut::{Fraction, find_fraction};
 use new_parameters::Quotient;

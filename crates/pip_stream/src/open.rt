@@ -9,7 +9,7 @@ ghost use Rattle.pip_stream.specs.Open.{DropsClosed, IsOpened};
 
 use crate::more::more;
 use crate::refusal::NextRefusal;
-use affine_rows::next_open;
+use text_tokens::next_open;
 use pip_outside::{Source, Window};
 
 // Drops the held bytes before the first `(`, or all where there is none, and tells which.

@@ -5,7 +5,7 @@ use Rattle.std.specs.Prelude.{Ok}
 use Rattle.pip_model.specs.Problem.{Problem}
 use Rattle.pip_model.specs.Tree.{Answer, Void, Solved, size, nesting}
 use Rattle.pip_model.specs.Run.{Outcome, Done, Refused, answered, solve}
-use Rattle.pip_model.specs.Trial.{Tally, after_draws, draws_of, problem_drawn, tally_outcome, tally, trial_budget}
+use Rattle.program_model.specs.Trial.{Tally, after_draws, draws_of, problem_drawn, tally_outcome, tally, trial_budget}
 use Rattle.run_laws.proofs.Budgets.{solve-nested}
 use Rattle.pip_trial.specs.Tallies.{HasRoom, answer_size}
 use Rattle.pip_trial.proofs.Rooms.{less_room, room_after, size-nesting}

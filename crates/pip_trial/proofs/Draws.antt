@@ -10,7 +10,7 @@ use Rattle.pip_model.specs.Listed.{all_fit}
 use Rattle.pip_model.specs.NativeText.{form_of_row}
 use Rattle.pip_model.specs.Problem.{Problem}
 use Rattle.pip_model.specs.WellFormed.{IsRow, IsProblem}
-use Rattle.pip_model.specs.Trial.{after_draw, after_draws, drawn, numbers_drawn, ranges, row_ranges, rows_drawn, problem_drawn, draws_of}
+use Rattle.program_model.specs.Trial.{after_draw, after_draws, drawn, numbers_drawn, ranges, row_ranges, rows_drawn, problem_drawn, draws_of}
 use Rattle.pip_model.proofs.Fitting.{fit_cons, fit_join}
 
 pub after_draws-add : (a b s : ℕ) → after_draws (a + b) s ≡ after_draws b (after_draws a s)

@@ -2,7 +2,7 @@
 use Rattle.std.proofs.Common.{◌≡◌, ℕ, ◌+◌, ◌<◌, ◌≤◌, ◌^◌, max, suc, arith, lit<}
 use Rattle.std.proofs.Math.Nat.{pow-suc, pow-le-pow_right}
 use Rattle.pip_model.specs.Tree.{Tree, Bottom, Leaf, If, NewParm, size, nesting}
-use Rattle.pip_model.specs.Trial.{Tally, tally_tree}
+use Rattle.program_model.specs.Trial.{Tally, tally_tree}
 use Rattle.pip_trial.specs.Tallies.{HasRoom}
 
 pub less_room : (j k : ℕ) (n : Tally) → j ≤ k → HasRoom k n → HasRoom j n

@@ -4,8 +4,8 @@ use Rattle.std.specs.Prelude.{All}
 use Rattle.std.proofs.lemmas.List.{append_assoc, append-nil}
 use Rattle.std.proofs.lemmas.List.Elements.{All-push}
 use Rattle.pip_model.specs.NativeText.{form_of_row}
-use Rattle.pip_model.specs.Trial.{after_draw, after_draws, drawn, numbers_drawn, ranges, row_ranges, rows_drawn}
-use Rattle.affine_rows.specs.Checks.{Fits}
+use Rattle.program_model.specs.Trial.{after_draw, after_draws, drawn, numbers_drawn, ranges, row_ranges, rows_drawn}
+use Rattle.affine_forms.specs.Checks.{Fits}
 use Rattle.pip_trial.proofs.Draws.{after_draws-add}
 
 -- nothing is left, behind what was taken

@@ -1,7 +1,7 @@
 -- What a tally may count.
 use Rattle.std.specs.Prelude.{ℕ, ◌+◌, ◌<◌, ◌^◌}
 use Rattle.pip_model.specs.Tree.{Answer, Void, Solved, size}
-use Rattle.pip_model.specs.Trial.{Tally}
+use Rattle.program_model.specs.Trial.{Tally}
 
 abbrev pub none_counted : Tally
 none_counted = record { lists = 0; bottoms = 0; quotients = 0; refused = 0 }

@@ -1,11 +1,11 @@
 ghost use Rattle.std.specs.Prelude.{◌≡◌, ◌+◌, ◌*◌, ◌<◌, ◌≤◌, ◌++◌, ◌-ℤ◌, pos, All, IfOk, OnOk};
 ghost use Rattle.pip_model.specs.Limits.{most_unknowns, most_params};
 ghost use Rattle.pip_model.specs.NativeText.{form_of_row};
-ghost use Rattle.pip_model.specs.Trial.{after_draw, after_draws, drawn, numbers_drawn, ranges, row_ranges, rows_drawn, problem_drawn, draws_of};
-ghost use Rattle.affine_rows.specs.Checks.{Fits};
+ghost use Rattle.program_model.specs.Trial.{after_draw, after_draws, drawn, numbers_drawn, ranges, row_ranges, rows_drawn, problem_drawn, draws_of};
+ghost use Rattle.affine_forms.specs.Checks.{Fits};
 
 use crate::generator::Generator;
-use affine_rows::{Bytes, Form, WantOfMemory};
+use affine_forms::{Bytes, Form, WantOfMemory};
 use pip_problem::Problem;
 use std::alloc::Global;
 

@@ -1,5 +1,5 @@
 ghost use Rattle.std.specs.Prelude.{◌≡◌, ◌<◌};
-ghost use Rattle.pip_model.specs.Trial.{after_draw, drawn};
+ghost use Rattle.program_model.specs.Trial.{after_draw, drawn};
 
 use std::marker::Model;
 

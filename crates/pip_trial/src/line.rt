@@ -1,8 +1,8 @@
 ghost use Rattle.std.specs.Prelude.{◌≡◌, ◌++◌, decimal, IfOk, OnOk};
-ghost use Rattle.pip_model.specs.Trial.{tally_line};
+ghost use Rattle.program_model.specs.Trial.{tally_line};
 
 use crate::tally::Tally;
-use affine_rows::WantOfMemory;
+use affine_forms::WantOfMemory;
 use itoa::Buffer;
 use std::alloc::Global;
 

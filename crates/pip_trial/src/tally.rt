@@ -1,6 +1,6 @@
 ghost use Rattle.std.specs.Prelude.{◌≡◌, ◌+◌};
 ghost use Rattle.pip_model.specs.Tree.{size};
-ghost use Rattle.pip_model.specs.Trial.{tally_tree, tally_answer};
+ghost use Rattle.program_model.specs.Trial.{tally_tree, tally_answer};
 ghost use Rattle.quast.specs.Answers.{answer_of};
 ghost use Rattle.quast.specs.Trees.{tree_of};
 ghost use Rattle.pip_trial.specs.Tallies.{HasRoom, none_counted, answer_size};
@@ -19,7 +19,7 @@ pub struct Tally {
 }
 
 impl Model for Tally {
-    ghost use Rattle.pip_model.specs.Trial as model;
+    ghost use Rattle.program_model.specs.Trial as model;
 
     ghost Value = { model.Tally };
 

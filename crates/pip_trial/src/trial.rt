@@ -1,13 +1,13 @@
 ghost use Rattle.std.specs.Prelude.{◌≡◌, ◌++◌, ◌^◌, IfOk, OnOk, OnErr};
 ghost use Rattle.pip_model.specs.Run as run;
-ghost use Rattle.pip_model.specs.Trial.{tally_outcome, trial_budget, tally, trial_text};
+ghost use Rattle.program_model.specs.Trial.{tally_outcome, trial_budget, tally, trial_text};
 ghost use Rattle.pip_trial.specs.Tallies.{HasRoom, none_counted};
 
 use crate::draw::draw_problem;
 use crate::generator::Generator;
 use crate::line::line_of;
 use crate::tally::Tally;
-use affine_rows::WantOfMemory;
+use affine_forms::WantOfMemory;
 use pip_problem::{Limits, Problem, Refusal};
 use pip_solve::solve;
 use std::alloc::Global;

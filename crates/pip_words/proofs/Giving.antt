@@ -1,7 +1,7 @@
 -- What the words give, seen otherwise.
 use Rattle.std.proofs.Common.{◌≡◌, ◌∙◌, ap, Option, None, option_map}
 use Rattle.std.specs.Prelude.{Result, Ok, Err, Some, IfOk, IfErr}
-use Rattle.pip_model.specs.Commands.{Command}
+use Rattle.program_model.specs.Commands.{Command}
 use Rattle.pip_words.specs.Words.{Gives, meaning_of}
 use Rattle.pip_words.specs.declared.command.Command.{Command as Given}
 use Rattle.pip_words.specs.declared.refusal.WordsRefusal.{WordsRefusal}

@@ -7,7 +7,7 @@ use Rattle.std.specs.Str.{bytes_eq}
 use Rattle.clap.specs.Words.{Row, Text, Kinds, fault_of, subcommand_of, first_of, all_of}
 use Rattle.pip_model.specs.Limits.{most_params, most_pivots, most_cuts, most_splits, most_nesting}
 use Rattle.pip_model.specs.Run.{Budget, standard_budget}
-use Rattle.pip_model.specs.Commands.{SolveOptions, Command, Solve, Eval, Simplify, CheckAll, ShareAll, Trial, Pieces, Restrict, Same, Least}
+use Rattle.program_model.specs.Commands.{SolveOptions, Command, Solve, Eval, Simplify, CheckAll, ShareAll, Trial, Pieces, Restrict, Same, Least}
 use Rattle.pip_words.specs.Arguments.{pip_app}
 use Rattle.pip_words.specs.Numbers.{number_of, parameter_of, most_drawn}
 use Rattle.pip_words.specs.declared.command.Command.{Command as Given}

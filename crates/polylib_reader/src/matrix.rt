@@ -8,7 +8,7 @@ ghost use Rattle.polylib_reader.specs.Matrices.{context_matrix as context_matrix
 
 use crate::number::{limited, numbers};
 use crate::row::{push_inequalities, row_head};
-use affine_rows::{Form, MOST_CONTEXT_ROWS, MOST_PARAMETERS, MOST_ROWS, MOST_UNKNOWNS};
+use affine_forms::{Form, MOST_CONTEXT_ROWS, MOST_PARAMETERS, MOST_ROWS, MOST_UNKNOWNS};
 use pip_problem::{LimitKind, ReadRefusal};
 use std::alloc::Global;
 use text_steps::Reads;

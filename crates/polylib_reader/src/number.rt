@@ -1,17 +1,17 @@
 ghost use Rattle.std.specs.Prelude.{◌≡◌, ◌≤◌, ◌<◌, length, All, IfOk};
 ghost use Rattle.pip_model.specs.MatrixText.{number_word as number_word_of, matrix_number, matrix_numbers};
 ghost use Rattle.pip_model.specs.Agreement.{Agrees};
-ghost use Rattle.affine_rows.specs.Checks.{Fits};
+ghost use Rattle.affine_forms.specs.Checks.{Fits};
 ghost use Rattle.text_steps.specs.Steps.{AreRead, IsRead};
 ghost use Rattle.pip_problem.specs.Faults.{read_fault};
 ghost use Rattle.polylib_reader.specs.Words.{word_of};
 ghost use Rattle.polylib_reader.specs.Matrices.{limited as limited_of};
 
 use crate::word::{Word, next_word};
-use affine_rows::{digits, integer, unsigned_part};
-use pip_problem::{LimitKind, ReadRefusal, within};
+use text_tokens::{digits, integer, unsigned_part};
+use pip_problem::{LimitKind, ReadRefusal};
 use std::alloc::Global;
-use text_steps::Reads;
+use text_steps::{Reads, within};
 
 // The number that a word spells, and the place behind it.
 pub(crate) fn number_word(word: &Word<'_>) -> Reads<i128, ReadRefusal>

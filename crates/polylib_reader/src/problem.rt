@@ -8,7 +8,8 @@ ghost use Rattle.polylib_reader.specs.Matrices.{big_parameter as big_parameter_o
 use crate::matrix::{constraint_matrix, context_matrix};
 use crate::number::number;
 use crate::option::options;
-use pip_problem::{Bytes, Problem, ReadRefusal, no_big_parameter};
+use pip_problem::{Bytes, Problem, ReadRefusal};
+use text_steps::no_big_parameter;
 use std::alloc::Global;
 
 // The place behind the big parameter's column, which is to be -1: none.

@@ -3,13 +3,13 @@ ghost use Rattle.pip_model.specs.Limits.{most_rows};
 ghost use Rattle.pip_model.specs.Forms.{negate};
 ghost use Rattle.pip_model.specs.MatrixText.{is_equality as is_equality_of, inequalities, counted as counted_of};
 ghost use Rattle.pip_model.specs.Agreement.{Agrees};
-ghost use Rattle.affine_rows.specs.Checks.{Fits};
+ghost use Rattle.affine_forms.specs.Checks.{Fits};
 ghost use Rattle.pip_problem.specs.Faults.{read_fault};
 ghost use Rattle.polylib_reader.specs.Matrices.{row_head as row_head_of};
 
 use crate::number::number_word;
 use crate::word::next_word;
-use affine_rows::{Form, WantOfMemory, negate_all};
+use affine_forms::{Form, WantOfMemory, negate_all};
 use pip_problem::{LimitKind, ReadRefusal};
 use std::alloc::Global;
 use text_steps::Reads;

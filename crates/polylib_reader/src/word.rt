@@ -3,7 +3,7 @@ ghost use Rattle.std.specs.List.{prefix_len, take_while};
 ghost use Rattle.pip_model.specs.MatrixText.{skipped as skipped_of, word as word_at};
 ghost use Rattle.polylib_reader.specs.Words.{is_word_byte, word_of};
 
-use affine_rows::blank;
+use text_tokens::blank;
 
 // A longest run of bytes that are neither blanks nor `#`; it is empty at the end of the bytes.
 #[derive(Clone, Copy)]

@@ -9,7 +9,7 @@ use Rattle.std.specs.List.{list_all}
 use Rattle.pip_model.specs.Numbers.{fits}
 use Rattle.pip_model.specs.Listed.{all_fit}
 use Rattle.pip_model.specs.Tree.{is_form}
-use Rattle.affine_rows.specs.Checks.{Fits}
+use Rattle.affine_forms.specs.Checks.{Fits}
 
 pub is_form_from : (w : ℕ) (v : List ℤ) → length v ≡ w + 1 → IsTrue (is_form w v)
 is_form_from w v e = grind (arith, nat_tests)

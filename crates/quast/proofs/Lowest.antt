@@ -8,7 +8,7 @@ use Rattle.pip_model.specs.Forms.{width, remove, floor_divided}
 use Rattle.pip_model.specs.Simplified.{component_without}
 use Rattle.pip_model.specs.Listed.{all_fit}
 use Rattle.pip_model.specs.Tree.{Component, reduced, is_form}
-use Rattle.affine_rows.specs.Checks.{Fits}
+use Rattle.affine_forms.specs.Checks.{Fits}
 use Rattle.quast.specs.Components.{IsComponent, LacksPlace}
 use Rattle.quast.proofs.Conditions.{is_form_from, one_le_from, all_fit_from}
 use Rattle.pip_model.proofs.Gcd.{gcd_between, quotient_positive, lowest, gcd_of-remove}

@@ -8,7 +8,7 @@ use Rattle.pip_model.specs.Numbers.{fits}
 use Rattle.pip_model.specs.Listed.{all_fit}
 use Rattle.pip_model.specs.Tree.{Tree, Leaf, If, NewParm, Component, is_form, is_component, is_scoped, nesting}
 use Rattle.pip_model.specs.Printed.{tree_fits, component_fits}
-use Rattle.affine_rows.specs.Checks.{Fits}
+use Rattle.affine_forms.specs.Checks.{Fits}
 use Rattle.quast.specs.Components.{IsComponent}
 use Rattle.quast.specs.Trees.{ScopedTree, IsQuast}
 use Rattle.quast.proofs.Conditions.{is_form_from, all_fit_from, one_le_from, nat_le_from, list_all_from}

@@ -5,7 +5,7 @@ use Rattle.pip_model.specs.Numbers.{is_nonneg, floor_div}
 use Rattle.pip_model.specs.Forms.{value}
 use Rattle.pip_model.specs.Listed.{value_listed, all_fit}
 use Rattle.pip_model.specs.Tree.{Tree, Bottom, Leaf, If, NewParm, Component}
-use Rattle.affine_rows.specs.Checks.{Fits}
+use Rattle.affine_forms.specs.Checks.{Fits}
 use Rattle.quast.specs.declared.place.Place.{Place}
 use Rattle.quast.specs.declared.place.Place.TheVariants as place
 

@@ -2,10 +2,10 @@ ghost use Rattle.std.specs.Prelude.{◌≡◌, ◌+◌, ◌≤ℤ◌, pos, ℕ, 
 ghost use Rattle.pip_model.specs.Tree.{reduced};
 ghost use Rattle.pip_model.specs.Simplified.{component_without};
 ghost use Rattle.pip_model.specs.Forms.{width};
-ghost use Rattle.affine_rows.specs.Checks.{Fits};
+ghost use Rattle.affine_forms.specs.Checks.{Fits};
 ghost use Rattle.quast.specs.Components.{IsComponent, LacksPlace};
 
-use affine_rows::{Form, floor_div, gcd_with};
+use affine_forms::{Form, floor_div, gcd_with};
 use std::marker::Model;
 
 /// One component of a point: the value of an affine form over a denominator of at least 1, in lowest terms.

@@ -8,7 +8,7 @@ ghost use Rattle.pip_model.specs.Tree.{is_scoped, nesting, leaf_of};
 ghost use Rattle.pip_model.specs.Printed.{tree_fits};
 ghost use Rattle.pip_model.specs.Values.{tree_value_listed};
 ghost use Rattle.pip_model.specs.Agreement.{IsChecked};
-ghost use Rattle.affine_rows.specs.Checks.{Fits, is_overflow};
+ghost use Rattle.affine_forms.specs.Checks.{Fits, is_overflow};
 ghost use Rattle.quast.specs.Components.{IsComponent};
 ghost use Rattle.quast.specs.Trees.{tree_of};
 ghost use Rattle.quast.specs.Places.{landing_of, landed, path_listed, IsLanding};
@@ -16,9 +16,7 @@ ghost use Rattle.quast.specs.Places.{landing_of, landed, path_listed, IsLanding}
 use crate::component::{Component, Components};
 use crate::node::Node;
 use crate::quast::Quast;
-use affine_rows::{
-    MOST_COMPONENTS, MOST_NESTING, MOST_PARAMETERS, Overflow, WantOfMemory, floor_div,
-};
+use affine_forms::{MOST_COMPONENTS, MOST_NESTING, MOST_PARAMETERS, Overflow, WantOfMemory, floor_div};
 use std::alloc::Global;
 use std::marker::Model;
 

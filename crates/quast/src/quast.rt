@@ -1,13 +1,13 @@
 ghost use Rattle.std.specs.Prelude.{◌≡◌, ◌+◌, ◌<◌, ◌≤◌, ◌≤ℤ◌, ◌↔◌, pos, max, length, All, IfOk, IfErr, MatchResult};
 ghost use Rattle.pip_model.specs.Limits.{most_components, most_nesting};
 ghost use Rattle.pip_model.specs.Tree as model;
-ghost use Rattle.affine_rows.specs.Checks.{Fits};
+ghost use Rattle.affine_forms.specs.Checks.{Fits};
 ghost use Rattle.quast.specs.Components.{IsComponent, width_of};
 ghost use Rattle.quast.specs.Trees.{tree_of, IsQuast};
 
 use crate::component::{Component, Components};
 use crate::node::Node;
-use affine_rows::{Form, MOST_NESTING, WantOfMemory};
+use affine_forms::{Form, MOST_NESTING, WantOfMemory};
 use std::alloc::Global;
 use std::marker::Model;
 

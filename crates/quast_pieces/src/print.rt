@@ -10,7 +10,7 @@ ghost use Rattle.text_parts.specs.Printing.{Appends, Begins};
 ghost use Rattle.quast_pieces.specs.Pieces.{IsParted, is_pieces_overflow};
 
 use crate::refusal::PiecesRefusal;
-use affine_rows::{Bytes, Form};
+use affine_forms::{Bytes, Form};
 use quast::{Answer, Node};
 use quast_text::{put_comment, put_definition, put_form, put_node};
 use std::alloc::{AllocError, Global};

@@ -1,7 +1,7 @@
 ghost use Rattle.std.specs.Prelude.{◌≡◌};
 ghost use Rattle.quast_pieces.specs.declared.refusal.PiecesRefusal.TheVariants as refusal;
 
-use affine_rows::{Overflow, WantOfMemory};
+use affine_forms::{Overflow, WantOfMemory};
 use std::alloc::AllocError;
 use thiserror::Error;
 

@@ -4,7 +4,7 @@ ghost use Rattle.pip_model.specs.Simplified.{same_components, same_tree};
 ghost use Rattle.quast.specs.Trees.{tree_of};
 ghost use Rattle.quast_simplify.specs.Components.{same_component};
 
-use affine_rows::Form;
+use affine_forms::Form;
 use quast::{Component, Node};
 
 #[tactic(auto, using(crate::proofs::Comparisons::same_entries))]

@@ -11,7 +11,7 @@ ghost use Rattle.quast.specs.Answers.{answer_of, IsOver};
 
 use crate::same::is_same_tree;
 use crate::unused::{drop_place, is_unused};
-use affine_rows::Form;
+use affine_forms::Form;
 use quast::{Answer, Node, Quast};
 use std::mem;
 

@@ -6,7 +6,7 @@ ghost use Rattle.pip_model.specs.Simplified.{is_unused, without};
 ghost use Rattle.quast.specs.Trees.{tree_of};
 ghost use Rattle.quast_simplify.specs.Components.{TreeLacksPlace};
 
-use affine_rows::Form;
+use affine_forms::Form;
 use quast::{Component, Node};
 use std::mem;
 

@@ -2,7 +2,7 @@
 use Rattle.std.proofs.Common.{◌≡◌, ◌∙◌, refl, ap, sym, ℕ, ◌+◌, ◌<◌, ◌≤◌, ℤ, pos, Bool, true, false, ◌&&◌, IsTrue, IsFalse, List, [], ◌∷◌, ◌++◌, length, take, drop, get_or, map}
 use Rattle.std.proofs.lemmas.List.{drop_more, drop_all, take_more, take_all, map-append}
 use Rattle.std.specs.Prelude.{All, Err}
-use Rattle.affine_rows.specs.Checks.{Fits}
+use Rattle.affine_forms.specs.Checks.{Fits}
 use Rattle.quast.proofs.Conditions.{all_fit_from}
 use Rattle.std.proofs.lemmas.List.Folds.{list_all-map, list_all_at}
 use Rattle.pip_model.specs.Numbers.{fits, lcm}

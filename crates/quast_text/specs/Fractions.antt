@@ -4,7 +4,7 @@ use Rattle.pip_model.specs.Numbers.{floor_div}
 use Rattle.pip_model.specs.Tokens.{token}
 use Rattle.pip_model.specs.Reading.{Reads}
 use Rattle.pip_model.specs.TreeText.{fraction_of}
-use Rattle.affine_rows.specs.Checks.{Fits}
+use Rattle.affine_forms.specs.Checks.{Fits}
 
 -- the parts fit, and the denominator is at least 1
 pub record IsFraction (f : ℤ × ℤ) : Type 0 where

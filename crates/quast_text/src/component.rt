@@ -2,7 +2,7 @@ ghost use Rattle.std.specs.Prelude.{◌≡◌, ◌≤◌, ◌<◌, ◌+◌, ◌�
 ghost use Rattle.pip_model.specs.Limits.{most_params, most_nesting};
 ghost use Rattle.pip_model.specs.TreeText.{component_of, component as component_at};
 ghost use Rattle.pip_model.specs.Agreement.{Agrees};
-ghost use Rattle.affine_rows.specs.Checks.{Fits};
+ghost use Rattle.affine_forms.specs.Checks.{Fits};
 ghost use Rattle.quast.specs.Components.{IsComponent};
 ghost use Rattle.text_steps.specs.Steps.{IsRead};
 ghost use Rattle.quast_text.specs.Faults.{text_fault};
@@ -10,7 +10,8 @@ ghost use Rattle.quast_text.specs.Components.{component_of_parts};
 
 use crate::fraction::{Fraction, common_denominator, numerators, read_fractions};
 use crate::refusal::TextRefusal;
-use affine_rows::{Form, FormRefusal, Kind, token};
+use affine_forms::{Form, FormRefusal};
+use text_tokens::{Kind, token};
 use quast::Component;
 use std::alloc::Global;
 use text_steps::{Reads, expect};

@@ -1,13 +1,14 @@
 ghost use Rattle.std.specs.Prelude.{◌≡◌, ◌≤◌, ◌<◌, ◌+◌, ◌≤ℤ◌, pos, length, IfOk};
 ghost use Rattle.pip_model.specs.Limits.{most_params, most_nesting};
 ghost use Rattle.pip_model.specs.TreeText as model;
-ghost use Rattle.affine_rows.specs.Checks.{Fits};
+ghost use Rattle.affine_forms.specs.Checks.{Fits};
 ghost use Rattle.text_steps.specs.Steps.{IsPassed, IsRead};
 ghost use Rattle.quast_text.specs.Faults.{text_fault};
 
 use crate::refusal::TextRefusal;
 use crate::row::read_form;
-use affine_rows::{Form, Kind, token};
+use affine_forms::Form;
+use text_tokens::{Kind, token};
 use std::alloc::Global;
 use text_steps::{Reads, expect, expect_word, number};
 

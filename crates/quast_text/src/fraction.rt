@@ -3,13 +3,14 @@ ghost use Rattle.pip_model.specs.Numbers.{floor_div as floor_div_of, lcm as lcm_
 ghost use Rattle.pip_model.specs.Listed.{all_fit};
 ghost use Rattle.pip_model.specs.TreeText.{lowest_terms as lowest_terms_of, fractions as fractions_of, common_denominators, last_of};
 ghost use Rattle.pip_model.specs.Agreement.{Agrees, IsChecked};
-ghost use Rattle.affine_rows.specs.Checks.{Fits, IsFitted, is_overflow, is_form_overflow};
+ghost use Rattle.affine_forms.specs.Checks.{Fits, IsFitted, is_overflow, is_form_overflow};
 ghost use Rattle.text_steps.specs.Steps.{AreRead, IsRead};
 ghost use Rattle.quast_text.specs.Faults.{text_fault};
 ghost use Rattle.quast_text.specs.Fractions.{IsFraction, next_fraction, numerator_of};
 
 use crate::refusal::TextRefusal;
-use affine_rows::{FormRefusal, Kind, Overflow, floor_div, gcd, times, token};
+use affine_forms::{FormRefusal, Overflow, floor_div, gcd, times};
+use text_tokens::{Kind, token};
 use std::alloc::Global;
 use std::marker::Model;
 use text_steps::Reads;

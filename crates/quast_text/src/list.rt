@@ -9,7 +9,8 @@ ghost use Rattle.quast_text.specs.Trees.{next_component as next_component_of, co
 
 use crate::component::read_component;
 use crate::refusal::TextRefusal;
-use affine_rows::{Kind, MOST_COMPONENTS, token};
+use affine_forms::MOST_COMPONENTS;
+use text_tokens::{Kind, token};
 use quast::{Component, Quast};
 use std::alloc::Global;
 use text_steps::{Reads, expect, same_bracket};

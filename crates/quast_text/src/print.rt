@@ -4,13 +4,13 @@ ghost use Rattle.pip_model.specs.Forms.{width};
 ghost use Rattle.pip_model.specs.TreeText.{newline, spell_form, spell_fraction, spell_fractions, spell_components, spell_tree, spell_answer, spell};
 ghost use Rattle.pip_model.specs.Printed.{IsGroup, IsPrintableAnswer};
 ghost use Rattle.pip_model.specs.Limits.{most_params};
-ghost use Rattle.affine_rows.specs.Checks.{Fits};
+ghost use Rattle.affine_forms.specs.Checks.{Fits};
 ghost use Rattle.quast.specs.Trees.{tree_of, IsQuast};
 ghost use Rattle.quast.specs.Answers.{answer_of, IsOver};
 ghost use Rattle.text_parts.specs.Printing.{Appends, Begins};
 ghost use Rattle.quast_text.specs.Printing.{spell_denominator, spell_term, spell_component, IsReadBack};
 
-use affine_rows::{Bytes, Form, WantOfMemory, floor_div, gcd};
+use affine_forms::{Bytes, Form, WantOfMemory, floor_div, gcd};
 use itoa::Buffer;
 use quast::{Answer, Component, Node, Quast};
 use std::alloc::AllocError;

@@ -1,7 +1,7 @@
 ghost use Rattle.std.specs.Prelude.{◌≡◌};
 ghost use Rattle.quast_text.specs.declared.refusal.TextRefusal.TheVariants as refusal;
 
-use affine_rows::WantOfMemory;
+use affine_forms::WantOfMemory;
 use std::alloc::{AllocError, AllocFailed};
 use text_steps::TextFault;
 use thiserror::Error;

@@ -5,7 +5,7 @@ ghost use Rattle.text_steps.specs.Steps.{IsRead};
 ghost use Rattle.quast_text.specs.Faults.{text_fault};
 
 use crate::refusal::TextRefusal;
-use affine_rows::Form;
+use affine_forms::Form;
 use std::alloc::Global;
 use text_steps::{Reads, row};
 

@@ -2,7 +2,7 @@ ghost use Rattle.std.specs.Prelude.{◌≡◌, ◌≤◌, ◌<◌, ◌+◌, ◌�
 ghost use Rattle.pip_model.specs.Limits.{most_params, most_nesting};
 ghost use Rattle.pip_model.specs.Tree.{If, NewParm, nesting};
 ghost use Rattle.pip_model.specs.TreeText.{head as head_at, tree as tree_at};
-ghost use Rattle.affine_rows.specs.Checks.{Fits};
+ghost use Rattle.affine_forms.specs.Checks.{Fits};
 ghost use Rattle.text_steps.specs.Steps.{IsRead};
 ghost use Rattle.quast_text.specs.Faults.{text_fault};
 ghost use Rattle.quast_text.specs.Trees.{head_of, opening as opening_of, choice_at, define_at};
@@ -11,7 +11,7 @@ use crate::definition::read_definition;
 use crate::list::read_list;
 use crate::refusal::TextRefusal;
 use crate::row::read_form;
-use affine_rows::{Kind, token};
+use text_tokens::{Kind, token};
 use quast::Quast;
 use std::alloc::Global;
 use text_steps::{Reads, expect, same_bracket, spells};

@@ -9,8 +9,8 @@ use Rattle.pip_model.specs.Run.{Work, Class, Plus, Minus, Unknown, class, listed
 use Rattle.pip_model.specs.Walks as walks
 use Rattle.pip_model.specs.Walks.{Walked, Made, Stopped, Walking, walk_on, ◌>>=◌, ◌>>◌, make, by_run, Visit, where_holds, by_class}
 use Rattle.pip_model.specs.Tools.{difference, difference_listed, count_if, not_below, least_lists}
-use Rattle.affine_rows.specs.Checks.{is_form_overflow}
-use Rattle.affine_rows.specs.declared.memory.FormRefusal.{FormRefusal}
+use Rattle.affine_forms.specs.Checks.{is_form_overflow}
+use Rattle.affine_forms.specs.declared.memory.FormRefusal.{FormRefusal}
 use Rattle.context.specs.Scoped.{ScopedForms, IsKeptContext}
 use Rattle.quast_walk.specs.Faults.{tool_fault, of_form}
 use Rattle.quast_walk.specs.Visits.{visit_of}

@@ -16,7 +16,7 @@ ghost use Rattle.quast_walk.specs.Readings.{answer_nesting};
 ghost use Rattle.quast_walk.specs.Visits.{tree_in};
 
 use crate::lesser_nodes::{choose_node, choose_second};
-use affine_rows::Forms;
+use affine_forms::Forms;
 use context::{Context, Work};
 use pip_problem::Limits;
 use quast::{Answer, Quast};

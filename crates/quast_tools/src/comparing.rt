@@ -15,7 +15,7 @@ ghost use Rattle.quast_tools.specs.Searches.{HasNumbers};
 
 use crate::sameness::Sameness;
 use crate::searching::{search_node, search_second};
-use affine_rows::Forms;
+use affine_forms::Forms;
 use context::{Context, Point, Work};
 use pip_problem::Limits;
 use quast::Answer;

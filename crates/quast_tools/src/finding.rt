@@ -7,7 +7,7 @@ ghost use Rattle.quast_walk.specs.Readings.{IsWide};
 ghost use Rattle.quast_walk.specs.Visits.{visit_of};
 ghost use Rattle.quast_tools.specs.Searches.{point_where, point_above as above_of, point_below as below_of, same_component, HasNumbers};
 
-use affine_rows::Form;
+use affine_forms::Form;
 use context::{Context, Point, Work};
 use quast::Component;
 use quast_walk::{Reading, ToolRefusal, above, below, difference, enter, leave, mark, point};

@@ -12,7 +12,7 @@ ghost use Rattle.quast_tools.specs.Choices.{IsList};
 
 use crate::lesser_lists::{choose_rest, list_tree};
 use crate::rest::Rest;
-use affine_rows::WantOfMemory;
+use affine_forms::WantOfMemory;
 use context::{Context, Work};
 use quast::{Component, Quast};
 use quast_walk::{Leaf, Reading, ToolRefusal, spread_list, widened_list};

@@ -12,7 +12,7 @@ ghost use Rattle.quast_walk.specs.Visits.{visit_of, tree_in};
 ghost use Rattle.quast_tools.specs.Choices.{IsRest, rest_chosen, rest_not_below};
 
 use crate::rest::{Rest, deeper, past};
-use affine_rows::{Form, WantOfMemory};
+use affine_forms::{Form, WantOfMemory};
 use context::{Context, Work};
 use quast::{Component, Quast};
 use quast_walk::{ToolRefusal, copies, difference, enter, leave, mark, negated, sign};

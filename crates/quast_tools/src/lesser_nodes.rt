@@ -15,7 +15,7 @@ ghost use Rattle.quast_tools.specs.Choices.{chosen};
 
 use crate::lesser_leaves::choose_at_leaves;
 use crate::lesser_lists::count_if;
-use affine_rows::Form;
+use affine_forms::Form;
 use context::{Context, Work};
 use quast::{Answer, Node, Quast};
 use quast_walk::{

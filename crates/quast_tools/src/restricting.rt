@@ -16,7 +16,7 @@ ghost use Rattle.quast.specs.Trees.{tree_of};
 ghost use Rattle.quast_walk.specs.Faults.{tool_fault};
 ghost use Rattle.quast_walk.specs.Visits.{visit_of, tree_in};
 
-use affine_rows::{Form, Forms};
+use affine_forms::{Form, Forms};
 use context::{Context, Work};
 use pip_problem::Limits;
 use quast::{Answer, Node, Quast};

@@ -14,7 +14,7 @@ ghost use Rattle.quast_walk.specs.Visits.{visit_of};
 ghost use Rattle.quast_tools.specs.Searches.{searched, HasNumbers};
 
 use crate::leaves::find_at_leaves;
-use affine_rows::Form;
+use affine_forms::Form;
 use context::{Context, Point, Work};
 use quast::{Answer, Node};
 use quast_walk::{

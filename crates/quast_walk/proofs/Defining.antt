@@ -7,9 +7,9 @@ use Rattle.pip_model.specs.Cuts.{Quotient}
 use Rattle.pip_model.specs.Run.{Work, Overflow, Done, Refused, class, listed}
 use Rattle.pip_model.specs.Walks as walks
 use Rattle.pip_model.specs.Walks.{Walked, Made, Stopped, Walking, walk_on, make, walked_as, by_run, ByRun, Visit, below, below_listed, Walker, not_negative, walk}
-use Rattle.affine_rows.specs.Checks.{is_form_overflow}
-use Rattle.affine_rows.specs.declared.memory.FormRefusal.{FormRefusal}
-use Rattle.affine_rows.specs.declared.memory.FormRefusal.TheVariants as form
+use Rattle.affine_forms.specs.Checks.{is_form_overflow}
+use Rattle.affine_forms.specs.declared.memory.FormRefusal.{FormRefusal}
+use Rattle.affine_forms.specs.declared.memory.FormRefusal.TheVariants as form
 use Rattle.context.specs.Scoped.{ScopedForms, IsKeptContext}
 use Rattle.quast_walk.specs.Faults.{tool_fault, of_form}
 use Rattle.quast_walk.specs.Visits.{visit_of, checked_sign, IsBelow}

@@ -5,7 +5,7 @@ use Rattle.pip_model.specs.Numbers.{fits, gcd, gcd_of, same_number}
 use Rattle.pip_model.specs.Listed.{all_fit}
 use Rattle.pip_model.specs.Tree.{Component, reduced, is_form}
 use Rattle.pip_model.proofs.Tests.{three, both, one_at_least}
-use Rattle.affine_rows.specs.Checks.{Fits}
+use Rattle.affine_forms.specs.Checks.{Fits}
 use Rattle.quast.specs.Components.{IsComponent}
 use Rattle.quast_walk.proofs.Placing.{reduced_is}
 

@@ -2,8 +2,8 @@
 use Rattle.std.specs.Prelude.{Option, Some, None}
 use Rattle.pip_model.specs.Run as run
 use Rattle.pip_model.specs.Walks as walks
-use Rattle.affine_rows.specs.declared.memory.FormRefusal.{FormRefusal}
-use Rattle.affine_rows.specs.declared.memory.FormRefusal.TheVariants as form
+use Rattle.affine_forms.specs.declared.memory.FormRefusal.{FormRefusal}
+use Rattle.affine_forms.specs.declared.memory.FormRefusal.TheVariants as form
 use Rattle.quast_walk.specs.declared.refusal.ToolRefusal.{ToolRefusal}
 use Rattle.quast_walk.specs.declared.refusal.ToolRefusal.TheVariants as refusal
 

@@ -4,9 +4,9 @@ ghost use Rattle.pip_model.specs.Forms as forms;
 ghost use Rattle.pip_model.specs.Forms.{constant, plus};
 ghost use Rattle.pip_model.specs.Listed.{opposite_listed};
 ghost use Rattle.pip_model.specs.Tools as model;
-ghost use Rattle.affine_rows.specs.Checks.{is_form_overflow};
+ghost use Rattle.affine_forms.specs.Checks.{is_form_overflow};
 
-use affine_rows::{Form, FormRefusal, WantOfMemory, negate_all};
+use affine_forms::{Form, FormRefusal, WantOfMemory, negate_all};
 use quast::Component;
 use std::alloc::Global;
 

@@ -1,6 +1,6 @@
 ghost use Rattle.std.specs.Prelude.{◌≡◌, IfOk};
 
-use affine_rows::WantOfMemory;
+use affine_forms::WantOfMemory;
 use quast::Component;
 use std::alloc::Global;
 

@@ -1,7 +1,7 @@
 ghost use Rattle.std.specs.Prelude.{◌≡◌};
 ghost use Rattle.quast_walk.specs.declared.refusal.ToolRefusal.TheVariants as tool;
 
-use affine_rows::{FormRefusal, WantOfMemory};
+use affine_forms::{FormRefusal, WantOfMemory};
 use pip_problem::Refusal;
 use thiserror::Error;
 

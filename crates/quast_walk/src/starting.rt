@@ -9,7 +9,7 @@ ghost use Rattle.quast_walk.specs.Faults.{tool_fault};
 ghost use Rattle.quast_walk.specs.Readings.{answer_nesting};
 
 use crate::refusal::ToolRefusal;
-use affine_rows::{Forms, WantOfMemory};
+use affine_forms::{Forms, WantOfMemory};
 use context::{Context, Point, Work};
 use quast::Answer;
 use std::alloc::Global;

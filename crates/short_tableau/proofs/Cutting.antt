@@ -7,7 +7,7 @@ use Rattle.pip_model.specs.Cuts.{constant_cut, fractional_parts, residue_of}
 use Rattle.pip_model.specs.Forms.{negate, residue}
 use Rattle.pip_model.specs.Numbers.{floor_mod}
 use Rattle.pip_model.specs.Rows.{Row, row_at, divided}
-use Rattle.affine_rows.proofs.Mapped.{mapped}
+use Rattle.affine_forms.proofs.Mapped.{mapped}
 use Rattle.tableau.specs.Flat.{row_of_numbers, numbers_of}
 use Rattle.tableau.specs.Short.{IsShortRow}
 use Rattle.tableau.specs.Tableaus.{row_from}

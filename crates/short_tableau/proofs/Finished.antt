@@ -13,7 +13,7 @@ use Rattle.pip_model.specs.Numbers.{gcd, gcd_of, floor_div}
 use Rattle.pip_model.specs.Forms.{combine, entry, floor_divided}
 use Rattle.pip_model.specs.Rows.{Row, divided}
 use Rattle.pip_model.proofs.Gcd.{gcd_assoc, gcd_zero, gcd_exchanged}
-use Rattle.affine_rows.proofs.Divisors.{gcd_step}
+use Rattle.affine_forms.proofs.Divisors.{gcd_step}
 use Rattle.tableau_row.proofs.Places.{take_combine, drop_combine}
 use Rattle.tableau_row.proofs.Quotients.{quotient_short}
 use Rattle.tableau_row.proofs.RowLaws.{divided_row}

@@ -7,7 +7,7 @@ use Rattle.pip_model.specs.Numbers.{fits, same_number}
 use Rattle.pip_model.specs.Forms.{entry}
 use Rattle.pip_model.specs.Listed.{all_fit}
 use Rattle.pip_model.specs.Rows.{Row, row_at, form_row, other_rows, eliminated_listed, pivot_listed, cross_products, up_to_difference, is_better, best_listed, entering_of_listed, entering_listed, candidates}
-use Rattle.affine_rows.proofs.Short.{short_fits}
+use Rattle.affine_forms.proofs.Short.{short_fits}
 use Rattle.tableau.specs.Short.{IsShort, IsShortRow}
 use Rattle.tableau.proofs.ShortRows.{short_eliminated}
 use Rattle.short_tableau.specs.Dense.{IsShortReduced}

@@ -10,7 +10,7 @@ use Rattle.std.proofs.Math.Nat.{suc-mul, mul-le-mul_right, add-mul}
 use Rattle.pip_model.specs.Rows.{Row, row_at, form_row, unit_row, eliminated, pivot}
 use Rattle.tableau.specs.Flat.{row_of_numbers, numbers_of}
 use Rattle.tableau.proofs.Numbers.{row_again}
-use Rattle.affine_rows.proofs.Mapped.{mapped}
+use Rattle.affine_forms.proofs.Mapped.{mapped}
 use Rattle.tableau.specs.Tableaus.{TableauRows, with_row}
 use Rattle.short_tableau.specs.Begun.{is_short_row}
 use Rattle.short_tableau.specs.Dense.{row_size, rows_in, IsShortReduced, IsDense}

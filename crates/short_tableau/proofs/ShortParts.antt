@@ -10,7 +10,7 @@ use Rattle.pip_model.specs.Numbers.{gcd, gcd_of}
 use Rattle.pip_model.proofs.Gcd.{gcd_between, quotient_positive}
 use Rattle.pip_model.specs.Forms.{entry, combine}
 use Rattle.pip_model.specs.Rows.{Row, divided, substituted, eliminated, unit_row}
-use Rattle.affine_rows.specs.Checks.{Fits}
+use Rattle.affine_forms.specs.Checks.{Fits}
 use Rattle.tableau.specs.Flat.{row_of_numbers}
 use Rattle.tableau.specs.Short.{IsShort, IsShortRow}
 use Rattle.tableau.specs.Tableaus.{IsRow, row_from}

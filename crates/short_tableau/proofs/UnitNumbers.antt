@@ -6,7 +6,7 @@ use Rattle.std.proofs.lemmas.Int.{ints}
 use Rattle.std.proofs.lemmas.List.Elements.{All-push, All-append, All-take, All-drop, All-replicate}
 use Rattle.pip_model.specs.Forms.{width, coefficients, constant, widen_to}
 use Rattle.pip_model.specs.Rows.{form_row, unit_row}
-use Rattle.affine_rows.proofs.Mapped.{mapped}
+use Rattle.affine_forms.proofs.Mapped.{mapped}
 use Rattle.tableau.specs.Flat.{row_of_numbers, numbers_of}
 use Rattle.tableau.specs.Short.{IsShort, IsShortRow}
 use Rattle.tableau.proofs.Contents.{content-one}

@@ -3,7 +3,7 @@ use Rattle.std.specs.Prelude.{ℕ, ℤ, pos, ◌≤◌, ◌≤ℤ◌, Bool, List
 use Rattle.std.specs.List.{list_all}
 use Rattle.pip_model.specs.Forms.{combine}
 use Rattle.pip_model.specs.Rows.{Row}
-use Rattle.affine_rows.specs.Checks.{Fits}
+use Rattle.affine_forms.specs.Checks.{Fits}
 use Rattle.tableau.specs.Short.{is_short, IsShort}
 use Rattle.tableau.specs.Tableaus.{row_from}
 use Rattle.short_tableau.specs.declared.begun.Begun.{Begun}

@@ -10,7 +10,7 @@ ghost use Rattle.short_tableau.specs.Rows.{row_of};
 use crate::numbers::{combine, narrow, product};
 use crate::row::ShortRow;
 use crate::wide::{Factors, divide_finished, gcd_with_finished, narrow_quotient};
-use affine_rows::gcd;
+use affine_forms::gcd;
 
 // A row that the pivot's row is put into, before its numbers are divided: its denominator, its entry in the column,
 // what the two rows are multiplied by, and how many of its coefficients and of its constants are made. The others are

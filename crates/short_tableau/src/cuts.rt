@@ -11,7 +11,7 @@ ghost use Rattle.short_tableau.specs.Dense.{IsDense, IsShortReduced, rows_in, ro
 use crate::numbers::floor_mod;
 use crate::row::divide_parts;
 use crate::rows::place_of;
-use affine_rows::WantOfMemory;
+use affine_forms::WantOfMemory;
 
 // What the quotient rounded up leaves, in `-(d - 1) .. 0`.
 fn ceil_mod(a: i64, d: i64) -> i64

@@ -1,7 +1,7 @@
 ghost use Rattle.std.specs.Prelude.{◌≡◌, ◌<◌, ◌≤◌, ◌^◌, pos, ◌-ℤ◌, ◌*ℤ◌, ◌≤ℤ◌, unsigned_abs, length, All, IsTrue, IfSome, IfNone, false};
 ghost use Rattle.pip_model.specs.Numbers.{gcd as gcd_of_two, gcd_of, floor_mod as floor_mod_of};
 ghost use Rattle.pip_model.specs.Forms.{combine as combine_of, floor_divided};
-ghost use Rattle.affine_rows.specs.Checks.{Fits};
+ghost use Rattle.affine_forms.specs.Checks.{Fits};
 ghost use Rattle.tableau.specs.Short.{is_short, IsShort};
 ghost use Rattle.short_tableau.specs.Begun.{finished};
 

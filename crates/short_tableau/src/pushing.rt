@@ -2,14 +2,14 @@ ghost use Rattle.std.specs.Prelude.{◌≡◌, ◌+◌, ◌<◌, ◌≤◌, ◌+
 ghost use Rattle.std.specs.List.{list_all};
 ghost use Rattle.pip_model.specs.Forms.{widen_to};
 ghost use Rattle.pip_model.specs.Rows.{form_row, unit_row};
-ghost use Rattle.affine_rows.specs.Forms.{IsForm};
+ghost use Rattle.affine_forms.specs.Forms.{IsForm};
 ghost use Rattle.tableau.specs.Flat.{numbers_of};
 ghost use Rattle.tableau.specs.Short.{is_short, IsShort, IsShortRow};
 ghost use Rattle.short_tableau.specs.Rows.{row_of};
 
 use crate::numbers::narrow;
 use crate::row::{ShortRow, make_unit};
-use affine_rows::WantOfMemory;
+use affine_forms::WantOfMemory;
 
 // Appends the numbers of a row, or some of them.
 fn append_row(numbers: &mut Vec<i64>, row: &ShortRow<'_>) -> Result<(), WantOfMemory>

@@ -5,7 +5,7 @@ ghost use Rattle.pip_model.specs.Forms.{constant, entry, widen_to};
 ghost use Rattle.pip_model.specs.Listed.{all_fit};
 ghost use Rattle.pip_model.specs.Numbers.{is_nonneg};
 ghost use Rattle.pip_model.specs.Rows as model;
-ghost use Rattle.affine_rows.specs.Forms.{IsForm};
+ghost use Rattle.affine_forms.specs.Forms.{IsForm};
 ghost use Rattle.tableau.specs.Short.{is_short};
 ghost use Rattle.tableau.specs.Tableaus.{with_row};
 ghost use Rattle.short_tableau.specs.Begun.{is_short_row};
@@ -16,7 +16,7 @@ use crate::cuts::push_cut_row;
 use crate::pushing::{append_form, push_row, push_unit_row};
 use crate::row::ShortRow;
 use crate::rows::{pivot_rows, row_in, turn_rows};
-use affine_rows::WantOfMemory;
+use affine_forms::WantOfMemory;
 use std::alloc::Global;
 use std::marker::Model;
 

@@ -2,12 +2,12 @@ ghost use Rattle.std.specs.Prelude.{◌≡◌, ◌≤◌, pos, ◌≤ℤ◌, fal
 ghost use Rattle.std.specs.List.{list_all};
 ghost use Rattle.pip_model.specs.Forms.{combine, floor_divided};
 ghost use Rattle.pip_model.specs.Numbers.{gcd as gcd_of_two, gcd_of, floor_div as floor_div_of};
-ghost use Rattle.affine_rows.specs.Checks.{Fits};
+ghost use Rattle.affine_forms.specs.Checks.{Fits};
 ghost use Rattle.tableau.specs.Short.{is_short, IsShort};
 ghost use Rattle.short_tableau.specs.Begun.{finished};
 
 use crate::numbers::{narrow, wide_entry};
-use affine_rows::{floor_div, gcd};
+use affine_forms::{floor_div, gcd};
 
 // What the entries of a row and those of the pivot's row are multiplied by: `a*r - b*s`.
 #[derive(Clone, Copy)]

@@ -11,9 +11,9 @@ use Rattle.pip_model.specs.Listed.{all_fit, opposite_listed}
 use Rattle.pip_model.proofs.Division.{form-parts}
 use Rattle.run_laws.proofs.Lengths.{length_map}
 use Rattle.run_laws.proofs.Scopes.{length-opposite, entry_end, constant-end}
-use Rattle.affine_rows.specs.Checks.{Fits}
-use Rattle.affine_rows.specs.Forms.{IsForm}
-use Rattle.affine_rows.proofs.Opposites.{opposite_set}
+use Rattle.affine_forms.specs.Checks.{Fits}
+use Rattle.affine_forms.specs.Forms.{IsForm}
+use Rattle.affine_forms.proofs.Opposites.{opposite_set}
 
 -- coefficients, and a constant
 abbrev pub form_of : List ℤ → ℤ → List ℤ

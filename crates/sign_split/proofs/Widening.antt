@@ -12,7 +12,7 @@ use Rattle.pip_model.specs.Run.{Work, Outcome, Counted, Done, Refused, Class, Pl
 use Rattle.pip_model.proofs.Division.{form-parts, gcd_of-natural}
 use Rattle.run_laws.proofs.Lengths.{length_map, length_tighten}
 use Rattle.run_laws.proofs.Scopes.{coefficients-end, constant-end, length-widen_to}
-use Rattle.affine_rows.proofs.Units.{widen_same}
+use Rattle.affine_forms.proofs.Units.{widen_same}
 use Rattle.context.proofs.OneFormMore.{point_some}
 use Rattle.sign_split.specs.Classes.{widened_class}
 use Rattle.sign_split.proofs.Opposites.{form_of, opposite_form, opposite_length}

@@ -2,7 +2,7 @@ ghost use Rattle.std.specs.Prelude.{◌≡◌, ◌+◌, ◌≤◌, length, IfOk,
 ghost use Rattle.pip_model.specs.Contexts.{ClassTells, IsPointRefusal};
 ghost use Rattle.pip_model.specs.Forms.{widen_to};
 ghost use Rattle.pip_model.specs.Run as model;
-ghost use Rattle.affine_rows.specs.Forms.{IsForm};
+ghost use Rattle.affine_forms.specs.Forms.{IsForm};
 ghost use Rattle.pip_problem.specs.Faults.{run_fault};
 ghost use Rattle.context.specs.Counts.{IsCountedRun};
 ghost use Rattle.context.specs.Scoped.{IsKeptContext};
@@ -10,7 +10,7 @@ ghost use Rattle.sign_split.specs.Classes.{class_of, widened_class, ConditionIs}
 
 use crate::classes::Class;
 use crate::signs::{is_everywhere_below, is_nowhere_below};
-use affine_rows::Form;
+use affine_forms::Form;
 use context::{Context, Work};
 use pip_problem::Refusal;
 use std::alloc::Global;

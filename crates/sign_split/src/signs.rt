@@ -2,9 +2,9 @@ ghost use Rattle.std.specs.Prelude.{◌≡◌, not, ◌&&◌};
 ghost use Rattle.std.specs.List.{list_all};
 ghost use Rattle.pip_model.specs.Numbers.{is_nonneg, is_positive, is_negative};
 ghost use Rattle.pip_model.specs.Forms.{constant};
-ghost use Rattle.affine_rows.specs.Forms.{IsForm};
+ghost use Rattle.affine_forms.specs.Forms.{IsForm};
 
-use affine_rows::{nonnegative, positive};
+use affine_forms::{nonnegative, positive};
 
 // Whether the number is below 0.
 fn negative(z: i128) -> bool

@@ -13,9 +13,9 @@ use Rattle.pip_model.specs.Certificate.{Certificate}
 use Rattle.pip_model.specs.Run.{Work, Outcome, Done, Refused, Refusal, Overflow}
 use Rattle.pip_model.specs.Made.{PathQuotient}
 use Rattle.pip_model.proofs.Tests.{both}
-use Rattle.affine_rows.specs.Checks.{is_form_overflow}
-use Rattle.affine_rows.specs.declared.memory.FormRefusal.{FormRefusal}
-use Rattle.affine_rows.specs.declared.memory.FormRefusal.TheVariants as form
+use Rattle.affine_forms.specs.Checks.{is_form_overflow}
+use Rattle.affine_forms.specs.declared.memory.FormRefusal.{FormRefusal}
+use Rattle.affine_forms.specs.declared.memory.FormRefusal.TheVariants as form
 use Rattle.pip_problem.specs.Faults.{run_fault, of_form}
 use Rattle.solve_certified.specs.Trails.{TrailForms, below_quotient}
 use Rattle.solve_certified.specs.Walks.{made_below, are_whole, IsAt}

@@ -16,7 +16,7 @@ use Rattle.run_laws.proofs.SolveRight.{solve-right, leaves-reached}
 use Rattle.run_laws.proofs.Headline.{solve-well_formed_answer}
 use Rattle.certificate_laws.proofs.Accepted.{certificate-not_rejected, certified-answer}
 use Rattle.certificate_laws.proofs.FitCertificate.{certificate-fits}
-use Rattle.affine_rows.specs.declared.numbers.Overflow.{Overflow}
+use Rattle.affine_forms.specs.declared.numbers.Overflow.{Overflow}
 use Rattle.pip_problem.specs.declared.refusal.Refusal as code
 use Rattle.pip_problem.specs.Faults.{run_fault}
 use Rattle.quast.specs.declared.answer.Answer as answer

@@ -2,7 +2,7 @@
 use Rattle.std.specs.Prelude.{Option, Some, None, Result, Ok, Err}
 use Rattle.pip_model.specs.Tree as tree
 use Rattle.pip_model.specs.Certificate as certificate
-use Rattle.affine_rows.specs.declared.numbers.Overflow.{Overflow}
+use Rattle.affine_forms.specs.declared.numbers.Overflow.{Overflow}
 use Rattle.quast.specs.declared.answer.Answer.{Answer}
 use Rattle.quast.specs.Answers.{answer_of}
 

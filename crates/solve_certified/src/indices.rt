@@ -1,8 +1,8 @@
 ghost use Rattle.std.specs.Prelude.{◌≡◌, ◌++◌, All, OnOk};
 ghost use Rattle.pip_model.specs.Refuting.{indices};
-ghost use Rattle.affine_rows.specs.Checks.{Fits};
+ghost use Rattle.affine_forms.specs.Checks.{Fits};
 
-use affine_rows::WantOfMemory;
+use affine_forms::WantOfMemory;
 
 // Puts n indices from one on behind the others.
 pub(crate) fn push_indices(

@@ -9,7 +9,7 @@ ghost use Rattle.solve_certified.specs.Goals.{unknowns_at};
 use crate::refutation::Scope;
 use certificate_check::{Known, Leaf, refutation_count};
 use context::Work;
-use leaf_certificate::{LeafProofs, Refutation};
+use certificate_parts::{LeafProofs, Refutation};
 use pip_problem::Refusal;
 use std::alloc::Global;
 

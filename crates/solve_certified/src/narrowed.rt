@@ -1,7 +1,7 @@
 ghost use Rattle.std.specs.Prelude.{◌≡◌, ◌+◌, ◌<◌, length, map, All, IfOk};
 ghost use Rattle.pip_model.specs.Made.{narrow_to};
 
-use affine_rows::{Form, WantOfMemory};
+use affine_forms::{Form, WantOfMemory};
 use certificate_check::Known;
 use context::Context;
 use std::alloc::Global;

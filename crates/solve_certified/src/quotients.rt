@@ -1,11 +1,11 @@
 ghost use Rattle.std.specs.Prelude.{◌≡◌, ◌+◌, ◌≤◌, length, All, IfOk};
 ghost use Rattle.pip_model.specs.Made as model;
-ghost use Rattle.affine_rows.specs.Checks.{Fits};
+ghost use Rattle.affine_forms.specs.Checks.{Fits};
 ghost use Rattle.solve_certified.specs.Quotients.{steps_from, ReadsPlaces};
 
-use affine_rows::{Form, WantOfMemory};
+use affine_forms::{Form, WantOfMemory};
 use context::push_positive;
-use leaf_certificate::{Refutation, Step, Terms};
+use certificate_parts::{Refutation, Step, Terms};
 use std::alloc::Global;
 use std::marker::Model;
 
@@ -19,7 +19,7 @@ pub(crate) struct PathQuotient {
 
 impl Model for PathQuotient {
     ghost use Rattle.pip_model.specs.Made as model;
-    ghost use Rattle.affine_rows.specs.Checks.{Fits};
+    ghost use Rattle.affine_forms.specs.Checks.{Fits};
 
     ghost Value = { model.PathQuotient };
 

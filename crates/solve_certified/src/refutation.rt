@@ -1,18 +1,18 @@
 ghost use Rattle.std.specs.Prelude.{◌≡◌, ◌^◌, ◌+◌, ◌≤◌, pos, ◌≤ℤ◌, ◌<ℤ◌, ◌++◌, length, All, IsTrue, IfOk, OnOk};
 ghost use Rattle.pip_model.specs.Agreement.{AgreesCounted};
 ghost use Rattle.pip_model.specs.Made.{steps_or_none};
-ghost use Rattle.affine_rows.specs.Checks.{Fits};
-ghost use Rattle.leaf_certificate.specs.Fitting.{terms_fit};
+ghost use Rattle.affine_forms.specs.Checks.{Fits};
+ghost use Rattle.certificate_parts.specs.Fitting.{terms_fit};
 ghost use Rattle.pip_problem.specs.Faults.{run_fault};
 ghost use Rattle.solve_certified.specs.Refutations.{refuted_by, places_of, IsScope};
 
 use crate::indices::push_indices;
 use crate::narrowed::context_of;
 use crate::quotients::{PathQuotient, quotient_steps};
-use affine_rows::WantOfMemory;
+use affine_forms::WantOfMemory;
 use certificate_check::Known;
 use context::Work;
-use leaf_certificate::{Refutation, Step, Terms};
+use certificate_parts::{Refutation, Step, Terms};
 use pip_problem::Refusal;
 use std::alloc::Global;
 

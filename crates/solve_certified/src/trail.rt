@@ -3,11 +3,11 @@ ghost use Rattle.pip_model.specs.Forms.{opposite, constant};
 ghost use Rattle.pip_model.specs.Listed.{opposite_listed};
 ghost use Rattle.pip_model.specs.Cuts.{Quotient, lower_bound, upper_bound};
 ghost use Rattle.pip_model.specs.Agreement.{IsChecked};
-ghost use Rattle.affine_rows.specs.Checks.{Fits, is_form_overflow};
+ghost use Rattle.affine_forms.specs.Checks.{Fits, is_form_overflow};
 ghost use Rattle.solve_certified.specs.Trails.{below_quotient};
 
 use crate::quotients::PathQuotient;
-use affine_rows::{Form, FormRefusal, WantOfMemory};
+use affine_forms::{Form, FormRefusal, WantOfMemory};
 use certificate_check::Path;
 use std::alloc::Global;
 use std::marker::Model;

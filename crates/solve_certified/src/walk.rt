@@ -10,7 +10,7 @@ use crate::refutation::Scope;
 use crate::trail::Trail;
 use certificate_check::Leaf;
 use context::Work;
-use leaf_certificate::Certificate;
+use certificate_parts::Certificate;
 use pip_problem::{Problem, Refusal};
 use quast::{Component, Node};
 use std::alloc::Global;

@@ -6,7 +6,7 @@ use Rattle.std.proofs.lemmas.List.Elements.{All-head, All-tail, All-push, All-we
 use Rattle.std.proofs.lemmas.Grind.{flat_map-append}
 use Rattle.std.proofs.Math.Nat.{add-mul}
 use Rattle.std.proofs.lemmas.Int.{ints}
-use Rattle.affine_rows.specs.Checks.{Fits}
+use Rattle.affine_forms.specs.Checks.{Fits}
 use Rattle.pip_model.specs.Rows.{Row, unit_row}
 use Rattle.tableau_row.specs.Rows.{IsRow, IsReduced}
 use Rattle.tableau_row.specs.Flat.{numbers_of, row_of_numbers, is_unit_row}

@@ -5,7 +5,7 @@ ghost use Rattle.tableau_row.specs.Rows.{IsRow, IsReduced};
 use crate::flat_rows::FlatRows;
 use crate::kept::{Kept, Lent, Place};
 use crate::pushing::append_kept;
-use affine_rows::WantOfMemory;
+use affine_forms::WantOfMemory;
 use std::alloc::Global;
 use tableau_row::append_entries;
 

@@ -3,7 +3,7 @@ ghost use Rattle.pip_model.specs.Forms.{entry};
 ghost use Rattle.pip_model.specs.Listed.{all_fit};
 ghost use Rattle.pip_model.specs.Rows as model;
 ghost use Rattle.pip_model.specs.Agreement.{IsChecked};
-ghost use Rattle.affine_rows.specs.Checks.{is_overflow};
+ghost use Rattle.affine_forms.specs.Checks.{is_overflow};
 ghost use Rattle.tableau.specs.KeptRows.{IsOver, IsLent, AreLent, AreSteady, IsFlat, IsRun, IsSteady, SameShape, lent_row, lent_rows, row_length, with_more, with_rows, unit_run};
 ghost use Rattle.tableau_row.specs.Rows.{IsRow, IsOwnRow, IsReduced};
 ghost use Rattle.tableau_row.specs.Views.{row_of};
@@ -11,7 +11,7 @@ ghost use Rattle.tableau_row.specs.Views.{row_of};
 use crate::copying::copy_kept;
 use crate::flat_rows::FlatRows;
 use crate::kept::{Kept, Lent};
-use affine_rows::Overflow;
+use affine_forms::Overflow;
 use tableau_row::{RowView, check_eliminated};
 
 // Checks the numbers of a row with row p, solved for column c, put in. They fit where both rows are short, and where

@@ -7,7 +7,7 @@ ghost use Rattle.tableau_row.specs.Rows.{IsRow, IsReduced};
 ghost use Rattle.tableau_row.specs.Views.{row_of};
 
 use crate::kept::{Kept, Lent};
-use affine_rows::WantOfMemory;
+use affine_forms::WantOfMemory;
 use std::alloc::Global;
 use std::cmp::max;
 use std::marker::Model;

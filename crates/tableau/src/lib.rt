@@ -12,6 +12,6 @@ mod tableau;
 mod unit_run;
 mod widening;
 
-pub use affine_rows::FormRefusal as StepRefusal;
+pub use affine_forms::FormRefusal as StepRefusal;
 pub use tableau::Tableau;
 pub use tableau_row::{RowView, short_floor_div, short_gcd};

@@ -4,8 +4,8 @@ ghost use Rattle.pip_model.specs.Listed.{all_fit};
 ghost use Rattle.pip_model.specs.Rows as model;
 ghost use Rattle.pip_model.specs.Cuts.{rounded, rounded_listed};
 ghost use Rattle.pip_model.specs.Agreement.{IsChecked};
-ghost use Rattle.affine_rows.specs.Checks.{is_overflow};
-ghost use Rattle.affine_rows.specs.Forms.{IsForm};
+ghost use Rattle.affine_forms.specs.Checks.{is_overflow};
+ghost use Rattle.affine_forms.specs.Forms.{IsForm};
 ghost use Rattle.tableau_row.specs.Flat.{numbers_of, row_of_numbers, is_unit_row};
 ghost use Rattle.tableau.specs.KeptRows.{IsFlat, IsUnsealed, row_length, rows_kept, with_more};
 ghost use Rattle.tableau_row.specs.Short.{IsShort, IsShortRow};
@@ -14,7 +14,7 @@ ghost use Rattle.tableau_row.specs.Views.{row_of};
 
 use crate::flat_rows::FlatRows;
 use crate::kept::{Kept, Place};
-use affine_rows::{Form, Overflow};
+use affine_forms::{Form, Overflow};
 use tableau_row::{
     RowView, append_divided, append_eliminated, append_entries, append_rounded, append_row,
     append_solved, append_widened, is_short_row, unit_column, view_of,

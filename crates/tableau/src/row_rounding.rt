@@ -2,14 +2,14 @@ ghost use Rattle.std.specs.Prelude.{◌≡◌, ◌+◌, ◌<◌, ◌≤◌, [], 
 ghost use Rattle.pip_model.specs.Rows as model;
 ghost use Rattle.pip_model.specs.Cuts.{rounded, rounded_listed};
 ghost use Rattle.pip_model.specs.Agreement.{IsChecked};
-ghost use Rattle.affine_rows.specs.Checks.{is_overflow};
+ghost use Rattle.affine_forms.specs.Checks.{is_overflow};
 ghost use Rattle.tableau.specs.KeptRows.{IsOver, AreLent, IsFlat, SameShape, lent_rows, with_rows, unit_run};
 ghost use Rattle.tableau_row.specs.Rows.{IsRow, IsReduced};
 
 use crate::copying::copy_kept;
 use crate::flat_rows::FlatRows;
 use crate::kept::{Kept, Lent};
-use affine_rows::Overflow;
+use affine_forms::Overflow;
 
 // Adds the kept rows.
 fn copy_rows(next: &mut FlatRows, lent: &Lent<'_>, kept: &[Kept])

@@ -3,7 +3,7 @@ ghost use Rattle.pip_model.specs.Forms.{entry};
 ghost use Rattle.pip_model.specs.Rows as model;
 ghost use Rattle.pip_model.specs.Cuts.{rounded_listed};
 ghost use Rattle.pip_model.specs.Agreement.{IsChecked};
-ghost use Rattle.affine_rows.specs.Checks.{is_overflow};
+ghost use Rattle.affine_forms.specs.Checks.{is_overflow};
 ghost use Rattle.tableau_row.specs.Flat.{numbers_of, is_unit_row};
 ghost use Rattle.tableau.specs.KeptRows.{IsSpare, with_rows, unit_run};
 ghost use Rattle.tableau_row.specs.Rows.{IsRow, row_from};
@@ -12,7 +12,7 @@ ghost use Rattle.tableau_row.specs.Views.{row_of};
 
 use crate::flat_rows::FlatRows;
 use crate::unit_run::make_run;
-use affine_rows::{Form, Overflow, WantOfMemory};
+use affine_forms::{Form, Overflow, WantOfMemory};
 use std::alloc::Global;
 use std::marker::Model;
 use std::mem::swap;

@@ -1,7 +1,7 @@
 ghost use Rattle.std.specs.Prelude.{◌≡◌, ◌<◌, length, IfOk, OnOk};
 ghost use Rattle.tableau.specs.KeptRows as model;
 
-use affine_rows::WantOfMemory;
+use affine_forms::WantOfMemory;
 use std::alloc::Global;
 use std::cmp::max;
 

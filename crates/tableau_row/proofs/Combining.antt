@@ -10,9 +10,9 @@ use Rattle.pip_model.proofs.Forms.{length-combine}
 use Rattle.pip_model.specs.Numbers.{fits}
 use Rattle.pip_model.specs.Forms.{combine, remove}
 use Rattle.pip_model.specs.Listed.{all_fit, combine_listed}
-use Rattle.affine_rows.proofs.Short.{product_fits, short_fits}
-use Rattle.affine_rows.specs.Checks.{Fits}
-use Rattle.affine_rows.proofs.Combined.{listed_at}
+use Rattle.affine_forms.proofs.Short.{product_fits, short_fits}
+use Rattle.affine_forms.specs.Checks.{Fits}
+use Rattle.affine_forms.proofs.Combined.{listed_at}
 use Rattle.tableau_row.specs.Short.{is_short}
 use Rattle.tableau_row.proofs.Places.{listed_but, remove_parts, set_combine}
 use Rattle.tableau_row.proofs.Unchanged.{set-same}

@@ -6,8 +6,8 @@ use Rattle.pip_model.specs.Numbers.{gcd, gcd_of, floor_div}
 use Rattle.pip_model.specs.Forms.{floor_divided, width, coefficients, constant}
 use Rattle.pip_model.specs.Rows.{Row, divided, widened, count_from}
 use Rattle.std.proofs.lemmas.Int.{ints}
-use Rattle.affine_rows.proofs.Divisors.{gcd_assoc, floor_divided_one}
-use Rattle.affine_rows.specs.Checks.{Fits}
+use Rattle.affine_forms.proofs.Divisors.{gcd_assoc, floor_divided_one}
+use Rattle.affine_forms.specs.Checks.{Fits}
 use Rattle.tableau_row.specs.Rows.{IsRow, content, row_from}
 use Rattle.tableau_row.proofs.Contents.{content-one, gcd_of-widened}
 

@@ -10,8 +10,8 @@ use Rattle.std.proofs.lemmas.List.Elements.{All-append, All-take, All-drop, All-
 use Rattle.pip_model.specs.Forms.{entry, width, coefficients, constant}
 use Rattle.pip_model.specs.Listed.{all_fit, combine_listed}
 use Rattle.pip_model.specs.Rows.{Row, widened, eliminated_listed}
-use Rattle.affine_rows.specs.Checks.{Fits}
-use Rattle.affine_rows.proofs.Short.{product_fits, short_fits}
+use Rattle.affine_forms.specs.Checks.{Fits}
+use Rattle.affine_forms.proofs.Short.{product_fits, short_fits}
 use Rattle.tableau_row.specs.Short.{is_short, IsShort, IsShortRow}
 use Rattle.tableau_row.proofs.Combining.{short_listed}
 use Rattle.tableau_row.proofs.Places.{eliminated_parts}

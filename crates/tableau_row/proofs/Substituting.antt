@@ -10,7 +10,7 @@ use Rattle.pip_model.specs.Numbers.{fits}
 use Rattle.pip_model.specs.Forms.{combine, entry, remove}
 use Rattle.pip_model.specs.Listed.{all_fit, combine_listed}
 use Rattle.pip_model.specs.Rows.{Row, substituted, eliminated, eliminated_listed, pivot_listed, row_at}
-use Rattle.affine_rows.specs.Checks.{Fits}
+use Rattle.affine_forms.specs.Checks.{Fits}
 use Rattle.tableau_row.specs.Flat.{numbers_of}
 use Rattle.tableau_row.specs.Rows.{IsRow, IsReduced, row_from}
 use Rattle.tableau_row.proofs.Contents.{content-divided}

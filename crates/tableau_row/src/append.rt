@@ -4,7 +4,7 @@ ghost use Rattle.pip_model.specs.Listed.{all_fit};
 ghost use Rattle.pip_model.specs.Rows as model;
 ghost use Rattle.pip_model.specs.Cuts.{rounded, rounded_listed};
 ghost use Rattle.pip_model.specs.Agreement.{IsChecked};
-ghost use Rattle.affine_rows.specs.Checks.{Fits, is_overflow};
+ghost use Rattle.affine_forms.specs.Checks.{Fits, is_overflow};
 ghost use Rattle.tableau_row.specs.Flat.{numbers_of};
 ghost use Rattle.tableau_row.specs.Short.{IsShort, IsShortRow};
 ghost use Rattle.tableau_row.specs.Rows.{IsRow, IsOwnRow, IsReduced, row_from};
@@ -13,7 +13,7 @@ ghost use Rattle.tableau_row.specs.Views.{row_of};
 use crate::row::{divide, eliminate_long, eliminate_short, round};
 use crate::short::{both, half_entry, is_half, narrow, short_opposite, short_product, with_entry};
 use crate::view::RowView;
-use affine_rows::Overflow;
+use affine_forms::Overflow;
 
 /// Appends the entries, for which there is room. It takes no memory, like all that append here.
 pub fn append_entries(numbers: &mut Vec<i128>, entries: &[i128])

@@ -1,8 +1,8 @@
 ghost use Rattle.std.specs.Prelude.{◌≡◌, pos, ◌≤ℤ◌, All};
 ghost use Rattle.pip_model.specs.Numbers.{gcd as gcd_of_two, gcd_of};
-ghost use Rattle.affine_rows.specs.Checks.{Fits};
+ghost use Rattle.affine_forms.specs.Checks.{Fits};
 
-use affine_rows::{floor_mod, gcd};
+use affine_forms::{floor_mod, gcd};
 
 // The greatest common divisor of a number of at least 1 and an entry, in one division where the number is it.
 #[tactic(auto, using(crate::proofs::Dividing::gcd_divided))]

@@ -3,7 +3,7 @@ ghost use Rattle.pip_model.specs.Forms.{combine, entry, remove};
 ghost use Rattle.pip_model.specs.Listed.{all_fit, combine_listed};
 ghost use Rattle.pip_model.specs.Rows as model;
 ghost use Rattle.pip_model.specs.Agreement.{IsChecked};
-ghost use Rattle.affine_rows.specs.Checks.{Fits, is_overflow};
+ghost use Rattle.affine_forms.specs.Checks.{Fits, is_overflow};
 ghost use Rattle.tableau_row.specs.Short.{IsShortRow};
 ghost use Rattle.tableau_row.specs.Rows.{IsRow, IsOwnRow, IsReduced, row_from};
 ghost use Rattle.tableau_row.specs.Views.{row_of};
@@ -14,7 +14,7 @@ use crate::short::{
     all_short, both, combine_short, is_short, is_short_row, narrow, short_product, with_entry,
 };
 use crate::view::RowView;
-use affine_rows::{Overflow, difference, divide_all, floor_div, times};
+use affine_forms::{Overflow, difference, divide_all, floor_div, times};
 
 // Checks `a*r - b*s`, entry by entry.
 fn check_each(a: i128, r: &[i128], b: i128, s: &[i128]) -> Result<(), Overflow>

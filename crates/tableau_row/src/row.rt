@@ -6,7 +6,7 @@ ghost use Rattle.pip_model.specs.Listed.{all_fit};
 ghost use Rattle.pip_model.specs.Rows as model;
 ghost use Rattle.pip_model.specs.Cuts.{rounded, rounded_listed};
 ghost use Rattle.pip_model.specs.Agreement.{IsChecked};
-ghost use Rattle.affine_rows.specs.Checks.{is_overflow};
+ghost use Rattle.affine_forms.specs.Checks.{is_overflow};
 ghost use Rattle.tableau_row.specs.Flat.{numbers_of, row_of_numbers, is_unit, is_unit_row};
 ghost use Rattle.tableau_row.specs.Short.{IsShortRow};
 ghost use Rattle.tableau_row.specs.Rows.{IsRow, IsOwnRow, IsReduced, row_from};
@@ -15,7 +15,7 @@ ghost use Rattle.tableau_row.specs.Views.{row_of};
 use crate::elimination::{divide_parts, eliminate_long_parts, eliminate_short_parts};
 use crate::short::is_short_row;
 use crate::view::RowView;
-use affine_rows::{Overflow, divide_all, floor_div, gcd_with, round_form};
+use affine_forms::{Overflow, divide_all, floor_div, gcd_with, round_form};
 
 /// The row of these numbers over so many columns: its denominator, its coefficients, the entries of its constant form.
 pub fn view_of(numbers: &[i128], unknowns: usize, short: bool) -> RowView<'_>

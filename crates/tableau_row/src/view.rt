@@ -1,11 +1,11 @@
 ghost use Rattle.std.specs.Prelude.{◌<◌, ◌*ℤ◌, length, IsTrue};
 ghost use Rattle.pip_model.specs.Forms.{entry};
-ghost use Rattle.affine_rows.specs.Checks.{IsFitted};
+ghost use Rattle.affine_forms.specs.Checks.{IsFitted};
 ghost use Rattle.tableau_row.specs.Short.{IsShortRow};
 ghost use Rattle.tableau_row.specs.Rows.{row_from};
 
 use crate::short::short_product;
-use affine_rows::{Overflow, times};
+use affine_forms::{Overflow, times};
 
 /// A row `(D, a, t)`: D times its quantity is the sum of the a_k times the columns' quantities, plus the form t.
 #[derive(Clone, Copy)]

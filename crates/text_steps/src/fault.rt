@@ -1,7 +1,8 @@
 ghost use Rattle.std.specs.Prelude.{◌≡◌};
 ghost use Rattle.text_steps.specs.declared.fault.TextFault.TheVariants as fault;
 
-use affine_rows::WantOfMemory;
+use affine_forms::WantOfMemory;
+use pip_problem::ReadRefusal;
 use std::alloc::{AllocError, AllocFailed};
 
 /// What is read and the place behind it, or why it is not read.
@@ -37,5 +38,20 @@ impl<T: Drop> From<AllocFailed<T>> for TextFault {
 
     fn from(_: AllocFailed<T>) -> TextFault {
         TextFault::WantOfMemory
+    }
+}
+
+impl From<TextFault> for ReadRefusal {
+    ghost use Rattle.text_steps.specs.Steps.{fault_of};
+    ghost use Rattle.pip_problem.specs.Faults.{read_fault};
+
+    ghost from_gives = { λ fault e. read_fault e ≡ fault_of fault };
+
+    fn from(fault: TextFault) -> ReadRefusal {
+        match fault {
+            TextFault::Syntax(place) => ReadRefusal::Syntax(place),
+            TextFault::Wide(place) => ReadRefusal::Wide(place),
+            TextFault::WantOfMemory => ReadRefusal::WantOfMemory,
+        }
     }
 }

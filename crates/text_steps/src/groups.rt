@@ -4,7 +4,8 @@ ghost use Rattle.text_steps.specs.Steps.{fault_of, IsRead};
 
 use crate::fault::{Reads, TextFault};
 use crate::steps::expect;
-use affine_rows::{Bytes, Kind, group_end};
+use affine_forms::Bytes;
+use text_tokens::{Kind, group_end};
 use std::alloc::Global;
 
 /// The group that is next, with its brackets, and the place behind it.

@@ -1,11 +1,12 @@
 ghost use Rattle.std.specs.Prelude.{◌≡◌, ◌≤◌, ◌<◌, length, All, IfOk};
 ghost use Rattle.pip_model.specs.Reading as model;
-ghost use Rattle.affine_rows.specs.Checks.{Fits};
+ghost use Rattle.affine_forms.specs.Checks.{Fits};
 ghost use Rattle.text_steps.specs.Steps.{fault_of, AreRead, IsRead};
 
 use crate::fault::{Reads, TextFault};
 use crate::steps::{expect, number};
-use affine_rows::{Form, Kind};
+use affine_forms::Form;
+use text_tokens::Kind;
 use std::alloc::Global;
 
 /// So many numbers, and the place behind them.

@@ -2,11 +2,11 @@ ghost use Rattle.std.specs.Prelude.{◌≡◌, ℕ, ◌+◌, ◌<◌, ◌≤◌,
 ghost use Rattle.pip_model.specs.Reading as model;
 ghost use Rattle.pip_model.specs.Tokens as tokens;
 ghost use Rattle.pip_model.specs.TreeText as words;
-ghost use Rattle.affine_rows.specs.Checks.{Fits};
+ghost use Rattle.affine_forms.specs.Checks.{Fits};
 ghost use Rattle.text_steps.specs.Steps.{fault_of, IsPassed, IsRead};
 
 use crate::fault::{Reads, TextFault};
-use affine_rows::{Kind, Lexeme, plain_number, token};
+use text_tokens::{Kind, Lexeme, plain_number, token};
 
 /// Whether the kind is the wanted bracket.
 pub fn same_bracket(kind: Kind, wanted: Kind) -> bool

@@ -1,6 +1,6 @@
 ghost use Rattle.std.specs.Prelude.{◌≡◌, ◌+◌, pos, negsuc, [], ◌∷◌, true, length, IfOk};
 ghost use Rattle.pip_model.specs.Tree as model;
-ghost use Rattle.affine_rows.specs.Forms.{IsForm};
+ghost use Rattle.affine_forms.specs.Forms.{IsForm};
 ghost use Rattle.quast.specs.Answers.{IsOver};
 
 use affine_rows::{Form, WantOfMemory};

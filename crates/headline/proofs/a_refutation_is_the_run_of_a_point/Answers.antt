@@ -1,5 +1,5 @@
 use Rattle.run_laws.proofs.ContextRight.{narrow_of}
-use Rattle.certificate_laws.proofs.SameRun.{refute-same}
+use Rattle.refutation_laws.proofs.SameRun.{refute-same}
 use Rattle.headline.proofs.a_refutation_is_the_run_of_a_point.Goals as goal
 
 pub returns : goal.returns

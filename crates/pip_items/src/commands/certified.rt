@@ -1,13 +1,14 @@
 ghost use Rattle.std.specs.Prelude.{◌≡◌, ◌++◌, [], IfErr};
 ghost use Rattle.pip_model.specs.Agreement.{Agrees};
 ghost use Rattle.pip_model.specs.Certificate.{spell_certificate};
-ghost use Rattle.pip_model.specs.ItemTexts.{certified_text};
+ghost use Rattle.program_model.specs.ItemTexts.{certified_text};
 ghost use Rattle.pip_model.specs.TreeText.{spell};
 ghost use Rattle.quast.specs.Answers.{answer_of};
 ghost use Rattle.pip_endings.specs.Endings.{told, IsOfItem};
 ghost use Rattle.pip_items.specs.Items.{IsTextOfItem};
 
-use leaf_certificate::{Certificate, print_certificate};
+use certificate_parts::Certificate;
+use leaf_certificate::print_certificate;
 use pip_endings::Ending;
 use pip_problem::{Limits, Problem};
 use quast::Answer;

@@ -1,8 +1,8 @@
 ghost use Rattle.std.specs.Prelude.{◌≡◌, ◌≤◌, [], length, All};
 ghost use Rattle.pip_model.specs.Limits.{most_params};
-ghost use Rattle.pip_model.specs.Commands.{Eval, item_text};
-ghost use Rattle.pip_model.specs.ItemTexts.{value_text};
-ghost use Rattle.affine_rows.specs.Checks.{Fits};
+ghost use Rattle.program_model.specs.Commands.{Eval, item_text};
+ghost use Rattle.program_model.specs.ItemTexts.{value_text};
+ghost use Rattle.affine_forms.specs.Checks.{Fits};
 ghost use Rattle.quast.specs.Answers.{IsOver};
 ghost use Rattle.quast_text.specs.Spoken.{spoken_of};
 ghost use Rattle.pip_items.specs.Items.{IsTextOfItem};

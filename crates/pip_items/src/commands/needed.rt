@@ -1,13 +1,14 @@
 ghost use Rattle.std.specs.Prelude.{◌≤◌, length, IfOk, IfErr};
 ghost use Rattle.pip_model.specs.Agreement.{Agrees};
 ghost use Rattle.pip_model.specs.Limits.{most_params};
-ghost use Rattle.pip_model.specs.ItemKinds as kinds;
+ghost use Rattle.program_model.specs.ItemKinds as kinds;
 ghost use Rattle.quast.specs.Answers.{IsOver};
 ghost use Rattle.pip_endings.specs.Endings.{told, IsOfItem};
 ghost use Rattle.pip_items.specs.Items.{IsBehind};
 ghost use Rattle.pip_items.specs.Needed.{spoken_found, needed_certificate as needed_certificate_of};
 
-use leaf_certificate::{Certificate, CertificateRefusal, read_certificate};
+use certificate_parts::Certificate;
+use leaf_certificate::{CertificateRefusal, read_certificate};
 use pip_endings::Ending;
 use quast_text::{Spoken, TextRefusal, read_answer};
 use std::alloc::Global;

@@ -1,6 +1,6 @@
 ghost use Rattle.std.specs.Prelude.{◌≡◌, [], length, IfErr};
-ghost use Rattle.pip_model.specs.Commands.{Pieces, item_text};
-ghost use Rattle.pip_model.specs.ItemTexts.{pieces_text};
+ghost use Rattle.program_model.specs.Commands.{Pieces, item_text};
+ghost use Rattle.program_model.specs.ItemTexts.{pieces_text};
 ghost use Rattle.quast_text.specs.Spoken.{spoken_of};
 ghost use Rattle.pip_endings.specs.Endings.{IsOfItem};
 ghost use Rattle.pip_items.specs.Items.{IsTextOfItem};

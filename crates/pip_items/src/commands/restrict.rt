@@ -1,6 +1,6 @@
 ghost use Rattle.std.specs.Prelude.{◌≡◌, [], length, IfErr};
-ghost use Rattle.pip_model.specs.Commands.{Restrict as model_restrict, item_text};
-ghost use Rattle.pip_model.specs.ItemTexts.{restricted_text};
+ghost use Rattle.program_model.specs.Commands.{Restrict as model_restrict, item_text};
+ghost use Rattle.program_model.specs.ItemTexts.{restricted_text};
 ghost use Rattle.pip_endings.specs.Endings.{IsOfItem};
 ghost use Rattle.pip_items.specs.Items.{IsTextOfItem};
 ghost use Rattle.pip_items.specs.Pairs.{IsPair, pair_of};

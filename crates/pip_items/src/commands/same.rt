@@ -1,6 +1,6 @@
 ghost use Rattle.std.specs.Prelude.{◌≡◌, [], length, IfErr};
-ghost use Rattle.pip_model.specs.Commands.{Same as model_same, item_text};
-ghost use Rattle.pip_model.specs.ItemTexts.{same_text, sameness_text};
+ghost use Rattle.program_model.specs.Commands.{Same as model_same, item_text};
+ghost use Rattle.program_model.specs.ItemTexts.{same_text, sameness_text};
 ghost use Rattle.quast_tools.specs.Samenesses.{sameness_of};
 ghost use Rattle.text_parts.specs.Printing.{Appends};
 ghost use Rattle.pip_endings.specs.Endings.{IsOfItem};

@@ -1,6 +1,6 @@
 ghost use Rattle.std.specs.Prelude.{◌≡◌, [], length};
-ghost use Rattle.pip_model.specs.Commands.{Simplify, item_text};
-ghost use Rattle.pip_model.specs.ItemTexts.{simplified_text};
+ghost use Rattle.program_model.specs.Commands.{Simplify, item_text};
+ghost use Rattle.program_model.specs.ItemTexts.{simplified_text};
 ghost use Rattle.quast_text.specs.Spoken.{spoken_of};
 ghost use Rattle.pip_items.specs.Items.{IsTextOfItem};
 

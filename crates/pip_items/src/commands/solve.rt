@@ -1,9 +1,9 @@
 ghost use Rattle.std.specs.Prelude.{◌≡◌, ◌<◌, ◌≤◌, [], length, IfOk, IfErr, IfSome, if◌then◌else◌};
 ghost use Rattle.pip_model.specs.Agreement.{Agrees};
-ghost use Rattle.pip_model.specs.Commands.{Solve, text_of};
-ghost use Rattle.pip_model.specs.Items.{text_of_item};
-ghost use Rattle.pip_model.specs.ItemKinds.{matrix_item};
-ghost use Rattle.pip_model.specs.ItemTexts.{solved_text};
+ghost use Rattle.program_model.specs.Commands.{Solve, text_of};
+ghost use Rattle.program_model.specs.Items.{text_of_item};
+ghost use Rattle.program_model.specs.ItemKinds.{matrix_item};
+ghost use Rattle.program_model.specs.ItemTexts.{solved_text};
 ghost use Rattle.pip_model.specs.Simplified.{simplified};
 ghost use Rattle.pip_model.specs.Values.{simplified_by};
 ghost use Rattle.quast.specs.Answers.{answer_of};

@@ -1,4 +1,4 @@
-ghost use Rattle.pip_model.specs.Commands.{Trial, item_text};
+ghost use Rattle.program_model.specs.Commands.{Trial, item_text};
 
 use crate::items::ItemTexts;
 use pip_endings::Ending;

@@ -1,13 +1,13 @@
 ghost use Rattle.std.specs.Prelude.{◌≡◌, ◌≤◌, length, IfOk, IfErr, IfSome, Some};
 ghost use Rattle.pip_model.specs.Agreement.{Agrees};
 ghost use Rattle.pip_model.specs.Limits.{most_params};
-ghost use Rattle.pip_model.specs.ItemKinds as kinds;
+ghost use Rattle.program_model.specs.ItemKinds as kinds;
 ghost use Rattle.pip_endings.specs.Endings.{told, IsOfItem};
 ghost use Rattle.pip_items.specs.Items.{IsBehind};
 ghost use Rattle.pip_items.specs.Trios.{IsTrio, trio_of, trio_found};
 
 use super::needed::needed_answer;
-use affine_rows::Forms;
+use affine_forms::Forms;
 use pip_endings::Ending;
 use pip_reader::read_context;
 use quast_text::Spoken;

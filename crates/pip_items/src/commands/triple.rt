@@ -1,7 +1,7 @@
 ghost use Rattle.std.specs.Prelude.{◌≡◌, ◌≤◌, length, IfOk, IfErr, IfSome, Some};
 ghost use Rattle.pip_model.specs.Agreement.{Agrees};
 ghost use Rattle.pip_model.specs.Check as model;
-ghost use Rattle.pip_model.specs.ItemKinds as kinds;
+ghost use Rattle.program_model.specs.ItemKinds as kinds;
 ghost use Rattle.quast.specs.Answers.{answer_of};
 ghost use Rattle.pip_endings.specs.Endings.{told, IsOfItem};
 ghost use Rattle.pip_items.specs.Items.{IsBehind};
@@ -9,7 +9,7 @@ ghost use Rattle.pip_items.specs.Triples.{IsTriple, triple_of, triple_found, IsF
 
 use super::needed::{needed_answer, needed_certificate};
 use certificate_check::{CheckRefusal, Verdict, check};
-use leaf_certificate::Certificate;
+use certificate_parts::Certificate;
 use pip_endings::Ending;
 use pip_problem::Problem;
 use pip_reader::read_problem;

@@ -2,14 +2,14 @@ ghost use Rattle.std.specs.Prelude.{◌≡◌, ◌<◌, ◌≤◌, [], ◌∷◌
 ghost use Rattle.pip_model.specs.Limits.{most_components, most_params};
 ghost use Rattle.pip_model.specs.Tree as model;
 ghost use Rattle.pip_model.specs.Agreement.{Agrees};
-ghost use Rattle.affine_rows.specs.Checks.{Fits};
+ghost use Rattle.affine_forms.specs.Checks.{Fits};
 ghost use Rattle.quast.specs.Answers.{answer_of, IsOver};
 ghost use Rattle.quast.specs.Components.{IsComponent};
 ghost use Rattle.quast.specs.Places.{IsPoint};
 ghost use Rattle.pip_endings.specs.Endings.{told};
 ghost use Rattle.pip_items.specs.Values.{ratios_of, tree_valued, valued};
 
-use affine_rows::{Form, WantOfMemory};
+use affine_forms::{Form, WantOfMemory};
 use pip_endings::Ending;
 use quast::{Answer, Component, Place, Quast, Scratch};
 use std::alloc::Global;

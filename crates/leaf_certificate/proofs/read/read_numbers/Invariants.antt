@@ -1,6 +1,6 @@
 use Rattle.std.proofs.Common.{◌-◌, length}
 use Rattle.std.specs.Prelude.{All}
-use Rattle.affine_rows.specs.Checks.{Fits}
+use Rattle.affine_forms.specs.Checks.{Fits}
 use Rattle.pip_model.specs.declared.Kind.TheVariants.{RightRow}
 use Rattle.pip_model.specs.Reading.{number}
 use Rattle.leaf_certificate.proofs.Sequences.{Reaches}

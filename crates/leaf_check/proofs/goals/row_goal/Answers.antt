@@ -4,7 +4,7 @@ use Rattle.pip_model.specs.Forms.{widen_to}
 use Rattle.pip_model.specs.Listed.{opposite_listed}
 use Rattle.pip_model.specs.Check.{put_in, put_in_listed}
 use Rattle.pip_model.proofs.Fitting.{fit_never}
-use Rattle.affine_rows.specs.Checks.{is_form_overflow}
+use Rattle.affine_forms.specs.Checks.{is_form_overflow}
 use Rattle.leaf_check.proofs.Smaller.{checked_behind}
 use Rattle.leaf_check.proofs.goals.row_goal.Goals as goal
 

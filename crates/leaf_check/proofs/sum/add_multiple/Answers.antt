@@ -2,7 +2,7 @@ use Rattle.std.proofs.Common.{arith, rules, sym, ◌∙◌}
 use Rattle.std.proofs.lemmas.Int.{to_z-of_z}
 use Rattle.std.proofs.lemmas.Grind.{common_steps}
 use Rattle.std.proofs.lemmas.List.Elements.{All-set}
-use Rattle.affine_rows.specs.Checks.{Fits}
+use Rattle.affine_forms.specs.Checks.{Fits}
 use Rattle.leaf_check.proofs.Sums.{entries_step, multiple_step, multiple_refused, multiple_fits}
 use Rattle.leaf_check.proofs.sum.add_multiple.Goals as goal
 

@@ -1,7 +1,7 @@
 use Rattle.std.proofs.Common.{◌≡◌, drop, length}
 use Rattle.std.specs.Prelude.{All}
 use Rattle.pip_model.specs.Check.{sum_of}
-use Rattle.affine_rows.specs.Checks.{Fits}
+use Rattle.affine_forms.specs.Checks.{Fits}
 use Rattle.leaf_check.specs.Faults.{spot_of}
 use Rattle.leaf_check.proofs.sum.add_terms.Given as goal
 

@@ -1,5 +1,5 @@
 use Rattle.std.proofs.Common.{ap, ℕ, List}
-use Rattle.pip_model.specs.Endings.{ending, lengths_differ}
+use Rattle.program_model.specs.Endings.{ending, lengths_differ}
 use Rattle.pip_endings.proofs.Lines.{lengths_is}
 use Rattle.pip_endings.proofs.told.lengths.Goals as goal
 

@@ -1,5 +1,5 @@
 use Rattle.std.proofs.Common.{ap, ◌∙◌, codes, ℕ, List}
-use Rattle.pip_model.specs.Endings.{ending, number_too_large}
+use Rattle.program_model.specs.Endings.{ending, number_too_large}
 use Rattle.pip_endings.specs.Lines.{ending_told}
 use Rattle.pip_endings.proofs.Lines.{place_is}
 use Rattle.pip_endings.proofs.told.overflow_at.Goals as goal

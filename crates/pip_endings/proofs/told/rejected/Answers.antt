@@ -1,5 +1,5 @@
 use Rattle.std.proofs.Common.{ap, ◌∙◌, codes, ℕ, List}
-use Rattle.pip_model.specs.Endings.{ending, not_accepted}
+use Rattle.program_model.specs.Endings.{ending, not_accepted}
 use Rattle.pip_endings.specs.Lines.{ending_told}
 use Rattle.pip_endings.proofs.Lines.{place_is}
 use Rattle.pip_endings.proofs.told.rejected.Goals as goal

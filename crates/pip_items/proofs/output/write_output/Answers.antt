@@ -1,5 +1,5 @@
 use Rattle.std.proofs.Common.{refl, ap, not, [], Some}
-use Rattle.pip_model.specs.Commands.{Solve, Eval, Simplify, CheckAll, ShareAll, Trial, Pieces, Restrict, Same, Least}
+use Rattle.program_model.specs.Commands.{Solve, Eval, Simplify, CheckAll, ShareAll, Trial, Pieces, Restrict, Same, Least}
 use Rattle.pip_words.specs.Words.{options_of}
 use Rattle.pip_items.proofs.ByProblem.{output-matrices}
 use Rattle.pip_items.proofs.Asked.{stops-whole}

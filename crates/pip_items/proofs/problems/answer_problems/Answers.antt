@@ -9,7 +9,7 @@ use Rattle.pip_outside.specs.Windows.{HeldBytes}
 use Rattle.pip_words.specs.Words.{options_of}
 use Rattle.pip_stream.specs.Windows.{taken_by}
 use Rattle.pip_items.proofs.ByProblem.{starts, if-told, none-taken, unmade, unmade-faults, unmade-usage, next-words, own-words, err-not_done, counts, taken-at_most, next-output, none-output, run-output, more-follows, faults-none, faults-next, faults-own, faults-write, none-left}
-use Rattle.pip_model.specs.Commands.{Solve}
+use Rattle.program_model.specs.Commands.{Solve}
 use Rattle.pip_items.proofs.Asked.{stops-start, stops-next}
 use Rattle.pip_items.proofs.problems.answer_problems.Goals as goal
 

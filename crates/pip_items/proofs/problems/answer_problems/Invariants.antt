@@ -2,7 +2,7 @@ use Rattle.std.proofs.Common.{◌≡◌, ◌+◌, ◌-◌, []}
 use Rattle.std.specs.Prelude.{None, IfSome}
 use Rattle.pip_reader.specs.Groups.{first_group_end}
 use Rattle.pip_model.specs.Limits.{most_input_bytes}
-use Rattle.pip_model.specs.Commands.{Solve}
+use Rattle.program_model.specs.Commands.{Solve}
 use Rattle.std.specs.Io.KnownBytes.{append_known}
 use Rattle.pip_items.specs.ByProblem.{StopsAtRefused}
 use Rattle.pip_items.specs.Held.{Extends}

@@ -1,7 +1,7 @@
 use Rattle.std.proofs.Common.{◌-◌, rules}
 use Rattle.std.proofs.lemmas.Result.{err_from_is_err_and}
 use Rattle.std.specs.Prelude.{◌≢◌, [], IsErrOf}
-use Rattle.pip_model.specs.Commands.{Solve}
+use Rattle.program_model.specs.Commands.{Solve}
 use Rattle.pip_words.specs.Words.{options_of}
 use Rattle.pip_endings.specs.declared.ending.Ending.TheVariants as ending
 use Rattle.pip_items.proofs.Held.{all-written, empty_is, faults-failed, front-written, none-held}

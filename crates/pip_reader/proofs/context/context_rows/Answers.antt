@@ -1,6 +1,6 @@
 use Rattle.std.proofs.Common.{◌≡◌, ◌∙◌, ◌+◌, ◌<◌, ◌++◌, ◌∷◌, [], ap, rules, Ok, Some, None}
 use Rattle.std.proofs.lemmas.Result.{err_from_is_err_and}
-use Rattle.affine_rows.specs.Forms.{FormsOfWidth}
+use Rattle.affine_forms.specs.Forms.{FormsOfWidth}
 use Rattle.pip_problem.specs.Faults.{read_fault}
 use Rattle.text_steps.proofs.Ends.{list_end, list_more, list_refused}
 use Rattle.pip_reader.specs.Contexts.{next_row}

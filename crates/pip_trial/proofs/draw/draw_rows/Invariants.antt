@@ -1,5 +1,5 @@
 use Rattle.std.proofs.Common.{◌+◌, ◌*◌}
-use Rattle.pip_model.specs.Trial.{after_draws, rows_drawn}
+use Rattle.program_model.specs.Trial.{after_draws, rows_drawn}
 use Rattle.pip_trial.proofs.Steps.{DrawingRows}
 use Rattle.pip_trial.proofs.draw.draw_rows.Given as goal
 

@@ -1,7 +1,7 @@
 use Rattle.std.proofs.Common.{ap, sym, ◌∙◌, codes, ℕ, ℤ, List, Option, Some, option_map}
 use Rattle.clap.proofs.WalkLemmas.{raw_values-rows}
 use Rattle.clap.specs.Words.{found_of}
-use Rattle.pip_model.specs.Commands.{Command, Eval}
+use Rattle.program_model.specs.Commands.{Command, Eval}
 use Rattle.pip_words.specs.Words.{meaning_of, parameters_of, texts_of}
 use Rattle.pip_words.proofs.Giving.{refused_mapped}
 use Rattle.pip_words.proofs.reading.eval.Goals as goal

@@ -1,7 +1,7 @@
 use Rattle.std.proofs.Common.{◌≡◌, ◌+◌, ◌-◌, ◌≤◌, true, All, map, take, length, vec_len, vec_capacity}
 use Rattle.std.specs.List.{list_all}
 use Rattle.pip_model.specs.Forms.{value}
-use Rattle.affine_rows.specs.Checks.{Fits}
+use Rattle.affine_forms.specs.Checks.{Fits}
 use Rattle.quast.specs.Places.{value_fits}
 use Rattle.quast.proofs.place.put_numerators.Given as goal
 

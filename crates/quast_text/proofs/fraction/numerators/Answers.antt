@@ -3,7 +3,7 @@ use Rattle.std.specs.Prelude.{IsFalse}
 use Rattle.std.proofs.lemmas.Result.{err_from_is_err_and}
 use Rattle.std.proofs.lemmas.List.Elements.{All-push}
 use Rattle.pip_model.specs.Numbers.{fits}
-use Rattle.affine_rows.specs.Checks.{Fits}
+use Rattle.affine_forms.specs.Checks.{Fits}
 use Rattle.quast_text.specs.Fractions.{numerator_of}
 use Rattle.quast_text.proofs.Denominators.{numerator_refused, numerators_step, numerators_end, numerators_fit}
 use Rattle.quast_text.proofs.fraction.numerators.Goals as goal

@@ -5,7 +5,7 @@ use Rattle.pip_model.specs.Listed.{all_fit}
 use Rattle.pip_model.specs.Tree.{NewParm}
 use Rattle.pip_model.specs.Tools.{restricting}
 use Rattle.pip_model.specs.Walks.{Made, below_listed}
-use Rattle.affine_rows.specs.Checks.{is_form_overflow}
+use Rattle.affine_forms.specs.Checks.{is_form_overflow}
 use Rattle.quast.specs.Trees.{tree_of}
 use Rattle.quast_walk.specs.Faults.{tool_fault}
 use Rattle.quast_walk.specs.Visits.{visit_of, checked_sign, IsBelow}

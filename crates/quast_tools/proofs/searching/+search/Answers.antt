@@ -11,7 +11,7 @@ use Rattle.pip_model.specs.Run.{count_split}
 use Rattle.pip_model.specs.Walks.{Made, Stopped, by_run, walked_as, below_listed, Visit, where_holds, walk}
 use Rattle.pip_model.specs.Tools.{spread_tree, comparing, same_leaves, same_second}
 use Rattle.pip_problem.specs.Faults.{run_fault}
-use Rattle.affine_rows.specs.Checks.{is_form_overflow}
+use Rattle.affine_forms.specs.Checks.{is_form_overflow}
 use Rattle.quast.specs.Answers.{answer_of, IsOver}
 use Rattle.quast.specs.Trees.{tree_of}
 use Rattle.quast.specs.declared.answer.Answer as answer

@@ -1,5 +1,5 @@
 use Rattle.std.proofs.Common.{pos, arith, refl, ◌∙◌}
-use Rattle.affine_rows.proofs.Mapped.{mapped_step}
+use Rattle.affine_forms.proofs.Mapped.{mapped_step}
 use Rattle.short_tableau.proofs.UnitNumbers.{cleared}
 use Rattle.short_tableau.proofs.row.clear_all.Goals as goal
 

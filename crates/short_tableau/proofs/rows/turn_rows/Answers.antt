@@ -1,7 +1,7 @@
 use Rattle.std.proofs.Common.{rules, ◌∙◌, ap, sym, arith, length, refl, List, []}
 use Rattle.std.specs.Prelude.{IsTrue, IsFalse}
 use Rattle.pip_model.specs.Rows.{Row, row_at, form_row, eliminated}
-use Rattle.affine_rows.proofs.Mapped.{mapped_read, mapped_step}
+use Rattle.affine_forms.proofs.Mapped.{mapped_read, mapped_step}
 use Rattle.short_tableau.specs.Begun.{is_short_row}
 use Rattle.short_tableau.specs.Dense.{rows_in}
 use Rattle.short_tableau.specs.Rows.{row_of}

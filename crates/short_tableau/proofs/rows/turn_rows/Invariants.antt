@@ -1,6 +1,6 @@
 use Rattle.std.proofs.Common.{◌≡◌, length}
 use Rattle.pip_model.specs.Rows.{eliminated}
-use Rattle.affine_rows.proofs.Mapped.{mapped}
+use Rattle.affine_forms.proofs.Mapped.{mapped}
 use Rattle.short_tableau.specs.Dense.{IsDense, rows_in}
 use Rattle.short_tableau.specs.Rows.{row_of}
 use Rattle.short_tableau.proofs.rows.turn_rows.Given as goal

@@ -1,7 +1,7 @@
 use Rattle.std.proofs.Common.{◌≡◌, ◌≤ℤ◌, pos, drop}
 use Rattle.pip_model.specs.Forms.{combine}
 use Rattle.pip_model.specs.Numbers.{gcd, gcd_of}
-use Rattle.affine_rows.specs.Checks.{Fits}
+use Rattle.affine_forms.specs.Checks.{Fits}
 use Rattle.short_tableau.proofs.wide.gcd_with_entries.Given as goal
 
 abbrev pub invariant-loop-i : goal.invariant-loop-i

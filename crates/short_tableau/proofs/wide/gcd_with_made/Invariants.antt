@@ -1,6 +1,6 @@
 use Rattle.std.proofs.Common.{◌≡◌, ◌≤ℤ◌, pos, drop}
 use Rattle.pip_model.specs.Numbers.{gcd, gcd_of}
-use Rattle.affine_rows.specs.Checks.{Fits}
+use Rattle.affine_forms.specs.Checks.{Fits}
 use Rattle.short_tableau.proofs.wide.gcd_with_made.Given as goal
 
 abbrev pub invariant-loop-number : goal.invariant-loop-number

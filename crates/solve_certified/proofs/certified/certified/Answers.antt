@@ -1,5 +1,5 @@
 use Rattle.quast.specs.Answers.{answer_of}
-use Rattle.leaf_certificate.proofs.Fitting.{all_from_vector}
+use Rattle.certificate_parts.proofs.Fitting.{all_from_vector}
 use Rattle.solve_certified.proofs.Whole.{answer_whole, point_numbers}
 use Rattle.solve_certified.proofs.certified.certified.Goals as goal
 

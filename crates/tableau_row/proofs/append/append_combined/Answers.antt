@@ -1,6 +1,6 @@
 use Rattle.std.proofs.Common.{arith, rules, ◌≡◌, pos, to_z, of_z, ◌*ℤ◌, ◌-ℤ◌, get_or}
 use Rattle.std.specs.Int.{w64}
-use Rattle.affine_rows.specs.Checks.{Fits}
+use Rattle.affine_forms.specs.Checks.{Fits}
 use Rattle.tableau_row.specs.Short.{IsShort}
 use Rattle.tableau_row.proofs.Combining.{made_taken, made_step}
 use Rattle.tableau_row.proofs.append.append_combined.Goals as goal

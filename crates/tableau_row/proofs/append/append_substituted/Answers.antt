@@ -4,7 +4,7 @@ use Rattle.std.proofs.lemmas.List.Elements.{All-set}
 use Rattle.std.specs.Prelude.{slice_set}
 use Rattle.pip_model.specs.Forms.{combine}
 use Rattle.pip_model.specs.Rows.{Row, substituted}
-use Rattle.affine_rows.specs.Checks.{Fits}
+use Rattle.affine_forms.specs.Checks.{Fits}
 use Rattle.tableau_row.specs.Flat.{numbers_of}
 use Rattle.tableau_row.specs.Rows.{IsRow, row_from}
 use Rattle.tableau_row.specs.Short.{IsShort, IsShortRow}

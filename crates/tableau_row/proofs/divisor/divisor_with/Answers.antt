@@ -1,7 +1,7 @@
 use Rattle.std.proofs.Common.{arith}
 use Rattle.std.proofs.lemmas.Int.{to_z-of_z}
 use Rattle.std.proofs.lemmas.Grind.{common_steps}
-use Rattle.affine_rows.proofs.Divisors.{gcd_step}
+use Rattle.affine_forms.proofs.Divisors.{gcd_step}
 use Rattle.pip_model.proofs.Gcd.{gcd_one}
 use Rattle.tableau_row.proofs.divisor.divisor_with.Goals as goal
 

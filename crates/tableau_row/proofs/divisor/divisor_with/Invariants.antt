@@ -1,6 +1,6 @@
 use Rattle.std.proofs.Common.{◌≡◌, ◌≤ℤ◌, pos, drop}
 use Rattle.pip_model.specs.Numbers.{gcd, gcd_of}
-use Rattle.affine_rows.specs.Checks.{Fits}
+use Rattle.affine_forms.specs.Checks.{Fits}
 use Rattle.tableau_row.proofs.divisor.divisor_with.Given as goal
 
 abbrev pub invariant-loop-entry : goal.invariant-loop-entry

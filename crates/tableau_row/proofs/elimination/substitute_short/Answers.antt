@@ -1,6 +1,6 @@
 use Rattle.std.proofs.Common.{rules}
 use Rattle.std.proofs.lemmas.List.Elements.{All-set}
-use Rattle.affine_rows.specs.Checks.{Fits}
+use Rattle.affine_forms.specs.Checks.{Fits}
 use Rattle.tableau_row.specs.Short.{IsShort}
 use Rattle.tableau_row.specs.Rows.{row_from}
 use Rattle.tableau_row.specs.Views.{row_of}

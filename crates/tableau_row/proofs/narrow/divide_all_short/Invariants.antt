@@ -2,7 +2,7 @@ use Rattle.std.proofs.Common.{◌≡◌}
 use Rattle.std.specs.Prelude.{All}
 use Rattle.pip_model.specs.Numbers.{floor_div}
 use Rattle.tableau_row.specs.Short.{IsShort}
-use Rattle.affine_rows.proofs.Mapped.{mapped}
+use Rattle.affine_forms.proofs.Mapped.{mapped}
 use Rattle.tableau_row.proofs.narrow.divide_all_short.Given as goal
 
 abbrev pub invariant-loop-entry : goal.invariant-loop-entry

@@ -4,7 +4,7 @@ use Rattle.std.proofs.lemmas.Int.{to_z-of_z}
 use Rattle.pip_model.specs.Forms.{entry}
 use Rattle.pip_model.specs.Listed.{all_fit}
 use Rattle.pip_model.specs.Rows.{divided}
-use Rattle.affine_rows.specs.Forms.{raised}
+use Rattle.affine_forms.specs.Forms.{raised}
 use Rattle.pip_model.specs.Forms.{add, negate, width}
 use Rattle.pip_model.specs.Cuts.{rounding, residue_of}
 use Rattle.tableau_row.specs.Rows.{content, row_from}

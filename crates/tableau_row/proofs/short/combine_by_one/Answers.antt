@@ -1,7 +1,7 @@
 use Rattle.std.proofs.Common.{pos, arith, rules, refl, subst}
 use Rattle.std.specs.Prelude.{IsTrue}
 use Rattle.std.proofs.lemmas.List.Elements.{All-set}
-use Rattle.affine_rows.specs.Checks.{Fits}
+use Rattle.affine_forms.specs.Checks.{Fits}
 use Rattle.tableau_row.specs.Short.{IsShort}
 use Rattle.tableau_row.proofs.Combining.{combined_step, combined_all, kept_at, kept_step}
 use Rattle.tableau_row.proofs.short.combine_by_one.Goals as goal

@@ -1,7 +1,7 @@
 use Rattle.std.proofs.Common.{◌≡◌, pos, drop, take, ◌++◌}
 use Rattle.std.specs.Prelude.{All, IsTrue}
 use Rattle.pip_model.specs.Forms.{combine}
-use Rattle.affine_rows.specs.Checks.{Fits}
+use Rattle.affine_forms.specs.Checks.{Fits}
 use Rattle.tableau_row.specs.Short.{IsShort}
 use Rattle.tableau_row.proofs.short.combine_by_one.Given as goal
 

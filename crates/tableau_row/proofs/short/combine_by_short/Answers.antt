@@ -1,6 +1,6 @@
 use Rattle.std.proofs.Common.{arith, rules}
 use Rattle.std.proofs.lemmas.List.Elements.{All-set}
-use Rattle.affine_rows.specs.Checks.{Fits}
+use Rattle.affine_forms.specs.Checks.{Fits}
 use Rattle.tableau_row.specs.Short.{IsShort}
 use Rattle.tableau_row.proofs.Combining.{combined_step, combined_all, kept_at}
 use Rattle.tableau_row.proofs.short.combine_by_short.Goals as goal

@@ -1,6 +1,6 @@
 use Rattle.std.proofs.Common.{◌≡◌, ◌-◌, ◌≤◌, length, vec_capacity}
 use Rattle.std.specs.Prelude.{All}
-use Rattle.affine_rows.specs.Checks.{Fits}
+use Rattle.affine_forms.specs.Checks.{Fits}
 use Rattle.pip_model.specs.Reading.{numbers}
 use Rattle.text_steps.specs.Fronts.{with_front}
 use Rattle.text_steps.proofs.lists.numbers.Given as goal

@@ -3,7 +3,7 @@ use Rattle.std.proofs.lemmas.List.{take_all}
 use Rattle.pip_model.specs.declared.Kind.{Kind}
 use Rattle.pip_model.specs.Reading as model
 use Rattle.pip_model.specs.Tokens.{token_in}
-use Rattle.affine_rows.proofs.Blanks.{behind_blank}
+use Rattle.text_tokens.proofs.Blanks.{behind_blank}
 use Rattle.text_steps.proofs.steps.bracket_end.Goals as goal
 
 behind : (c : goal.In-Some) (place : ℕ)

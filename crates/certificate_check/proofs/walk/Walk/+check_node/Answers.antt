@@ -4,7 +4,7 @@ use Rattle.std.proofs.lemmas.Result.{err_from_is_err_and}
 use Rattle.pip_model.specs.Listed.{all_fit}
 use Rattle.pip_model.specs.Forms.{opposite, constant}
 use Rattle.pip_model.specs.Cuts.{Quotient, lower_bound, upper_bound}
-use Rattle.affine_rows.specs.Checks.{is_form_overflow}
+use Rattle.affine_forms.specs.Checks.{is_form_overflow}
 use Rattle.quast.specs.Trees.{tree_of}
 use Rattle.leaf_check.specs.Faults.{fault_of}
 use Rattle.certificate_check.specs.Paths.{PathForms}

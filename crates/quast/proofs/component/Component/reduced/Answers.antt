@@ -2,7 +2,7 @@ use Rattle.std.proofs.Common.{◌≡◌, pos, ◌≤ℤ◌, subst, sym, arith, r
 use Rattle.std.specs.Int.{w128}
 use Rattle.pip_model.specs.Forms.{width}
 use Rattle.pip_model.specs.Tree.{Component, reduced}
-use Rattle.affine_rows.specs.Checks.{Fits}
+use Rattle.affine_forms.specs.Checks.{Fits}
 use Rattle.quast.specs.Components.{IsComponent}
 use Rattle.quast.proofs.Lists.{own-width}
 use Rattle.quast.proofs.Lowest.{reduced-component}

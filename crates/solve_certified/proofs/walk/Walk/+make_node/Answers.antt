@@ -5,7 +5,7 @@ use Rattle.pip_model.specs.Forms.{opposite, constant}
 use Rattle.pip_model.specs.Listed.{all_fit, opposite_listed}
 use Rattle.pip_model.specs.Cuts.{Quotient, upper_bound}
 use Rattle.pip_model.specs.Tree.{size}
-use Rattle.affine_rows.specs.Checks.{is_form_overflow}
+use Rattle.affine_forms.specs.Checks.{is_form_overflow}
 use Rattle.pip_problem.specs.Faults.{run_fault}
 use Rattle.quast.specs.Trees.{tree_of}
 use Rattle.solve_certified.specs.Trails.{TrailForms, below_quotient}

@@ -2,7 +2,7 @@ use Rattle.std.proofs.Common.{◌≡◌, ◌∙◌, ap, sym, subst, ℤ, List, m
 use Rattle.std.specs.Prelude.{OnOk}
 use Rattle.pip_model.specs.Agreement.{IsChecked}
 use Rattle.pip_model.specs.Rows.{Row, eliminated, eliminated_listed}
-use Rattle.affine_rows.specs.Checks.{is_overflow}
+use Rattle.affine_forms.specs.Checks.{is_overflow}
 use Rattle.tableau.specs.KeptRows.{KeptRows, row_kept, with_rows}
 use Rattle.tableau_row.specs.Views.{row_of}
 use Rattle.tableau.proofs.Runs.{kept_flat}

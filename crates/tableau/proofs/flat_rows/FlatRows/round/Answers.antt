@@ -2,7 +2,7 @@ use Rattle.std.proofs.Common.{rules, ◌≡◌, subst, List}
 use Rattle.pip_model.specs.Agreement.{IsChecked}
 use Rattle.pip_model.specs.Rows.{Row, row_at}
 use Rattle.pip_model.specs.Cuts.{rounded_listed}
-use Rattle.affine_rows.specs.Checks.{is_overflow}
+use Rattle.affine_forms.specs.Checks.{is_overflow}
 use Rattle.tableau.specs.KeptRows.{rows_kept}
 use Rattle.tableau.proofs.flat_rows.FlatRows.round.Goals as goal
 

@@ -1,0 +1,32 @@
+-- The form of a quotient, `-g + d*q`, and the form with a number added, as they are made in place.
+use Rattle.std.proofs.Common.{◌≡◌, ℕ, ◌+◌, ◌-◌, ◌<◌, ◌≤◌, ℤ, pos, ◌+ℤ◌, neg_ℤ, List, length, ap, sym, ◌∙◌, arith}
+use Rattle.std.specs.Prelude.{slice_set}
+use Rattle.std.proofs.lemmas.Int.{ints}
+use Rattle.std.proofs.lemmas.List.{length-map, get_or-map}
+use Rattle.pip_model.specs.Forms.{width, constant, entry, negate, plus, widen_to}
+use Rattle.pip_model.specs.Cuts.{rounding}
+use Rattle.pip_model.proofs.Forms.{length-widened, entry-widened, constant-plus}
+use Rattle.affine_forms.proofs.Units.{add_unit, add_last}
+
+from_zero : (z g : ℤ) → g ≡ pos 0 → neg_ℤ g +ℤ z ≡ z
+from_zero z g e = omega (arith, ints, e)
+
+rounding_is : (w q : ℕ) (g : List ℤ) (d : ℤ) → width g ≤ w → q < w → (q < width g → entry g q ≡ pos 0)
+    → slice_set (negate (widen_to w g)) q d ≡ rounding w q (record { form = g; den = d })
+rounding_is w q g d h lt free =
+    let wide = widen_to w g in
+    let long : length wide ≡ w + 1 = length-widened w g h in
+    let at : entry (negate wide) q ≡ neg_ℤ (entry wide q) = get_or-map neg_ℤ wide q (pos 0) (pos 0) (omega (arith, long, lt)) in
+    let one : entry (negate wide) q +ℤ d ≡ d = ap (λ z. z +ℤ d) at ∙ from_zero d (entry wide q) (entry-widened w g h q lt free) in
+    ap (λ z. slice_set (negate wide) q z) (sym one) ∙ sym (add_unit (negate wide) w q d (simp length-map long) (omega (arith, lt)))
+
+pub rounding_made : (w q : ℕ) (g : List ℤ) (d : ℤ) (v : List ℤ) → width g ≤ w → q < w → (q < width g → entry g q ≡ pos 0)
+    → v ≡ slice_set (negate (widen_to w g)) q d → v ≡ rounding w q (record { form = g; den = d })
+rounding_made w q g d v h lt free e = e ∙ rounding_is w q g d h lt free
+
+-- a form and a number
+pub plus_is : (c : List ℤ) (z : ℤ) → 0 < length c → slice_set c (length c - 1) (entry c (length c - 1) +ℤ z) ≡ plus c z
+plus_is c z h = sym (add_last c (width c) z (omega (arith, h)))
+
+pub constant_plus : (c : List ℤ) (z : ℤ) → 0 < length c → constant (plus c z) ≡ entry c (length c - 1) +ℤ z
+constant_plus c z h = constant-plus c z (omega (arith, h))

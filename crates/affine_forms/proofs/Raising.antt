@@ -1,0 +1,30 @@
+-- Steps of a list whose entries are raised to multiples.
+use Rattle.std.proofs.Common.{◌≡◌, refl, ap, ◌∙◌, ℕ, ◌+◌, ◌<◌, ◌≤◌, ℤ, pos, Bool, true, ◌&&◌, List, [], ◌∷◌, ◌++◌, length, map, take, drop, get_or, subst}
+use Rattle.std.specs.Prelude.{All, IsFalse}
+use Rattle.std.proofs.lemmas.List.{drop_more, take_more, take_all}
+use Rattle.std.proofs.lemmas.List.Folds.{list_all-append}
+use Rattle.std.proofs.lemmas.List.Elements.{All-push}
+use Rattle.pip_model.specs.Numbers.{fits}
+use Rattle.pip_model.specs.Listed.{all_fit}
+use Rattle.affine_forms.specs.Checks.{Fits}
+use Rattle.affine_forms.specs.Forms.{raised}
+
+module _ (d : ℤ) (xs : List ℤ) (i : ℕ) where
+  parts : i < length xs → all_fit (map (raised d) (drop i xs)) ≡ (fits (raised d (get_or xs i (pos 0))) && all_fit (map (raised d) (drop (i + 1) xs)))
+  parts h = rw (drop_more xs i (pos 0) h) refl
+
+  pub raised_step : i < length xs → Fits (raised d (get_or xs i (pos 0))) → all_fit (map (raised d) (drop i xs)) ≡ all_fit (map (raised d) (drop (i + 1) xs))
+  raised_step h e = parts h ∙ ap (λ (t : Bool). t && all_fit (map (raised d) (drop (i + 1) xs))) e
+
+  pub raised_more : i < length xs → All (λ x. Fits (raised d x)) (take i xs) → Fits (raised d (get_or xs i (pos 0))) → All (λ x. Fits (raised d x)) (take (i + 1) xs)
+  raised_more h all e = rw (take_more xs i (pos 0) h) (All-push (λ x. Fits (raised d x)) (take i xs) (get_or xs i (pos 0)) all e)
+
+  pub raised_end : length xs ≤ i → All (λ x. Fits (raised d x)) (take i xs) → All (λ x. Fits (raised d x)) xs
+  raised_end h all = subst (λ (ys : List ℤ). All (λ x. Fits (raised d x)) ys) (take_all i xs h) all
+
+-- the numbers of a rounding
+pub rounded_parts : (xs : List ℤ) (z : ℤ) → all_fit (xs ++ z ∷ []) ≡ (all_fit xs && (fits z && true))
+rounded_parts xs z = list_all-append fits xs (z ∷ [])
+
+pub rounded_refused : (xs : List ℤ) (z : ℤ) → IsFalse (all_fit xs) → IsFalse (all_fit (xs ++ z ∷ []))
+rounded_refused xs z e = rounded_parts xs z ∙ ap (λ (t : Bool). t && (fits z && true)) e

@@ -1,0 +1,26 @@
+use Rattle.std.proofs.Common.{arith, rules, sym, ◌∙◌, length, length-append}
+use Rattle.std.proofs.lemmas.Int.{to_z-of_z}
+use Rattle.std.proofs.lemmas.Grind.{common_steps}
+use Rattle.std.proofs.lemmas.List.Elements.{All-push}
+use Rattle.std.proofs.lemmas.List.{take-append-le}
+use Rattle.affine_forms.specs.Checks.{Fits}
+use Rattle.affine_forms.proofs.Combined.{listed_step, listed_refused, listed_end, combine_step, combine_end}
+use Rattle.affine_forms.proofs.combination.push_combined.Goals as goal
+
+pub returns-in_err-entry-clause-listed : goal.returns-in_err-entry-clause-listed
+returns-in_err-entry-clause-listed c = grind (arith, common_steps, to_z-of_z, listed_refused)
+
+pub loop-i-preserved : goal.loop-i-preserved
+loop-i-preserved c = rw c.in_ok-push.ensures.items (
+  sym (listed_step _ _ _ _ c.loop-i.i (omega arith) (omega arith) (search rules)) ∙ c.loop-i.invariant.0,
+  combine_step _ _ _ _ _ _ c.loop-i.i (omega arith) (omega arith) (search rules) ∙ c.loop-i.invariant.1,
+  All-push Fits _ _ c.loop-i.invariant.2 (search rules),
+  simp length-append (omega (arith, c.loop-i.invariant.3)),
+  take-append-le (length c.args.out.now.items) c.loop-i.out.items _ c.loop-i.invariant.3 ∙ c.loop-i.invariant.4,
+)
+
+pub returns-clause-listed : goal.returns-clause-listed
+returns-clause-listed c = grind (arith, common_steps, to_z-of_z, listed_end)
+
+pub returns-clause-value : goal.returns-clause-value
+returns-clause-value c = grind (arith, common_steps, to_z-of_z, combine_end)

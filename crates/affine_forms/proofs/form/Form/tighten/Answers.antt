@@ -1,0 +1,13 @@
+use Rattle.std.proofs.Common.{◌≡◌, arith, ap, ◌∙◌, length}
+use Rattle.std.proofs.Math.Seq.{take-append_seam}
+use Rattle.std.specs.Prelude.{ℤ, List}
+use Rattle.pip_model.specs.Numbers.{is_nonneg}
+use Rattle.pip_model.specs.Forms.{value, tighten}
+use Rattle.pip_model.proofs.Division.{tighten-sign}
+use Rattle.affine_forms.proofs.form.Form.tighten.Goals as goal
+
+pub returns-clause-sign : goal.returns-clause-sign
+returns-clause-sign c = λ u e.
+    let whole : c.self.inside.entries.len ≡ length c.make_tight.new.entries = omega (arith, c.deref_mut.ensures.len, c.deref_mut.ensures.value, c.make_tight.auto.entries) in
+    let tight : c.make_tight.new.entries ≡ tighten c.args.self.now = c.make_tight.ensures.value ∙ ap tighten (c.deref_mut.ensures.value ∙ c.self.view_is) in
+    rw (whole, take-append_seam c.make_tight.new.entries) (ap (λ (x : List ℤ). is_nonneg (value x u)) tight ∙ tighten-sign c.args.self.now u e)

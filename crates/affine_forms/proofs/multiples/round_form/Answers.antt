@@ -1,0 +1,30 @@
+use Rattle.std.proofs.Common.{arith, rules, refl, map, ◌∙◌, ◌-ℤ◌}
+use Rattle.std.proofs.lemmas.Int.{to_z-of_z}
+use Rattle.std.proofs.lemmas.Grind.{common_steps}
+use Rattle.std.proofs.lemmas.List.Elements.{All-set}
+use Rattle.std.specs.Prelude.{IsFalse}
+use Rattle.pip_model.specs.Forms.{entry}
+use Rattle.pip_model.specs.Listed.{all_fit}
+use Rattle.affine_forms.specs.Checks.{Fits}
+use Rattle.affine_forms.specs.Forms.{raised}
+use Rattle.affine_forms.proofs.Raising.{rounded_parts, rounded_refused}
+use Rattle.affine_forms.proofs.multiples.round_form.Goals as goal
+
+pub returns-in_err-check_raised-clause-listed : goal.returns-in_err-check_raised-clause-listed
+returns-in_err-check_raised-clause-listed c =
+    let d = c.ranges.d in
+    let told = c.in_err-check_raised.ensures.listed refl in
+    let refused : IsFalse (all_fit (map (raised c.args.d) c.args.entries.now)) = simp to_z-of_z at told in
+    let whole = rounded_refused (map (raised c.args.d) c.args.entries.now) (raised c.args.d (entry c.args.entries.now c.args.q) -ℤ c.args.d) refused in
+    search (rules, whole)
+
+pub returns-in_err-before-clause-listed : goal.returns-in_err-before-clause-listed
+returns-in_err-before-clause-listed c =
+    let parts = rounded_parts (map (raised c.args.d) c.args.entries.now) (raised c.args.d (entry c.args.entries.now c.args.q) -ℤ c.args.d) in
+    grind (arith, common_steps, parts)
+
+pub returns-clause-listed : goal.returns-clause-listed
+returns-clause-listed c = rounded_parts (map (raised c.args.d) c.args.entries.now) (raised c.args.d (entry c.args.entries.now c.args.q) -ℤ c.args.d) ∙ search rules
+
+pub returns-clause-fits : goal.returns-clause-fits
+returns-clause-fits c = All-set Fits _ _ _ (search rules) c.raise_all.ensures.fits

@@ -1,8 +1,0 @@
-use Rattle.std.proofs.Common.{◌≡◌, take, map}
-use Rattle.std.specs.Prelude.{All}
-use Rattle.pip_model.specs.Numbers.{floor_mod}
-use Rattle.affine_rows.specs.Checks.{Fits}
-use Rattle.affine_rows.proofs.division.remainders.Given as goal
-
-abbrev pub invariant-loop-entry : goal.invariant-loop-entry
-invariant-loop-entry l = (l.found.items ≡ map (λ x. floor_mod x l.d) (take l.entry-index l.entries)) × All Fits l.found.items

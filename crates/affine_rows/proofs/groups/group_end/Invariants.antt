@@ -1,6 +1,0 @@
-use Rattle.std.proofs.Common.{◌≡◌, ◌+◌, ◌≤◌, drop}
-use Rattle.pip_model.specs.Reading.{closing}
-use Rattle.affine_rows.proofs.groups.group_end.Given as goal
-
-abbrev pub invariant-loop-i : goal.invariant-loop-i
-invariant-loop-i l = (closing l.depth (l.start + l.i) (drop l.i l.rest) ≡ closing 1 l.start l.rest) × (l.depth ≤ l.i + 1)

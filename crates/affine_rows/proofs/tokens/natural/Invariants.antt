@@ -1,6 +1,0 @@
-use Rattle.std.proofs.Common.{◌≡◌, ◌-◌, ◌^◌, min, take}
-use Rattle.pip_model.specs.Tokens.{natural_of}
-use Rattle.affine_rows.proofs.tokens.natural.Given as goal
-
-abbrev pub invariant-loop-byte : goal.invariant-loop-byte
-invariant-loop-byte l = l.value ≡ min (natural_of (take l.byte-index l.digits)) (2 ^ 128 - 1)

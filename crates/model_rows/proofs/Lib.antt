@@ -1,0 +1,12 @@
+mod Rows
+mod StartRows
+mod LimitRows
+mod CertificateRows
+mod ShareRows
+mod TrialRows
+mod MadeRows
+mod RandomRows
+mod RandomWide
+mod ToolRows
+mod RandomTools
+mod RandomToolsWide

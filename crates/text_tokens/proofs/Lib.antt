@@ -1,0 +1,4 @@
+pub mod Blanks
+pub mod Closing
+pub mod DigitNumbers
+pub mod ShortNumbers

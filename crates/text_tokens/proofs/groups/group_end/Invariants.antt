@@ -1,0 +1,6 @@
+use Rattle.std.proofs.Common.{◌≡◌, ◌+◌, ◌≤◌, drop}
+use Rattle.pip_model.specs.Reading.{closing}
+use Rattle.text_tokens.proofs.groups.group_end.Given as goal
+
+abbrev pub invariant-loop-i : goal.invariant-loop-i
+invariant-loop-i l = (closing l.depth (l.start + l.i) (drop l.i l.rest) ≡ closing 1 l.start l.rest) × (l.depth ≤ l.i + 1)

@@ -1,0 +1,6 @@
+use Rattle.std.proofs.Common.{◌≡◌, ◌-◌, ◌^◌, min, take}
+use Rattle.pip_model.specs.Tokens.{natural_of}
+use Rattle.text_tokens.proofs.tokens.natural.Given as goal
+
+abbrev pub invariant-loop-byte : goal.invariant-loop-byte
+invariant-loop-byte l = l.value ≡ min (natural_of (take l.byte-index l.digits)) (2 ^ 128 - 1)

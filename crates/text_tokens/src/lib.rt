@@ -1,0 +1,8 @@
+//! The tokens of texts, and the groups that brackets make of their bytes.
+#![tactic(auto)]
+
+mod groups;
+mod tokens;
+
+pub use groups::{group_end, next_open, open_after};
+pub use tokens::{Kind, Lexeme, blank, digits, integer, plain_number, token, unsigned_part};
