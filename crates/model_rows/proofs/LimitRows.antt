@@ -13,17 +13,9 @@ solve = Solve (record { polylib = false; simplify = false; certificate = false; 
 abbrev polylib : Command
 polylib = Solve (record { polylib = true; simplify = false; certificate = false; budget = standard_budget })
 
-unknowns_65 : IsOutput solve (codes "((u) 65 0 0 0 -1 1 () ())") (codes "((u)\n(list\n#[ 0]\n#[ 0]\n#[ 0]\n#[ 0]\n#[ 0]\n#[ 0]\n#[ 0]\n#[ 0]\n#[ 0]\n#[ 0]\n#[ 0]\n#[ 0]\n#[ 0]\n#[ 0]\n#[ 0]\n#[ 0]\n#[ 0]\n#[ 0]\n#[ 0]\n#[ 0]\n#[ 0]\n#[ 0]\n#[ 0]\n#[ 0]\n#[ 0]\n#[ 0]\n#[ 0]\n#[ 0]\n#[ 0]\n#[ 0]\n#[ 0]\n#[ 0]\n#[ 0]\n#[ 0]\n#[ 0]\n#[ 0]\n#[ 0]\n#[ 0]\n#[ 0]\n#[ 0]\n#[ 0]\n#[ 0]\n#[ 0]\n#[ 0]\n#[ 0]\n#[ 0]\n#[ 0]\n#[ 0]\n#[ 0]\n#[ 0]\n#[ 0]\n#[ 0]\n#[ 0]\n#[ 0]\n#[ 0]\n#[ 0]\n#[ 0]\n#[ 0]\n#[ 0]\n#[ 0]\n#[ 0]\n#[ 0]\n#[ 0]\n#[ 0]\n#[ 0]\n)\n)\n" ∷ []) finished
-unfolding digits
-unknowns_65 = (refl, refl)
-
 unknowns_128 : IsOutput solve (codes "((u) 128 0 0 0 -1 1 () ())") (codes "((u)\n(list\n#[ 0]\n#[ 0]\n#[ 0]\n#[ 0]\n#[ 0]\n#[ 0]\n#[ 0]\n#[ 0]\n#[ 0]\n#[ 0]\n#[ 0]\n#[ 0]\n#[ 0]\n#[ 0]\n#[ 0]\n#[ 0]\n#[ 0]\n#[ 0]\n#[ 0]\n#[ 0]\n#[ 0]\n#[ 0]\n#[ 0]\n#[ 0]\n#[ 0]\n#[ 0]\n#[ 0]\n#[ 0]\n#[ 0]\n#[ 0]\n#[ 0]\n#[ 0]\n#[ 0]\n#[ 0]\n#[ 0]\n#[ 0]\n#[ 0]\n#[ 0]\n#[ 0]\n#[ 0]\n#[ 0]\n#[ 0]\n#[ 0]\n#[ 0]\n#[ 0]\n#[ 0]\n#[ 0]\n#[ 0]\n#[ 0]\n#[ 0]\n#[ 0]\n#[ 0]\n#[ 0]\n#[ 0]\n#[ 0]\n#[ 0]\n#[ 0]\n#[ 0]\n#[ 0]\n#[ 0]\n#[ 0]\n#[ 0]\n#[ 0]\n#[ 0]\n#[ 0]\n#[ 0]\n#[ 0]\n#[ 0]\n#[ 0]\n#[ 0]\n#[ 0]\n#[ 0]\n#[ 0]\n#[ 0]\n#[ 0]\n#[ 0]\n#[ 0]\n#[ 0]\n#[ 0]\n#[ 0]\n#[ 0]\n#[ 0]\n#[ 0]\n#[ 0]\n#[ 0]\n#[ 0]\n#[ 0]\n#[ 0]\n#[ 0]\n#[ 0]\n#[ 0]\n#[ 0]\n#[ 0]\n#[ 0]\n#[ 0]\n#[ 0]\n#[ 0]\n#[ 0]\n#[ 0]\n#[ 0]\n#[ 0]\n#[ 0]\n#[ 0]\n#[ 0]\n#[ 0]\n#[ 0]\n#[ 0]\n#[ 0]\n#[ 0]\n#[ 0]\n#[ 0]\n#[ 0]\n#[ 0]\n#[ 0]\n#[ 0]\n#[ 0]\n#[ 0]\n#[ 0]\n#[ 0]\n#[ 0]\n#[ 0]\n#[ 0]\n#[ 0]\n#[ 0]\n#[ 0]\n#[ 0]\n#[ 0]\n#[ 0]\n)\n)\n" ∷ []) finished
 unfolding digits
 unknowns_128 = (refl, refl)
-
-unknowns_129 : IsOutput solve (codes "((u) 129 0 0 0 -1 1 () ())") ([]) (ending 9 (codes "limit of unknowns 129"))
-unfolding digits
-unknowns_129 = refl
 
 unknowns_0 : IsOutput solve (codes "((u) 0 0 0 0 -1 1 () ())") ([]) (ending 9 (codes "limit of unknowns 0"))
 unfolding digits

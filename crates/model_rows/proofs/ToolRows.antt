@@ -10,53 +10,9 @@ use Rattle.program_model.specs.Output.{IsOutput}
 abbrev budget : ℕ → ℕ → ℕ → ℕ → Budget
 budget p c s n = record { pivots = p; cuts = c; splits = s; nesting = n }
 
-restrict_1 : IsOutput (Restrict 1 (budget 1000000 100000 10000 200)) (codes "(#[1 -1])((c)\n(if #[ -1 0]\n(list\n#[ 0 0]\n)\n(newparm 1 (div #[ 1 0] 2))\n(list\n#[ 1 -1 0]\n)\n)\n)\n") ((codes "((c)\n(newparm 1 (div #[ 1 0] 2))\n(list\n#[ 1 -1 0]\n)\n)\n") ∷ []) finished
-unfolding digits
-restrict_1 = (refl, refl)
-
-restrict_2 : IsOutput (Restrict 1 (budget 1000000 100000 10000 200)) (codes "(#[-1 -1])((c)\n(if #[ -1 0]\n(list\n#[ 0 0]\n)\n(newparm 1 (div #[ 1 0] 2))\n(list\n#[ 1 -1 0]\n)\n)\n)\n") ((codes "((c)\nvoid\n)\n") ∷ []) finished
-unfolding digits
-restrict_2 = (refl, refl)
-
 restrict_3 : IsOutput (Restrict 1 (budget 1000000 100000 10000 200)) (codes "()((e) (newparm 1 (div #[-1 0] 2)) (list #[0 1 0]))") ([]) (ending 11 (codes "negative quotient"))
 unfolding digits
 restrict_3 = refl
-
-same_1 : IsOutput (Same 1 (budget 1000000 100000 10000 200)) (codes "()((c)\n(if #[ -1 0]\n(list\n#[ 0 0]\n)\n(newparm 1 (div #[ 1 0] 2))\n(if #[ -1 2 0]\n(list\n#[ 1 -1 0]\n)\n(list\n#[ 1 -1 0]\n)\n)\n)\n)\n((c)\n(if #[ -1 0]\n(list\n#[ 0 0]\n)\n(newparm 1 (div #[ 1 0] 2))\n(list\n#[ 1 -1 0]\n)\n)\n)\n") ((codes "same\n") ∷ []) finished
-unfolding digits
-same_1 = (refl, refl)
-
-same_2 : IsOutput (Same 1 (budget 1000000 100000 10000 200)) (codes "()((c)\n(if #[ -1 0]\n(list\n#[ 0 0]\n)\n(newparm 1 (div #[ 1 0] 2))\n(if #[ -1 2 0]\n(list\n#[ 1 -1 0]\n)\n(list\n#[ 1 -1 0]\n)\n)\n)\n)\n((c)\n(if #[ -1 0]\n(list\n#[ 0 0]\n)\n(list\n#[ 1/2 0]\n)\n)\n)\n") ((codes "differ #[ 1]\n") ∷ []) finished
-unfolding digits
-same_2 = (refl, refl)
-
-same_3 : IsOutput (Same 1 (budget 1000000 100000 10000 200)) (codes "(#[-1 -1])((c)\n(if #[ -1 0]\n(list\n#[ 0 0]\n)\n(newparm 1 (div #[ 1 0] 2))\n(if #[ -1 2 0]\n(list\n#[ 1 -1 0]\n)\n(list\n#[ 1 -1 0]\n)\n)\n)\n)\n((c)\n(if #[ -1 0]\n(list\n#[ 0 0]\n)\n(list\n#[ 1/2 0]\n)\n)\n)\n") ((codes "same\n") ∷ []) finished
-unfolding digits
-same_3 = (refl, refl)
-
-same_3b : IsOutput (Same 1 (budget 1000000 100000 10000 200)) (codes "(#[-1 -1])((c)\n(if #[ -1 0]\n(list\n#[ 0 0]\n)\n(newparm 1 (div #[ 1 0] 2))\n(if #[ -1 2 0]\n(list\n#[ 1 -1 0]\n)\n(list\n#[ 1 -1 0]\n)\n)\n)\n)\n((c)\n(if #[ -1 0]\n(list\n#[ 0 0]\n)\n(newparm 1 (div #[ 1 0] 2))\n(list\n#[ 1 -1 0]\n)\n)\n)\n") ((codes "same\n") ∷ []) finished
-unfolding digits
-same_3b = (refl, refl)
-
-same_4 : IsOutput (Same 1 (budget 1000000 100000 0 200)) (codes "()((c)\n(if #[ -1 0]\n(list\n#[ 0 0]\n)\n(newparm 1 (div #[ 1 0] 2))\n(if #[ -1 2 0]\n(list\n#[ 1 -1 0]\n)\n(list\n#[ 1 -1 0]\n)\n)\n)\n)\n((c)\n(if #[ -1 0]\n(list\n#[ 0 0]\n)\n(list\n#[ 1/2 0]\n)\n)\n)\n") ([]) (ending 5 (codes "budget of splits 0"))
-unfolding digits
-same_4 = refl
-
-least_1 : IsOutput (Least 1 (budget 1000000 100000 10000 200)) (codes "()((x) (list #[1 0]))((y) (list #[0 3]))") ((codes "((x)\n(if #[ 1 -3]\n(if #[ -1 3]\n(list\n#[ 1 0]\n)\n(list\n#[ 0 3]\n)\n)\n(list\n#[ 1 0]\n)\n)\n)\n") ∷ []) finished
-unfolding digits
-least_1 = (refl, refl)
-
-least_2 : IsOutput (Least 1 (budget 1000000 100000 10000 200)) (codes "()((x) (list #[1 0]))((y) (list #[0 3] #[0 0]))") ([]) (ending 12 (codes "lists of 1 and 2 components"))
-unfolding digits
-least_2 = refl
-
-least_3 : IsOutput (Least 1 (budget 1000000 100000 10000 200)) (codes "()((x) (list #[1 0]))((y) ())") ((codes "((x)\n(list\n#[ 1 0]\n)\n)\n") ∷ []) finished
-unfolding digits
-least_3 = (refl, refl)
-
-pieces_4 : IsOutput (Pieces 1) (codes "((c)\n(if #[ -1 0]\n(list\n#[ 0 0]\n)\n(newparm 1 (div #[ 1 0] 2))\n(list\n#[ 1 -1 0]\n)\n)\n)\n") ((codes "((c)\n(piece\n(where #[ -1 0])\n(list\n#[ 0 0]\n)\n)\n(piece\n(where #[ 1 -1])\n(newparm 1 (div #[ 1 0] 2))\n(list\n#[ 1 -1 0]\n)\n)\n)\n") ∷ []) finished
-unfolding digits
-pieces_4 = (refl, refl)
 
 void_answer_makes_the_point : IsOutput (Restrict 1 (budget 0 100000 10000 200)) (codes "(#[1 -1])((c) void)") ([]) (ending 5 (codes "budget of pivots 0"))
 unfolding digits
