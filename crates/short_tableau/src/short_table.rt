@@ -90,9 +90,11 @@ impl ShortTableau {
         self.numbers.clear();
     }
 
-    /// Becomes the same as another. It takes no memory where there is room.
+    /// Becomes the same as another. It takes no memory where there is room. A refusal leaves the other's columns and
+    /// no rows.
     pub fn copy_from(&mut self, t: &ShortTableau) -> Result<(), WantOfMemory>
-        ensures { OnOk result (self.new ≡ t.now) }
+        ensures ok { OnOk result (self.new ≡ t.now) }
+        ensures err { OnErr result (self.new ≡ record t.now { rows = [] }) }
     {
         self.unknowns = t.unknowns;
         self.count = 0;
@@ -185,6 +187,8 @@ impl ShortTableau {
         ensures short { IfOk result (λ b. IsTrue b → self.new
             ≡ with_row self.old (model.form_row self.old.unknowns (widen_to self.old.unknowns form.now))) }
         ensures long { IfOk result (λ b. IsFalse b → list_all is_short form.now ≡ false) }
+        ensures none { IfOk result (λ b. IsFalse b → self.new ≡ record self.old { rows = [] }) }
+        ensures err { OnErr result (self.new ≡ record self.old { rows = [] }) }
         ensures unknowns { self.new.unknowns ≡ self.old.unknowns }
     {
         let pushed = append_form(&mut self.numbers, self.unknowns, form);
