@@ -1,6 +1,7 @@
 //! Texts that tests make: at a limit, or cut off at each of their bytes.
 use crate::row::{Wanted, ends_over, ends_so};
 use std::alloc::{AllocError, Global};
+use std::process::Abort;
 use std::test::Fail;
 
 // A text of many like parts.
@@ -69,7 +70,7 @@ const LIMITS: &[Limit] = &[
     },
 ];
 
-// The commands that read their input, at the greatest length and one byte past it.
+// Problems are read one by one: the one before the last byte is answered.
 const LONGEST: &[Limit] = &[
     Limit {
         words: "pip solve",
@@ -85,6 +86,10 @@ const LONGEST: &[Limit] = &[
         notes: TOO_LONG,
         status: 9,
     },
+];
+
+// The other inputs are read whole first: matrices, answers, triples, pairs and trios.
+const LONGEST_WHOLE: &[Limit] = &[
     Limit {
         words: "pip solve --polylib",
         text: Text::Blanks(16_777_217),
@@ -100,35 +105,7 @@ const LONGEST: &[Limit] = &[
         status: 9,
     },
     Limit {
-        words: "pip eval",
-        text: Text::Blanks(16_777_216),
-        output: "",
-        notes: "",
-        status: 0,
-    },
-    Limit {
-        words: "pip simplify 0",
-        text: Text::Blanks(16_777_217),
-        output: "",
-        notes: TOO_LONG,
-        status: 9,
-    },
-    Limit {
         words: "pip check",
-        text: Text::Blanks(16_777_217),
-        output: "",
-        notes: TOO_LONG,
-        status: 9,
-    },
-    Limit {
-        words: "pip share",
-        text: Text::Blanks(16_777_217),
-        output: "",
-        notes: TOO_LONG,
-        status: 9,
-    },
-    Limit {
-        words: "pip pieces 0",
         text: Text::Blanks(16_777_217),
         output: "",
         notes: TOO_LONG,
@@ -143,13 +120,6 @@ const LONGEST: &[Limit] = &[
     },
     Limit {
         words: "pip same 0",
-        text: Text::Blanks(16_777_217),
-        output: "",
-        notes: TOO_LONG,
-        status: 9,
-    },
-    Limit {
-        words: "pip least 0",
         text: Text::Blanks(16_777_217),
         output: "",
         notes: TOO_LONG,
@@ -186,21 +156,23 @@ fn nested(alloc: Global, count: usize) -> Result<Vec<u8>, AllocError> {
     Ok(text)
 }
 
+// Puts a piece into the front of a text, if it fits.
+fn write_over(text: &mut Vec<u8>, piece: &[u8]) {
+    for (place, byte) in text.iter_mut().zip(piece) {
+        *place = *byte;
+    }
+}
+
 fn made(alloc: Global, text: &Text) -> Result<Vec<u8>, AllocError> {
     match text {
         Text::Nested(count) => nested(alloc, *count),
         Text::Listed(count) => between(alloc, b"((e)(list", b"#[0]", *count, b"))"),
         Text::Context(count) => between(alloc, b"(", b"#[0 0]", *count, b")"),
-        Text::Blanks(count) => between(alloc, b"", b" ", *count, b""),
+        Text::Blanks(count) => Ok(vec![in alloc; b' '; *count]?),
         Text::Padded(length) => {
-            let problem = PROBLEM.as_bytes();
-            between(
-                alloc,
-                problem,
-                b" ",
-                length.saturating_sub(problem.len()),
-                b"",
-            )
+            let mut text = vec![in alloc; b' '; *length]?;
+            write_over(&mut text, PROBLEM.as_bytes());
+            Ok(text)
         }
     }
 }
@@ -215,30 +187,27 @@ fn is_kept(alloc: Global, limit: &Limit) -> Result<bool, AllocError> {
     ends_so(alloc, limit.words, &mut ends, &wanted)
 }
 
-#[test]
-fn limits_are_kept(rt: HostRuntime) -> Result<(), Fail> {
-    for limit in LIMITS {
-        assert!(rt;
-            is_kept(rt.alloc(), limit)?,
-            "{}: {}",
-            limit.words,
-            limit.notes
-        );
+// Asserts that each limit is kept.
+fn are_kept(rt: &impl Abort, alloc: Global, limits: &[Limit]) -> Result<(), Fail> {
+    for limit in limits {
+        assert!(rt; is_kept(alloc, limit)?, "{}: {}", limit.words, limit.notes);
     }
     Ok(())
 }
 
 #[test]
-fn input_bytes_are_limited(rt: HostRuntime) -> Result<(), Fail> {
-    for limit in LONGEST {
-        assert!(rt;
-            is_kept(rt.alloc(), limit)?,
-            "{}: {}",
-            limit.words,
-            limit.notes
-        );
-    }
-    Ok(())
+fn limits_are_kept(rt: HostRuntime) -> Result<(), Fail> {
+    are_kept(&rt, rt.alloc(), LIMITS)
+}
+
+#[test]
+fn bytes_of_problems_are_limited(rt: HostRuntime) -> Result<(), Fail> {
+    are_kept(&rt, rt.alloc(), LONGEST)
+}
+
+#[test]
+fn bytes_of_whole_inputs_are_limited(rt: HostRuntime) -> Result<(), Fail> {
+    are_kept(&rt, rt.alloc(), LONGEST_WHOLE)
 }
 
 // Whether a text gives an answer with this front and a list of so many zeros.
