@@ -88,8 +88,8 @@ const LONGEST: &[Limit] = &[
     },
 ];
 
-// The other inputs are read whole first: matrices, answers, triples, pairs and trios.
-const LONGEST_WHOLE: &[Limit] = &[
+// Other inputs are read whole first: matrices and answers,
+const LONGEST_ANSWERS: &[Limit] = &[
     Limit {
         words: "pip solve --polylib",
         text: Text::Blanks(16_777_217),
@@ -104,6 +104,10 @@ const LONGEST_WHOLE: &[Limit] = &[
         notes: TOO_LONG,
         status: 9,
     },
+];
+
+// and triples, pairs and trios.
+const LONGEST_GROUPS: &[Limit] = &[
     Limit {
         words: "pip check",
         text: Text::Blanks(16_777_217),
@@ -206,8 +210,13 @@ fn bytes_of_problems_are_limited(rt: HostRuntime) -> Result<(), Fail> {
 }
 
 #[test]
-fn bytes_of_whole_inputs_are_limited(rt: HostRuntime) -> Result<(), Fail> {
-    are_kept(&rt, rt.alloc(), LONGEST_WHOLE)
+fn bytes_of_answers_are_limited(rt: HostRuntime) -> Result<(), Fail> {
+    are_kept(&rt, rt.alloc(), LONGEST_ANSWERS)
+}
+
+#[test]
+fn bytes_of_groups_are_limited(rt: HostRuntime) -> Result<(), Fail> {
+    are_kept(&rt, rt.alloc(), LONGEST_GROUPS)
 }
 
 // Whether a text gives an answer with this front and a list of so many zeros.
