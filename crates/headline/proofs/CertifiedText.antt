@@ -12,7 +12,7 @@ use Rattle.pip_model.specs.Made.{solve_with_certificate}
 use Rattle.program_model.specs.Endings.{rational_certificate}
 use Rattle.program_model.specs.ItemTexts.{certified_answer_text, certified_outcome, certified_text}
 use Rattle.program_model.specs.RightTexts.{IsCertified}
-use Rattle.run_laws.proofs.SolveRight.{solve-right}
+use Rattle.run_laws.proofs.SolveRight.{solve-right, leaves-reached}
 use Rattle.run_laws.proofs.Printable.{solve-printable}
 use Rattle.text_laws.proofs.AnswerTexts.{read_answer-spell_first}
 use Rattle.text_laws.proofs.CertificateTexts.{read_certificate-spell}
@@ -58,6 +58,7 @@ module _ (b : Budget) (budget : IsBudget b) where
         text = sym text;
         integer = integer;
         right = solve-right P b a solved.0 whole.0 solved.1;
+        reached = leaves-reached P b a solved.0 whole.0 solved.1;
         answer_back = subst (λ (s : List ℕ). read_answer s 0 P.params ≡ Ok (Some (record { comment = P.comment; answer = a }, length (spell P.comment a) - 1))) text (read_answer-spell_first P.params P.comment a (spell_certificate c) whole.1 printable);
         certificate_back = certificate_back (codes "(" ++ P.comment ++ newline ++ spell_answer a) c t (sym text) (certificate-fits P b a c w whole.0 integer budget e);
         not_rejected = certificate-not_rejected P b a c w whole.0 integer e;

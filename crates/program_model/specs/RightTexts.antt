@@ -4,6 +4,7 @@ use Rattle.pip_model.specs.Listed.{all_fit}
 use Rattle.pip_model.specs.Problem.{Problem}
 use Rattle.pip_model.specs.Tree.{Answer, Void, Solved, leaves, tree_value}
 use Rattle.pip_model.specs.Right.{IsRight}
+use Rattle.pip_model.specs.Leaves.{IsReached}
 use Rattle.pip_model.specs.Simpler.{IsSimpler}
 use Rattle.pip_model.specs.TreeText.{spell, read_answer, Spoken}
 use Rattle.pip_model.specs.PieceText.{pieces, answer_listed, spell_pieces}
@@ -31,11 +32,11 @@ IsReadAs c t = read_certificate t 0 ≡ Ok (Some (c, length t - 1))
 
 -- ---- solve
 
--- the text of a right answer
+-- the text of a right answer, each of whose leaves is reached
 abbrev pub IsSolvedText : Problem → List ℕ → Type 0
-IsSolvedText P t = (a : Answer) × IsTextOfAnswer P.params P.comment a t × IsRight P a
+IsSolvedText P t = (a : Answer) × IsTextOfAnswer P.params P.comment a t × IsRight P a × IsReached P a
 
--- the text of a right answer to an integer problem, and behind it that of a certificate that the check does not
+-- the text of such an answer to an integer problem, and behind it that of a certificate that the check does not
 -- reject; both are read back
 pub record IsCertified (P : Problem) (t : List ℕ) : Type 0 where
   pub answer : Answer
@@ -43,6 +44,7 @@ pub record IsCertified (P : Problem) (t : List ℕ) : Type 0 where
   pub text : t ≡ spell P.comment answer ++ spell_certificate certificate
   pub integer : P.integer ≡ true
   pub right : IsRight P answer
+  pub reached : IsReached P answer
   pub answer_back : read_answer t 0 P.params
       ≡ Ok (Some (record { comment = P.comment; answer = answer }, length (spell P.comment answer) - 1))
   pub certificate_back : read_certificate t (length (spell P.comment answer) - 1)
@@ -58,8 +60,9 @@ IsValueAt Void u Void = ⊤
 IsValueAt (Solved t) u (Solved v) = IsTrue (same_found (tree_value v []) (tree_value t u))
 IsValueAt a u v = ⊥
 
+-- the text of an answer over no parameters, which is read back as that and whose value is the other's
 abbrev pub IsValueText : List ℤ → Spoken → List ℕ → Type 0
-IsValueText u s t = (v : Answer) × (t ≡ spell s.comment v) × IsValueAt s.answer u v
+IsValueText u s t = (v : Answer) × IsTextOfAnswer 0 s.comment v t × IsValueAt s.answer u v
 
 abbrev pub IsValueEnd : List ℤ → Spoken → Ending → Type 0
 IsValueEnd u s e = (e ≡ refusal_ending Overflow) × IsFalse (all_fit (answer_at_listed s.answer u))
