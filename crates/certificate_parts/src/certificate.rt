@@ -43,11 +43,12 @@ fn copied(alloc: Global, vector: Option<&[i128]>) -> Result<Option<Vec<i128>>, W
 }
 
 impl Certificate {
-    // A certificate without leaves, of the numbers of a vector, or of none where it is void.
+    /// A certificate without leaves, of format 2 where steps are shared, else of format 1; it takes the parameter
+    /// vector over, none where it is void.
     #[tactic(auto, using(crate::proofs::Fitting::vector_fits_from))]
-    pub(crate) fn with_vector(alloc: Global, shares: bool, vector: Option<Vec<i128>>) -> Certificate
-        requires { IfSome (numbers_of vector) (All Fits) }
-        ensures { result ≡ record { shares = shares; vector = numbers_of vector; leaves = [] } }
+    pub fn with_vector(alloc: Global, shares: bool, vector: Option<Vec<i128>>) -> Certificate
+        requires fits { IfSome (numbers_of vector) (All Fits) }
+        ensures value { result ≡ record { shares = shares; vector = numbers_of vector; leaves = [] } }
     {
         Certificate {
             shares,

@@ -96,3 +96,19 @@ matrix_rows_4097 = refl
 equalities_129 : IsOutput polylib (codes "129 2\n0 0\n0 0\n0 0\n0 0\n0 0\n0 0\n0 0\n0 0\n0 0\n0 0\n0 0\n0 0\n0 0\n0 0\n0 0\n0 0\n0 0\n0 0\n0 0\n0 0\n0 0\n0 0\n0 0\n0 0\n0 0\n0 0\n0 0\n0 0\n0 0\n0 0\n0 0\n0 0\n0 0\n0 0\n0 0\n0 0\n0 0\n0 0\n0 0\n0 0\n0 0\n0 0\n0 0\n0 0\n0 0\n0 0\n0 0\n0 0\n0 0\n0 0\n0 0\n0 0\n0 0\n0 0\n0 0\n0 0\n0 0\n0 0\n0 0\n0 0\n0 0\n0 0\n0 0\n0 0\n0 0\n0 0\n0 0\n0 0\n0 0\n0 0\n0 0\n0 0\n0 0\n0 0\n0 0\n0 0\n0 0\n0 0\n0 0\n0 0\n0 0\n0 0\n0 0\n0 0\n0 0\n0 0\n0 0\n0 0\n0 0\n0 0\n0 0\n0 0\n0 0\n0 0\n0 0\n0 0\n0 0\n0 0\n0 0\n0 0\n0 0\n0 0\n0 0\n0 0\n0 0\n0 0\n0 0\n0 0\n0 0\n0 0\n0 0\n0 0\n0 0\n0 0\n0 0\n0 0\n0 0\n0 0\n0 0\n0 0\n0 0\n0 0\n0 0\n0 0\n0 0\n0 0\n0 0\n0 0\n0 0\n") ([]) (ending 9 (codes "limit of context rows 258"))
 unfolding digits
 equalities_129 = refl
+
+signed_parameters : IsOutput polylib (codes "0 2\n-1\n1 3\n1 1 -3\nUrs_parms\n") ([]) (ending 3 (codes "unsupported option Urs_parms"))
+unfolding digits
+signed_parameters = refl
+
+signed_unknowns : IsOutput polylib (codes "0 2\n-1\n1 3\n1 1 -3\nUrs_unknowns\n") ([]) (ending 3 (codes "unsupported option Urs_unknowns"))
+unfolding digits
+signed_unknowns = refl
+
+dual : IsOutput polylib (codes "0 2\n-1\n1 3\n1 1 -3\nDual\n") ([]) (ending 3 (codes "unsupported option Dual"))
+unfolding digits
+dual = refl
+
+nested_201 : IsOutput (Simplify 0) (codes "((d) (if #[0] (if #[0] (if #[0] (if #[0] (if #[0] (if #[0] (if #[0] (if #[0] (if #[0] (if #[0] (if #[0] (if #[0] (if #[0] (if #[0] (if #[0] (if #[0] (if #[0] (if #[0] (if #[0] (if #[0] (if #[0] (if #[0] (if #[0] (if #[0] (if #[0] (if #[0] (if #[0] (if #[0] (if #[0] (if #[0] (if #[0] (if #[0] (if #[0] (if #[0] (if #[0] (if #[0] (if #[0] (if #[0] (if #[0] (if #[0] (if #[0] (if #[0] (if #[0] (if #[0] (if #[0] (if #[0] (if #[0] (if #[0] (if #[0] (if #[0] (if #[0] (if #[0] (if #[0] (if #[0] (if #[0] (if #[0] (if #[0] (if #[0] (if #[0] (if #[0] (if #[0] (if #[0] (if #[0] (if #[0] (if #[0] (if #[0] (if #[0] (if #[0] (if #[0] (if #[0] (if #[0] (if #[0] (if #[0] (if #[0] (if #[0] (if #[0] (if #[0] (if #[0] (if #[0] (if #[0] (if #[0] (if #[0] (if #[0] (if #[0] (if #[0] (if #[0] (if #[0] (if #[0] (if #[0] (if #[0] (if #[0] (if #[0] (if #[0] (if #[0] (if #[0] (if #[0] (if #[0] (if #[0] (if #[0] (if #[0] (if #[0] (if #[0] (if #[0] (if #[0] (if #[0] (if #[0] (if #[0] (if #[0] (if #[0] (if #[0] (if #[0] (if #[0] (if #[0] (if #[0] (if #[0] (if #[0] (if #[0] (if #[0] (if #[0] (if #[0] (if #[0] (if #[0] (if #[0] (if #[0] (if #[0] (if #[0] (if #[0] (if #[0] (if #[0] (if #[0] (if #[0] (if #[0] (if #[0] (if #[0] (if #[0] (if #[0] (if #[0] (if #[0] (if #[0] (if #[0] (if #[0] (if #[0] (if #[0] (if #[0] (if #[0] (if #[0] (if #[0] (if #[0] (if #[0] (if #[0] (if #[0] (if #[0] (if #[0] (if #[0] (if #[0] (if #[0] (if #[0] (if #[0] (if #[0] (if #[0] (if #[0] (if #[0] (if #[0] (if #[0] (if #[0] (if #[0] (if #[0] (if #[0] (if #[0] (if #[0] (if #[0] (if #[0] (if #[0] (if #[0] (if #[0] (if #[0] (if #[0] (if #[0] (if #[0] (if #[0] (if #[0] (if #[0] (if #[0] (if #[0] (if #[0] (if #[0] (if #[0] (if #[0] (if #[0] (if #[0] (if #[0] (if #[0] (if #[0] (if #[0] (if #[0] (if #[0] (if #[0] (if #[0] (if #[0] (if #[0] (if #[0] ") ([]) (ending 9 (codes "limit of nesting 200"))
+unfolding digits
+nested_201 = refl

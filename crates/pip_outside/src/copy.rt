@@ -1,11 +1,10 @@
-ghost use Rattle.std.specs.Prelude.{◌≡◌, ◌<◌, ◌≤◌, [], take, length};
+ghost use Rattle.std.specs.Prelude.{◌≡◌, ◌<◌, min, [], take, length};
 
-// Copies a front of the bytes into the front of `buf`, at most `most` of them, and answers how many.
+// Copies a front of the bytes into the front of `buf`, as many as `most`, the room and the bytes allow, and answers how
+// many.
 pub(crate) fn copy_front(bytes: &[u8], most: usize, buf: &mut [u8]) -> usize
     requires { 0 < most }
-    ensures bound { result ≤ length buf.new }
-    ensures piece { result ≤ most }
-    ensures within { result ≤ length bytes.now }
+    ensures count { result ≡ min most (min (length buf.new) (length bytes.now)) }
     ensures front { take result buf.new ≡ take result bytes.now }
     ensures end { result ≡ 0 → 0 < length buf.new → bytes.now ≡ [] }
 {

@@ -1,4 +1,4 @@
-ghost use Rattle.std.specs.Prelude.{◌≡◌, ◌+◌, ◌<◌, ◌≤◌, ◌↔◌, Some, OnOk, IsErr};
+ghost use Rattle.std.specs.Prelude.{◌≡◌, ◌+◌, ◌<◌, ◌≤◌, ◌↔◌, min, Some, length, OnOk, IfOk, IsErr};
 ghost use Rattle.std.specs.Io.{ReadsAtMost};
 ghost use Rattle.std.specs.Io.KnownBytes.{ReadConsumes};
 ghost use Rattle.pip_outside.specs.Faults.{CountsFaults};
@@ -11,7 +11,8 @@ use crate::plan::Plan;
 use crate::source::Source;
 use std::marker::Model;
 
-/// A source in memory that gives pieces of one size and fails at given calls.
+/// A source in memory that gives pieces of one size, as far as there is room and bytes are left, and fails at given
+/// calls.
 ///
 /// Contracts see the bytes left, how many were taken, the plan of its calls, and the count of faults.
 #[derive(Drop)]
@@ -59,7 +60,7 @@ impl Source for MemorySource {
 
     ghost faults = { λ s. s.faults };
 
-    ghost calls = { λ s t. t.plan ≡ after_call s.plan };
+    ghost calls = { λ s t. (t.plan ≡ after_call s.plan) × (s.taken ≤ t.taken) × (t.taken ≤ s.taken + s.plan.piece) };
 
     fn read(&mut self, buf: &mut [u8]) -> Result<usize, Failed>
         ensures bound { ReadsAtMost result buf.new }
@@ -70,7 +71,7 @@ impl Source for MemorySource {
 
         // the plan: which calls fail, and how much the others give
         ensures planned { IsErr result ↔ FailsNext self.old.plan }
-        ensures piece { count_of result ≤ self.old.plan.piece }
+        ensures piece { IfOk result (λ n. n ≡ min self.old.plan.piece (min (length buf.new) (length self.old.left))) }
         ensures call { self.new.plan ≡ after_call self.old.plan }
     {
         if self.plan.fails_next() {

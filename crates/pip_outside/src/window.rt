@@ -61,7 +61,8 @@ impl Model for Window {
 
     ghost view = { λ w. record { held = drop w.start w.bytes.items; base = w.base; peak = w.peak } };
 
-    ghost invariant = { λ w. (w.start ≤ vec_len w.bytes) × (vec_len w.bytes ≤ w.peak + w.start) };
+    // the dropped bytes that still stand are no more than the held ones: twice what is held bounds the memory
+    ghost invariant = { λ w. (w.start + w.start ≤ vec_len w.bytes) × (vec_len w.bytes ≤ w.peak + w.start) };
 }
 
 impl Window {

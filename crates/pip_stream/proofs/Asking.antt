@@ -1,16 +1,20 @@
 -- That the source is called only while the group at hand is open.
-use Rattle.std.proofs.Common.{◌≡◌, refl, sym, ap, subst, ◌∙◌, ℕ, ◌+◌, ◌-◌, ◌<◌, inl, inr, arith, true, false, List, ◌++◌, length, length-drop, take}
+use Rattle.std.proofs.Common.{◌≡◌, refl, sym, ap, subst, ◌∙◌, ℕ, ◌+◌, ◌-◌, ◌<◌, inl, inr, arith, Bool, true, false, List, ◌++◌, length, length-drop, take}
 use Rattle.std.proofs.Math.Seq.{take-length}
 use Rattle.std.proofs.lemmas.List.{take-append-drop}
-use Rattle.std.specs.Prelude.{◌⊎◌, Option, Some, None, IfSome}
+use Rattle.std.specs.Prelude.{◌⊎◌, Option, Some, None, IfSome, Result, Ok, Err}
 use Rattle.std.specs.List.{list_all}
-use Rattle.pip_outside.specs.Calls.{CallsWithin}
+use Rattle.pip_outside.specs.Calls.{Takes, AsksOn, CallsWithin}
+use Rattle.pip_outside.proofs.Calls.{takes-none, takes-more, takes-then, asks-none, asks-once, asks-then}
 use Rattle.pip_outside.specs.Windows.{HeldBytes}
 use Rattle.pip_model.specs.Moved.{is_closed}
 use Rattle.pip_model.specs.Reading.{next_open}
 use Rattle.pip_reader.specs.Groups.{group_behind, first_group_end, place_behind}
 use Rattle.text_laws.proofs.Items.{next_open-closed}
-use Rattle.pip_stream.specs.Asked.{AsksWhileOpen}
+use Rattle.pip_model.specs.Problem.{Problem}
+use Rattle.pip_stream.specs.Asked.{AsksWhileOpen, AsksUntil, AsksForEnd, AsksForNext}
+use Rattle.pip_stream.specs.Ended.{IsRead}
+use Rattle.pip_stream.specs.declared.refusal.NextRefusal.{NextRefusal}
 use Rattle.pip_stream.specs.Windows.{taken_by, bytes_from, Drops, Skips}
 use Rattle.pip_stream.specs.Open.{DropsClosed}
 use Rattle.pip_stream.proofs.Dropping.{if-some}
@@ -48,6 +52,54 @@ module _ (a : HeldBytes) (left : List ℕ) (w : HeldBytes) (m : Option (List ℕ
           record { place = k; ended = e; is = let same : n ≡ s.count + k = cc in same }
 
 module _ {S : Type 0} (Calls : S → S → Type 0) (taken : S → ℕ) where
+  pub takes-start : (s : S) (o : Option (List ℕ)) → IfSome o (λ _. Takes Calls taken s s)
+  takes-start s None = tt
+  takes-start s (Some left) = takes-none Calls taken s
+
+  -- a call that takes bytes
+  pub takes-told : (s t u : S) (o : Option (List ℕ)) (a w x : ℕ) → IfSome o (λ _. Takes Calls taken s t) → IfSome o (λ _. taken t + a ≡ taken s + w) → IfSome o (λ _. taken u + a ≡ taken s + x) → w < x → (u ≡ t) ⊎ Calls t u → IfSome o (λ _. Takes Calls taken s u)
+  takes-told s t u None a w x h before now some called = tt
+  takes-told s t u (Some left) a w x h before now some called = takes-more Calls taken s t u h called (omega (arith, before, now, some))
+
+  -- the last call
+  pub asks-told : (s t u : S) (o : Option (List ℕ)) → IfSome o (λ _. Takes Calls taken s t) → (u ≡ t) ⊎ Calls t u → IfSome o (λ _. AsksOn Calls taken s u)
+  asks-told s t u None h called = tt
+  asks-told s t u (Some left) h called = asks-once Calls taken s t u h called
+
+  -- a `(` is found
+  pub asks-open : (s t : S) (o : Option (List ℕ)) (b found : Bool) → b ≡ found → IfSome o (λ _. AsksUntil Calls taken s t {E = NextRefusal} (Ok b)) → IfSome o (λ _. AsksUntil Calls taken s t {E = NextRefusal} (Ok found))
+  asks-open s t o b found e h = subst (λ x. IfSome o (λ _. AsksUntil Calls taken s t {E = NextRefusal} (Ok x))) e h
+
+  pub ended-asks : (s u : S) (o : Option (List ℕ)) (n end : ℕ) (g : Option ℕ) → g ≡ Some end → IfSome o (λ _. Takes Calls taken s u) → IfSome o (λ _. AsksForEnd Calls taken s u (Ok n) g)
+  ended-asks s u o n end g e h = subst (λ x. IfSome o (λ _. AsksForEnd Calls taken s u (Ok n) x)) (sym e) h
+
+  pub open-asks : (s u : S) (o : Option (List ℕ)) (n : ℕ) (g : Option ℕ) → g ≡ None → IfSome o (λ _. AsksOn Calls taken s u) → IfSome o (λ _. AsksForEnd Calls taken s u (Ok n) g)
+  open-asks s u o n g e h = subst (λ x. IfSome o (λ _. AsksForEnd Calls taken s u (Ok n) x)) (sym e) h
+
+  end-then : (s t u : S) (r : Result ℕ NextRefusal) (g : Option ℕ) → Takes Calls taken s t → AsksForEnd Calls taken t u r g → AsksForEnd Calls taken s u r g
+  end-then s t u (Ok n) (Some end) h k = takes-then Calls taken s t u h k
+  end-then s t u (Ok n) None h k = asks-then Calls taken s t u h k
+  end-then s t u (Err e) g h k = asks-then Calls taken s t u h k
+
+  -- a search for the end after one for the beginning
+  pub asks-end : (s t u : S) (r : Result ℕ NextRefusal) (g : Option ℕ) (o m : Option (List ℕ)) → IfSome o (λ _. (l : List ℕ) × (m ≡ Some l)) → IfSome o (λ _. Takes Calls taken s t) → IfSome m (λ _. AsksForEnd Calls taken t u r g) → IfSome o (λ _. AsksForEnd Calls taken s u r g)
+  asks-end s t u r g None m told h k = tt
+  asks-end s t u r g (Some left) m told h k = end-then s t u r g h (if-some (λ _. AsksForEnd Calls taken t u r g) m told.0 told.1 k)
+
+  asks-at_end : (s u : S) (n : ℕ) (g : Option ℕ) → AsksForEnd Calls taken s u (Ok n) g → AsksOn Calls taken s u
+  asks-at_end s u n (Some end) h = asks-none Calls taken s u h
+  asks-at_end s u n None h = h
+
+  asks-item : (s u : S) (w v : HeldBytes) (n : ℕ) (r : Result (Option (Problem × ℕ)) NextRefusal) → IsRead w v n r → AsksForEnd Calls taken s u (Ok n) (first_group_end w.held) → AsksForNext Calls taken s u r
+  asks-item s u w v n (Ok (Some x)) k h = subst (AsksForEnd Calls taken s u (Ok n)) k.1 h
+  asks-item s u w v n (Ok None) k h = absurd k
+  asks-item s u w v n (Err e) k h = asks-at_end s u n (first_group_end w.held) h
+
+  -- the item is read
+  pub asks-read : (s u : S) (w v : HeldBytes) (n : ℕ) (r : Result (Option (Problem × ℕ)) NextRefusal) (o : Option (List ℕ)) → IsRead w v n r → IfSome o (λ _. AsksForEnd Calls taken s u (Ok n) (first_group_end w.held)) → IfSome o (λ _. AsksForNext Calls taken s u r)
+  asks-read s u w v n r None k h = tt
+  asks-read s u w v n r (Some left) k h = asks-item s u w v n r k h
+
   pub asked-start : (s : S) (a : HeldBytes) (o : Option (List ℕ)) → IfSome o (AsksWhileOpen Calls taken s s a)
   asked-start s a None = tt
   asked-start s a (Some left) = λ n e. inl refl
@@ -56,31 +108,30 @@ module _ {S : Type 0} (Calls : S → S → Type 0) (taken : S → ℕ) where
   pub asked-restart : (s t : S) (a start : HeldBytes) (p : ℕ) (o : Option (List ℕ)) → start ≡ record a { peak = p } → IfSome o (AsksWhileOpen Calls taken s t start) → IfSome o (AsksWhileOpen Calls taken s t a)
   asked-restart s t a start p o e h = subst (λ w. IfSome o (AsksWhileOpen Calls taken s t w)) e h
 
-  asks-more : (s t u : S) (a w : HeldBytes) (left : List ℕ) (m : Option (List ℕ)) → Skips a left w m → first_group_end w.held ≡ None → taken t + taken_by a ≡ taken s + taken_by w → AsksWhileOpen Calls taken s t a left → (u ≡ t) ⊎ Calls t u → AsksWhileOpen Calls taken s u a left
-  asks-more s t u a w left m k open_still counted asked (inl same) = λ n e. subst (λ x. CallsWithin Calls taken s x (length a.held) n) (sym same) (asked n e)
-  asks-more s t u a w left m k open_still counted asked (inr called) = λ n e.
-      let behind = ends-behind a left w m k n e open_still in
-      inr (t, called, omega (arith, counted, behind))
+  asks-more : (s t u : S) (a w : HeldBytes) (left : List ℕ) (m : Option (List ℕ)) → Skips a left w m → first_group_end w.held ≡ None → taken t + taken_by a ≡ taken s + taken_by w → Takes Calls taken s t → AsksWhileOpen Calls taken s t a left → (u ≡ t) ⊎ Calls t u → AsksWhileOpen Calls taken s u a left
+  asks-more s t u a w left m k open_still counted led asked (inl same) = λ n e. subst (λ x. CallsWithin Calls taken s x (length a.held) n) (sym same) (asked n e)
+  asks-more s t u a w left m k open_still counted led asked (inr called) = λ n e.
+      let behind = ends-behind a left w m k n e open_still in inr (t, led, called, omega (arith, counted, behind))
 
   -- more is asked for while the group is open
-  pub asked-more : (s t u : S) (a w : HeldBytes) (o m : Option (List ℕ)) → IfSome o (λ left. Skips a left w m) → first_group_end w.held ≡ None → IfSome o (λ _. taken t + taken_by a ≡ taken s + taken_by w) → IfSome o (AsksWhileOpen Calls taken s t a) → (u ≡ t) ⊎ Calls t u → IfSome o (AsksWhileOpen Calls taken s u a)
-  asked-more s t u a w None m k open_still counted asked more = tt
-  asked-more s t u a w (Some left) m k open_still counted asked more = asks-more s t u a w left m k open_still counted asked more
+  pub asked-more : (s t u : S) (a w : HeldBytes) (o m : Option (List ℕ)) → IfSome o (λ left. Skips a left w m) → first_group_end w.held ≡ None → IfSome o (λ _. taken t + taken_by a ≡ taken s + taken_by w) → IfSome o (λ _. Takes Calls taken s t) → IfSome o (AsksWhileOpen Calls taken s t a) → (u ≡ t) ⊎ Calls t u → IfSome o (AsksWhileOpen Calls taken s u a)
+  asked-more s t u a w None m k open_still counted led asked more = tt
+  asked-more s t u a w (Some left) m k open_still counted led asked more = asks-more s t u a w left m k open_still counted led asked more
 
-  asks-then : (s t u : S) (a w : HeldBytes) (left : List ℕ) (m : Option (List ℕ)) (k : Skips a left w m) → taken t + taken_by a ≡ taken s + taken_by w → AsksWhileOpen Calls taken s t a left → AsksWhileOpen Calls taken t u w k.drops.left_now → AsksWhileOpen Calls taken s u a left
-  asks-then s t u a w left m k counted asked then n e =
+  asks-while : (s t u : S) (a w : HeldBytes) (left : List ℕ) (m : Option (List ℕ)) (k : Skips a left w m) → taken t + taken_by a ≡ taken s + taken_by w → Takes Calls taken s t → AsksWhileOpen Calls taken s t a left → AsksWhileOpen Calls taken t u w k.drops.left_now → AsksWhileOpen Calls taken s u a left
+  asks-while s t u a w left m k counted led asked then = λ n e.
       let h = ends-there a left w m k n e in
-      by_call h.place h.is (then h.place h.ended)
+      by_call n e h.place h.is (then h.place h.ended)
     where
-      by_call : (q : ℕ) → n ≡ k.count + q → CallsWithin Calls taken t u (length w.held) q → CallsWithin Calls taken s u (length a.held) n
-      by_call q is (inl same) = subst (λ x. CallsWithin Calls taken s x (length a.held) n) (sym same) (asked n e)
-      by_call q is (inr c) = inr (c.0, c.1, omega (arith, is, c.2, counted, k.drops.base))
+      by_call : (n : ℕ) → first_group_end (bytes_from a left) ≡ Some n → (q : ℕ) → n ≡ k.count + q → CallsWithin Calls taken t u (length w.held) q → CallsWithin Calls taken s u (length a.held) n
+      by_call n e q is (inl same) = subst (λ x. CallsWithin Calls taken s x (length a.held) n) (sym same) (asked n e)
+      by_call n e q is (inr c) = inr (c.0, takes-then Calls taken s t c.0 led c.1, c.2, omega (arith, is, c.3, counted, k.drops.base))
 
   -- one search after the other
-  pub asked-then : (s t u : S) (a w : HeldBytes) (o m : Option (List ℕ)) → IfSome o (λ left. Skips a left w m) → IfSome o (λ _. taken t + taken_by a ≡ taken s + taken_by w) → IfSome o (AsksWhileOpen Calls taken s t a) → IfSome m (AsksWhileOpen Calls taken t u w) → IfSome o (AsksWhileOpen Calls taken s u a)
-  asked-then s t u a w None m k counted asked then = tt
-  asked-then s t u a w (Some left) m k counted asked then =
-      asks-then s t u a w left m k counted asked (if-some (AsksWhileOpen Calls taken t u w) m k.drops.left_now k.drops.told then)
+  pub asked-then : (s t u : S) (a w : HeldBytes) (o m : Option (List ℕ)) → IfSome o (λ left. Skips a left w m) → IfSome o (λ _. taken t + taken_by a ≡ taken s + taken_by w) → IfSome o (λ _. Takes Calls taken s t) → IfSome o (AsksWhileOpen Calls taken s t a) → IfSome m (AsksWhileOpen Calls taken t u w) → IfSome o (AsksWhileOpen Calls taken s u a)
+  asked-then s t u a w None m k counted led asked then = tt
+  asked-then s t u a w (Some left) m k counted led asked then =
+      asks-while s t u a w left m k counted led asked (if-some (AsksWhileOpen Calls taken t u w) m k.drops.left_now k.drops.told then)
 
 -- ---- a group that is held
 

@@ -40,23 +40,30 @@ holds-ended w seen d after h e few peak within =
 -- ---- more bytes
 
 module _ (w u : HeldBytes) where
+  none-came : (k : ℕ) → IsMore w u (Ok k) → k ≡ 0 → u.held ≡ w.held
+  none-came k m zero =
+      let none : length m.0.piece ≡ 0 = omega (arith, m.0.count, zero) in
+      m.0.held ∙ ap (λ x. w.held ++ x) (no_bytes m.0.piece none) ∙ append-nil w.held
+    where
+      no_bytes : (xs : List ℕ) → length xs ≡ 0 → xs ≡ []
+      no_bytes [] e = refl
+      no_bytes (x ∷ xs) e = absurd (omega (arith, e))
+
   -- the input ends
+  pub rest-open : (k d : ℕ) → IsScanned w.held d → IsMore w u (Ok k) → k ≡ 0 → first_group_end u.held ≡ None
+  rest-open k d h m zero = ap first_group_end (none-came k m zero) ∙ h.not_ended
+
   pub holds-rest : (n k d seen : ℕ) → IsScanned w.held d → IsMore w u (Ok k) → k ≡ 0 → n ≡ length w.held → seen < length w.held → w.peak ≤ seen + 4096 → HoldsItem u n
   holds-rest n k d seen h m zero is some peak =
       let s = some_more w u k m in
-      let none : length m.0.piece ≡ 0 = omega (arith, m.0.count, zero) in
-      let same : u.held ≡ w.held = m.0.held ∙ ap (λ x. w.held ++ x) (no_bytes m.0.piece none) ∙ append-nil w.held in
+      let same : u.held ≡ w.held = none-came k m zero in
       record {
-        item = inr (ap first_group_end same ∙ h.not_ended, is ∙ ap length (sym same));
+        item = inr (rest-open k d h m zero, is ∙ ap length (sym same));
         few = omega (arith, is, ap length same);
         behind = omega (arith, is, ap length same);
         peak = s.peak_high (n + 4095) (omega (arith, peak, some, is)) (omega (arith, is, ap length same));
         within = s.within;
       }
-    where
-      no_bytes : (xs : List ℕ) → length xs ≡ 0 → xs ≡ []
-      no_bytes [] e = refl
-      no_bytes (x ∷ xs) e = absurd (omega (arith, e))
 
   front : (n : ℕ) → Grows w u n → take (length w.held) u.held ≡ w.held
   front n g = ap (take (length w.held)) g.held ∙ take_at w.held g.piece (length w.held) refl
@@ -81,5 +88,6 @@ module _ (w u : HeldBytes) where
       (ap (λ i. first_group_end (take i u.held)) size ∙ ap first_group_end (front 1 m.0) ∙ h.not_ended, m.1)
   ended-err next.Failed d h within m =
       (ap (λ (x : HeldBytes). first_group_end x.held) m ∙ h.not_ended, omega (arith, ap (λ (x : HeldBytes). taken_by x) m, within))
-  ended-err next.WantOfMemory d h within m = omega (arith, ap (λ (x : HeldBytes). taken_by x) m, within)
+  ended-err next.WantOfMemory d h within m =
+      (ap (λ (x : HeldBytes). first_group_end x.held) m ∙ h.not_ended, omega (arith, ap (λ (x : HeldBytes). taken_by x) m, within))
   ended-err (next.Read e) d h within m = absurd m

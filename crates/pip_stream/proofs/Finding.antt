@@ -2,22 +2,24 @@
 use Rattle.std.proofs.Common.{◌≡◌, refl, sym, ap, subst, ◌∙◌, ℕ, suc, ◌+◌, ◌-◌, ◌≤◌, inl, inr, arith, List, [], ◌++◌, length, true, length-append, length-drop, length-take, take, drop}
 use Rattle.std.proofs.Math.Seq.{take-append-add, take-length}
 use Rattle.std.proofs.lemmas.List.{take-append-drop, take-append-le, drop-append-le, drop-drop, append-nil}
-use Rattle.std.specs.Prelude.{Option, Some, None, Result, Ok, Err}
+use Rattle.std.specs.Prelude.{Option, Some, None, IfSome, Result, Ok, Err}
 use Rattle.std.specs.List.{list_all}
 use Rattle.pip_outside.specs.Windows.{HeldBytes}
 use Rattle.pip_model.specs.Problem.{Problem}
 use Rattle.pip_model.specs.Reading.{Fault, Syntax, Wide, next_open, closing, item_at}
 use Rattle.pip_model.specs.NativeText.{problem_at, read_native}
 use Rattle.pip_model.specs.Moved.{moved, is_closed}
+use Rattle.pip_problem.specs.Faults.{read_fault}
+use Rattle.pip_problem.specs.declared.refusal.ReadRefusal.{ReadRefusal}
 use Rattle.pip_reader.specs.Groups.{group_behind, first_group_end, place_behind}
 use Rattle.text_laws.proofs.Items.{next_open-append, next_open-closed}
 use Rattle.text_laws.proofs.LocalProblems.{read_native-alone, read_native-moved}
 use Rattle.text_laws.proofs.ReadProblems.{read_native-none}
 use Rattle.pip_stream.specs.Windows.{taken_by, bytes_from, Drops, Skips}
 use Rattle.pip_stream.specs.Ended.{IsItem, HoldsItem}
-use Rattle.pip_stream.specs.Next.{ReadsNext, ReadsNone, RefusesNext, StaysOpen}
+use Rattle.pip_stream.specs.Next.{ReadsNext, ReadsNone, IsSpared, RefusesNext, StaysOpen}
 use Rattle.pip_stream.proofs.Groups.{group_end-behind, group_end-ends}
-use Rattle.pip_stream.proofs.Scanned.{begins}
+use Rattle.pip_stream.proofs.Scanned.{begins, ends-later}
 
 moved-moved : {A : Type 0} (a k : ℕ) (r : Result (Option (A × ℕ)) Fault) → moved a (moved k r) ≡ moved (a + k) r
 moved-moved a k (Ok None) = refl
@@ -55,7 +57,17 @@ module _ (old : HeldBytes) (left : List ℕ) (w : HeldBytes) (now : Option (List
   pub stays : (n m : ℕ) → n ≤ length w.held → first_group_end (take n w.held) ≡ None → m ≡ s.count + n → StaysOpen old left w now m
   stays n m h e is = record {
     open_still = ap (λ k. first_group_end (take k input)) is ∙ ap first_group_end (front-is n h) ∙ group_end-behind (take s.count input) (take n w.held) s.closed ∙ ap (place_behind (length (take s.count input))) e;
-    rest = (s.count, s.drops);
+    rest = s;
+  }
+
+  -- the group is open in all that is held
+  pub open-spared : first_group_end w.held ≡ None → IsSpared old left w now
+  open-spared open_still = record {
+    rest = s;
+    spared = λ q e.
+        let o = stays (length w.held) (s.count + length w.held) (omega arith) (ap first_group_end (take-length w.held) ∙ open_still) refl in
+        let later = ends-later input (s.count + length w.held) q o.open_still e in
+        omega (arith, later, s.drops.base);
   }
 
   -- no `(` is left
@@ -138,6 +150,9 @@ module _ (old : HeldBytes) (left : List ℕ) (w : HeldBytes) (now : Option (List
             let there : Some q ≡ None = sym e ∙ group-behind ∙ ap (place_behind s.count) (ap first_group_end held ∙ open_still.0) in
             absurd cc
 
+    pub item-spared : (n : ℕ) → HoldsItem w n → (first_group_end w.held ≡ None → now ≡ Some []) → IsSpared old left w now
+    item-spared n h end = record { rest = s; spared = λ q e. spared-by n q h end e }
+
     -- the problem is read, and its group is dropped
     pub reads-next : (new : HeldBytes) (P : Problem) (n : ℕ) → n ≤ length w.held → first_group_end w.held ≡ Some n → read_native (take n w.held) 0 ≡ Ok (Some (P, n)) → new ≡ record w { held = drop n w.held; base = w.base + n } → ReadsNext old left new now P n
     reads-next new P n few e r is = record {
@@ -148,11 +163,11 @@ module _ (old : HeldBytes) (left : List ℕ) (w : HeldBytes) (now : Option (List
       drops = drops-front new n few is;
     }
 
+    refused-from : (n : ℕ) → HoldsItem w n → (first_group_end w.held ≡ None → now ≡ Some []) → (o : Option Fault) → IfSome o (λ f. moved w.base (read_native (take n w.held) 0) ≡ Err f) → IfSome o (λ f. moved old.base (read_native input 0) ≡ Err f)
+    refused-from n h end None r = tt
+    refused-from n h end (Some f) r =
+        ap (moved old.base) (reads-item n h.few h.item end) ∙ moved-moved old.base s.count (read_native (take n w.held) 0) ∙ ap (λ k. moved k (read_native (take n w.held) 0)) (sym s.drops.base) ∙ r
+
     -- its text is refused
-    pub refuses-next : (n : ℕ) (f : Fault) → HoldsItem w n → (first_group_end w.held ≡ None → now ≡ Some []) → moved w.base (read_native (take n w.held) 0) ≡ Err f → RefusesNext old left w now f
-    refuses-next n f h end r = record {
-      read =
-          ap (moved old.base) (reads-item n h.few h.item end) ∙ moved-moved old.base s.count (read_native (take n w.held) 0) ∙ ap (λ k. moved k (read_native (take n w.held) 0)) (sym s.drops.base) ∙ r;
-      rest = (s.count, s.drops);
-      spared = λ q e. spared-by n q h end e;
-    }
+    pub refuses-next : (n : ℕ) (e : ReadRefusal) → HoldsItem w n → (first_group_end w.held ≡ None → now ≡ Some []) → IfSome (read_fault e) (λ f. moved w.base (read_native (take n w.held) 0) ≡ Err f) → RefusesNext old left w now e
+    refuses-next n e h end r = record { read = refused-from n h end (read_fault e) r; kept = item-spared n h end }

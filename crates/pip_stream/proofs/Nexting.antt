@@ -6,18 +6,17 @@ use Rattle.std.specs.Io.KnownBytes.{IsAtEnd}
 use Rattle.pip_outside.specs.Windows.{HeldBytes}
 use Rattle.pip_model.specs.Limits.{most_input_bytes}
 use Rattle.pip_model.specs.Problem.{Problem}
-use Rattle.pip_model.specs.Reading.{Fault, next_open}
-use Rattle.pip_problem.specs.Faults.{read_fault}
+use Rattle.pip_model.specs.Reading.{next_open}
 use Rattle.pip_reader.specs.Groups.{first_group_end}
 use Rattle.pip_stream.specs.Windows.{taken_by, Drops, Skips}
 use Rattle.pip_stream.specs.Open.{IsOpened}
 use Rattle.pip_stream.specs.Ended.{HoldsItem, IsEnded, IsRead}
-use Rattle.pip_stream.specs.Next.{ReadsNext, RefusesNext, HoldsRest, FindsNext, IsReady, IsPeak}
+use Rattle.pip_stream.specs.Next.{ReadsNext, IsSpared, RefusesNext, FindsNext, IsReady, IsPeak}
 use Rattle.pip_stream.specs.declared.refusal.NextRefusal.{NextRefusal}
 use Rattle.pip_stream.specs.declared.refusal.NextRefusal.TheVariants as next
 use Rattle.pip_stream.proofs.Groups.{group_end-ends}
 use Rattle.pip_stream.proofs.Scanned.{begins_some}
-use Rattle.pip_stream.proofs.Finding.{stays, reads-none, reads-next, refuses-next}
+use Rattle.pip_stream.proofs.Finding.{stays, open-spared, item-spared, reads-none, reads-next, refuses-next}
 
 abbrev Found : Type 0
 Found = Option (Problem × ℕ)
@@ -42,7 +41,7 @@ at-end old w left (Some xs) s h = ap Some h
 opened-finds : (old w : HeldBytes) (left : List ℕ) (m : Option (List ℕ)) (e : NextRefusal) → Skips old left w m → IsOpened w (Err e) → FindsNext old left w m (Err e)
 opened-finds old w left m next.InputBytes s h = stays old left w m s 0 _ (omega arith) refl (omega (arith, s.drops.base, h.0, h.1))
 opened-finds old w left m next.Failed s h = stays old left w m s 0 _ (omega arith) refl (omega (arith, s.drops.base, ap length h.0))
-opened-finds old w left m next.WantOfMemory s h = (s.count, s.drops)
+opened-finds old w left m next.WantOfMemory s h = open-spared old left w m s (ap first_group_end h.0)
 opened-finds old w left m (next.Read e) s h = absurd h
 
 pub finds-unopened : (old w : HeldBytes) (o m : Option (List ℕ)) (e : NextRefusal) → IfSome o (λ left. Skips old left w m) → IsOpened w (Err e) → IfSome o (λ left. FindsNext old left w m (Err e))
@@ -72,7 +71,7 @@ ended-finds : (old w : HeldBytes) (left : List ℕ) (m : Option (List ℕ)) (e :
 ended-finds old w left m next.InputBytes s first h = stays old left w m s (length w.held - 1) _ (omega arith) h.0 (omega (arith, s.drops.base, h.1, begins_some w.held first))
 ended-finds old w left m next.Failed s first h =
     stays old left w m s (length w.held) _ (omega arith) (ap first_group_end (take-length w.held) ∙ h.0) (omega (arith, s.drops.base))
-ended-finds old w left m next.WantOfMemory s first h = (s.count, s.drops)
+ended-finds old w left m next.WantOfMemory s first h = open-spared old left w m s h.0
 ended-finds old w left m (next.Read e) s first h = absurd h
 
 pub finds-unended : (old w : HeldBytes) (o m : Option (List ℕ)) (e : NextRefusal) → IfSome o (λ left. Skips old left w m) → next_open 0 w.held ≡ Some 0 → IsEnded w (Err e) → IfSome o (λ left. FindsNext old left w m (Err e))
@@ -82,22 +81,19 @@ finds-unended old w (Some left) m e s first h = ended-finds old w left m e s fir
 pub ended-limit : (w : HeldBytes) (e : NextRefusal) → IsEnded w (Err e) → AtLimit e w
 ended-limit w next.InputBytes h = (omega (arith, h.1), λ _. omega (arith, h.1), λ _. refl)
 ended-limit w next.Failed h = (omega (arith, h.1), λ p. absurd cc, λ p. absurd (omega (arith, h.1, p)))
-ended-limit w next.WantOfMemory h = (omega (arith, h), λ p. absurd cc, λ p. absurd (omega (arith, h, p)))
+ended-limit w next.WantOfMemory h = (omega (arith, h.1), λ p. absurd cc, λ p. absurd (omega (arith, h.1, p)))
 ended-limit w (next.Read e) h = absurd h
 
 -- ---- the item is read
-
-some-where : (P Q : Fault → Type 0) (o : Option Fault) → ((f : Fault) → P f → Q f) → IfSome o P → IfSome o Q
-some-where P Q None each h = tt
-some-where P Q (Some f) each h = each f h
 
 taken-finds : (old w v : HeldBytes) (left : List ℕ) (m : Option (List ℕ)) (n : ℕ) (r : Result Found NextRefusal) → Skips old left w m → next_open 0 w.held ≡ Some 0 → HoldsItem w n → (first_group_end w.held ≡ None → IsAtEnd m) → IsRead w v n r → FindsNext old left v m r
 taken-finds old w v left m n (Ok (Some x)) s first h end k =
     subst (λ i. ReadsNext old left v m x.0 i) (sym k.0) (reads-next old left w m s first v x.0 n h.few k.1 k.2 k.3)
 taken-finds old w v left m n (Ok None) s first h end k = absurd k
 taken-finds old w v left m n (Err (next.Read e)) s first h end k =
-    some-where _ _ (read_fault e) (λ f q. subst (λ x. RefusesNext old left x m f) (sym k.1) (refuses-next old left w m s first n f h (λ none. at-end old w left m s (end none)) q)) k.0
-taken-finds old w v left m n (Err next.WantOfMemory) s first h end k = subst (λ x. HoldsRest old left x m) (sym k) (s.count, s.drops)
+    subst (λ x. RefusesNext old left x m e) (sym k.1) (refuses-next old left w m s first n e h (λ none. at-end old w left m s (end none)) k.0)
+taken-finds old w v left m n (Err next.WantOfMemory) s first h end k =
+    subst (λ x. IsSpared old left x m) (sym k) (item-spared old left w m s first n h (λ none. at-end old w left m s (end none)))
 taken-finds old w v left m n (Err next.Failed) s first h end k = absurd k
 taken-finds old w v left m n (Err next.InputBytes) s first h end k = absurd k
 

@@ -29,7 +29,7 @@ IsEnded w (Ok n) = HoldsItem w n
 IsEnded w (Err next.InputBytes) =
     (first_group_end (take (length w.held - 1) w.held) ≡ None) × (taken_by w ≡ most_input_bytes + 1)
 IsEnded w (Err next.Failed) = (first_group_end w.held ≡ None) × (taken_by w ≤ most_input_bytes)
-IsEnded w (Err next.WantOfMemory) = taken_by w ≤ most_input_bytes
+IsEnded w (Err next.WantOfMemory) = (first_group_end w.held ≡ None) × (taken_by w ≤ most_input_bytes)
 IsEnded w (Err (next.Read e)) = ⊥
 
 -- What is read of the first n bytes, which are dropped where they are a problem.

@@ -3,12 +3,13 @@ use Rattle.std.specs.Prelude.{◌≡◌, ℕ, ◌+◌, ◌-◌, ◌≤◌, List,
 use Rattle.pip_outside.specs.Windows.{HeldBytes}
 use Rattle.pip_model.specs.Limits.{most_input_bytes}
 use Rattle.pip_model.specs.Problem.{Problem}
-use Rattle.pip_model.specs.Reading.{Fault, next_open}
+use Rattle.pip_model.specs.Reading.{next_open}
 use Rattle.pip_model.specs.NativeText.{read_native}
 use Rattle.pip_model.specs.Moved.{moved}
 use Rattle.pip_problem.specs.Faults.{read_fault}
+use Rattle.pip_problem.specs.declared.refusal.ReadRefusal.{ReadRefusal}
 use Rattle.pip_reader.specs.Groups.{first_group_end}
-use Rattle.pip_stream.specs.Windows.{taken_by, bytes_from, Drops}
+use Rattle.pip_stream.specs.Windows.{taken_by, bytes_from, Drops, Skips}
 use Rattle.pip_stream.specs.declared.refusal.NextRefusal.{NextRefusal}
 use Rattle.pip_stream.specs.declared.refusal.NextRefusal.TheVariants as next
 
@@ -29,29 +30,33 @@ module _ (old : HeldBytes) (left : List ℕ) (new : HeldBytes) (now : Option (Li
     pub drops : Drops old left new now (length (bytes_from old left))
     pub end : now ≡ Some []
 
-  -- some bytes were dropped, and the others that were taken are held
+  -- bytes among which no item begins were dropped, and the others that were taken are held
   abbrev pub HoldsRest : Type 0
-  HoldsRest = (n : ℕ) × Drops old left new now n
+  HoldsRest = Skips old left new now
 
-  -- The next problem is refused; no piece came behind the end of its group.
-  pub record RefusesNext (f : Fault) : Type 0 where
-    pub read : moved old.base (read_native (bytes_from old left) 0) ≡ Err f
+  -- The next problem is not read; no piece came behind the end of its group.
+  pub record IsSpared : Type 0 where
     pub rest : HoldsRest
     pub spared : (n : ℕ) → first_group_end (bytes_from old left) ≡ Some n → taken_by new ≤ old.base + n + 4095
+
+  -- Its text is refused; nothing is said of it where there was no memory to read it.
+  pub record RefusesNext (e : ReadRefusal) : Type 0 where
+    pub read : IfSome (read_fault e) (λ f. moved old.base (read_native (bytes_from old left) 0) ≡ Err f)
+    pub kept : IsSpared
 
   -- The next group does not end within the first n bytes.
   pub record StaysOpen (n : ℕ) : Type 0 where
     pub open_still : first_group_end (take n (bytes_from old left)) ≡ None
     pub rest : HoldsRest
 
-  -- What a call for the next problem finds; nothing is said of want of memory but that no byte is lost.
+  -- What a call for the next problem finds.
   abbrev pub FindsNext : Result (Option (Problem × ℕ)) NextRefusal → Type 0
   FindsNext (Ok (Some x)) = ReadsNext x.0 x.1
   FindsNext (Ok None) = ReadsNone
-  FindsNext (Err (next.Read e)) = IfSome (read_fault e) RefusesNext
+  FindsNext (Err (next.Read e)) = RefusesNext e
   FindsNext (Err next.Failed) = StaysOpen (taken_by new - old.base)
   FindsNext (Err next.InputBytes) = StaysOpen (most_input_bytes - old.base)
-  FindsNext (Err next.WantOfMemory) = HoldsRest
+  FindsNext (Err next.WantOfMemory) = IsSpared
 
 -- the most that was held: the bytes of the item and a piece less one, or a piece where none is left
 abbrev pub IsPeak : HeldBytes → Option (Problem × ℕ) → Type 0

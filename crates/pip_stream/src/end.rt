@@ -4,7 +4,7 @@ ghost use Rattle.pip_model.specs.Limits.{most_input_bytes};
 ghost use Rattle.pip_model.specs.Reading.{next_open};
 ghost use Rattle.pip_outside.specs.Faults.{HasRisen};
 ghost use Rattle.pip_reader.specs.Groups.{first_group_end};
-ghost use Rattle.pip_stream.specs.Asked.{AsksWhileOpen};
+ghost use Rattle.pip_stream.specs.Asked.{AsksWhileOpen, AsksForEnd};
 ghost use Rattle.pip_stream.specs.Windows.{taken_by, Drops};
 ghost use Rattle.pip_stream.specs.Ended.{IsEnded};
 
@@ -35,6 +35,8 @@ pub(crate) fn find_end<S: Source>(window: &mut Window, source: &mut S) -> Result
     ensures cause { IsErrOf result NextRefusal.Failed → HasRisen (S.faults source.old) (S.faults source.new) }
     ensures asked { IfSome (S.left source.old)
         (AsksWhileOpen S.calls S.taken source.old source.new window.old) }
+    ensures turns { IfSome (S.left source.old) (λ _.
+        AsksForEnd S.calls S.taken source.old source.new result (first_group_end window.new.held)) }
     ensures untouched { first_group_end window.old.held ≢ None → source.new ≡ source.old }
 {
     let mut scan = GroupScan::start();

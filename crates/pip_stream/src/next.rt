@@ -4,7 +4,7 @@ ghost use Rattle.pip_model.specs.Limits.{most_input_bytes};
 ghost use Rattle.pip_model.specs.Reading.{next_open};
 ghost use Rattle.pip_outside.specs.Faults.{HasRisen};
 ghost use Rattle.pip_reader.specs.Groups.{first_group_end};
-ghost use Rattle.pip_stream.specs.Asked.{AsksWhileOpen};
+ghost use Rattle.pip_stream.specs.Asked.{AsksWhileOpen, AsksForNext};
 ghost use Rattle.pip_stream.specs.Windows.{taken_by};
 ghost use Rattle.pip_stream.specs.Ended.{HoldsItem, IsRead};
 ghost use Rattle.pip_stream.specs.Next.{FindsNext, IsPeak, IsReady};
@@ -78,9 +78,11 @@ pub fn next_problem<S: Source>(
     ensures quiet { ¬ IsErrOf result NextRefusal.Failed → S.faults source.new ≡ S.faults source.old }
     ensures cause { IsErrOf result NextRefusal.Failed → HasRisen (S.faults source.old) (S.faults source.new) }
 
-    // it is not called again once the group has ended, and not at all where that is held
+    // it is not called again once the group has ended, and not at all where that is held, nor at the input's end
     ensures asked { IfSome (S.left source.old)
         (AsksWhileOpen S.calls S.taken source.old source.new window.old) }
+    ensures turns { IfSome (S.left source.old) (λ _.
+        AsksForNext S.calls S.taken source.old source.new result) }
     ensures untouched { first_group_end window.old.held ≢ None → source.new ≡ source.old }
 {
     window.restart();

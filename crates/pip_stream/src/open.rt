@@ -3,7 +3,7 @@ ghost use Rattle.std.specs.Io.KnownBytes.{IsAtEnd};
 ghost use Rattle.pip_model.specs.Limits.{most_input_bytes};
 ghost use Rattle.pip_model.specs.Reading.{next_open};
 ghost use Rattle.pip_outside.specs.Faults.{HasRisen};
-ghost use Rattle.pip_stream.specs.Asked.{AsksWhileOpen};
+ghost use Rattle.pip_stream.specs.Asked.{AsksWhileOpen, AsksUntil};
 ghost use Rattle.pip_stream.specs.Windows.{taken_by, Skips};
 ghost use Rattle.pip_stream.specs.Open.{DropsClosed, IsOpened};
 
@@ -49,6 +49,8 @@ pub(crate) fn find_open<S: Source>(window: &mut Window, source: &mut S) -> Resul
     ensures cause { IsErrOf result NextRefusal.Failed → HasRisen (S.faults source.old) (S.faults source.new) }
     ensures asked { IfSome (S.left source.old)
         (AsksWhileOpen S.calls S.taken source.old source.new window.old) }
+    ensures turns { IfSome (S.left source.old) (λ _.
+        AsksUntil S.calls S.taken source.old source.new result) }
     ensures untouched { next_open 0 window.old.held ≢ None →
         (source.new ≡ source.old) × DropsClosed window.old window.new true }
 {

@@ -1,29 +1,40 @@
-use pip_outside::{
-    Failed, FillRefusal, MemorySource, Source, StdSink, StdSource, SteadySource, Window, write_all,
-};
+//! Readers and writers of std as the ends of a run.
+use pip_outside::{Failed, Source, StdSink, StdSource, write_all};
 use std::io::{Error, ErrorKind, Read, Write};
 use std::test::Fail;
 
-#[test]
-fn a_reader_of_std_is_read_to_its_end(rt: HostRuntime) -> Result<(), Failed> {
+// What two bytes' room takes of a reader: the count, and the bytes that lie in the room.
+fn taken<R: Read>(source: &mut StdSource<R>) -> Result<(usize, [u8; 2]), Failed> {
+    let mut room = [0u8; 2];
+    let count = source.read(&mut room)?;
+    Ok((count, room))
+}
+
+// A reader of three bytes is read to its end, which stays.
+fn is_read_to_its_end() -> bool {
     let mut source = StdSource::new(b"((a".as_slice());
-    let mut buf = [0u8; 2];
-    assert_eq!(rt; source.read(&mut buf)?, 2);
-    assert_eq!(rt; buf, *b"((");
-    assert_eq!(rt; source.read(&mut buf)?, 1);
-    assert_eq!(rt; buf[0], b'a');
-    assert_eq!(rt; source.read(&mut buf)?, 0);
-    Ok(())
+    taken(&mut source) == Ok((2, *b"(("))
+        && taken(&mut source) == Ok((1, *b"a\0"))
+        && taken(&mut source) == Ok((0, *b"\0\0"))
 }
 
 #[test]
-fn a_writer_of_std_takes_all_it_has_room_for(rt: HostRuntime) -> Result<(), Fail> {
+fn a_reader_of_std_is_read_to_its_end(rt: HostRuntime) {
+    assert!(rt; is_read_to_its_end());
+}
+
+// A writer takes all that it has room for, and then fails.
+fn is_filled() -> bool {
     let mut room = [0u8; 3];
     let mut sink = StdSink::new(room.as_mut_slice());
-    assert_eq!(rt; write_all(&mut sink, b"ab"), Ok(()));
-    assert_eq!(rt; write_all(&mut sink, b"cd"), Err(Failed));
-    assert_eq!(rt; room, *b"abc");
-    Ok(())
+    let written = write_all(&mut sink, b"ab") == Ok(())
+        && write_all(&mut sink, b"cd") == Err(Failed);
+    written && room == *b"abc"
+}
+
+#[test]
+fn a_writer_of_std_takes_all_it_has_room_for(rt: HostRuntime) {
+    assert!(rt; is_filled());
 }
 
 // A reader that gives two bytes and then fails.
@@ -44,13 +55,14 @@ impl Read for Failing {
     }
 }
 
-#[test]
-fn an_error_of_the_reader_is_a_fault(rt: HostRuntime) -> Result<(), Failed> {
+fn is_fault() -> bool {
     let mut source = StdSource::new(Failing { given: false });
-    let mut buf = [0u8; 4];
-    assert_eq!(rt; source.read(&mut buf)?, 2);
-    assert_eq!(rt; source.read(&mut buf), Err(Failed));
-    Ok(())
+    taken(&mut source) == Ok((2, *b"((")) && taken(&mut source) == Err(Failed)
+}
+
+#[test]
+fn an_error_of_the_reader_is_a_fault(rt: HostRuntime) {
+    assert!(rt; is_fault());
 }
 
 // A writer that counts its flushes in a place of its own.
@@ -70,40 +82,17 @@ impl Write for Flushed<'_> {
     }
 }
 
-#[test]
-fn each_write_is_flushed(rt: HostRuntime) -> Result<(), Fail> {
+// The flushes of two writes.
+fn flushes() -> u8 {
     let mut flushes = 0;
     let mut sink = StdSink::new(Flushed {
         flushes: &mut flushes,
     });
-    assert_eq!(rt; write_all(&mut sink, b"ab"), Ok(()));
-    assert_eq!(rt; write_all(&mut sink, b"c"), Ok(()));
-    assert_eq!(rt; flushes, 2);
-    Ok(())
+    let written = write_all(&mut sink, b"ab") == Ok(()) && write_all(&mut sink, b"c") == Ok(());
+    if written { flushes } else { 0 }
 }
 
 #[test]
-fn a_window_is_filled(rt: HostRuntime) -> Result<(), Fail> {
-    let alloc = rt.alloc();
-    let mut source = MemorySource::new(b"((a)b".to_vec(alloc)?, 4, [1].to_vec(alloc)?);
-    let mut window = Window::try_new(alloc).ok().ok_or("no memory")?;
-    assert_eq!(rt; window.fill(&mut source, 3), Ok(3));
-    assert_eq!(rt; window.fill(&mut source, 3), Err(FillRefusal::Failed));
-    assert_eq!(rt; window.held(), b"((a".as_slice());
-    Ok(())
-}
-
-#[test]
-fn a_window_holds_what_was_not_dropped(rt: HostRuntime) -> Result<(), Fail> {
-    let alloc = rt.alloc();
-    let mut source = SteadySource::new(b"((a)b".to_vec(alloc)?);
-    let mut window = Window::try_new(alloc).ok().ok_or("no memory")?;
-    assert_eq!(rt; window.fill(&mut source, 9), Ok(5));
-    if window.held().len() == 5 && window.base() == 0 {
-        window.drop_front(4);
-        window.restart();
-        assert_eq!(rt; window.base(), 4);
-        assert_eq!(rt; window.held(), b"b".as_slice());
-    }
-    Ok(())
+fn each_write_is_flushed(rt: HostRuntime) {
+    assert!(rt; flushes() == 2);
 }

@@ -1,45 +1,107 @@
-use affine_rows::Form;
-use std::process::Abort;
-use std::test::Fail;
-use tableau::{RowView, Tableau};
+//! Rows that are kept, and the cut by a quotient that is known, whose residue is not at hand.
+ghost use Rattle.std.specs.Prelude.{◌≡◌, ◌<◌, length, IfOk};
 
-fn has(rt: &impl Abort, row: RowView<'_>, den: i128, coefs: &[i128], constant: &[i128]) {
-    assert_eq!(rt; row.den, den);
-    assert_eq!(rt; row.coefs, coefs);
-    assert_eq!(rt; row.constant, constant);
+use affine_rows::{Form, WantOfMemory};
+use gomory_cut::{parametric_cut, residue_of};
+use std::alloc::Global;
+use std::test::Fail;
+use tableau::{StepRefusal, Tableau};
+
+// The row 2x - n, over one unknown and one parameter.
+fn started(alloc: Global) -> Result<Tableau, WantOfMemory>
+    ensures unknowns { IfOk result (λ t. t.unknowns ≡ 1) }
+    ensures width { IfOk result (λ t. t.width ≡ 1) }
+{
+    let form = Form::try_new(alloc, &[2, -1, 0])?;
+    Tableau::start(alloc, 1, 1, &[form])
+}
+
+// Puts the rows (2x - 6n + 8) / 4 and x behind it, and a new place before the constants.
+fn push_rows(t: &mut Tableau) -> Result<(), WantOfMemory>
+    requires unknowns { t.old.unknowns ≡ 1 }
+    requires width { t.old.width ≡ 1 }
+{
+    t.push_row(4, &[2], &[-6, 8])?;
+    t.push_unit(0)?;
+    t.widen_params()
+}
+
+// A copy of all four rows.
+fn copied(alloc: Global) -> Result<Tableau, WantOfMemory> {
+    let mut t = started(alloc)?;
+    push_rows(&mut t)?;
+    t.try_clone(t.allocator())
+}
+
+// The two rows that are no unit rows: each its denominator, its coefficient, the entries of its constant form.
+fn are_kept(t: &Tableau) -> bool {
+    t.rows() == 4 && t.flat() == [1, 2, -1, 0, 0, 2, 1, -3, 0, 4].as_slice()
 }
 
 #[test]
-fn what_takes_memory_answers(rt: HostRuntime) -> Result<(), Fail> {
-    let alloc = rt.alloc();
-    let form = Form::try_new(alloc, &[2, -1, 0])?;
-    let mut t = Tableau::start(alloc, 1, 1, &[form])?;
-    t.push_row(4, &[2], &[-6, 8])?;
-    t.push_unit(0)?;
-    t.widen_params()?;
-    let copy = t.try_clone(t.allocator())?;
-    assert_eq!(rt; copy.rows(), 4);
-    has(&rt, copy.row(0), 1, &[1], &[0, 0, 0]);
-    has(&rt, copy.row(1), 1, &[2], &[-1, 0, 0]);
-    has(&rt, copy.row(2), 2, &[1], &[-3, 0, 4]);
-    has(&rt, copy.row(3), 1, &[1], &[0, 0, 0]);
-    assert_eq!(rt; copy.flat(), [1, 2, -1, 0, 0, 2, 1, -3, 0, 4].as_slice());
+fn rows_are_kept(rt: HostRuntime) -> Result<(), Fail> {
+    let t = copied(rt.alloc())?;
+    assert!(rt; are_kept(&t));
     Ok(())
+}
+
+// The row (2x - 6n + 8) / 4 in a tableau of its own, with the x that the row 2x - n gives put into it.
+fn put_in(t: &Tableau) -> Result<Tableau, StepRefusal>
+    requires unknowns { t.now.unknowns ≡ 1 }
+    requires rows { 2 < length t.now.rows }
+{
+    let mut further = t.empty_like();
+    further.push_copy(t, 2)?;
+    let row = t.row(1);
+    if row.coefs[0] > 0 {
+        further.eliminate(&row, 0)?;
+    }
+    Ok(further)
+}
+
+fn is_put_in(t: &Tableau) -> Result<bool, StepRefusal> {
+    if t.unknowns() != 1 || t.rows() < 3 {
+        return Ok(false);
+    }
+    let further = put_in(t)?;
+    Ok(further.flat() == [4, 1, -5, 0, 8].as_slice())
 }
 
 #[test]
 fn a_row_is_put_into_another_tableau(rt: HostRuntime) -> Result<(), Fail> {
-    let alloc = rt.alloc();
-    let mut t = Tableau::start(alloc, 1, 1, &[])?;
-    t.push_row(1, &[2], &[-1, 0])?;
-    t.push_row(4, &[2], &[-6, 8])?;
-    let mut further = t.empty_like();
-    further.push_copy(&t, 2)?;
-    let p = t.row(1);
-    assert!(rt; p.coefs[0] > 0);
-    further.eliminate(&p, 0)?;
-    assert_eq!(rt; further.rows(), 1);
-    has(&rt, further.row(0), 4, &[1], &[-5, 8]);
-    assert_eq!(rt; t.row(1).product(0, &t.row(2), 0)?, 2);
+    let t = copied(rt.alloc())?;
+    assert!(rt; is_put_in(&t)?);
+    Ok(())
+}
+
+// The row (y + n) / 2 alone, with a place for a quotient.
+fn halved(alloc: Global) -> Result<Tableau, WantOfMemory>
+    ensures rows { IfOk result (λ t. length t.rows ≡ 1) }
+    ensures width { IfOk result (λ t. t.width ≡ 2) }
+{
+    let mut t = Tableau::new(alloc, 1, 1);
+    t.push_row(2, &[1], &[1, 0])?;
+    t.widen_params()?;
+    Ok(t)
+}
+
+// Adds the cut by the quotient at place 1, at which the row's residue is 0.
+fn cut(alloc: Global) -> Result<Tableau, WantOfMemory> {
+    let mut t = halved(alloc)?;
+    let (residue, _) = residue_of(alloc, &t, 0)?;
+    if residue.as_slice() == [1, 0, 0].as_slice() && residue.at(1) == 0 {
+        parametric_cut(&mut t, 0, 1)?;
+    }
+    Ok(t)
+}
+
+fn is_cut(t: &Tableau) -> bool {
+    t.flat() == [2, 1, 1, 0, 0, 2, 1, -1, 2, 0].as_slice()
+}
+
+#[test]
+fn a_row_is_cut(rt: HostRuntime) -> Result<(), Fail> {
+    let t = cut(rt.alloc())?;
+    assert!(rt; is_cut(&t));
     Ok(())
 }

@@ -4,10 +4,6 @@
 #[cfg(test)]
 mod certificates;
 #[cfg(test)]
-mod certified;
-#[cfg(test)]
-mod drawing;
-#[cfg(test)]
 mod examples;
 #[cfg(test)]
 mod faults;
@@ -17,6 +13,8 @@ mod hostile;
 mod library;
 #[cfg(test)]
 mod limits;
+#[cfg(test)]
+mod matrices;
 #[cfg(test)]
 mod pieces;
 #[cfg(test)]
@@ -37,3 +35,5 @@ mod trials;
 mod valuing;
 #[cfg(test)]
 mod walking;
+#[cfg(test)]
+mod words;

@@ -1,9 +1,135 @@
-//! Texts at a limit, and a text that is cut off at each of its bytes.
-use crate::row::{Row, check_on, words_of};
-use pip_cli::pip_main;
-use pip_outside::{MemorySink, MemorySource};
+//! Texts that tests make: at a limit, or cut off at each of their bytes.
+use crate::row::{Wanted, ends_over, ends_so};
 use std::alloc::{AllocError, Global};
+use std::process::Abort;
 use std::test::Fail;
+
+// A text of many like parts.
+#[derive(Drop)]
+enum Text {
+    // an answer with so many if nodes on one path
+    Nested(usize),
+    // an answer whose list has so many components
+    Listed(usize),
+    // a context of so many rows
+    Context(usize),
+    // so many blanks
+    Blanks(usize),
+    // a problem with blanks behind it, so many bytes in all
+    Padded(usize),
+}
+
+// The words, a text, and what a run over it gives.
+struct Limit {
+    words: &'static str,
+    text: Text,
+    output: &'static str,
+    notes: &'static str,
+    status: u8,
+}
+
+const PROBLEM: &str = "((a) 1 0 1 0 -1 1 (#[1 -3]) ())";
+
+const TOO_LONG: &str = "pip: limit of input bytes 16777216\n";
+
+const LIMITS: &[Limit] = &[
+    Limit {
+        words: "pip eval",
+        text: Text::Nested(200),
+        output: "((n)\n()\n)\n",
+        notes: "",
+        status: 0,
+    },
+    Limit {
+        words: "pip simplify 0",
+        text: Text::Nested(200),
+        output: "((n)\n()\n)\n",
+        notes: "",
+        status: 0,
+    },
+    Limit {
+        words: "pip eval",
+        text: Text::Nested(201),
+        output: "",
+        notes: "pip: limit of nesting 200\n",
+        status: 9,
+    },
+    Limit {
+        words: "pip eval",
+        text: Text::Listed(129),
+        output: "",
+        notes: "pip: limit of components 129\n",
+        status: 9,
+    },
+    Limit {
+        words: "pip restrict 1",
+        text: Text::Context(257),
+        output: "",
+        notes: "pip: limit of context rows 257\n",
+        status: 9,
+    },
+];
+
+// Problems are read one by one: the one before the last byte is answered.
+const LONGEST: &[Limit] = &[
+    Limit {
+        words: "pip solve",
+        text: Text::Padded(16_777_216),
+        output: "((a)\n(list\n#[ 3]\n)\n)\n",
+        notes: "",
+        status: 0,
+    },
+    Limit {
+        words: "pip solve",
+        text: Text::Padded(16_777_217),
+        output: "((a)\n(list\n#[ 3]\n)\n)\n",
+        notes: TOO_LONG,
+        status: 9,
+    },
+];
+
+// Other inputs are read whole first: matrices and answers,
+const LONGEST_ANSWERS: &[Limit] = &[
+    Limit {
+        words: "pip solve --polylib",
+        text: Text::Blanks(16_777_217),
+        output: "",
+        notes: TOO_LONG,
+        status: 9,
+    },
+    Limit {
+        words: "pip eval",
+        text: Text::Blanks(16_777_217),
+        output: "",
+        notes: TOO_LONG,
+        status: 9,
+    },
+];
+
+// and triples, pairs and trios.
+const LONGEST_GROUPS: &[Limit] = &[
+    Limit {
+        words: "pip check",
+        text: Text::Blanks(16_777_217),
+        output: "",
+        notes: TOO_LONG,
+        status: 9,
+    },
+    Limit {
+        words: "pip restrict 0",
+        text: Text::Blanks(16_777_217),
+        output: "",
+        notes: TOO_LONG,
+        status: 9,
+    },
+    Limit {
+        words: "pip same 0",
+        text: Text::Blanks(16_777_217),
+        output: "",
+        notes: TOO_LONG,
+        status: 9,
+    },
+];
 
 // Appends so many copies of a piece.
 fn repeat(text: &mut Vec<u8>, piece: &[u8], count: usize) -> Result<(), AllocError> {
@@ -13,95 +139,111 @@ fn repeat(text: &mut Vec<u8>, piece: &[u8], count: usize) -> Result<(), AllocErr
     Ok(())
 }
 
-// An answer whose tree has so many if nodes on one path.
+// So many copies of a piece between two others.
+fn between(
+    alloc: Global,
+    front: &[u8],
+    piece: &[u8],
+    count: usize,
+    back: &[u8],
+) -> Result<Vec<u8>, AllocError> {
+    let mut text = front.to_vec(alloc)?;
+    repeat(&mut text, piece, count)?;
+    text.extend_from_slice(back)?;
+    Ok(text)
+}
+
 fn nested(alloc: Global, count: usize) -> Result<Vec<u8>, AllocError> {
-    let mut text = b"((n)".to_vec(alloc)?;
-    repeat(&mut text, b"(if #[0]", count)?;
-    text.extend_from_slice(b"()")?;
+    let mut text = between(alloc, b"((n)", b"(if #[0]", count, b"()")?;
     repeat(&mut text, b"())", count)?;
     text.push(b')')?;
     Ok(text)
 }
 
-// An answer whose list has so many components.
-fn listed(alloc: Global, count: usize) -> Result<Vec<u8>, AllocError> {
-    let mut text = b"((e)(list".to_vec(alloc)?;
-    repeat(&mut text, b"#[0]", count)?;
-    text.extend_from_slice(b"))")?;
-    Ok(text)
+// Puts a piece into the front of a text, if it fits.
+fn write_over(text: &mut Vec<u8>, piece: &[u8]) {
+    for (place, byte) in text.iter_mut().zip(piece) {
+        *place = *byte;
+    }
+}
+
+fn made(alloc: Global, text: &Text) -> Result<Vec<u8>, AllocError> {
+    match text {
+        Text::Nested(count) => nested(alloc, *count),
+        Text::Listed(count) => between(alloc, b"((e)(list", b"#[0]", *count, b"))"),
+        Text::Context(count) => between(alloc, b"(", b"#[0 0]", *count, b")"),
+        Text::Blanks(count) => Ok(vec![in alloc; b' '; *count]?),
+        Text::Padded(length) => {
+            let mut text = vec![in alloc; b' '; *length]?;
+            write_over(&mut text, PROBLEM.as_bytes());
+            Ok(text)
+        }
+    }
+}
+
+fn is_kept(alloc: Global, limit: &Limit) -> Result<bool, AllocError> {
+    let mut ends = ends_over(alloc, made(alloc, &limit.text)?, 4096);
+    let wanted = Wanted {
+        output: limit.output.as_bytes(),
+        notes: limit.notes,
+        status: limit.status,
+    };
+    ends_so(alloc, limit.words, &mut ends, &wanted)
+}
+
+// Asserts that each limit is kept.
+fn are_kept(rt: &impl Abort, alloc: Global, limits: &[Limit]) -> Result<(), Fail> {
+    for limit in limits {
+        assert!(rt; is_kept(alloc, limit)?, "{}: {}", limit.words, limit.notes);
+    }
+    Ok(())
 }
 
 #[test]
 fn limits_are_kept(rt: HostRuntime) -> Result<(), Fail> {
-    let alloc = rt.alloc();
-    let most = Row {
-        name: "200 nested nodes",
-        words: "pip eval",
-        input: "",
-        output: "((n)\n()\n)\n",
-        notes: "",
-        status: 0,
-    };
-    check_on(&rt, alloc, &most, nested(alloc, 200)?)?;
-    let simplified = Row {
-        name: "200 nested nodes that choose nothing",
-        words: "pip simplify 0",
-        input: "",
-        output: "((n)\n()\n)\n",
-        notes: "",
-        status: 0,
-    };
-    check_on(&rt, alloc, &simplified, nested(alloc, 200)?)?;
-    let deeper = Row {
-        name: "201 nested nodes",
-        words: "pip eval",
-        input: "",
-        output: "",
-        notes: "pip: limit of nesting 200\n",
-        status: 9,
-    };
-    check_on(&rt, alloc, &deeper, nested(alloc, 201)?)?;
-    let longer = Row {
-        name: "129 components",
-        words: "pip eval",
-        input: "",
-        output: "",
-        notes: "pip: limit of components 129\n",
-        status: 9,
-    };
-    check_on(&rt, alloc, &longer, listed(alloc, 129)?)
+    are_kept(&rt, rt.alloc(), LIMITS)
 }
 
-// A list of so many zeros, as it is printed.
-fn zeros(alloc: Global, comment: &[u8], count: usize) -> Result<Vec<u8>, AllocError> {
-    let mut text = b"(".to_vec(alloc)?;
-    text.extend_from_slice(comment)?;
-    text.extend_from_slice(b"\n(list\n")?;
-    repeat(&mut text, b"#[ 0]\n", count)?;
-    text.extend_from_slice(b")\n)\n")?;
-    Ok(text)
+#[test]
+fn bytes_of_problems_are_limited(rt: HostRuntime) -> Result<(), Fail> {
+    are_kept(&rt, rt.alloc(), LONGEST)
+}
+
+#[test]
+fn bytes_of_answers_are_limited(rt: HostRuntime) -> Result<(), Fail> {
+    are_kept(&rt, rt.alloc(), LONGEST_ANSWERS)
+}
+
+#[test]
+fn bytes_of_groups_are_limited(rt: HostRuntime) -> Result<(), Fail> {
+    are_kept(&rt, rt.alloc(), LONGEST_GROUPS)
+}
+
+// Whether a text gives an answer with this front and a list of so many zeros.
+fn gives_zeros(
+    alloc: Global,
+    line: &str,
+    input: Vec<u8>,
+    front: &[u8],
+    count: usize,
+) -> Result<bool, AllocError> {
+    let output = between(alloc, front, b"#[ 0]\n", count, b")\n)\n")?;
+    let mut ends = ends_over(alloc, input, 7);
+    let wanted = Wanted {
+        output: output.as_slice(),
+        notes: "",
+        status: 0,
+    };
+    ends_so(alloc, line, &mut ends, &wanted)
 }
 
 #[test]
 fn long_lists_are_answered(rt: HostRuntime) -> Result<(), Fail> {
     let alloc = rt.alloc();
-    let rows = [
-        (
-            "pip solve",
-            b"((u) 65 0 0 0 -1 1 () ())".to_vec(alloc)?,
-            zeros(alloc, b"(u)", 65)?,
-        ),
-        ("pip eval", listed(alloc, 128)?, zeros(alloc, b"(e)", 128)?),
-    ];
-    for (line, input, output) in rows {
-        let words = words_of(alloc, line)?;
-        let mut source = MemorySource::new(input, 7, Vec::new(alloc));
-        let mut sink = MemorySink::new(Vec::new(alloc), 7, Vec::new(alloc));
-        let mut notes = MemorySink::new(Vec::new(alloc), 7, Vec::new(alloc));
-        let status = pip_main(alloc, &words, &mut source, &mut sink, &mut notes);
-        assert_eq!(rt; status, 0);
-        assert_eq!(rt; sink.written(), output.as_slice());
-    }
+    let problem = b"((u) 65 0 0 0 -1 1 () ())".to_vec(alloc)?;
+    assert!(rt; gives_zeros(alloc, "pip solve", problem, b"((u)\n(list\n", 65)?);
+    let answer = made(alloc, &Text::Listed(128))?;
+    assert!(rt; gives_zeros(alloc, "pip eval", answer, b"((e)\n(list\n", 128)?);
     Ok(())
 }
 
@@ -115,20 +257,26 @@ fn fault_at(length: usize) -> usize {
     }
 }
 
+// Whether a text that is cut to so many bytes is refused where it ends.
+fn is_cut_off(alloc: Global, text: &[u8], length: usize) -> Result<bool, AllocError> {
+    let notes = format!(in alloc; "pip: syntax at byte {}\n", fault_at(length))?;
+    let mut ends = ends_over(alloc, text.to_vec(alloc)?, 7);
+    let wanted = Wanted {
+        output: b"",
+        notes: notes.as_str(),
+        status: 2,
+    };
+    ends_so(alloc, "pip solve", &mut ends, &wanted)
+}
+
 #[test]
 fn a_text_cut_off_is_refused_at_its_end(rt: HostRuntime) -> Result<(), Fail> {
-    let alloc = rt.alloc();
     let text = b"((c) 1 1 1 0 -1 1 (#[2 0 -1]) ())".as_slice();
     for length in 1..text.len() {
-        let words = words_of(alloc, "pip solve")?;
-        let mut source = MemorySource::new(text[..length].to_vec(alloc)?, 7, Vec::new(alloc));
-        let mut sink = MemorySink::new(Vec::new(alloc), 7, Vec::new(alloc));
-        let mut notes = MemorySink::new(Vec::new(alloc), 7, Vec::new(alloc));
-        let status = pip_main(alloc, &words, &mut source, &mut sink, &mut notes);
-        let line = format!(in alloc; "pip: syntax at byte {}\n", fault_at(length))?;
-        assert_eq!(rt; status, 2);
-        assert_eq!(rt; sink.written(), b"".as_slice());
-        assert_eq!(rt; notes.written(), line.as_bytes());
+        assert!(rt;
+            is_cut_off(rt.alloc(), &text[..length], length)?,
+            "{length}"
+        );
     }
     Ok(())
 }

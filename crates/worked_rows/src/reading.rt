@@ -1,118 +1,145 @@
 //! Native problems are answered one by one, for every size of the pieces that the source gives.
-use crate::row::words_of;
-use pip_cli::pip_main;
+use crate::row::{Ends, Wanted, ends_so};
 use pip_outside::{MemorySink, MemorySource};
-use std::alloc::Global;
-use std::process::Abort;
+use std::alloc::{AllocError, Global};
 use std::test::Fail;
 
-const ANSWER: &str = "((a)\n(list\n#[ 3]\n)\n)\n";
+const ONE: &str = "((a)\n(list\n#[ 3]\n)\n)\n";
 
-// An input, the reads of it that fail, how many answers are written, the line on the notes and the status.
-#[derive(Clone, Copy)]
+const TWO: &str = "((a)\n(list\n#[ 3]\n)\n)\n((a)\n(list\n#[ 3]\n)\n)\n";
+
+const TWICE: &str = "((a) 1 0 1 0 -1 1 (#[1 -3]) ())((a) 1 0 1 0 -1 1 (#[1 -3]) ())";
+
+const CUT: &str = "((a) 1 0 1 0 -1 1 (#[1 -3]) ())((a) 1 0 1 0 -1 1 (#[1 -3]) ()";
+
+const READ_FAULT: &str = "pip: read fault\n";
+
+// An input, the sizes of the pieces that it is read in, the reads of it that fail, and what a run gives.
 struct Read {
     input: &'static str,
-    piece: usize,
+    pieces: &'static [usize],
     fails: &'static [u64],
-    answers: usize,
-    line: &'static str,
+    output: &'static str,
+    notes: &'static str,
     status: u8,
 }
 
-fn check(rt: &impl Abort, alloc: Global, read: &Read) -> Result<(), Fail> {
-    let words = words_of(alloc, "pip solve")?;
+const READS: &[Read] = &[
+    Read {
+        input: " no problem )",
+        pieces: &[1, 2, 7, 30, 31, 32, 4096],
+        fails: &[],
+        output: "",
+        notes: "",
+        status: 0,
+    },
+    Read {
+        input: "x)((a) 1 0 1 0 -1 1 (#[1 -3]) ()) ) y((a) 1 0 1 0 -1 1 (#[1 -3]) ())\n)",
+        pieces: &[1, 2, 7, 30, 31, 32, 4096],
+        fails: &[],
+        output: TWO,
+        notes: "",
+        status: 0,
+    },
+    Read {
+        input: CUT,
+        pieces: &[1, 2, 7, 30, 31, 32, 4096],
+        fails: &[],
+        output: ONE,
+        notes: "pip: syntax at byte 61\n",
+        status: 2,
+    },
+    Read {
+        input: CUT,
+        pieces: &[1, 2, 7, 30, 31, 32, 4096],
+        fails: &[0],
+        output: "",
+        notes: READ_FAULT,
+        status: 6,
+    },
+    // what was read whole is answered before a fault
+    Read {
+        input: TWICE,
+        pieces: &[31],
+        fails: &[1],
+        output: ONE,
+        notes: READ_FAULT,
+        status: 6,
+    },
+    Read {
+        input: TWICE,
+        pieces: &[31],
+        fails: &[2],
+        output: TWO,
+        notes: READ_FAULT,
+        status: 6,
+    },
+    Read {
+        input: TWICE,
+        pieces: &[1],
+        fails: &[30],
+        output: "",
+        notes: READ_FAULT,
+        status: 6,
+    },
+    Read {
+        input: TWICE,
+        pieces: &[1],
+        fails: &[61],
+        output: ONE,
+        notes: READ_FAULT,
+        status: 6,
+    },
+    Read {
+        input: TWICE,
+        pieces: &[1],
+        fails: &[62],
+        output: TWO,
+        notes: READ_FAULT,
+        status: 6,
+    },
+    // a source that fails at its second read, once a refused problem was read whole, is not asked again
+    Read {
+        input: "((a) 1 0 1 0 -1 1 (#[1 -3 0]) ())((a) 1 0 1 0 -1 1 (#[1 -3]) ())",
+        pieces: &[33],
+        fails: &[1],
+        output: "",
+        notes: "pip: syntax at byte 26\n",
+        status: 2,
+    },
+];
+
+// Ends over an input that is read in pieces of one size, some of whose reads fail.
+fn ends_of(alloc: Global, read: &Read, piece: usize) -> Result<Ends, AllocError> {
     let bytes = read.input.as_bytes().to_vec(alloc)?;
-    let mut source = MemorySource::new(bytes, read.piece.max(1), read.fails.to_vec(alloc)?);
-    let mut sink = MemorySink::new(Vec::new(alloc), 7, Vec::new(alloc));
-    let mut notes = MemorySink::new(Vec::new(alloc), 7, Vec::new(alloc));
-    let status = pip_main(alloc, &words, &mut source, &mut sink, &mut notes);
-    let mut output = Vec::new(alloc);
-    for _ in 0..read.answers {
-        output.extend_from_slice(ANSWER.as_bytes())?;
-    }
-    assert_eq!(rt; sink.written(), output.as_slice(), "{}", read.piece);
-    assert_eq!(rt; notes.written(), read.line.as_bytes(), "{}", read.piece);
-    assert_eq!(rt; status, read.status, "{}", read.piece);
-    Ok(())
+    let fails = read.fails.to_vec(alloc)?;
+    Ok(Ends {
+        source: MemorySource::new(bytes, piece.max(1), fails),
+        sink: MemorySink::new(Vec::new(alloc), 7, Vec::new(alloc)),
+        notes: MemorySink::new(Vec::new(alloc), 7, Vec::new(alloc)),
+    })
+}
+
+fn is_read(alloc: Global, read: &Read, piece: usize) -> Result<bool, AllocError> {
+    let mut ends = ends_of(alloc, read, piece)?;
+    let wanted = Wanted {
+        output: read.output.as_bytes(),
+        notes: read.notes,
+        status: read.status,
+    };
+    ends_so(alloc, "pip solve", &mut ends, &wanted)
 }
 
 #[test]
 fn every_piece_gives_the_same_texts(rt: HostRuntime) -> Result<(), Fail> {
-    let alloc = rt.alloc();
-    let cut = "((a) 1 0 1 0 -1 1 (#[1 -3]) ())((a) 1 0 1 0 -1 1 (#[1 -3]) ()";
-    let between = "x)((a) 1 0 1 0 -1 1 (#[1 -3]) ()) ) y((a) 1 0 1 0 -1 1 (#[1 -3]) ())\n)";
-    for piece in [1, 2, 7, 30, 31, 32, 4096] {
-        let none = Read {
-            input: " no problem )",
-            piece,
-            fails: &[],
-            answers: 0,
-            line: "",
-            status: 0,
-        };
-        check(&rt, alloc, &none)?;
-        let two = Read {
-            input: between,
-            answers: 2,
-            ..none
-        };
-        check(&rt, alloc, &two)?;
-        let syntax = Read {
-            input: cut,
-            answers: 1,
-            line: "pip: syntax at byte 61\n",
-            status: 2,
-            ..none
-        };
-        check(&rt, alloc, &syntax)?;
-        let unread = Read {
-            input: cut,
-            fails: &[0],
-            line: "pip: read fault\n",
-            status: 6,
-            ..none
-        };
-        check(&rt, alloc, &unread)?;
+    for read in READS {
+        for piece in read.pieces {
+            assert!(rt;
+                is_read(rt.alloc(), read, *piece)?,
+                "{} in pieces of {piece}",
+                read.input
+            );
+        }
     }
     Ok(())
-}
-
-#[test]
-fn what_was_read_whole_is_answered_before_a_fault(rt: HostRuntime) -> Result<(), Fail> {
-    let alloc = rt.alloc();
-    let twice = "((a) 1 0 1 0 -1 1 (#[1 -3]) ())((a) 1 0 1 0 -1 1 (#[1 -3]) ())";
-    let fails: [(usize, &'static [u64], usize); 5] = [
-        (31, &[1], 1),
-        (31, &[2], 2),
-        (1, &[30], 0),
-        (1, &[61], 1),
-        (1, &[62], 2),
-    ];
-    for (piece, fails, answers) in fails {
-        let read = Read {
-            input: twice,
-            piece,
-            fails,
-            answers,
-            line: "pip: read fault\n",
-            status: 6,
-        };
-        check(&rt, alloc, &read)?;
-    }
-    Ok(())
-}
-
-// A source that fails at its second read, once a refused problem was read whole, is not asked again.
-#[test]
-fn a_refused_problem_ends_the_reading(rt: HostRuntime) -> Result<(), Fail> {
-    let alloc = rt.alloc();
-    let refused = Read {
-        input: "((a) 1 0 1 0 -1 1 (#[1 -3 0]) ())((a) 1 0 1 0 -1 1 (#[1 -3]) ())",
-        piece: 33,
-        fails: &[1],
-        answers: 0,
-        line: "pip: syntax at byte 26\n",
-        status: 2,
-    };
-    check(&rt, alloc, &refused)
 }

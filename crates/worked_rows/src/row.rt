@@ -5,8 +5,7 @@ use std::process::Abort;
 use std::test::Fail;
 
 // A worked row: the words with a blank between two of them, the input, what the sink and the notes gain, and the
-// status.
-#[derive(Clone, Copy, Debug)]
+// status. It derives nothing, since what is derived is proved too.
 pub(crate) struct Row {
     pub name: &'static str,
     pub words: &'static str,
@@ -14,6 +13,33 @@ pub(crate) struct Row {
     pub output: &'static str,
     pub notes: &'static str,
     pub status: u8,
+}
+
+// The source, the sink and the notes of a run, all in memory.
+#[derive(Drop)]
+pub(crate) struct Ends {
+    pub source: MemorySource,
+    pub sink: MemorySink,
+    pub notes: MemorySink,
+}
+
+// What a run is to write and to tell, and its status.
+#[derive(Drop)]
+pub(crate) struct Wanted<'t> {
+    pub output: &'t [u8],
+    pub notes: &'t str,
+    pub status: u8,
+}
+
+// Ends over an input that move at most so many bytes a call. None of their calls fails.
+pub(crate) fn ends_over(alloc: Global, input: Vec<u8>, piece: usize) -> Ends
+    requires { 0 < piece }
+{
+    Ends {
+        source: MemorySource::new(input, piece, Vec::new(alloc)),
+        sink: MemorySink::new(Vec::new(alloc), piece, Vec::new(alloc)),
+        notes: MemorySink::new(Vec::new(alloc), piece, Vec::new(alloc)),
+    }
 }
 
 // The words of a line.
@@ -25,25 +51,56 @@ pub(crate) fn words_of(alloc: Global, line: &str) -> Result<Vec<String>, AllocEr
     Ok(words)
 }
 
-// Runs a row over memory, in pieces of seven bytes.
-pub(crate) fn check(rt: &impl Abort, alloc: Global, row: &Row) -> Result<(), Fail> {
-    check_on(rt, alloc, row, row.input.as_bytes().to_vec(alloc)?)
+// Runs these words, and gives the status.
+pub(crate) fn run_words(alloc: Global, words: &Vec<String>, ends: &mut Ends) -> u8 {
+    pip_main(
+        alloc,
+        words,
+        &mut ends.source,
+        &mut ends.sink,
+        &mut ends.notes,
+    )
 }
 
-// Runs a row over another input than its own.
-pub(crate) fn check_on(
-    rt: &impl Abort,
+// Runs the words of a line, and gives the status.
+pub(crate) fn run(alloc: Global, line: &str, ends: &mut Ends) -> Result<u8, AllocError> {
+    let words = words_of(alloc, line)?;
+    Ok(run_words(alloc, &words, ends))
+}
+
+// Whether a run that is over ended as wanted.
+pub(crate) fn is_ended(ends: &Ends, status: u8, wanted: &Wanted<'_>) -> bool {
+    ends.sink.written() == wanted.output
+        && ends.notes.written() == wanted.notes.as_bytes()
+        && status == wanted.status
+}
+
+// Whether the words of a line end as wanted over these ends.
+pub(crate) fn ends_so(
     alloc: Global,
-    row: &Row,
-    input: Vec<u8>,
-) -> Result<(), Fail> {
-    let words = words_of(alloc, row.words)?;
-    let mut source = MemorySource::new(input, 7, Vec::new(alloc));
-    let mut sink = MemorySink::new(Vec::new(alloc), 7, Vec::new(alloc));
-    let mut notes = MemorySink::new(Vec::new(alloc), 7, Vec::new(alloc));
-    let status = pip_main(alloc, &words, &mut source, &mut sink, &mut notes);
-    assert_eq!(rt; sink.written(), row.output.as_bytes(), "{}", row.name);
-    assert_eq!(rt; notes.written(), row.notes.as_bytes(), "{}", row.name);
-    assert_eq!(rt; status, row.status, "{}", row.name);
+    line: &str,
+    ends: &mut Ends,
+    wanted: &Wanted<'_>,
+) -> Result<bool, AllocError> {
+    let status = run(alloc, line, ends)?;
+    Ok(is_ended(ends, status, wanted))
+}
+
+// Whether a row ends as it says, in pieces of seven bytes.
+fn is_answered(alloc: Global, row: &Row) -> Result<bool, AllocError> {
+    let mut ends = ends_over(alloc, row.input.as_bytes().to_vec(alloc)?, 7);
+    let wanted = Wanted {
+        output: row.output.as_bytes(),
+        notes: row.notes,
+        status: row.status,
+    };
+    ends_so(alloc, row.words, &mut ends, &wanted)
+}
+
+// Asserts that each row ends as it says.
+pub(crate) fn are_answered(rt: &impl Abort, alloc: Global, rows: &[Row]) -> Result<(), Fail> {
+    for row in rows {
+        assert!(rt; is_answered(alloc, row)?, "{}", row.name);
+    }
     Ok(())
 }

@@ -1,9 +1,9 @@
+//! Nodes whose subtree is nested as deep as may be: all that was given is handed back.
 ghost use Rattle.std.specs.Prelude.{◌≡◌, pos, negsuc, [], ◌∷◌, IfOk};
 
-use affine_rows::{Form, MOST_NESTING, Overflow, WantOfMemory};
-use quast::{BuildRefusal, Component, Parts, Place, Quast, Scratch};
+use affine_rows::{Form, MOST_NESTING, WantOfMemory};
+use quast::{BuildRefusal, Parts, Quast};
 use std::alloc::Global;
-use std::process::Abort;
 use std::test::Fail;
 
 // p - 2, at least 0.
@@ -13,13 +13,6 @@ fn condition(alloc: Global) -> Result<Form, WantOfMemory>
     Form::try_new(alloc, &[1, -2])
 }
 
-// p, to be halved.
-fn dividend(alloc: Global) -> Result<Form, WantOfMemory>
-    ensures { IfOk result (λ form. form ≡ pos 1 ∷ pos 0 ∷ []) }
-{
-    Form::try_new(alloc, &[1, 0])
-}
-
 // 3, to be halved.
 fn three(alloc: Global) -> Result<Form, WantOfMemory>
     ensures { IfOk result (λ form. form ≡ pos 3 ∷ []) }
@@ -27,43 +20,15 @@ fn three(alloc: Global) -> Result<Form, WantOfMemory>
     Form::try_new(alloc, &[3])
 }
 
-// 2*p + 2*q + 6, over 4.
-fn numerator(alloc: Global) -> Result<Form, WantOfMemory>
-    ensures { IfOk result (λ form. form ≡ pos 2 ∷ pos 2 ∷ pos 6 ∷ []) }
+// A choice between the tree and bottom.
+fn chosen(alloc: Global, tree: Quast) -> Result<Quast, Fail>
+    requires { tree.width ≡ 1 }
+    ensures { IfOk result (λ made. made.width ≡ 1) }
 {
-    Form::try_new(alloc, &[2, 2, 6])
-}
-
-fn leads(rt: &impl Abort, place: Result<Place<'_>, Overflow>, wanted: &[i128]) {
-    match place {
-        Ok(Place::Bottom) => assert!(rt; wanted.is_empty()),
-        Ok(Place::At(components, numbers)) => {
-            assert!(rt; components.iter().all(|c| c.den() == 2));
-            assert_eq!(rt; numbers, wanted);
-        }
-        Err(Overflow) => assert_eq!(rt; wanted, [-1].as_slice()),
+    match Quast::select(alloc, condition(alloc)?, tree, Quast::bottom(1)) {
+        Ok(tree) => Ok(tree),
+        Err(_) => Err("select")?,
     }
-}
-
-#[test]
-fn a_tree_is_built_and_leads_to_its_lists(rt: HostRuntime) -> Result<(), Fail> {
-    let alloc = rt.alloc();
-    let mut components = Vec::new(alloc);
-    components.push(Component::reduced(4, numerator(alloc)?))?;
-    let list = Quast::list(components);
-    let Ok(below) = Quast::define(alloc, dividend(alloc)?, 2, list) else {
-        panic!(rt; "define");
-    };
-    let Ok(tree) = Quast::select(alloc, condition(alloc)?, below, Quast::bottom(1)) else {
-        panic!(rt; "select");
-    };
-    assert_eq!(rt; (tree.width(), tree.nesting()), (1, 2));
-    let mut scratch = Scratch::reserve(alloc)?;
-    leads(&rt, tree.value_at(&[5], &mut scratch), &[10]);
-    leads(&rt, tree.value_at(&[1], &mut scratch), &[]);
-    leads(&rt, tree.value_at(&[-7], &mut scratch), &[]);
-    leads(&rt, tree.value_at(&[i128::MAX], &mut scratch), &[-1]);
-    Ok(())
 }
 
 // A tree of the most nested choices.
@@ -72,32 +37,59 @@ fn deepest(alloc: Global) -> Result<Quast, Fail>
 {
     let mut tree = Quast::bottom(1);
     for _ in 0..MOST_NESTING {
-        tree = match Quast::select(alloc, condition(alloc)?, tree, Quast::bottom(1)) {
-            Ok(tree) => tree,
-            Err(_) => return Err("select")?,
-        };
+        tree = chosen(alloc, tree)?;
     }
     Ok(tree)
 }
 
+type Made = Result<Quast, (Parts, BuildRefusal)>;
+
+// A choice between bottom and the deepest tree.
+fn selected(alloc: Global) -> Result<Made, Fail> {
+    let deepest = deepest(alloc)?;
+    let condition = condition(alloc)?;
+    Ok(Quast::select(alloc, condition, Quast::bottom(1), deepest))
+}
+
+// Whether that is refused, and its parts are handed back.
+fn is_select_refused(made: &Made) -> bool {
+    match made {
+        Err((Parts::Select(form, above, below), BuildRefusal::Nesting)) => {
+            form.as_slice() == [1, -2].as_slice()
+                && above.nesting() == 0
+                && below.nesting() == MOST_NESTING
+        }
+        _ => false,
+    }
+}
+
 #[test]
-fn a_tree_too_deep_is_handed_back(rt: HostRuntime) -> Result<(), Fail> {
-    let alloc = rt.alloc();
-    let chosen = Quast::select(alloc, condition(alloc)?, Quast::bottom(1), deepest(alloc)?);
-    let Err((Parts::Select(form, above, below), BuildRefusal::Nesting)) = chosen else {
-        panic!(rt; "select");
-    };
-    assert_eq!(rt; form.as_slice(), [1, -2].as_slice());
-    assert_eq!(rt; (above.nesting(), below.nesting()), (0, MOST_NESTING));
-    let Err((Parts::Define(form, divisor, below), BuildRefusal::Nesting)) = Quast::define(
-        alloc,
-        three(alloc)?,
-        2,
-        below,
-    ) else {
-        panic!(rt; "define");
-    };
-    assert_eq!(rt; form.as_slice(), [3].as_slice());
-    assert_eq!(rt; (divisor, below.nesting()), (2, MOST_NESTING));
+fn a_choice_too_deep_is_handed_back(rt: HostRuntime) -> Result<(), Fail> {
+    let made = selected(rt.alloc())?;
+    assert!(rt; is_select_refused(&made));
+    Ok(())
+}
+
+// A new parameter above the deepest tree.
+fn defined(alloc: Global) -> Result<Made, Fail> {
+    let deepest = deepest(alloc)?;
+    let dividend = three(alloc)?;
+    Ok(Quast::define(alloc, dividend, 2, deepest))
+}
+
+// Whether that is refused, and its parts are handed back.
+fn is_define_refused(made: &Made) -> bool {
+    match made {
+        Err((Parts::Define(form, divisor, below), BuildRefusal::Nesting)) => {
+            form.as_slice() == [3].as_slice() && *divisor == 2 && below.nesting() == MOST_NESTING
+        }
+        _ => false,
+    }
+}
+
+#[test]
+fn a_definition_too_deep_is_handed_back(rt: HostRuntime) -> Result<(), Fail> {
+    let made = defined(rt.alloc())?;
+    assert!(rt; is_define_refused(&made));
     Ok(())
 }

@@ -1,14 +1,14 @@
 use Rattle.std.proofs.Common.{◌≡◌, refl, sym, ap, ◌∙◌, ◌+◌, ◌≤◌, arith, length, length-drop, take, drop}
 use Rattle.std.proofs.lemmas.Result.{err_from_is_err_and}
-use Rattle.std.specs.Prelude.{Some, None}
+use Rattle.std.specs.Prelude.{Some, None, IfSome}
 use Rattle.pip_outside.specs.Windows.{HeldBytes}
 use Rattle.pip_reader.specs.Groups.{first_group_end}
 use Rattle.pip_stream.specs.Windows.{taken_by}
-use Rattle.pip_stream.proofs.Asking.{drops-skips, asked-start, asked-more}
+use Rattle.pip_stream.proofs.Asking.{drops-skips, takes-start, takes-told, asks-told, ended-asks, open-asks, asked-start, asked-more}
 use Rattle.pip_stream.proofs.Dropping.{drops-drops}
 use Rattle.pip_stream.proofs.Scanned.{begins_some}
 use Rattle.pip_stream.proofs.Steps.{if-told, risen-from, counted-more, drops-told, some_more, err-base}
-use Rattle.pip_stream.proofs.Ending.{drops-start, scan-end, scan-none, holds-ended, holds-rest, scanned-front, more-open, err-open, ended-err}
+use Rattle.pip_stream.proofs.Ending.{drops-start, scan-end, scan-none, holds-ended, rest-open, holds-rest, scanned-front, more-open, err-open, ended-err}
 use Rattle.pip_stream.proofs.end.find_end.Goals as goal
 
 pub loop-scan-init : goal.loop-scan-init
@@ -23,6 +23,7 @@ loop-scan-init g c = record {
   open_still = c.requires.open_first;
   drops = drops-start c.args.window.now (g.S.Source.left c.args.source.now);
   counted = if-told _ (g.S.Source.left c.args.source.now) refl;
+  takes = takes-start g.S.Source.calls g.S.Source.taken c.args.source.now (g.S.Source.left c.args.source.now);
   asked = asked-start g.S.Source.calls g.S.Source.taken c.args.source.now c.args.window.now (g.S.Source.left c.args.source.now);
   untouched = λ some. (refl, refl);
   quiet = refl;
@@ -83,6 +84,13 @@ pub returns-in-Some-clause-asked : goal.returns-in-Some-clause-asked
 returns-in-Some-clause-asked g c =
     c.loop-scan.invariant.asked
 
+pub returns-in-Some-clause-turns : goal.returns-in-Some-clause-turns
+returns-in-Some-clause-turns g c =
+    let i = c.loop-scan.invariant in
+    let low : c.loop-scan.seen ≤ length c.loop-scan.window.held = omega (arith, i.some) in
+    let e = scan-end c.loop-scan.window.held c.split_at.result.1.now c.loop-scan.seen c.in-Some.after low (c.split_at.ensures.back ∙ ap (drop c.loop-scan.seen) c.held.ensures.value) (c.in-Some.ensures.found (take c.loop-scan.seen c.loop-scan.window.held) i.scanned) in
+    ended-asks g.S.Source.calls g.S.Source.taken c.args.source.now c.loop-scan.source (g.S.Source.left c.args.source.now) (c.loop-scan.seen + c.in-Some.after) _ _ e i.takes
+
 pub returns-in-Some-clause-untouched : goal.returns-in-Some-clause-untouched
 returns-in-Some-clause-untouched g c some =
     (c.loop-scan.invariant.untouched some).0
@@ -135,7 +143,12 @@ returns-in_err-more-clause-asked g c =
     let h = scan-none c.loop-scan.window.held c.split_at.result.1.now c.loop-scan.seen _ (c.split_at.ensures.back ∙ ap (drop c.loop-scan.seen) c.held.ensures.value) (c.in-None.ensures.open (take c.loop-scan.seen c.loop-scan.window.held) c.loop-scan.invariant.scanned) in
     asked-more g.S.Source.calls g.S.Source.taken c.args.source.now c.loop-scan.source c.more.new.source c.args.window.now c.loop-scan.window (g.S.Source.left c.args.source.now) (g.S.Source.left c.loop-scan.source)
     (drops-skips c.args.window.now c.loop-scan.window _ _ c.loop-scan.invariant.drops) h.not_ended
-    c.loop-scan.invariant.counted c.loop-scan.invariant.asked c.more.ensures.asked
+    c.loop-scan.invariant.counted c.loop-scan.invariant.takes c.loop-scan.invariant.asked c.more.ensures.asked
+
+pub returns-in_err-more-clause-turns : goal.returns-in_err-more-clause-turns
+returns-in_err-more-clause-turns g c =
+    let p = err_from_is_err_and c.from_residual.result c.from_residual.ensures.1 in
+    rw p.1 (asks-told g.S.Source.calls g.S.Source.taken c.args.source.now c.loop-scan.source c.more.new.source (g.S.Source.left c.args.source.now) c.loop-scan.invariant.takes c.more.ensures.asked)
 
 pub returns-in_err-more-clause-untouched : goal.returns-in_err-more-clause-untouched
 returns-in_err-more-clause-untouched g c some =
@@ -184,7 +197,14 @@ returns-then-branch-eq0-clause-asked g c =
     let h = scan-none c.loop-scan.window.held c.split_at.result.1.now c.loop-scan.seen _ (c.split_at.ensures.back ∙ ap (drop c.loop-scan.seen) c.held.ensures.value) (c.in-None.ensures.open (take c.loop-scan.seen c.loop-scan.window.held) c.loop-scan.invariant.scanned) in
     asked-more g.S.Source.calls g.S.Source.taken c.args.source.now c.loop-scan.source c.more.new.source c.args.window.now c.loop-scan.window (g.S.Source.left c.args.source.now) (g.S.Source.left c.loop-scan.source)
     (drops-skips c.args.window.now c.loop-scan.window _ _ c.loop-scan.invariant.drops) h.not_ended
-    c.loop-scan.invariant.counted c.loop-scan.invariant.asked c.more.ensures.asked
+    c.loop-scan.invariant.counted c.loop-scan.invariant.takes c.loop-scan.invariant.asked c.more.ensures.asked
+
+pub returns-then-branch-eq0-clause-turns : goal.returns-then-branch-eq0-clause-turns
+returns-then-branch-eq0-clause-turns g c =
+    let i = c.loop-scan.invariant in
+    let h = scan-none c.loop-scan.window.held c.split_at.result.1.now c.loop-scan.seen _ (c.split_at.ensures.back ∙ ap (drop c.loop-scan.seen) c.held.ensures.value) (c.in-None.ensures.open (take c.loop-scan.seen c.loop-scan.window.held) i.scanned) in
+    open-asks g.S.Source.calls g.S.Source.taken c.args.source.now c.more.new.source (g.S.Source.left c.args.source.now) c.loop-scan.seen _ (rest-open c.loop-scan.window c.more.new.window _ _ h c.in_ok-more.ensures.window c.if-branch-eq0.true)
+    (asks-told g.S.Source.calls g.S.Source.taken c.args.source.now c.loop-scan.source c.more.new.source (g.S.Source.left c.args.source.now) i.takes c.more.ensures.asked)
 
 pub returns-then-branch-eq0-clause-untouched : goal.returns-then-branch-eq0-clause-untouched
 returns-then-branch-eq0-clause-untouched g c some =
@@ -205,6 +225,9 @@ loop-scan-preserved g c =
     let s = some_more c.loop-scan.window c.more.new.window _ c.in_ok-more.ensures.window in
     let h = scan-none c.loop-scan.window.held c.split_at.result.1.now c.loop-scan.seen _ (c.split_at.ensures.back ∙ ap (drop c.loop-scan.seen) c.held.ensures.value) (c.in-None.ensures.open (take c.loop-scan.seen c.loop-scan.window.held) i.scanned) in
     let seen = ap length c.held-seen.ensures.value in
+    let counted : IfSome (g.S.Source.left c.args.source.now) (λ _. g.S.Source.taken c.more.new.source + taken_by c.args.window.now ≡ g.S.Source.taken c.args.source.now + taken_by c.more.new.window) =
+    counted-more (g.S.Source.left c.args.source.now) (g.S.Source.left c.loop-scan.source) _ (g.S.Source.taken c.loop-scan.source) _ (taken_by c.args.window.now) (taken_by c.loop-scan.window) (taken_by c.loop-scan.window) _
+    (drops-told c.args.window.now c.loop-scan.window _ _ i.drops) i.counted refl c.more.ensures.counted in
     record {
       scanned = scanned-front c.loop-scan.window c.more.new.window _ _ _ h c.in_ok-more.ensures.window seen;
       depth = omega (arith, seen, c.scan.ensures.few, ap length c.split_at.ensures.back, length-drop c.loop-scan.seen c.held.result.now, ap length c.held.ensures.value, i.depth, i.some);
@@ -215,13 +238,14 @@ loop-scan-preserved g c =
       base = s.base ∙ i.base;
       open_still = more-open c.loop-scan.window c.more.new.window _ i.open_still c.in_ok-more.ensures.window;
       drops = drops-drops c.args.window.now c.loop-scan.window c.more.new.window (g.S.Source.left c.args.source.now) (g.S.Source.left c.loop-scan.source) _ i.drops c.more.ensures.bytes;
-      counted =
-          counted-more (g.S.Source.left c.args.source.now) (g.S.Source.left c.loop-scan.source) _ (g.S.Source.taken c.loop-scan.source) _ (taken_by c.args.window.now) (taken_by c.loop-scan.window) (taken_by c.loop-scan.window) _
-          (drops-told c.args.window.now c.loop-scan.window _ _ i.drops) i.counted refl c.more.ensures.counted;
+      counted = counted;
+      takes =
+          takes-told g.S.Source.calls g.S.Source.taken c.args.source.now c.loop-scan.source c.more.new.source (g.S.Source.left c.args.source.now) (taken_by c.args.window.now) (taken_by c.loop-scan.window) (taken_by c.more.new.window)
+          i.takes i.counted counted (omega (arith, s.taken, c.if-branch-eq0.false)) c.more.ensures.asked;
       asked =
           asked-more g.S.Source.calls g.S.Source.taken c.args.source.now c.loop-scan.source c.more.new.source c.args.window.now c.loop-scan.window (g.S.Source.left c.args.source.now) (g.S.Source.left c.loop-scan.source)
           (drops-skips c.args.window.now c.loop-scan.window _ _ c.loop-scan.invariant.drops) h.not_ended
-          c.loop-scan.invariant.counted c.loop-scan.invariant.asked c.more.ensures.asked;
+          c.loop-scan.invariant.counted c.loop-scan.invariant.takes c.loop-scan.invariant.asked c.more.ensures.asked;
       untouched = λ some.
           let u = c.loop-scan.invariant.untouched some in
           absurd (some (ap (λ (x : HeldBytes). first_group_end x.held) (sym u.1) ∙ h.not_ended));

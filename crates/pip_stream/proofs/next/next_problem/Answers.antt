@@ -5,7 +5,7 @@ use Rattle.pip_outside.specs.Windows.{HeldBytes}
 use Rattle.pip_model.specs.Problem.{Problem}
 use Rattle.pip_reader.specs.Groups.{first_group_end}
 use Rattle.pip_stream.specs.Windows.{taken_by}
-use Rattle.pip_stream.proofs.Asking.{asked-restart, asked-then, held-opens, held-ends}
+use Rattle.pip_stream.proofs.Asking.{asks-open, asks-end, asks-read, asked-restart, asked-then, held-opens, held-ends}
 use Rattle.pip_stream.specs.Open.{IsOpened}
 use Rattle.pip_stream.proofs.Dropping.{skips-more}
 use Rattle.pip_stream.proofs.Steps.{risen-from, failed-as, counted-start, counted-same, counted-more, skips-told}
@@ -83,6 +83,10 @@ pub returns-in_err-find_open-clause-asked : goal.returns-in_err-find_open-clause
 returns-in_err-find_open-clause-asked g c =
     asked-restart g.S.Source.calls g.S.Source.taken c.args.source.now c.find_open.new.source c.args.window.now c.restart.new.self _ (g.S.Source.left c.args.source.now) c.restart.ensures c.find_open.ensures.asked
 
+pub returns-in_err-find_open-clause-turns : goal.returns-in_err-find_open-clause-turns
+returns-in_err-find_open-clause-turns g c =
+    let p = err_from_is_err_and c.from_residual.result c.from_residual.ensures.1 in rw p.1 c.in_err-find_open.ensures.turns
+
 pub returns-in_err-find_open-clause-untouched : goal.returns-in_err-find_open-clause-untouched
 returns-in_err-find_open-clause-untouched g c some =
     let start : ¬ (first_group_end c.restart.new.self.held ≡ None) = λ none. some (ap (λ (x : HeldBytes). first_group_end x.held) (sym c.restart.ensures) ∙ none) in
@@ -150,6 +154,10 @@ returns-then-not-branch-clause-cause g c =
 pub returns-then-not-branch-clause-asked : goal.returns-then-not-branch-clause-asked
 returns-then-not-branch-clause-asked g c =
     asked-restart g.S.Source.calls g.S.Source.taken c.args.source.now c.find_open.new.source c.args.window.now c.restart.new.self _ (g.S.Source.left c.args.source.now) c.restart.ensures c.find_open.ensures.asked
+
+pub returns-then-not-branch-clause-turns : goal.returns-then-not-branch-clause-turns
+returns-then-not-branch-clause-turns g c =
+    asks-open g.S.Source.calls g.S.Source.taken c.args.source.now c.find_open.new.source (g.S.Source.left c.args.source.now) _ false c.if-not-branch.true c.in_ok-find_open.ensures.turns
 
 pub returns-then-not-branch-clause-untouched : goal.returns-then-not-branch-clause-untouched
 returns-then-not-branch-clause-untouched g c some =
@@ -241,7 +249,15 @@ returns-in_err-n-clause-asked g c =
     asked-then g.S.Source.calls g.S.Source.taken c.args.source.now c.find_open.new.source c.find_end.new.source c.args.window.now c.find_open.new.window (g.S.Source.left c.args.source.now) (g.S.Source.left c.find_open.new.source)
     (skips-restart c.args.window.now c.restart.new.self c.find_open.new.window _ (g.S.Source.left c.args.source.now) _ c.restart.ensures c.find_open.ensures.bytes)
     (counted-start (g.S.Source.left c.args.source.now) _ _ _ _ _ (ap (λ (x : HeldBytes). taken_by x) c.restart.ensures) c.find_open.ensures.counted)
+    (asks-open g.S.Source.calls g.S.Source.taken c.args.source.now c.find_open.new.source (g.S.Source.left c.args.source.now) _ true c.if-not-branch.false c.in_ok-find_open.ensures.turns)
     (asked-restart g.S.Source.calls g.S.Source.taken c.args.source.now c.find_open.new.source c.args.window.now c.restart.new.self _ (g.S.Source.left c.args.source.now) c.restart.ensures c.find_open.ensures.asked) c.find_end.ensures.asked
+
+pub returns-in_err-n-clause-turns : goal.returns-in_err-n-clause-turns
+returns-in_err-n-clause-turns g c =
+    let p = err_from_is_err_and c.from_residual-in_err-n.result c.from_residual-in_err-n.ensures.1 in
+    rw p.1 (asks-end g.S.Source.calls g.S.Source.taken c.args.source.now c.find_open.new.source c.find_end.new.source (Err c.in_err-n.field-0.0) (first_group_end c.find_end.new.window.held) (g.S.Source.left c.args.source.now) (g.S.Source.left c.find_open.new.source)
+    (skips-told c.args.window.now c.find_open.new.window _ _ (skips-restart c.args.window.now c.restart.new.self c.find_open.new.window _ (g.S.Source.left c.args.source.now) _ c.restart.ensures c.find_open.ensures.bytes))
+    (asks-open g.S.Source.calls g.S.Source.taken c.args.source.now c.find_open.new.source (g.S.Source.left c.args.source.now) _ true c.if-not-branch.false c.in_ok-find_open.ensures.turns) c.in_err-n.ensures.turns)
 
 pub returns-in_err-n-clause-untouched : goal.returns-in_err-n-clause-untouched
 returns-in_err-n-clause-untouched g c some =
@@ -316,7 +332,15 @@ returns-clause-asked g c =
     asked-then g.S.Source.calls g.S.Source.taken c.args.source.now c.find_open.new.source c.find_end.new.source c.args.window.now c.find_open.new.window (g.S.Source.left c.args.source.now) (g.S.Source.left c.find_open.new.source)
     (skips-restart c.args.window.now c.restart.new.self c.find_open.new.window _ (g.S.Source.left c.args.source.now) _ c.restart.ensures c.find_open.ensures.bytes)
     (counted-start (g.S.Source.left c.args.source.now) _ _ _ _ _ (ap (λ (x : HeldBytes). taken_by x) c.restart.ensures) c.find_open.ensures.counted)
+    (asks-open g.S.Source.calls g.S.Source.taken c.args.source.now c.find_open.new.source (g.S.Source.left c.args.source.now) _ true c.if-not-branch.false c.in_ok-find_open.ensures.turns)
     (asked-restart g.S.Source.calls g.S.Source.taken c.args.source.now c.find_open.new.source c.args.window.now c.restart.new.self _ (g.S.Source.left c.args.source.now) c.restart.ensures c.find_open.ensures.asked) c.find_end.ensures.asked
+
+pub returns-clause-turns : goal.returns-clause-turns
+returns-clause-turns g c =
+    asks-read g.S.Source.calls g.S.Source.taken c.args.source.now c.find_end.new.source c.find_end.new.window c.take_item.new.window _ c.take_item.result (g.S.Source.left c.args.source.now) c.take_item.ensures
+    (asks-end g.S.Source.calls g.S.Source.taken c.args.source.now c.find_open.new.source c.find_end.new.source (Ok c.in_ok-n.n) (first_group_end c.find_end.new.window.held) (g.S.Source.left c.args.source.now) (g.S.Source.left c.find_open.new.source)
+    (skips-told c.args.window.now c.find_open.new.window _ _ (skips-restart c.args.window.now c.restart.new.self c.find_open.new.window _ (g.S.Source.left c.args.source.now) _ c.restart.ensures c.find_open.ensures.bytes))
+    (asks-open g.S.Source.calls g.S.Source.taken c.args.source.now c.find_open.new.source (g.S.Source.left c.args.source.now) _ true c.if-not-branch.false c.in_ok-find_open.ensures.turns) c.in_ok-n.ensures.turns)
 
 pub returns-clause-untouched : goal.returns-clause-untouched
 returns-clause-untouched g c some =

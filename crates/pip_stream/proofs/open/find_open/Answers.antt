@@ -1,11 +1,12 @@
-use Rattle.std.proofs.Common.{refl, sym, ap, subst, ℕ, Bool, true, ◌∙◌, ◌≤◌, arith, length}
+use Rattle.std.proofs.Common.{◌≡◌, refl, sym, ap, subst, ℕ, Bool, true, ◌∙◌, ◌+◌, ◌≤◌, arith, length}
+use Rattle.std.specs.Prelude.{IfSome}
 use Rattle.pip_outside.specs.Windows.{HeldBytes}
 use Rattle.pip_model.specs.Reading.{next_open}
 use Rattle.pip_reader.specs.Groups.{first_group_end}
 use Rattle.std.proofs.lemmas.Result.{err_from_is_err_and}
 use Rattle.pip_stream.specs.Windows.{taken_by}
 use Rattle.pip_stream.specs.Open.{DropsClosed}
-use Rattle.pip_stream.proofs.Asking.{asked-start, asked-more, closed-none}
+use Rattle.pip_stream.proofs.Asking.{takes-start, takes-told, asks-told, asked-start, asked-more, closed-none}
 use Rattle.pip_stream.proofs.Dropping.{skips-nothing, skips-more, skips-closed, taken-closed}
 use Rattle.pip_stream.proofs.Steps.{not_true, if-told, risen-from, failed-as, counted-same, counted-more, skips-told, fewer, some_more, err-base, opened-err, opened-end}
 use Rattle.pip_stream.proofs.open.find_open.Goals as goal
@@ -18,6 +19,7 @@ loop-window-init g c = record {
   base = omega arith;
   skips = skips-nothing c.args.window.now (g.S.Source.left c.args.source.now);
   counted = if-told _ (g.S.Source.left c.args.source.now) refl;
+  takes = takes-start g.S.Source.calls g.S.Source.taken c.args.source.now (g.S.Source.left c.args.source.now);
   asked = asked-start g.S.Source.calls g.S.Source.taken c.args.source.now c.args.window.now (g.S.Source.left c.args.source.now);
   untouched = λ some. (refl, refl);
   quiet = refl;
@@ -73,7 +75,12 @@ returns-in_err-more-clause-asked g c =
     asked-more g.S.Source.calls g.S.Source.taken c.args.source.now c.loop-window.source c.more.new.source c.args.window.now c.skip_closed.new.window (g.S.Source.left c.args.source.now) (g.S.Source.left c.loop-window.source)
     (skips-closed c.args.window.now c.loop-window.window c.skip_closed.new.window _ _ _ c.loop-window.invariant.skips c.skip_closed.ensures) (ap first_group_end c.loop-window-test.ensures.open_now)
     (counted-same (g.S.Source.left c.args.source.now) _ _ _ (taken_by c.loop-window.window) _ c.loop-window.invariant.counted (taken-closed c.loop-window.window c.skip_closed.new.window _ c.skip_closed.ensures))
-    c.loop-window.invariant.asked c.more.ensures.asked
+    c.loop-window.invariant.takes c.loop-window.invariant.asked c.more.ensures.asked
+
+pub returns-in_err-more-clause-turns : goal.returns-in_err-more-clause-turns
+returns-in_err-more-clause-turns g c =
+    let p = err_from_is_err_and c.from_residual.result c.from_residual.ensures.1 in
+    rw p.1 (asks-told g.S.Source.calls g.S.Source.taken c.args.source.now c.loop-window.source c.more.new.source (g.S.Source.left c.args.source.now) c.loop-window.invariant.takes c.more.ensures.asked)
 
 pub returns-in_err-more-clause-untouched : goal.returns-in_err-more-clause-untouched
 returns-in_err-more-clause-untouched g c some =
@@ -120,7 +127,10 @@ returns-then-branch-eq0-clause-asked g c =
     asked-more g.S.Source.calls g.S.Source.taken c.args.source.now c.loop-window.source c.more.new.source c.args.window.now c.skip_closed.new.window (g.S.Source.left c.args.source.now) (g.S.Source.left c.loop-window.source)
     (skips-closed c.args.window.now c.loop-window.window c.skip_closed.new.window _ _ _ c.loop-window.invariant.skips c.skip_closed.ensures) (ap first_group_end c.loop-window-test.ensures.open_now)
     (counted-same (g.S.Source.left c.args.source.now) _ _ _ (taken_by c.loop-window.window) _ c.loop-window.invariant.counted (taken-closed c.loop-window.window c.skip_closed.new.window _ c.skip_closed.ensures))
-    c.loop-window.invariant.asked c.more.ensures.asked
+    c.loop-window.invariant.takes c.loop-window.invariant.asked c.more.ensures.asked
+
+pub returns-then-branch-eq0-clause-turns : goal.returns-then-branch-eq0-clause-turns
+returns-then-branch-eq0-clause-turns g c = asks-told g.S.Source.calls g.S.Source.taken c.args.source.now c.loop-window.source c.more.new.source (g.S.Source.left c.args.source.now) c.loop-window.invariant.takes c.more.ensures.asked
 
 pub returns-then-branch-eq0-clause-untouched : goal.returns-then-branch-eq0-clause-untouched
 returns-then-branch-eq0-clause-untouched g c some =
@@ -139,6 +149,10 @@ pub loop-window-preserved : goal.loop-window-preserved
 loop-window-preserved g c =
     let f = fewer c.loop-window.window c.skip_closed.new.window _ c.skip_closed.ensures in
     let s = some_more c.skip_closed.new.window c.more.new.window _ c.in_ok-more.ensures.window in
+    let t = taken-closed c.loop-window.window c.skip_closed.new.window _ c.skip_closed.ensures in
+    let counted : IfSome (g.S.Source.left c.args.source.now) (λ _. g.S.Source.taken c.more.new.source + taken_by c.args.window.now ≡ g.S.Source.taken c.args.source.now + taken_by c.more.new.window) =
+    counted-more (g.S.Source.left c.args.source.now) (g.S.Source.left c.loop-window.source) _ (g.S.Source.taken c.loop-window.source) _ (taken_by c.args.window.now) (taken_by c.loop-window.window) (taken_by c.skip_closed.new.window) _
+    (skips-told c.args.window.now c.loop-window.window _ _ c.loop-window.invariant.skips) c.loop-window.invariant.counted t c.more.ensures.counted in
     let few : length c.more.new.window.held ≤ 4096 = omega (arith, s.held, s.few, ap length c.loop-window-test.ensures.open_now) in
     record {
       few = few;
@@ -148,14 +162,15 @@ loop-window-preserved g c =
       skips =
           skips-more c.args.window.now c.skip_closed.new.window c.more.new.window (g.S.Source.left c.args.source.now) (g.S.Source.left c.loop-window.source) _
           (skips-closed c.args.window.now c.loop-window.window c.skip_closed.new.window _ _ _ c.loop-window.invariant.skips c.skip_closed.ensures) c.more.ensures.bytes;
-      counted =
-          counted-more (g.S.Source.left c.args.source.now) (g.S.Source.left c.loop-window.source) _ (g.S.Source.taken c.loop-window.source) _ (taken_by c.args.window.now) (taken_by c.loop-window.window) (taken_by c.skip_closed.new.window) _
-          (skips-told c.args.window.now c.loop-window.window _ _ c.loop-window.invariant.skips) c.loop-window.invariant.counted (taken-closed c.loop-window.window c.skip_closed.new.window _ c.skip_closed.ensures) c.more.ensures.counted;
+      counted = counted;
+      takes =
+          takes-told g.S.Source.calls g.S.Source.taken c.args.source.now c.loop-window.source c.more.new.source (g.S.Source.left c.args.source.now) (taken_by c.args.window.now) (taken_by c.loop-window.window) (taken_by c.more.new.window)
+          c.loop-window.invariant.takes c.loop-window.invariant.counted counted (omega (arith, t, s.taken, c.if-branch-eq0.false)) c.more.ensures.asked;
       asked =
           asked-more g.S.Source.calls g.S.Source.taken c.args.source.now c.loop-window.source c.more.new.source c.args.window.now c.skip_closed.new.window (g.S.Source.left c.args.source.now) (g.S.Source.left c.loop-window.source)
           (skips-closed c.args.window.now c.loop-window.window c.skip_closed.new.window _ _ _ c.loop-window.invariant.skips c.skip_closed.ensures) (ap first_group_end c.loop-window-test.ensures.open_now)
           (counted-same (g.S.Source.left c.args.source.now) _ _ _ (taken_by c.loop-window.window) _ c.loop-window.invariant.counted (taken-closed c.loop-window.window c.skip_closed.new.window _ c.skip_closed.ensures))
-          c.loop-window.invariant.asked c.more.ensures.asked;
+          c.loop-window.invariant.takes c.loop-window.invariant.asked c.more.ensures.asked;
       untouched = λ some.
           let u = c.loop-window.invariant.untouched some in
           absurd (some (ap (λ (x : HeldBytes). next_open 0 x.held) (sym u.1) ∙ closed-none c.loop-window.window c.skip_closed.new.window c.loop-window-test.ensures));
@@ -198,6 +213,9 @@ returns-clause-cause g c = λ h. cc
 pub returns-clause-asked : goal.returns-clause-asked
 returns-clause-asked g c =
     c.loop-window.invariant.asked
+
+pub returns-clause-turns : goal.returns-clause-turns
+returns-clause-turns g c = c.loop-window.invariant.takes
 
 pub returns-clause-untouched : goal.returns-clause-untouched
 returns-clause-untouched g c some =

@@ -1,5 +1,6 @@
 use Rattle.std.proofs.Common.{◌≡◌, ◌+◌, ◌-◌, ◌≤◌, length}
 use Rattle.std.specs.Prelude.{None, IfSome}
+use Rattle.pip_outside.specs.Calls.{Takes}
 use Rattle.pip_model.specs.Limits.{most_input_bytes}
 use Rattle.pip_model.specs.Reading.{next_open}
 use Rattle.pip_stream.specs.Asked.{AsksWhileOpen}
@@ -14,6 +15,7 @@ invariant-loop-window g l = record {
   base : l.fn.window.base ≤ l.window.base;
   skips : IfSome (g.S.Source.left l.fn.source) (λ left. Skips l.fn.window left l.window (g.S.Source.left l.source));
   counted : IfSome (g.S.Source.left l.fn.source) (λ _. g.S.Source.taken l.source + taken_by l.fn.window ≡ g.S.Source.taken l.fn.source + taken_by l.window);
+  takes : IfSome (g.S.Source.left l.fn.source) (λ _. Takes g.S.Source.calls g.S.Source.taken l.fn.source l.source);
   asked : IfSome (g.S.Source.left l.fn.source) (AsksWhileOpen g.S.Source.calls g.S.Source.taken l.fn.source l.source l.fn.window);
   untouched : ¬ (next_open 0 l.fn.window.held ≡ None) → (l.source ≡ l.fn.source) × (l.window ≡ l.fn.window);
   quiet : g.S.Source.faults l.source ≡ g.S.Source.faults l.fn.source;
