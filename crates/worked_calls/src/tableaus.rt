@@ -79,9 +79,8 @@ fn halved(alloc: Global) -> Result<Tableau, WantOfMemory>
     ensures rows { IfOk result (λ t. length t.rows ≡ 1) }
     ensures width { IfOk result (λ t. t.width ≡ 2) }
 {
-    let mut t = Tableau::new(alloc, 1, 1);
-    t.push_row(2, &[1], &[1, 0])?;
-    t.widen_params()?;
+    let mut t = Tableau::new(alloc, 1, 2);
+    t.push_row(2, &[1], &[1, 0, 0])?;
     Ok(t)
 }
 
