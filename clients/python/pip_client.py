@@ -43,9 +43,10 @@ import time
 from collections import deque
 from dataclasses import dataclass
 from fractions import Fraction
-from typing import Callable, Deque, Dict, Hashable, Iterable, Iterator, List, Mapping, Optional, Sequence, Tuple, TypeVar, Union
+from typing import Callable, Deque, Dict, Iterable, Iterator, List, Mapping, NamedTuple, Optional, Sequence, Tuple, TypeVar, Union
 
 Number = Union[int, Fraction]
+Atom = Union[str, "Floor", "_Column"]  # what a form has numbers of
 MOST_INPUT_BYTES = 16_777_216  # what one run of the program takes
 
 
@@ -56,10 +57,10 @@ class Form:
     """An affine form: numbers times names, and a constant. A name may also be a Floor."""
 
     __slots__ = ("terms", "constant")
-    terms: Dict[Hashable, Number]
+    terms: Dict[Atom, Number]
     constant: Number
 
-    def __init__(self, terms: Optional[Mapping[Hashable, Number]] = None, constant: Number = 0) -> None:
+    def __init__(self, terms: Optional[Mapping[Atom, Number]] = None, constant: Number = 0) -> None:
         self.terms = {name: _plain(number) for name, number in (terms or {}).items() if number != 0}
         self.constant = _plain(constant)
 
@@ -124,24 +125,28 @@ class Form:
     def whole(self) -> Tuple[Form, int]:
         """The form times the least number from 1 on that makes all its numbers whole, and that number."""
         numbers = [*self.terms.values(), self.constant]
-        common = math.lcm(*(Fraction(number).denominator for number in numbers))
-        return self * common, common
+        common = math.lcm(*(number.denominator for number in numbers))
+        return (self if common == 1 else self * common), common
 
-    def put(self, values: Callable[[Hashable], Form]) -> Form:
+    def put(self, values: Callable[[Atom], Form]) -> Form:
         """The form with each of its names replaced."""
-        total = Form({}, self.constant)
+        terms: Dict[Atom, Number] = {}
+        constant = self.constant
         for name, number in self.terms.items():
-            total += values(name) * number
-        return total
+            form = values(name)
+            constant += number * form.constant
+            for inner, own in form.terms.items():
+                terms[inner] = terms.get(inner, 0) + number * own
+        return Form(terms, constant)
 
-    def numbers(self, names: Iterable[Hashable]) -> List[Number]:
+    def numbers(self, names: Sequence[_Column]) -> List[Number]:
         """The numbers of these names."""
         return [self.terms.get(name, 0) for name in names]
 
     def at(self, values: Mapping[str, Number]) -> Number:
         """The form's value where its names have these values."""
-        def value(name: Hashable) -> Number:
-            return name.at(values) if isinstance(name, Floor) else values[name]  # type: ignore[index]
+        def value(name: Atom) -> Number:
+            return name.at(values) if isinstance(name, Floor) else values[str(name)]
         return _plain(sum(value(name) * number for name, number in self.terms.items()) + self.constant)
 
     def __str__(self) -> str:
@@ -169,7 +174,7 @@ FormLike = Union[Form, int, Fraction]
 class Floor:
     """The floor of a whole form over a divisor."""
 
-    terms: Tuple[Tuple[Hashable, Number], ...]
+    terms: Tuple[Tuple[Atom, Number], ...]
     constant: int
     divisor: int
 
@@ -181,6 +186,13 @@ class Floor:
 
     def __str__(self) -> str:
         return f"floor(({self.form()})/{self.divisor})"
+
+
+class _Column(NamedTuple):
+    """A parameter or an unknown of the program's, by its place."""
+
+    is_parameter: bool
+    place: int
 
 
 @dataclass(frozen=True, eq=False)
@@ -215,6 +227,8 @@ def as_form(value: FormLike) -> Form:
 
 def _plain(number: Number) -> Number:
     """The number as an int where it is whole."""
+    if type(number) is int:
+        return number
     if isinstance(number, (int, Fraction)):
         return int(number) if number == int(number) else number
     raise TypeError(f"not an exact number: {number!r}")
@@ -329,8 +343,8 @@ class Problem:
 
 
 class Posed:
-    """A problem as it is sent, in the program's terms. Its columns are pairs: ("parameter", k), or ("unknown", k) in the
-    order of making; the unknowns that are asked for are made first. What is added to the problem later changes nothing."""
+    """A problem as it is sent: in the columns of the program, of which those of the unknowns that are asked for are the
+    first. What is added to the problem later changes nothing here."""
 
     def __init__(self, problem: Problem) -> None:
         self.parameters = dict(problem._parameters)  # with their lows
@@ -341,7 +355,7 @@ class Posed:
         self._floors: Dict[Floor, Form] = {}
         # Each name as a form over the columns.
         self._names: Dict[str, Form] = {
-            name: Form({("parameter", place): 1}, low) for place, (name, low) in enumerate(self.parameters.items())}
+            name: Form({_Column(True, place): 1}, low) for place, (name, low) in enumerate(self.parameters.items())}
         in_order = sorted(problem._unknowns.values(), key=lambda unknown: unknown.further)
         columns = {unknown.name: self._column() for unknown in in_order}
         for unknown in problem._unknowns.values():
@@ -363,9 +377,9 @@ class Posed:
         """The unknowns that are asked for, from the program's components: numbers, or forms over the parameters' names."""
         names = list(self.parameters)
 
-        def column(key: Hashable) -> Form:
-            kind, place = key  # type: ignore[misc]
-            return components[place] if kind == "unknown" else self.parameter(names[place])
+        def column(atom: Atom) -> Form:
+            assert isinstance(atom, _Column)
+            return self.parameter(names[atom.place]) if atom.is_parameter else components[atom.place]
 
         return [(name, self._names[name].put(column)) for name in self.asked]
 
@@ -374,8 +388,8 @@ class Posed:
         return Form({name: 1}, -self.parameters[name])
 
     def _written(self, problem: Problem, context: Sequence[Form]) -> str:
-        parameters = [("parameter", place) for place in range(len(self.parameters))]
-        unknowns = [("unknown", place) for place in range(self._count)]
+        parameters = [_Column(True, place) for place in range(len(self.parameters))]
+        unknowns = [_Column(False, place) for place in range(self._count)]
         rows = [row.whole()[0] for row in self._rows]
         tableau = [_row([*row.numbers(unknowns), row.constant, *row.numbers(parameters)]) for row in rows]
         above = [_row([*row.numbers(parameters), row.constant]) for row in context]
@@ -394,11 +408,11 @@ class Posed:
 
     def _column(self) -> Form:
         self._count += 1
-        return Form({("unknown", self._count - 1): 1})
+        return Form({_Column(False, self._count - 1): 1})
 
     def _sent(self, form: Form) -> Form:
         """A form over the problem's names as one over the columns."""
-        return form.put(lambda name: self._floor(name) if isinstance(name, Floor) else self._names[name])
+        return form.put(lambda name: self._floor(name) if isinstance(name, Floor) else self._names[str(name)])
 
     def _floor(self, floor: Floor) -> Form:
         """The floor as a new unknown and what is whole of it. All columns are from 0 on, so the part that is left, with
@@ -618,7 +632,7 @@ def value_at(tree: Tree, parameters: Sequence[int]) -> Union[Bottom, Void, Tuple
         if isinstance(tree, Choice):
             tree = tree.yes if value(tree.form) >= 0 else tree.no
         else:
-            scope.append(value(tree.form) // tree.divisor)  # type: ignore[arg-type]
+            scope.append(math.floor(value(tree.form) / Fraction(tree.divisor)))
             tree = tree.below
     return tree
 
@@ -639,11 +653,11 @@ def new_parameter_names(tree: Tree, taken: Iterable[str]) -> List[str]:
         return 1 + deepest(tree.below) if isinstance(tree, NewParameter) else 0
 
     count, used = deepest(tree), set(taken)
-    for letter in itertools.chain("q", (f"q{'_' * length}" for length in itertools.count(1))):
-        names = [letter] if count == 1 else [f"{letter}{place + 1}" for place in range(count)]
-        if not used & set(names):
-            return names
-    raise AssertionError
+    names, letter = (["q"] if count == 1 else []), "q"
+    while len(names) < count or used & set(names):
+        names = [f"{letter}{place + 1}" for place in range(count)]
+        letter += "_"
+    return names
 
 
 # ---- Answers ----------------------------------------------------------------------------------------------------------
@@ -974,7 +988,8 @@ class Solver:
         waiting = deque(triples)
         verdicts: List[Optional[Refused]] = []
         while waiting:
-            batch, size = [], 0
+            batch: List[Tuple[str, str, str]] = []
+            size = 0
             while waiting and (not batch or size + _size(waiting[0]) <= MOST_INPUT_BYTES):
                 size += _size(waiting[0])
                 batch.append(waiting.popleft())
