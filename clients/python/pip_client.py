@@ -1006,7 +1006,10 @@ class Solver:
 
     def run(self, words: Sequence[str], text: str) -> str:
         """What another command writes over a text, by a process of its own: `run(["pieces", "2"], answer.text)`."""
-        done = subprocess.run([self.program, *words], input=text.encode(), capture_output=True, timeout=self.timeout)
+        try:
+            done = subprocess.run([self.program, *words], input=text.encode(), capture_output=True, timeout=self.timeout)
+        except subprocess.TimeoutExpired:
+            raise TimedOut(-9, f"no end in {self.timeout} seconds", text) from None
         if done.returncode != 0:
             raise Refused(done.returncode, _last_line(done.stderr), text)
         return done.stdout.decode()
