@@ -50,7 +50,7 @@ Atom = Union[str, "Floor", "_Column"]  # what a form has numbers of
 MOST_INPUT_BYTES = 16_777_216  # what one run of the program takes
 
 
-# ---- Forms and relations ----------------------------------------------------------------------------------------------
+# ---- Forms and relations -------------------------------------------------------------------------------------------
 
 
 class Form:
@@ -234,7 +234,7 @@ def _plain(number: Number) -> Number:
     raise TypeError(f"not an exact number: {number!r}")
 
 
-# ---- Problems ---------------------------------------------------------------------------------------------------------
+# ---- Problems ------------------------------------------------------------------------------------------------------
 
 
 @dataclass(frozen=True, eq=False)
@@ -450,7 +450,7 @@ def _row(numbers: Iterable[Number]) -> str:
     return "#[" + " ".join(map(str, numbers)) + "]"
 
 
-# ---- Trees ------------------------------------------------------------------------------------------------------------
+# ---- Trees ---------------------------------------------------------------------------------------------------------
 
 
 Row = Tuple[Number, ...]  # the numbers of the parameters and the new parameters, and the constant last
@@ -660,7 +660,7 @@ def new_parameter_names(tree: Tree, taken: Iterable[str]) -> List[str]:
     return names
 
 
-# ---- Answers ----------------------------------------------------------------------------------------------------------
+# ---- Answers -------------------------------------------------------------------------------------------------------
 
 
 class OutsideContext(ValueError):
@@ -719,7 +719,7 @@ class Answer:
                 yield from self._lines(tree.no, scope, quotients, margin + "    ", "if")
 
 
-# ---- The program ------------------------------------------------------------------------------------------------------
+# ---- The program ---------------------------------------------------------------------------------------------------
 
 
 class Refused(Exception):
