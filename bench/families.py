@@ -85,6 +85,26 @@ def triangle(n):
     return problem(f"triangle of {n} loops", n, m, rows, context, 1)
 
 
+def delinearised(sizes):
+    """The element before element c of an array whose indices i, j, .. a compiler has found from i + 7j + 63k = c. The
+    unknowns are counted down from the last index; the context has the equality, of great numbers, and the bounds."""
+    d, weights = len(sizes), [1]
+    for size in sizes[:-1]:
+        weights.append(weights[-1] * size)
+    cells = weights[-1] * sizes[-1]
+    none = [0] * (d + 1)
+    before = [*weights, -cells, *none[:-1], 1]
+    rows = [before, [-number for number in before]]
+    known = [*(-weight for weight in weights), 1, 0]
+    context = [known, [-number for number in known]]
+    for k, size in enumerate(sizes):
+        bound = [-1 if place == k else 0 for place in range(d)]
+        rows.append([*bound, size - 1, *none])
+        context.append([*bound, 0, size - 1])
+    context.append([*none[:-1], -1, cells - 1])
+    return problem(f"elements of {' x '.join(map(str, sizes))}", d, d + 1, rows, context, 1)
+
+
 GROUPS = {
     "chain-rational": [chain(n, 0) for n in (8, 16, 32, 64)],
     "chain": [chain(n, 1) for n in (4, 6, 8)],
@@ -94,4 +114,5 @@ GROUPS = {
     "greatest": [greatest(m, 1) for m in (2, 3, 4, 5)],
     "tiles": [tiles(d) for d in (1, 2)],
     "triangle": [triangle(n) for n in (1, 2, 3, 4)],
+    "delinearised": [delinearised(sizes) for sizes in ((8, 9), (3, 3, 2), (4, 4, 2), (5, 4, 3), (7, 4, 2), (7, 9, 2))],
 }
