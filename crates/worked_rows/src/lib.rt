@@ -22,6 +22,8 @@ mod points;
 #[cfg(test)]
 mod reading;
 #[cfg(test)]
+mod recipes;
+#[cfg(test)]
 mod refusing;
 #[cfg(test)]
 mod row;
