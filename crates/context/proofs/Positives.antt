@@ -1,6 +1,6 @@
 -- Indices with positive multipliers, one by one; indices from 0 on.
-use Rattle.std.proofs.Common.{◌≡◌, refl, ap, ◌∙◌, ℕ, zero, suc, ◌+◌, ◌<◌, ℤ, pos, true, false, List, [], ◌∷◌, ◌++◌, length, drop, map, arith, sym}
-use Rattle.std.proofs.lemmas.List.{drop_more}
+use Rattle.std.proofs.Common.{◌≡◌, refl, ap, ◌∙◌, ℕ, zero, suc, ◌+◌, ◌<◌, ◌≤◌, ℤ, pos, true, false, List, [], ◌∷◌, ◌++◌, length, length-append, take, drop, map, arith, sym}
+use Rattle.std.proofs.lemmas.List.{drop_more, take-append-le}
 use Rattle.std.proofs.Math.Seq.{append_snoc}
 use Rattle.pip_model.specs.Numbers.{is_positive}
 use Rattle.pip_model.specs.Forms.{entry}
@@ -28,6 +28,13 @@ module _ (is ms : List ℤ) (i : ℕ) (h : i < length is) (k : length ms ≡ len
   pub push-later : (T X : List (ℤ × ℤ)) → is_positive (entry ms i) ≡ false → T ++ positive_terms (drop i is) (drop i ms) ≡ X
       → T ++ positive_terms (drop (i + 1) is) (drop (i + 1) ms) ≡ X
   push-later T X e same = ap (λ (V : List (ℤ × ℤ)). T ++ V) (sym (positive-later e)) ∙ same
+
+-- what stands in front stays there
+pub kept-here : (S T U : List (ℤ × ℤ)) (x : ℤ × ℤ) → U ≡ T ++ x ∷ [] → take (length S) T ≡ S → length S ≤ length T → take (length S) U ≡ S
+kept-here S T U x made kept long = rw (made, take-append-le (length S) T (x ∷ []) long) kept
+
+pub longer-here : (S T U : List (ℤ × ℤ)) (x : ℤ × ℤ) → U ≡ T ++ x ∷ [] → length S ≤ length T → length S ≤ length U
+longer-here S T U x made long = rw made (omega (arith, length-append T (x ∷ [])))
 
 counts-more : (i n : ℕ) → map pos (count_from i (suc n)) ≡ map pos (count_from i n) ++ pos (i + n) ∷ []
 counts-more i zero = ap (λ k. pos k ∷ []) (omega arith)

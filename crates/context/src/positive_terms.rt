@@ -1,11 +1,12 @@
-ghost use Rattle.std.specs.Prelude.{◌≡◌, ◌++◌, length, All, OnOk};
+ghost use Rattle.std.specs.Prelude.{◌≡◌, ◌++◌, length, take, All, OnOk, OnErr};
 ghost use Rattle.pip_model.specs.Refuting as model;
 ghost use Rattle.affine_forms.specs.Checks.{Fits};
 
 use affine_forms::{WantOfMemory, positive};
 use certificate_parts::Terms;
 
-/// Puts the indices whose multipliers are above 0 behind the pairs, each with its multiplier, in order.
+/// Puts the indices whose multipliers are above 0 behind the pairs, each with its multiplier, in order. After a refusal
+/// some of them may stand there, behind the pairs that were there before.
 pub fn push_positive(
     terms: &mut Terms,
     indices: &[i128],
@@ -14,7 +15,8 @@ pub fn push_positive(
     requires number { length multipliers.now ≡ length indices.now }
     requires indices { All Fits indices.now }
     requires multipliers { All Fits multipliers.now }
-    ensures { OnOk result (terms.new ≡ terms.old ++ model.positive_terms indices.now multipliers.now) }
+    ensures ok { OnOk result (terms.new ≡ terms.old ++ model.positive_terms indices.now multipliers.now) }
+    ensures err { OnErr result (take (length terms.old) terms.new ≡ terms.old) }
 {
     for i in 0..indices.len() {
         if positive(multipliers[i]) {

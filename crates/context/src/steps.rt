@@ -1,4 +1,4 @@
-ghost use Rattle.std.specs.Prelude.{◌≡◌, ◌<◌, ◌≤◌, None, [], ◌∷◌, ◌++◌, is_some, length, IfOk, IfSome, OnOk};
+ghost use Rattle.std.specs.Prelude.{◌≡◌, ◌<◌, ◌≤◌, None, [], ◌∷◌, ◌++◌, is_some, length, IfOk, IfSome, OnOk, OnErr};
 ghost use Rattle.pip_model.specs.Cuts as cuts;
 ghost use Rattle.pip_model.specs.Rows as model;
 ghost use Rattle.pip_model.specs.Rows.{row_at};
@@ -22,6 +22,7 @@ pub(crate) fn enter(rows: &mut Tableau, r: usize, work: &mut Work) -> Result<Opt
     ensures column { IfOk result (λ c. c ≡ model.entering rows.old.rows r) }
     ensures bound { IfOk result (λ c. IfSome c (λ k. k < rows.old.unknowns)) }
     ensures kept { IfOk result (λ c. c ≡ None → rows.new ≡ rows.old) }
+    ensures err { OnErr result (rows.new ≡ rows.old) }
     ensures number { length rows.new.rows ≡ length rows.old.rows }
     ensures scope { HasSameScope rows.old rows.new }
 {
@@ -34,12 +35,13 @@ pub(crate) fn enter(rows: &mut Tableau, r: usize, work: &mut Work) -> Result<Opt
 }
 
 /// The step at a row below 0, in a point's run as in a problem's: whether a column enters. Where one does, a pivot is
-/// counted and then made. The counts stay at what was counted.
+/// counted and then made. A refusal leaves the rows as they were, and the counts at what was counted.
 pub fn enter_and_pivot(rows: &mut Tableau, r: usize, work: &mut Work) -> Result<bool, Refusal>
     requires rows { rows.old.unknowns ≤ length rows.old.rows }
     requires row { r < length rows.old.rows }
     ensures gives { (S : Setting) (N : Node) → IsCountedRun (pivoted N rows.new.rows) run_fault result work.old work.new
         (turn_by S (record N { rows = rows.old.rows }) (MinusAt r)) }
+    ensures err { OnErr result (rows.new ≡ rows.old) }
     ensures scope { HasSameScope rows.old rows.new }
 {
     let column = enter(rows, r, work)?;
@@ -47,11 +49,12 @@ pub fn enter_and_pivot(rows: &mut Tableau, r: usize, work: &mut Work) -> Result<
 }
 
 /// The cut of row i where its constant form is over no places, or whole but for its constant: it is counted, and then
-/// the row's cut is added. The counts stay at what was counted.
+/// the row's cut is added. A refusal leaves the rows as they were, and the counts at what was counted.
 pub fn count_and_cut(rows: &mut Tableau, i: usize, work: &mut Work) -> Result<(), Refusal>
     requires { i < length rows.old.rows }
     ensures gives { IsCountedRun (λ x. rows.new.rows) run_fault result work.old work.new (counted_cut rows.old.rows i) }
     ensures row { OnOk result (rows.new.rows ≡ rows.old.rows ++ cuts.constant_cut (row_at rows.old.rows i) ∷ []) }
+    ensures err { OnErr result (rows.new ≡ rows.old) }
     ensures scope { HasSameScope rows.old rows.new }
 {
     work.count_cut()?;

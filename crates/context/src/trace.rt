@@ -1,6 +1,6 @@
 ghost use Rattle.std.specs.Prelude.{◌≡◌, ◌^◌, ◌<◌, ◌++◌, pos, ◌≤ℤ◌, ◌<ℤ◌, length, slice_set, All, IfOk, OnOk};
 ghost use Rattle.pip_model.specs.Forms.{entry};
-ghost use Rattle.pip_model.specs.Refuting.{indices, first_trace, with_step, last_step};
+ghost use Rattle.pip_model.specs.Refuting.{indices, first_trace, with_step, cut_step, last_step};
 ghost use Rattle.affine_forms.specs.Checks.{Fits};
 ghost use Rattle.tableau.specs.Tableaus.{IsRow};
 ghost use Rattle.tableau.specs.Views.{row_of};
@@ -94,14 +94,23 @@ impl Trace {
         self.first + self.steps.as_slice().len() as i128
     }
 
+    // The pairs of the step of the cut by a row: each column, with the fractional part that the row has there.
+    fn cut_terms(&self, alloc: Global, row: &RowView<'_>) -> Result<Terms, WantOfMemory>
+        requires row { IsRow (length self.now.columns) 0 (row_of row.now) }
+        ensures { IfOk result (λ terms. terms ≡ (cut_step (row_of row.now) self.now.columns).terms) }
+    {
+        let parts = remainders(alloc, row.den, row.coefs)?;
+        let mut terms = Terms::new(alloc);
+        push_positive(&mut terms, &self.columns, &parts)?;
+        Ok(terms)
+    }
+
     // The step of the cut by a row; the cut's row stands for its form.
     pub(crate) fn cut(&mut self, alloc: Global, row: &RowView<'_>) -> Result<(), WantOfMemory>
         requires row { IsRow (length self.old.columns) 0 (row_of row.now) }
         ensures { OnOk result (self.new ≡ with_cut self.old (row_of row.now)) }
     {
-        let parts = remainders(alloc, row.den, row.coefs)?;
-        let mut terms = Terms::new(alloc);
-        push_positive(&mut terms, &self.columns, &parts)?;
+        let terms = self.cut_terms(alloc, row)?;
         let next = self.next();
         self.rows.push(next)?;
         self.steps.push(Step {

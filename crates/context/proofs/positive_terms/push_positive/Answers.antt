@@ -2,7 +2,7 @@ use Rattle.std.proofs.Common.{rules, ◌≡◌, true, false, [], ◌∷◌, ◌+
 use Rattle.pip_model.specs.Numbers.{is_positive}
 use Rattle.pip_model.specs.Forms.{entry}
 use Rattle.pip_model.specs.Refuting.{positive_terms}
-use Rattle.context.proofs.Positives.{push-here, push-later}
+use Rattle.context.proofs.Positives.{push-here, push-later, kept-here, longer-here}
 use Rattle.context.proofs.positive_terms.push_positive.Goals as goal
 use Rattle.context.proofs.positive_terms.push_positive.Goals.{then-positive+in_ok-push, else-positive}
 
@@ -14,10 +14,13 @@ loop-i-preserved c =
     elim c.if-positive.branch [
       | then-positive+in_ok-push w ↦
           let e : is_positive (entry c.args.multipliers.now c.loop-i.i) ≡ true = search rules in
-          let made : c.if-positive.terms ≡ c.loop-i.terms ++ (entry c.args.indices.now c.loop-i.i, entry c.args.multipliers.now c.loop-i.i) ∷ [] = search rules in
-          push-here is ms c.loop-i.i c.loop-i-test.true c.requires.number c.loop-i.terms c.if-positive.terms X made e c.loop-i.invariant
+          let made : c.if-positive.terms ≡ c.loop-i.terms ++ (entry c.args.indices.now c.loop-i.i, entry c.args.multipliers.now c.loop-i.i) ∷ [] = search rules in (
+            push-here is ms c.loop-i.i c.loop-i-test.true c.requires.number c.loop-i.terms c.if-positive.terms X made e c.loop-i.invariant.0,
+            kept-here c.args.terms.now c.loop-i.terms c.if-positive.terms _ made c.loop-i.invariant.1 c.loop-i.invariant.2,
+            longer-here c.args.terms.now c.loop-i.terms c.if-positive.terms _ made c.loop-i.invariant.2,
+          )
       | else-positive w ↦
           let e : is_positive (entry c.args.multipliers.now c.loop-i.i) ≡ false = search rules in
           let made : c.if-positive.terms ≡ c.loop-i.terms = search rules in
-          rw made (push-later is ms c.loop-i.i c.loop-i-test.true c.requires.number c.loop-i.terms X e c.loop-i.invariant)
+          rw made (push-later is ms c.loop-i.i c.loop-i-test.true c.requires.number c.loop-i.terms X e c.loop-i.invariant.0, c.loop-i.invariant.1, c.loop-i.invariant.2)
     ]

@@ -1,6 +1,9 @@
-use Rattle.std.proofs.Common.{◌≡◌, ◌++◌, drop}
+use Rattle.std.proofs.Common.{◌≡◌, ◌≤◌, ◌++◌, drop, take, length}
 use Rattle.pip_model.specs.Refuting.{positive_terms}
 use Rattle.context.proofs.positive_terms.push_positive.Given as goal
 
 abbrev pub invariant-loop-i : goal.invariant-loop-i
-invariant-loop-i l = l.terms ++ positive_terms (drop l.i l.indices) (drop l.i l.multipliers) ≡ l.fn.terms ++ positive_terms l.indices l.multipliers
+invariant-loop-i l =
+    (l.terms ++ positive_terms (drop l.i l.indices) (drop l.i l.multipliers) ≡ l.fn.terms ++ positive_terms l.indices l.multipliers)
+    × (take (length l.fn.terms) l.terms ≡ l.fn.terms)
+    × (length l.fn.terms ≤ length l.terms)
