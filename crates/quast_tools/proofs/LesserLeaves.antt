@@ -1,11 +1,10 @@
 -- The lesser of two leaves.
-use Rattle.std.proofs.Common.{◌≡◌, ◌∙◌, ap, ℕ, Bool, ◌==◌, eq-eqb, eqb-true, List, length, map, All, IsTrue}
+use Rattle.std.proofs.Common.{◌≡◌, ◌∙◌, ap, ℕ, Bool, eq-eqb, List, length, map, All, IsTrue}
 use Rattle.std.specs.Prelude.{if◌then◌else◌}
 use Rattle.pip_model.specs.Tree.{Tree, Leaf, Component, is_scoped}
 use Rattle.pip_model.specs.Run.{Work}
-use Rattle.pip_model.specs.Walks.{Walked, Stopped, stop, Lengths, Visit}
+use Rattle.pip_model.specs.Walks.{Walked, stop, Lengths, Visit}
 use Rattle.pip_model.specs.Tools.{spread_component, spread_tree, widened_components, least_lists, least_leaves}
-use Rattle.pip_model.proofs.Tests.{not_true}
 use Rattle.run_laws.proofs.Lengths.{length_map}
 use Rattle.quast_walk.specs.Readings.{IsListWithin, IsOwnComponent, spread_reduced, widened_reduced}
 use Rattle.quast_tools.specs.Choices.{IsList}
@@ -47,9 +46,3 @@ module _ (h : Visit) (cs ds : List Component) (w : Work) where
 
   pub lists_alike : length cs ≡ length ds → least_leaves h (Leaf cs) (Leaf ds) w ≡ least_lists (Leaf wide) (Leaf ds) wide ds h w
   lists_alike e = ap by_lengths (eq-eqb (length cs) (length ds) e)
-
-  abbrev stopped : ℕ → Walked Tree
-  stopped k = Stopped (Lengths (length cs) k) w
-
-  pub lists_unlike : (k : ℕ) → length ds ≡ k → ¬ (length cs ≡ k) → least_leaves h (Leaf cs) (Leaf ds) w ≡ Stopped (Lengths (length cs) k) w
-  lists_unlike k e n = ap by_lengths (not_true (length cs == length ds) (λ t. n (eqb-true (length cs) (length ds) t ∙ e))) ∙ ap stopped e

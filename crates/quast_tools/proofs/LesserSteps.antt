@@ -2,7 +2,6 @@
 use Rattle.std.proofs.Common.{◌≡◌, ◌∙◌, ap, sym, subst, ℕ, suc, ◌+◌, ◌<◌, arith, true, List, ◌∷◌, length, get_or, drop, ℤ, Option, Some, None, IsTrue, IsFalse}
 use Rattle.std.specs.Prelude.{IfSome}
 use Rattle.std.proofs.Math.Seq.{drop-cons}
-use Rattle.std.proofs.lemmas.List.{drop_all}
 use Rattle.pip_model.specs.Listed.{all_fit}
 use Rattle.pip_model.specs.Tree.{Tree, If, Component}
 use Rattle.pip_model.specs.Run.{Work, Class, Plus, Minus, Unknown, class, listed, count_split, check_nesting}
@@ -15,6 +14,7 @@ use Rattle.context.specs.Scoped.{ScopedForms, IsKeptContext}
 use Rattle.quast_walk.specs.Faults.{tool_fault, of_form}
 use Rattle.quast_walk.specs.Visits.{visit_of}
 use Rattle.quast_walk.specs.declared.refusal.ToolRefusal.{ToolRefusal}
+use Rattle.quast_tools.specs.Choices.{chosen_by}
 use Rattle.quast_walk.proofs.Defining.{listed_goes, unfit_stops}
 use Rattle.quast_walk.proofs.Walking.{kept_visit}
 
@@ -33,17 +33,8 @@ module _ (h : Visit) (w0 w1 : Work) where
 
 -- ---- two lists
 
--- by the sign of a form: what comes next, or a leaf, or an if over both
-abbrev pub choice : Visit → List ℤ → (Visit → Walking Tree) → Tree → Walking Tree
-choice h v next leaf = do
-  k ← by_run (class h.context h.places v)
-  by_class k (next h) (make leaf) (λ f. do
-    count_if h
-    x ← next (where_holds h f)
-    make (If f x leaf))
-
 -- from what the calls at it answered, the second of which begin with a context that was kept
-module _ (k0 k1 : ScopedForms) (kept : IsKeptContext k0 k1) (depth : ℕ) (v : List ℤ) (next : Visit → Walking Tree) (leaf : Tree) (w0 w1 : Work) (whole : Walked Tree) (is : whole ≡ choice (visit_of k0 depth) v next leaf w0) where
+module _ (k0 k1 : ScopedForms) (kept : IsKeptContext k0 k1) (depth : ℕ) (v : List ℤ) (next : Visit → Walking Tree) (leaf : Tree) (w0 w1 : Work) (whole : Walked Tree) (is : whole ≡ chosen_by (visit_of k0 depth) v next leaf w0) where
   abbrev counted_then : Visit → List ℤ → Walked (Unit {0}) → Walked Tree
   counted_then h f o = walk_on o (λ done. next (where_holds h f) >>= λ x. make (If f x leaf))
 
@@ -85,20 +76,17 @@ module _ (k0 k1 : ScopedForms) (kept : IsKeptContext k0 k1) (depth : ℕ) (v : L
 -- ---- by the components that are left
 
 module _ (A B : Tree) (cs ds : List Component) (i : ℕ) (h : Visit) where
-  pub rest_end : length cs ≡ i → (w : Work) → least_lists A B (drop i cs) (drop i ds) h w ≡ Made A w
-  rest_end l w = ap (λ (xs : List Component). least_lists A B xs (drop i ds) h w) (drop_all i cs (omega (arith, l)))
-
   module _ (c d : Component) (lc : i < length cs) (ld : i < length ds) (ec : c ≡ get_or cs i c) (ed : d ≡ get_or ds i d) (w : Work) where
     abbrev next : Visit → Walking Tree
     next g = not_below B (difference c d) (λ k. least_lists A B (drop (i + 1) cs) (drop (i + 1) ds) k) g
 
-    rest_first : least_lists A B (drop i cs) (drop i ds) h w ≡ walk_on (by_run (listed (difference_listed c d)) w) (λ done. choice h (difference c d) next A)
+    rest_first : least_lists A B (drop i cs) (drop i ds) h w ≡ walk_on (by_run (listed (difference_listed c d)) w) (λ done. chosen_by h (difference c d) next A)
     rest_first =
         let one : (xs : List Component) (x : Component) → i < length xs → x ≡ get_or xs i x → drop i xs ≡ x ∷ drop (i + 1) xs = λ xs x l e. drop-cons xs i x l ∙ ap (λ (y : Component). y ∷ drop (suc i) xs) (sym e) ∙ (let s : suc i ≡ i + 1 = omega arith in ap (λ (n : ℕ). x ∷ drop n xs) s) in
         ap (λ (xs : List Component). least_lists A B xs (drop i ds) h w) (one cs c lc ec) ∙ ap (λ (xs : List Component). least_lists A B (c ∷ drop (i + 1) cs) xs h w) (one ds d ld ed)
 
     pub rest_unfit : (r : FormRefusal) (e : ToolRefusal) → e ≡ of_form r → (IsTrue (is_form_overflow r) → IsFalse (all_fit (difference_listed c d))) → IfSome (tool_fault e) (λ f. least_lists A B (drop i cs) (drop i ds) h w ≡ Stopped f w)
-    rest_unfit r e same unfit = subst (λ o. IfSome (tool_fault e) (λ f. o ≡ Stopped f w)) (sym rest_first) (unfit_stops (difference_listed c d) (λ done. choice h (difference c d) next A) w r e same unfit)
+    rest_unfit r e same unfit = subst (λ o. IfSome (tool_fault e) (λ f. o ≡ Stopped f w)) (sym rest_first) (unfit_stops (difference_listed c d) (λ done. chosen_by h (difference c d) next A) w r e same unfit)
 
-    pub rest_choice : (f : List ℤ) → f ≡ difference c d → all_fit (difference_listed c d) ≡ true → least_lists A B (drop i cs) (drop i ds) h w ≡ choice h f (λ g. not_below B f (λ k. least_lists A B (drop (i + 1) cs) (drop (i + 1) ds) k) g) A w
-    rest_choice f is fit = rest_first ∙ listed_goes (difference_listed c d) (λ done. choice h (difference c d) next A) w fit ∙ ap (λ (e : List ℤ). choice h e (λ g. not_below B e (λ k. least_lists A B (drop (i + 1) cs) (drop (i + 1) ds) k) g) A w) (sym is)
+    pub rest_choice : (f : List ℤ) → f ≡ difference c d → all_fit (difference_listed c d) ≡ true → least_lists A B (drop i cs) (drop i ds) h w ≡ chosen_by h f (λ g. not_below B f (λ k. least_lists A B (drop (i + 1) cs) (drop (i + 1) ds) k) g) A w
+    rest_choice f is fit = rest_first ∙ listed_goes (difference_listed c d) (λ done. chosen_by h (difference c d) next A) w fit ∙ ap (λ (e : List ℤ). chosen_by h e (λ g. not_below B e (λ k. least_lists A B (drop (i + 1) cs) (drop (i + 1) ds) k) g) A w) (sym is)

@@ -3,8 +3,6 @@ pub mod Paired
 pub mod Restricted
 pub mod Compared
 pub mod LesserSteps
-pub mod RestSteps
-pub mod LesserNodes
 pub mod Listing
 pub mod LesserLeaves
 pub mod Lessened

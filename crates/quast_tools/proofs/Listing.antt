@@ -1,12 +1,14 @@
 -- Components that make a list.
-use Rattle.std.proofs.Common.{◌≡◌, ◌∙◌, ap, sym, ℕ, ◌+◌, ◌<◌, ◌≤◌, arith, true, List, [], ◌∷◌, length, All, subst, get_or}
+use Rattle.std.proofs.Common.{◌≡◌, sym, ℕ, ◌+◌, ◌≤◌, arith, true, List, [], ◌∷◌, length, All, IsTrue, subst, get_or}
+use Rattle.std.proofs.lemmas.List.Elements.{All-cons, All-nil}
 use Rattle.std.specs.List.{list_all}
 use Rattle.pip_model.specs.Forms.{width}
-use Rattle.pip_model.specs.Tree.{Component, is_component}
+use Rattle.pip_model.specs.Printed.{component_fits, tree_fits}
+use Rattle.pip_model.specs.Tree.{Leaf, Component, is_component, is_scoped}
 use Rattle.pip_model.proofs.Tests.{both}
 use Rattle.quast.specs.Components.{IsComponent, width_of}
 use Rattle.quast_walk.specs.Readings.{IsOwnComponent}
-use Rattle.quast_walk.proofs.Placing.{Scoped, all_wide, component_wide}
+use Rattle.quast_walk.proofs.Placing.{Scoped, scoped_of, all_wide, component_wide}
 use Rattle.quast_tools.specs.Choices.{IsList}
 
 pub own_width : (w : ℕ) (xs : List Component) → 1 ≤ length xs → list_all (is_component w) xs ≡ true → width_of xs ≡ w
@@ -31,11 +33,19 @@ own_list w xs ys e s own =
       components = λ k d h. own_each (width_of xs) (get_or xs k d) (own k d h) (let l : length (get_or xs k d).form ≡ w + 1 = wide k d h in omega (arith, l, same));
     }
 
--- each of a list's components is over w places
-pub wide_at : (w : ℕ) (cs : List Component) → IsList w cs → (i : ℕ) (c : Component) → i < length cs → c ≡ get_or cs i c → length c.form ≡ w + 1
-wide_at w cs h i c l e =
-    let long = ap (λ (d : Component). length d.form) e ∙ component_wide (width_of cs) (get_or cs i c) (h.components i c l).scoped in
-    omega (arith, long, h.width)
+fitting : (w : ℕ) (cs : List Component) → list_all (is_component w) cs ≡ true → list_all component_fits cs ≡ true → All (IsComponent w) cs
+fitting w [] h g = All-nil (IsComponent w)
+fitting w (c ∷ cs) h g =
+    let scoped = both (is_component w c) (list_all (is_component w) cs) h in
+    let fits = both (component_fits c) (list_all component_fits cs) g in
+    All-cons (IsComponent w) c cs (record { scoped = scoped.0; fits = fits.0 }) (fitting w cs scoped.1 fits.1)
+
+-- the list of a tree whose numbers fit
+pub leaf_list : (w : ℕ) (cs : List Component) → IsTrue (is_scoped w (Leaf cs)) → IsTrue (tree_fits (Leaf cs)) → IsList w cs
+leaf_list w cs scoped fits =
+    let s = scoped_of w cs scoped in
+    let same : width_of cs ≡ w = own_width w cs s.some s.each in
+    record { some = omega (arith, s.some); few = s.few; width = same; components = subst (λ (n : ℕ). All (IsComponent n) cs) (sym same) (fitting w cs s.each fits) }
 
 -- the components of a list that is made again
 pub components_again : (cs xs : List Component) → xs ≡ cs → All (IsComponent (width_of cs)) cs → All (IsComponent (width_of xs)) xs

@@ -1,11 +1,10 @@
 -- A list of the first tree and one of the second at the places where they meet.
-use Rattle.std.proofs.Common.{◌≡◌, ap, ℕ, Bool, ◌==◌, eq-eqb, eqb-true, List, length, map, ℤ, All, Option, IsTrue}
+use Rattle.std.proofs.Common.{◌≡◌, ap, ℕ, Bool, eq-eqb, List, length, map, ℤ, All, Option, IsTrue}
 use Rattle.std.specs.Prelude.{if◌then◌else◌}
 use Rattle.pip_model.specs.Tree.{Leaf, Solved, Component, is_scoped}
 use Rattle.pip_model.specs.Run.{Work}
 use Rattle.pip_model.specs.Walks.{Walked, Visit}
 use Rattle.pip_model.specs.Tools.{spread_component, spread_tree, widened_component, widened_components, differ_here, same_lists, same_leaves}
-use Rattle.pip_model.proofs.Tests.{not_true}
 use Rattle.walk_laws.proofs.Spread.{widened-scoped}
 use Rattle.quast_walk.specs.Readings.{IsListWithin, IsWide, spread_reduced, widened_reduced}
 use Rattle.quast_walk.proofs.Placing.{Scoped, scoped_of, made_so, all_wide}
@@ -36,6 +35,3 @@ module _ (m : ℕ) (h : Visit) (cs ds : List Component) (w : Work) where
 
   pub leaves_alike : length cs ≡ length ds → same_leaves m h (Solved (Leaf cs)) (Solved (Leaf ds)) w ≡ same_lists m h (widened_components h.places cs) ds w
   leaves_alike e = ap by_lengths (eq-eqb (length cs) (length ds) e)
-
-  pub leaves_unlike : ¬ (length cs ≡ length ds) → same_leaves m h (Solved (Leaf cs)) (Solved (Leaf ds)) w ≡ differ_here m h w
-  leaves_unlike n = ap by_lengths (not_true (length cs == length ds) (λ t. n (eqb-true (length cs) (length ds) t)))

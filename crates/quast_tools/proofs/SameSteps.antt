@@ -2,13 +2,12 @@
 use Rattle.std.proofs.Common.{◌≡◌, ◌∙◌, ap, sym, refl, ℕ, suc, ◌+◌, ◌<◌, arith, true, false, List, [], ◌∷◌, ◌++◌, length, get_or, drop, ℤ, pos, negsuc, ◌-ℤ◌, Option, Some, None}
 use Rattle.std.specs.Prelude.{IfSome, is_some}
 use Rattle.std.proofs.Math.Seq.{drop-cons}
-use Rattle.std.proofs.lemmas.List.{drop_all}
 use Rattle.pip_model.specs.Forms.{constant, plus, opposite}
 use Rattle.pip_model.specs.Listed.{all_fit, opposite_listed}
 use Rattle.pip_model.specs.Tree.{Component}
 use Rattle.pip_model.specs.Run.{Work, point, listed}
 use Rattle.pip_model.specs.Walks.{ToolRefusal, Walked, Made, Stopped, Walking, walk_on, ◌>>=◌, make, by_run, Visit}
-use Rattle.pip_model.specs.Tools.{difference, difference_listed, first_numbers, first_of_both, differ_or, same_lists}
+use Rattle.pip_model.specs.Tools.{difference, difference_listed, first_numbers, differ_or, same_lists}
 use Rattle.context.specs.Scoped.{ScopedForms, IsKeptContext}
 use Rattle.quast_walk.proofs.Defining.{listed_goes}
 use Rattle.quast_walk.proofs.Walking.{kept_visit, in_two}
@@ -58,9 +57,6 @@ module _ (m : ℕ) (h : Visit) (c d : Component) (cs ds : List Component) where
 -- ---- by an index
 
 module _ (m : ℕ) (h : Visit) (cs ds : List Component) (i : ℕ) where
-  pub lists_end : length cs ≡ i → (w : Work) → same_lists m h (drop i cs) (drop i ds) w ≡ Made None w
-  lists_end l w = ap (λ (xs : List Component). same_lists m h xs (drop i ds) w) (drop_all i cs (omega (arith, l)))
-
   pub lists_step : (c d : Component) → i < length cs → i < length ds → c ≡ get_or cs i c → d ≡ get_or ds i d → (w : Work)
       → same_lists m h (drop i cs) (drop i ds) w ≡ walk_on (same_component m h c d w) (λ p. found_or p (same_lists m h (drop (i + 1) cs) (drop (i + 1) ds)))
   lists_step c d lc ld ec ed w =
@@ -115,14 +111,3 @@ module _ (m : ℕ) (k l : ScopedForms) (kept : IsKeptContext k l) (depth : ℕ) 
 
   pub lists_go_on : (o : Option (List ℤ)) → is_some o ≡ false → same_component m (visit_of l 0) c d w1 ≡ Made o w2 → same_lists m (visit_of k depth) cs ds w0 ≡ same_lists m (visit_of k depth) (drop (i + 1) cs) (drop (i + 1) ds) w2
   lists_go_on o e s = at_component ∙ ap then_others s ∙ on_none o e
-
--- ---- at an if, of whose trees both are walked
-
--- the first difference is the answer
-pub both_found : (v : List ℤ) (o : Option (List ℤ)) (second : Walking (Option (List ℤ))) (w : Work) → is_some o ≡ true → first_of_both v o second w ≡ Made o w
-both_found v None second w e = cc
-both_found v (Some p) second w e = refl
-
-pub both_none : (v : List ℤ) (o : Option (List ℤ)) (second : Walking (Option (List ℤ))) (w : Work) → is_some o ≡ false → first_of_both v o second w ≡ second w
-both_none v None second w e = refl
-both_none v (Some p) second w e = cc

@@ -1,23 +1,15 @@
 -- The parts of a walk that makes the lesser of two answers.
-use Rattle.std.specs.Prelude.{◌≡◌, ℕ, ◌+◌, ◌<◌, ◌≤◌, List, length, drop, All, ℤ}
-use Rattle.pip_model.specs.Limits.{most_nesting, most_components}
+use Rattle.std.specs.Prelude.{◌≡◌, ℕ, ◌+◌, ◌-◌, ◌*◌, ◌<◌, ◌≤◌, List, length, drop, All, ℤ, ⊤}
+use Rattle.pip_model.specs.Limits.{most_components}
+use Rattle.pip_model.specs.Run.{class}
 use Rattle.pip_model.specs.Tree as model
-use Rattle.pip_model.specs.Tree.{Tree, Component}
-use Rattle.pip_model.specs.Walks.{Walking, Visit}
-use Rattle.pip_model.specs.Tools.{not_below, least_lists, least_leaves, least_second, tree_or_bottom}
-use Rattle.quast.specs.Answers.{answer_of}
+use Rattle.pip_model.specs.Tree.{Tree, If, Component}
+use Rattle.pip_model.specs.Walks.{Walking, ◌>>=◌, ◌>>◌, make, by_run, Visit, where_holds, by_class}
+use Rattle.pip_model.specs.Tools.{count_if, not_below, least_lists}
 use Rattle.quast.specs.Components.{IsComponent, width_of}
-use Rattle.quast_walk.specs.declared.reading.AtLeaf.{AtLeaf}
-use Rattle.quast_walk.specs.declared.reading.AtLeaf.TheVariants as at
-use Rattle.quast_walk.specs.Readings.{leaf_tree}
+use Rattle.quast_tools.specs.declared.rest.Known.{Known}
+use Rattle.quast_tools.specs.declared.rest.Known.TheVariants as known
 use Rattle.quast_tools.specs.declared.rest.Rest.{Rest}
-
--- what is done at a leaf of a tree: the second answer is walked, or a leaf of the first is met
-abbrev pub chosen : ℕ → AtLeaf → Visit → Tree → Walking Tree
-chosen m (at.Second b) h t = least_second m t h (tree_or_bottom (answer_of b.now))
-chosen m (at.Meet l) h t = least_leaves h (leaf_tree l) t
-
--- ---- two lists
 
 -- components that make a list over w places
 pub record IsList (w : ℕ) (cs : List Component) : Type 0 where
@@ -26,24 +18,44 @@ pub record IsList (w : ℕ) (cs : List Component) : Type 0 where
   pub width : width_of cs ≡ w
   pub components : All (IsComponent (width_of cs)) cs
 
--- two lists over w places of as many components, some of which are left; the tree that is made has at most n nested
--- nodes
-pub record IsRest (w n : ℕ) (r : Rest) : Type 0 where
+-- by the sign of a form: what comes next, or a leaf, or a node that chooses over both
+abbrev pub chosen_by : Visit → List ℤ → (Visit → Walking Tree) → Tree → Walking Tree
+chosen_by h v next leaf = do
+  k ← by_run (class h.context h.places v)
+  by_class k (next h) (make leaf) (λ c. do
+    count_if h
+    x ← next (where_holds h c)
+    make (If c x leaf))
+
+-- ---- two lists
+
+abbrev pub steps : Known → ℕ
+steps known.Nothing = 0
+steps (known.NotBelow e) = 1
+
+-- how often the sign of a difference may be asked for yet
+abbrev pub left : Rest → ℕ
+left r = 2 * (length r.first.now - r.next) - steps r.known
+
+abbrev pub IsWideForm : ℕ → Known → Type 0
+IsWideForm w known.Nothing = ⊤
+IsWideForm w (known.NotBelow e) = length e.now ≡ w + 1
+
+-- two lists over w places of as many components, and the next one of them
+pub record IsRest (w : ℕ) (r : Rest) : Type 0 where
   pub first : IsList w r.first.now
   pub second : IsList w r.second.now
   pub lengths : length r.first.now ≡ length r.second.now
-  pub next : r.next ≤ length r.first.now
-  pub depth : r.depth ≤ n
-  pub most : n ≤ most_nesting
+  pub next : r.next + steps r.known ≤ length r.first.now
+  pub wide : IsWideForm w r.known
 
--- the lesser of the lists, by the components that are left; where the first that is left is not below the second,
--- their difference being e
+-- the lesser of the lists by the components from one on
+abbrev pub lesser_from : List Component → List Component → ℕ → Visit → Walking Tree
+lesser_from cs ds i h = least_lists (model.Leaf cs) (model.Leaf ds) (drop i cs) (drop i ds) h
+
+abbrev pub lesser_by : List Component → List Component → ℕ → Known → Visit → Walking Tree
+lesser_by cs ds i known.Nothing h = lesser_from cs ds i h
+lesser_by cs ds i (known.NotBelow e) h = not_below (model.Leaf ds) e.now (λ g. lesser_from cs ds (i + 1) g) h
+
 abbrev pub rest_chosen : Rest → Visit → Walking Tree
-rest_chosen r h =
-    least_lists (model.Leaf r.first.now) (model.Leaf r.second.now) (drop r.next r.first.now)
-    (drop r.next r.second.now) h
-
-abbrev pub rest_not_below : Rest → List ℤ → Visit → Walking Tree
-rest_not_below r e h =
-    not_below (model.Leaf r.second.now) e (λ g. least_lists (model.Leaf r.first.now) (model.Leaf r.second.now)
-    (drop (r.next + 1) r.first.now) (drop (r.next + 1) r.second.now) g) h
+rest_chosen r h = lesser_by r.first.now r.second.now r.next r.known h

@@ -1,3 +1,4 @@
 pub mod Searches
 pub mod Samenesses
 pub mod Choices
+pub mod Nodes

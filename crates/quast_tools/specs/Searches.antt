@@ -1,15 +1,11 @@
 -- The parts of a walk that looks for a difference.
-use Rattle.std.specs.Prelude.{◌≡◌, ℕ, ◌++◌, ℤ, pos, negsuc, ◌-ℤ◌, List, [], ◌∷◌, length, Option, Some, None, ⊤}
+use Rattle.std.specs.Prelude.{ℕ, ◌++◌, ℤ, pos, negsuc, ◌-ℤ◌, List, [], ◌∷◌, Option, Some, None}
 use Rattle.pip_model.specs.Forms.{constant, plus, opposite}
 use Rattle.pip_model.specs.Listed.{opposite_listed}
-use Rattle.pip_model.specs.Tree.{Tree, Component, Solved}
+use Rattle.pip_model.specs.Tree.{Component}
 use Rattle.pip_model.specs.Run.{point, listed}
 use Rattle.pip_model.specs.Walks.{Walking, ◌>>=◌, ◌>>◌, make, by_run, Visit}
-use Rattle.pip_model.specs.Tools.{difference, difference_listed, first_numbers, same_leaves, same_second}
-use Rattle.quast.specs.Answers.{answer_of}
-use Rattle.quast_walk.specs.declared.reading.AtLeaf.{AtLeaf}
-use Rattle.quast_walk.specs.declared.reading.AtLeaf.TheVariants as at
-use Rattle.quast_walk.specs.Readings.{leaf_answer}
+use Rattle.pip_model.specs.Tools.{difference, difference_listed, first_numbers}
 
 -- the context's point where c is at least 0, cut to m numbers
 abbrev pub point_where : ℕ → Visit → List ℤ → Walking (Option (List ℤ))
@@ -39,13 +35,3 @@ same_component m h c d = do
   by_run (listed (difference_listed c d))
   above ← point_above m h (difference c d)
   found_or above (point_below m h (difference c d))
-
--- what is done at a leaf of a tree: the second answer is walked, or a leaf of the first is met
-abbrev pub searched : ℕ → AtLeaf → Visit → Tree → Walking (Option (List ℤ))
-searched m (at.Second b) h t = same_second m (Solved t) h (answer_of b.now)
-searched m (at.Meet l) h t = same_leaves m h (leaf_answer l) (Solved t)
-
--- a point that was found has m numbers
-abbrev pub HasNumbers : ℕ → Option (List ℤ) → Type 0
-HasNumbers m None = ⊤
-HasNumbers m (Some p) = length p ≡ m

@@ -1,49 +1,23 @@
-ghost use Rattle.std.specs.Prelude.{◌≡◌, ◌+◌, ◌*◌, ◌≤◌, IfOk, IfErr, IfSome};
+ghost use Rattle.std.specs.Prelude.{◌≡◌, IfOk, IfErr, IfSome};
 ghost use Rattle.pip_model.specs.Agreement.{Agrees};
 ghost use Rattle.pip_model.specs.Contexts.{IsContext};
 ghost use Rattle.pip_model.specs.Run.{start_work};
 ghost use Rattle.pip_model.specs.ToolAgreement.{AgreesWalked, without_counts};
 ghost use Rattle.pip_model.specs.ToolLaws.{IsSameness, IsSameRefusal};
 ghost use Rattle.pip_model.specs.Tools as model;
-ghost use Rattle.pip_model.specs.Walks.{start_visit};
 ghost use Rattle.pip_model.specs.WellFormed.{IsWellFormedAnswer};
 ghost use Rattle.quast.specs.Answers.{answer_of, IsOver};
 ghost use Rattle.quast_walk.specs.Faults.{tool_fault};
-ghost use Rattle.quast_walk.specs.Readings.{answer_nesting};
 ghost use Rattle.quast_tools.specs.Samenesses.{sameness_of, DiffersOver};
-ghost use Rattle.quast_tools.specs.Searches.{HasNumbers};
 
 use crate::sameness::Sameness;
-use crate::searching::{search_node, search_second};
+use crate::searching::search_answers;
 use affine_forms::Forms;
-use context::{Context, Point, Work};
+use context::{Point, Work};
 use pip_problem::Limits;
 use quast::Answer;
-use quast_walk::{Leaf, Reading, ToolRefusal, context_of, levels, point};
+use quast_walk::{ToolRefusal, context_of, levels, point};
 use std::alloc::Global;
-
-// The first point at which two answers differ on the rows' context, which has a point.
-fn search_answers(
-    alloc: Global,
-    first: &Answer,
-    second: &Answer,
-    context: &mut Context,
-    work: &mut Work,
-) -> Result<Option<Point>, ToolRefusal>
-    requires first { IsOver context.old.width first.now }
-    requires second { IsOver context.old.width second.now }
-    requires room { 2 * answer_nesting first.now + 2 * answer_nesting second.now + 1 ≤ context.old.spare }
-    ensures gives { AgreesWalked (λ o. o) tool_fault result work.new
-        (model.same_first context.old.width (start_visit context.old.width context.old.forms) (answer_of first.now)
-        (answer_of second.now) work.old) }
-    ensures numbers { IfOk result (HasNumbers context.old.width) }
-{
-    let reading = Reading::start(alloc, context, second);
-    match first {
-        Answer::Void => search_second(&reading, Leaf::Void, second, context, work),
-        Answer::Tree(tree) => search_node(&reading, tree.root(), context, work),
-    }
-}
 
 // That no difference was found, or the point of one.
 fn sameness(found: Option<Point>) -> Sameness
@@ -65,9 +39,8 @@ fn compared(
 ) -> Result<Sameness, ToolRefusal>
     requires first { IsOver rows.now.width first.now }
     requires second { IsOver rows.now.width second.now }
-    ensures gives { AgreesWalked sameness_of tool_fault result work.new (model.same rows.now.width rows.now.forms
+    ensures { AgreesWalked sameness_of tool_fault result work.new (model.same rows.now.width rows.now.forms
         (answer_of first.now) (answer_of second.now) work.old) }
-    ensures scope { IfOk result (DiffersOver rows.now.width) }
 {
     let mut context = context_of(alloc, rows, levels(first) + levels(second) + 1)?;
     if point(alloc, &context, work)?.is_none() {
@@ -89,11 +62,11 @@ fn started(
     requires second { IsOver rows.now.width second.now }
     ensures gives { Agrees sameness_of tool_fault result (without_counts (model.same rows.now.width rows.now.forms
         (answer_of first.now) (answer_of second.now) (start_work limits.now))) }
-    ensures scope { IfOk result (DiffersOver rows.now.width) }
     ensures rows { IsContext rows.now.width rows.now.forms }
     ensures first { IsWellFormedAnswer rows.now.width (answer_of first.now) }
     ensures second { IsWellFormedAnswer rows.now.width (answer_of second.now) }
 {
+    let _ = rows.width();
     let _ = rows.as_slice();
     let _ = levels(first);
     let _ = levels(second);

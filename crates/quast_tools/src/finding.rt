@@ -1,11 +1,11 @@
-ghost use Rattle.std.specs.Prelude.{◌≡◌, ℕ, ◌+◌, ◌≤◌, length, All, IfOk, IfSome};
+ghost use Rattle.std.specs.Prelude.{◌≡◌, ℕ, ◌+◌, ◌≤◌, length, All, IfSome};
 ghost use Rattle.pip_model.specs.ToolAgreement.{AgreesWalked};
 ghost use Rattle.pip_model.specs.Tools.{differ_here, first_numbers, same_lists};
 ghost use Rattle.context.specs.Scoped.{IsKeptContext};
 ghost use Rattle.quast_walk.specs.Faults.{tool_fault};
 ghost use Rattle.quast_walk.specs.Readings.{IsWide};
 ghost use Rattle.quast_walk.specs.Visits.{visit_of};
-ghost use Rattle.quast_tools.specs.Searches.{point_where, point_above as above_of, point_below as below_of, same_component, HasNumbers};
+ghost use Rattle.quast_tools.specs.Searches.{point_where, point_above as above_of, point_below as below_of, same_component};
 
 use affine_forms::Form;
 use context::{Context, Point, Work};
@@ -15,8 +15,7 @@ use quast_walk::{Reading, ToolRefusal, above, below, difference, enter, leave, m
 // The point's first m numbers.
 fn cut(found: Option<Point>, m: usize) -> Option<Point>
     requires { IfSome found (λ p. m ≤ length p) }
-    ensures value { result ≡ first_numbers m found }
-    ensures numbers { HasNumbers m result }
+    ensures { result ≡ first_numbers m found }
 {
     match found {
         None => None,
@@ -34,9 +33,8 @@ pub(crate) fn find_here(
     work: &mut Work,
 ) -> Result<Option<Point>, ToolRefusal>
     requires { reading.now.parameters ≤ context.now.width }
-    ensures gives { AgreesWalked (λ o. o) tool_fault result work.new
+    ensures { AgreesWalked (λ o. o) tool_fault result work.new
         (differ_here reading.now.parameters (visit_of context.now 0) work.old) }
-    ensures numbers { IfOk result (HasNumbers reading.now.parameters) }
 {
     let found = point(reading.alloc, context, work)?;
     Ok(cut(found, reading.parameters))
@@ -54,14 +52,13 @@ fn find_where(
     requires room { 1 ≤ context.old.spare }
     ensures gives { AgreesWalked (λ o. o) tool_fault result work.new
         (point_where reading.now.parameters (visit_of context.old 0) condition work.old) }
-    ensures kept { IfOk result (λ o. IsKeptContext context.old context.new) }
-    ensures numbers { IfOk result (HasNumbers reading.now.parameters) }
+    ensures kept { IsKeptContext context.old context.new }
 {
     let start = mark(context);
     enter(context, condition);
-    let found = find_here(reading, context, work)?;
+    let found = find_here(reading, context, work);
     leave(context, start);
-    Ok(found)
+    found
 }
 
 // The context's point where a form is above 0, cut to its parameters.
@@ -76,8 +73,7 @@ fn find_above(
     requires room { 1 ≤ context.old.spare }
     ensures gives { AgreesWalked (λ o. o) tool_fault result work.new
         (above_of reading.now.parameters (visit_of context.old 0) form.now work.old) }
-    ensures kept { IfOk result (λ o. IsKeptContext context.old context.new) }
-    ensures numbers { IfOk result (HasNumbers reading.now.parameters) }
+    ensures kept { IsKeptContext context.old context.new }
 {
     let condition = above(reading.alloc, form)?;
     find_where(reading, condition, context, work)
@@ -95,8 +91,7 @@ fn find_below(
     requires room { 1 ≤ context.old.spare }
     ensures gives { AgreesWalked (λ o. o) tool_fault result work.new
         (below_of reading.now.parameters (visit_of context.old 0) form.now work.old) }
-    ensures kept { IfOk result (λ o. IsKeptContext context.old context.new) }
-    ensures numbers { IfOk result (HasNumbers reading.now.parameters) }
+    ensures kept { IsKeptContext context.old context.new }
 {
     let condition = below(reading.alloc, form)?;
     find_where(reading, condition, context, work)
@@ -116,8 +111,7 @@ fn find_unequal(
     requires room { 1 ≤ context.old.spare }
     ensures gives { AgreesWalked (λ o. o) tool_fault result work.new
         (same_component reading.now.parameters (visit_of context.old 0) first.now second.now work.old) }
-    ensures kept { IfOk result (λ o. IsKeptContext context.old context.new) }
-    ensures numbers { IfOk result (HasNumbers reading.now.parameters) }
+    ensures kept { IsKeptContext context.old context.new }
 {
     let form = difference(reading.alloc, first, second)?;
     match find_above(reading, &form, context, work)? {
@@ -141,8 +135,7 @@ pub(crate) fn find_in_lists(
     requires room { 1 ≤ context.old.spare }
     ensures gives { (depth : ℕ) → AgreesWalked (λ o. o) tool_fault result work.new
         (same_lists reading.now.parameters (visit_of context.old depth) first.now second.now work.old) }
-    ensures kept { IfOk result (λ o. IsKeptContext context.old context.new) }
-    ensures numbers { IfOk result (HasNumbers reading.now.parameters) }
+    ensures kept { IsKeptContext context.old context.new }
 {
     for i in 0..first.len() {
         let found = find_unequal(reading, &first[i], &second[i], context, work)?;

@@ -1,4 +1,4 @@
-ghost use Rattle.std.specs.Prelude.{◌≡◌, ℕ, ◌≤◌, IsTrue, IfOk};
+ghost use Rattle.std.specs.Prelude.{◌≡◌, ℕ, ◌≤◌, IsTrue};
 ghost use Rattle.pip_model.specs.ToolAgreement.{AgreesWalked};
 ghost use Rattle.pip_model.specs.Tools.{same_leaves, spread_tree};
 ghost use Rattle.pip_model.specs.Tree as model;
@@ -7,7 +7,6 @@ ghost use Rattle.context.specs.Scoped.{IsKeptContext};
 ghost use Rattle.quast_walk.specs.Faults.{tool_fault};
 ghost use Rattle.quast_walk.specs.Readings.{leaf_answer, leaf_tree, spread_answer, IsListWithin, IsWithin};
 ghost use Rattle.quast_walk.specs.Visits.{visit_of};
-ghost use Rattle.quast_tools.specs.Searches.{HasNumbers};
 
 use crate::finding::{find_here, find_in_lists};
 use context::{Context, Point, Work};
@@ -30,8 +29,7 @@ fn find_between(
     ensures gives { (depth : ℕ) → AgreesWalked (λ o. o) tool_fault result work.new
         (same_leaves reading.now.parameters (visit_of context.old depth) (model.Solved (model.Leaf first.now))
         (model.Solved (spread_tree reading.now.parameters reading.now.between (model.Leaf second.now))) work.old) }
-    ensures kept { IfOk result (λ o. IsKeptContext context.old context.new) }
-    ensures numbers { IfOk result (HasNumbers reading.now.parameters) }
+    ensures kept { IsKeptContext context.old context.new }
 {
     if first.len() != second.len() {
         return find_here(reading, context, work);
@@ -57,8 +55,7 @@ pub(crate) fn find_at_leaves(
     ensures gives { (depth : ℕ) → AgreesWalked (λ o. o) tool_fault result work.new
         (same_leaves reading.now.parameters (visit_of context.old depth) (leaf_answer first.entry)
         (spread_answer reading.now.parameters reading.now.between (leaf_answer second.entry)) work.old) }
-    ensures kept { IfOk result (λ o. IsKeptContext context.old context.new) }
-    ensures numbers { IfOk result (HasNumbers reading.now.parameters) }
+    ensures kept { IsKeptContext context.old context.new }
 {
     match (first, second) {
         (Leaf::Void, Leaf::Void) => Ok(None),

@@ -2,12 +2,13 @@
 #![tactic(auto)]
 
 mod choosing;
+mod choosing_walk;
 mod comparing;
 mod finding;
 mod leaves;
 mod lesser_leaves;
 mod lesser_lists;
-mod lesser_nodes;
+mod nodes;
 mod rest;
 mod restricting;
 mod sameness;

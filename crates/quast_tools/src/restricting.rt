@@ -1,106 +1,94 @@
-ghost use Rattle.std.specs.Prelude.{◌≡◌, ℕ, ◌+◌, ◌*◌, ◌≤◌, length, IsTrue, IfOk, IfErr, IfSome};
+ghost use Rattle.std.specs.Prelude.{◌≡◌, ◌+◌, ◌*◌, ◌≤◌, false, IfOk, IfErr, IfSome};
 ghost use Rattle.pip_model.specs.Agreement.{Agrees};
 ghost use Rattle.pip_model.specs.Contexts.{IsContext};
-ghost use Rattle.pip_model.specs.Limits.{most_nesting};
-ghost use Rattle.pip_model.specs.Printed.{tree_fits};
 ghost use Rattle.pip_model.specs.Run.{start_work};
 ghost use Rattle.pip_model.specs.ToolAgreement.{AgreesWalked, without_counts};
 ghost use Rattle.pip_model.specs.ToolLaws.{IsRestriction, IsRestrictRefusal};
 ghost use Rattle.pip_model.specs.Tools as model;
-ghost use Rattle.pip_model.specs.Tree.{is_scoped, nesting};
-ghost use Rattle.pip_model.specs.Walks.{walk, where_holds, start_visit};
+ghost use Rattle.pip_model.specs.Tree.{Tree, nesting};
+ghost use Rattle.pip_model.specs.Walks as walks;
+ghost use Rattle.pip_model.specs.Walks.{start_visit};
 ghost use Rattle.pip_model.specs.WellFormed.{IsWellFormedAnswer};
-ghost use Rattle.context.specs.Scoped.{IsKeptContext};
 ghost use Rattle.quast.specs.Answers.{answer_of, IsOver};
 ghost use Rattle.quast.specs.Trees.{tree_of};
 ghost use Rattle.quast_walk.specs.Faults.{tool_fault};
-ghost use Rattle.quast_walk.specs.Visits.{visit_of, tree_in};
+ghost use Rattle.quast_tools.specs.Nodes.{node_answer};
 
-use affine_forms::{Form, Forms};
+use crate::nodes::{as_answer, choice, definition, list};
+use affine_forms::{Form, Forms, WantOfMemory};
 use context::{Context, Work};
 use pip_problem::Limits;
 use quast::{Answer, Node, Quast};
-use quast_walk::{
-    ToolRefusal, check_sign, context_of, copies, enter, go_below, leave, levels, mark, opposite,
-    point, sign,
-};
-use sign_split::Class;
+use quast_walk::{Leaf, Reading, ToolRefusal, Walker, context_of, levels, point, walk};
 use std::alloc::Global;
 
-// What a node's tree is on the context: an if is kept where its form has both signs.
-#[cycle(restrict)]
-fn restrict_node(
+// A walk that keeps each node that chooses whose form has both signs, each new parameter and each leaf.
+#[derive(Drop)]
+struct Restricting {
     alloc: Global,
-    node: &Node,
-    context: &mut Context,
-    work: &mut Work,
-) -> Result<Quast, ToolRefusal>
-    requires scoped { IsTrue (is_scoped context.old.width (tree_of node.now)) }
-    requires numbers { IsTrue (tree_fits (tree_of node.now)) }
-    requires nested { nesting (tree_of node.now) ≤ most_nesting }
-    requires room { 2 * nesting (tree_of node.now) ≤ context.old.spare }
-    ensures gives { (depth : ℕ) → AgreesWalked tree_in tool_fault result work.new
-        (walk model.restricting (visit_of context.old depth) (tree_of node.now) work.old) }
-    ensures kept { IfOk result (λ made. IsKeptContext context.old context.new) }
-    ensures width { IfOk result (λ made. made.width ≡ context.old.width) }
-    ensures nested { IfOk result (λ made. nesting made.tree ≤ nesting (tree_of node.now)) }
-{
-    match node {
-        Node::Bottom => Ok(Quast::bottom(context.mark().width)),
-        Node::Leaf(list) => {
-            let components = copies(alloc, list.as_slice())?;
-            Ok(Quast::list(components))
-        }
-        Node::Select(form, first, second) => match sign(alloc, form, context, work)? {
-            Class::Plus => restrict_node(alloc, first, context, work),
-            Class::Minus => restrict_node(alloc, second, context, work),
-            Class::Unknown(condition) => {
-                let fails = opposite(alloc, &condition)?;
-                let holding = restrict_where(alloc, first, condition, context, work)?;
-                let failing = restrict_where(alloc, second, fails, context, work)?;
-                let form = form.try_clone(alloc)?;
-                let made = Quast::select_within(alloc, form, holding, failing)?;
-                Ok(made)
-            }
-        },
-        Node::Define(form, den, below) => {
-            check_sign(alloc, form, context, work)?;
-            let start = mark(context);
-            go_below(alloc, form, *den, context)?;
-            let inner = restrict_node(alloc, below, context, work)?;
-            leave(context, start);
-            let form = form.try_clone(alloc)?;
-            let made = Quast::define_within(alloc, form, *den, inner)?;
-            Ok(made)
-        }
-    }
+    parameters: usize,
 }
 
-// What a node's tree is where a condition is at least 0.
-#[cycle(restrict)]
-fn restrict_where(
-    alloc: Global,
-    node: &Node,
-    condition: Form,
-    context: &mut Context,
-    work: &mut Work,
-) -> Result<Quast, ToolRefusal>
-    requires narrow { length condition ≤ context.old.width + 1 }
-    requires scoped { IsTrue (is_scoped context.old.width (tree_of node.now)) }
-    requires numbers { IsTrue (tree_fits (tree_of node.now)) }
-    requires nested { nesting (tree_of node.now) ≤ most_nesting }
-    requires room { 2 * nesting (tree_of node.now) + 1 ≤ context.old.spare }
-    ensures gives { (depth : ℕ) → AgreesWalked tree_in tool_fault result work.new
-        (walk model.restricting (where_holds (visit_of context.old depth) condition) (tree_of node.now) work.old) }
-    ensures kept { IfOk result (λ made. IsKeptContext context.old context.new) }
-    ensures width { IfOk result (λ made. made.width ≡ context.old.width) }
-    ensures nested { IfOk result (λ made. nesting made.tree ≤ nesting (tree_of node.now)) }
-{
-    let start = mark(context);
-    enter(context, condition);
-    let made = restrict_node(alloc, node, context, work)?;
-    leave(context, start);
-    Ok(made)
+impl Walker for Restricting {
+    type Made = Node;
+
+    ghost Seen = { Tree };
+
+    ghost seen = { tree_of };
+
+    ghost walker = { λ s. model.restricting };
+
+    ghost parameters = { λ s. s.parameters };
+
+    ghost between = { λ s. 0 };
+
+    ghost room = { λ s. 0 };
+
+    ghost IsReady = { λ s. Unit {0} };
+
+    ghost ends = { λ made. false };
+
+    fn reading(&self) -> Reading {
+        Reading {
+            alloc: self.alloc,
+            parameters: self.parameters,
+            between: 0,
+        }
+    }
+
+    fn at_split(&self, _depth: u64, _work: &mut Work) -> Result<(), ToolRefusal> {
+        Ok(())
+    }
+
+    fn at_quotient(&self, _depth: u64, _work: &Work) -> Result<(), ToolRefusal> {
+        Ok(())
+    }
+
+    fn at_leaf(
+        &self,
+        leaf: Leaf,
+        _depth: u64,
+        _context: &mut Context,
+        _work: &mut Work,
+    ) -> Result<Node, ToolRefusal> {
+        match leaf {
+            Leaf::Void => Ok(Node::Bottom),
+            Leaf::Bottom => Ok(Node::Bottom),
+            Leaf::List(components) => Ok(list(self.alloc, components)?),
+        }
+    }
+
+    fn is_end(&self, _first: &Node) -> bool {
+        false
+    }
+
+    fn join(&self, form: Form, first: Node, second: Node) -> Result<Node, WantOfMemory> {
+        choice(self.alloc, form, first, second)
+    }
+
+    fn define(&self, form: Form, den: i128, below: Node) -> Result<Node, WantOfMemory> {
+        definition(self.alloc, form, den, below)
+    }
 }
 
 // What a tree is on the rows' context, which has a point.
@@ -109,38 +97,39 @@ fn restrict_tree(
     tree: &Quast,
     context: &mut Context,
     work: &mut Work,
-) -> Result<Quast, ToolRefusal>
+) -> Result<Node, ToolRefusal>
     requires width { tree.now.width ≡ context.old.width }
     requires room { 2 * nesting tree.now.tree ≤ context.old.spare }
-    ensures gives { AgreesWalked tree_in tool_fault result work.new
-        (walk model.restricting (start_visit context.old.width context.old.forms) tree.now.tree work.old) }
-    ensures width { IfOk result (λ made. made.width ≡ context.old.width) }
+    ensures { AgreesWalked tree_of tool_fault result work.new
+        (walks.walk model.restricting (start_visit context.old.width context.old.forms) tree.now.tree work.old) }
 {
-    let made = restrict_node(alloc, tree.root(), context, work)?;
-    Ok(made)
+    let walker = Restricting {
+        alloc,
+        parameters: tree.width(),
+    };
+    walk(&walker, tree.root(), 0, context, work)
 }
 
-// The answer on the rows, after what was counted.
+// The answer on the rows, after what was counted; none is `void`.
 fn restricted(
     alloc: Global,
     rows: &Forms,
     answer: &Answer,
     work: &mut Work,
-) -> Result<Answer, ToolRefusal>
+) -> Result<Option<Node>, ToolRefusal>
     requires { IsOver rows.now.width answer.now }
-    ensures gives { AgreesWalked answer_of tool_fault result work.new
+    ensures { AgreesWalked node_answer tool_fault result work.new
         (model.restrict rows.now.width rows.now.forms (answer_of answer.now) work.old) }
-    ensures scope { IfOk result (IsOver rows.now.width) }
 {
     let mut context = context_of(alloc, rows, levels(answer))?;
     if point(alloc, &context, work)?.is_none() {
-        return Ok(Answer::Void);
+        return Ok(None);
     }
     match answer {
-        Answer::Void => Ok(Answer::Void),
+        Answer::Void => Ok(None),
         Answer::Tree(tree) => {
             let made = restrict_tree(alloc, tree, &mut context, work)?;
-            Ok(Answer::Tree(made))
+            Ok(Some(made))
         }
     }
 }
@@ -159,11 +148,14 @@ fn started(
     ensures rows { IsContext rows.now.width rows.now.forms }
     ensures answer { IsWellFormedAnswer rows.now.width (answer_of answer.now) }
 {
+    let width = rows.width();
     let _ = rows.as_slice();
     let _ = levels(answer);
     let mut work = Work::start(limits);
-    restricted(alloc, rows, answer, &mut work)
+    let made = restricted(alloc, rows, answer, &mut work)?;
+    Ok(as_answer(width, made))
 }
+
 /// The answer at the whole vectors of numbers from 0 on that satisfy the rows: `void` where it is void or there are
 /// none, else the tree without what no such vector reaches. A node that chooses is kept, with its form, exactly where
 /// both signs occur. It is refused at the first place of the walk at which a point's run is, a number of a new

@@ -1,156 +1,225 @@
-ghost use Rattle.std.specs.Prelude.{◌≡◌, ℕ, ◌+◌, ◌*◌, ◌≤◌, length, IsTrue, IfOk};
-ghost use Rattle.pip_model.specs.Printed.{tree_fits};
+ghost use Rattle.std.specs.Prelude.{◌≡◌, ◌+◌, ◌*◌, ◌≤◌, ℤ, List, Option, is_some};
 ghost use Rattle.pip_model.specs.ToolAgreement.{AgreesWalked};
-ghost use Rattle.pip_model.specs.Tools.{spread_tree, comparing, same_second};
-ghost use Rattle.pip_model.specs.Tree as model;
-ghost use Rattle.pip_model.specs.Tree.{is_scoped, nesting};
-ghost use Rattle.pip_model.specs.Walks.{walk, where_holds};
+ghost use Rattle.pip_model.specs.Tools.{comparing, same_first, same_leaves, same_second};
+ghost use Rattle.pip_model.specs.Tree.{Solved};
+ghost use Rattle.pip_model.specs.Walks.{start_visit};
 ghost use Rattle.context.specs.Scoped.{IsKeptContext};
 ghost use Rattle.quast.specs.Answers.{answer_of, IsOver};
-ghost use Rattle.quast.specs.Trees.{tree_of};
 ghost use Rattle.quast_walk.specs.Faults.{tool_fault};
-ghost use Rattle.quast_walk.specs.Readings.{leaf_answer, leaf_tree, room_at, answer_nesting, IsWithin, IsReading};
+ghost use Rattle.quast_walk.specs.Readings.{leaf_answer, answer_nesting, IsWithin, HasRoom};
 ghost use Rattle.quast_walk.specs.Visits.{visit_of};
-ghost use Rattle.quast_tools.specs.Searches.{searched, HasNumbers};
 
 use crate::leaves::find_at_leaves;
-use affine_forms::Form;
+use affine_forms::{Form, WantOfMemory};
 use context::{Context, Point, Work};
-use quast::{Answer, Node};
-use quast_walk::{
-    AtLeaf, Leaf, Reading, ToolRefusal, check_sign, enter, go_below, leave, mark, opposite, sign,
-    spread,
-};
-use sign_split::Class;
+use quast::Answer;
+use quast_walk::{Leaf, Reading, ToolRefusal, Walker, walk};
+use std::alloc::Global;
 
-// The first point at which the answers differ, in the order of the walk of a node's tree: it goes where the form's
-// sign says, and to both trees, the first one first, where both signs occur.
-#[cycle(search)]
-pub(crate) fn search_node(
-    reading: &Reading,
-    node: &Node,
-    context: &mut Context,
-    work: &mut Work,
-) -> Result<Option<Point>, ToolRefusal>
-    requires reading { IsReading reading.now context.old.width }
-    requires scoped { IsTrue (is_scoped context.old.width
-        (spread_tree reading.now.parameters reading.now.between (tree_of node.now))) }
-    requires numbers { IsTrue (tree_fits (tree_of node.now)) }
-    requires room { 2 * nesting (tree_of node.now) + room_at reading.now.at_leaf + 1 ≤ context.old.spare }
-    ensures gives { (depth : ℕ) → AgreesWalked (λ o. o) tool_fault result work.new
-        (walk (comparing (searched reading.now.parameters reading.now.at_leaf)) (visit_of context.old depth)
-        (spread_tree reading.now.parameters reading.now.between (tree_of node.now)) work.old) }
-    ensures kept { IfOk result (λ o. IsKeptContext context.old context.new) }
-    ensures numbers { IfOk result (HasNumbers reading.now.parameters) }
-{
-    match node {
-        Node::Bottom => search_leaf(reading, Leaf::Bottom, context, work),
-        Node::Leaf(list) => search_leaf(reading, Leaf::List(list.as_slice()), context, work),
-        Node::Select(form, first, second) => {
-            let form = spread(reading.alloc, form, reading.parameters, reading.between)?;
-            match sign(reading.alloc, &form, context, work)? {
-                Class::Plus => search_node(reading, first, context, work),
-                Class::Minus => search_node(reading, second, context, work),
-                Class::Unknown(condition) => {
-                    work.count_split()?;
-                    let fails = opposite(reading.alloc, &condition)?;
-                    let found = search_where(reading, first, condition, context, work)?;
-                    if found.is_some() {
-                        return Ok(found);
-                    }
-                    search_where(reading, second, fails, context, work)
-                }
-            }
-        }
-        Node::Define(form, den, below) => {
-            let form = spread(reading.alloc, form, reading.parameters, reading.between)?;
-            check_sign(reading.alloc, &form, context, work)?;
-            let start = mark(context);
-            go_below(reading.alloc, &form, *den, context)?;
-            let found = search_node(reading, below, context, work)?;
-            leave(context, start);
-            Ok(found)
-        }
+// The first answer's walk: the second one is walked from each leaf.
+#[derive(Drop)]
+struct Searching<'t> {
+    reading: Reading,
+    second: &'t Answer,
+}
+
+impl Walker for Searching<'_> {
+    type Made = Option<Point>;
+
+    ghost Seen = { Option (List ℤ) };
+
+    ghost seen = { λ found. found };
+
+    ghost walker = { λ s. comparing (λ h leaf. same_second s.reading.parameters (Solved leaf) h (answer_of s.second.now)) };
+
+    ghost parameters = { λ s. s.reading.parameters };
+
+    ghost between = { λ s. s.reading.between };
+
+    ghost room = { λ s. 2 * answer_nesting s.second.now + 1 };
+
+    ghost IsReady = { λ s. (s.reading.between ≡ 0) × IsOver s.reading.parameters s.second.now };
+
+    ghost ends = { is_some };
+
+    fn reading(&self) -> Reading {
+        self.reading
+    }
+
+    fn at_split(&self, _depth: u64, work: &mut Work) -> Result<(), ToolRefusal> {
+        work.count_split()?;
+        Ok(())
+    }
+
+    fn at_quotient(&self, _depth: u64, _work: &Work) -> Result<(), ToolRefusal> {
+        Ok(())
+    }
+
+    fn at_leaf(
+        &self,
+        leaf: Leaf,
+        depth: u64,
+        context: &mut Context,
+        work: &mut Work,
+    ) -> Result<Option<Point>, ToolRefusal> {
+        search_second(&self.reading, leaf, self.second, depth, context, work)
+    }
+
+    fn is_end(&self, first: &Option<Point>) -> bool {
+        first.is_some()
+    }
+
+    fn join(
+        &self,
+        _form: Form,
+        _first: Option<Point>,
+        second: Option<Point>,
+    ) -> Result<Option<Point>, WantOfMemory> {
+        Ok(second)
+    }
+
+    fn define(
+        &self,
+        _form: Form,
+        _den: i128,
+        below: Option<Point>,
+    ) -> Result<Option<Point>, WantOfMemory> {
+        Ok(below)
     }
 }
 
-// The first such point where a condition is at least 0.
-#[cycle(search)]
-fn search_where(
-    reading: &Reading,
-    node: &Node,
-    condition: Form,
-    context: &mut Context,
-    work: &mut Work,
-) -> Result<Option<Point>, ToolRefusal>
-    requires reading { IsReading reading.now context.old.width }
-    requires narrow { length condition ≤ context.old.width + 1 }
-    requires scoped { IsTrue (is_scoped context.old.width
-        (spread_tree reading.now.parameters reading.now.between (tree_of node.now))) }
-    requires numbers { IsTrue (tree_fits (tree_of node.now)) }
-    requires room { 2 * nesting (tree_of node.now) + room_at reading.now.at_leaf + 2 ≤ context.old.spare }
-    ensures gives { (depth : ℕ) → AgreesWalked (λ o. o) tool_fault result work.new
-        (walk (comparing (searched reading.now.parameters reading.now.at_leaf))
-        (where_holds (visit_of context.old depth) condition)
-        (spread_tree reading.now.parameters reading.now.between (tree_of node.now)) work.old) }
-    ensures kept { IfOk result (λ o. IsKeptContext context.old context.new) }
-    ensures numbers { IfOk result (HasNumbers reading.now.parameters) }
-{
-    let start = mark(context);
-    enter(context, condition);
-    let found = search_node(reading, node, context, work)?;
-    leave(context, start);
-    Ok(found)
+// The second answer's walk from a leaf of the first.
+#[derive(Drop)]
+struct Meeting<'t> {
+    reading: Reading,
+    first: Leaf<'t>,
 }
 
-// The first such point at a leaf: from a leaf of the first tree the second answer is walked, and a leaf of the second
-// is compared with the first's.
-#[cycle(search)]
-fn search_leaf(
-    reading: &Reading,
-    leaf: Leaf,
-    context: &mut Context,
-    work: &mut Work,
-) -> Result<Option<Point>, ToolRefusal>
-    requires reading { IsReading reading.now context.old.width }
-    requires scoped { IsTrue (is_scoped context.old.width
-        (spread_tree reading.now.parameters reading.now.between (leaf_tree leaf))) }
-    requires kind { leaf_answer leaf ≡ model.Solved (leaf_tree leaf) }
-    requires room { room_at reading.now.at_leaf + 1 ≤ context.old.spare }
-    ensures gives { (depth : ℕ) → AgreesWalked (λ o. o) tool_fault result work.new
-        (searched reading.now.parameters reading.now.at_leaf (visit_of context.old depth)
-        (spread_tree reading.now.parameters reading.now.between (leaf_tree leaf.entry)) work.old) }
-    ensures kept { IfOk result (λ o. IsKeptContext context.old context.new) }
-    ensures numbers { IfOk result (HasNumbers reading.now.parameters) }
-{
-    match reading.at_leaf {
-        AtLeaf::Meet(first) => find_at_leaves(reading, first, leaf, context, work),
-        AtLeaf::Second(answer) => search_second(reading, leaf, answer, context, work),
+impl Walker for Meeting<'_> {
+    type Made = Option<Point>;
+
+    ghost Seen = { Option (List ℤ) };
+
+    ghost seen = { λ found. found };
+
+    ghost walker = { λ s.
+        comparing (λ h other. same_leaves s.reading.parameters h (leaf_answer s.first) (Solved other)) };
+
+    ghost parameters = { λ s. s.reading.parameters };
+
+    ghost between = { λ s. s.reading.between };
+
+    ghost room = { λ s. 1 };
+
+    ghost IsReady = { λ s. IsWithin (s.reading.parameters + s.reading.between) s.first };
+
+    ghost ends = { is_some };
+
+    fn reading(&self) -> Reading {
+        self.reading
+    }
+
+    fn at_split(&self, _depth: u64, work: &mut Work) -> Result<(), ToolRefusal> {
+        work.count_split()?;
+        Ok(())
+    }
+
+    fn at_quotient(&self, _depth: u64, _work: &Work) -> Result<(), ToolRefusal> {
+        Ok(())
+    }
+
+    fn at_leaf(
+        &self,
+        leaf: Leaf,
+        _depth: u64,
+        context: &mut Context,
+        work: &mut Work,
+    ) -> Result<Option<Point>, ToolRefusal> {
+        find_at_leaves(&self.reading, self.first, leaf, context, work)
+    }
+
+    fn is_end(&self, first: &Option<Point>) -> bool {
+        first.is_some()
+    }
+
+    fn join(
+        &self,
+        _form: Form,
+        _first: Option<Point>,
+        second: Option<Point>,
+    ) -> Result<Option<Point>, WantOfMemory> {
+        Ok(second)
+    }
+
+    fn define(
+        &self,
+        _form: Form,
+        _den: i128,
+        below: Option<Point>,
+    ) -> Result<Option<Point>, WantOfMemory> {
+        Ok(below)
     }
 }
 
-// The first such point of the second answer's walk from a leaf of the first.
-#[cycle(search)]
-pub(crate) fn search_second(
+// The first point at which the answers differ in the order of the second one's walk, from a leaf of the first.
+fn search_second(
     reading: &Reading,
     leaf: Leaf,
     answer: &Answer,
+    depth: u64,
     context: &mut Context,
     work: &mut Work,
 ) -> Result<Option<Point>, ToolRefusal>
     requires few { reading.now.parameters ≤ context.old.width }
     requires leaf { IsWithin context.old.width leaf }
     requires answer { IsOver reading.now.parameters answer.now }
-    requires room { 2 * answer_nesting answer.now + 1 ≤ context.old.spare }
-    ensures gives { (depth : ℕ) → AgreesWalked (λ o. o) tool_fault result work.new
+    requires room { HasRoom (2 * answer_nesting answer.now + 1) depth 0 context.old }
+    ensures gives { AgreesWalked (λ o. o) tool_fault result work.new
         (same_second reading.now.parameters (leaf_answer leaf.entry) (visit_of context.old depth) (answer_of answer.now)
         work.old) }
-    ensures kept { IfOk result (λ o. IsKeptContext context.old context.new) }
-    ensures numbers { IfOk result (HasNumbers reading.now.parameters) }
+    ensures kept { IsKeptContext context.old context.new }
 {
-    let below = reading.meeting(leaf, context.mark().width);
+    let below = reading.below(context.mark().width);
     match answer {
         Answer::Void => find_at_leaves(&below, leaf, Leaf::Void, context, work),
-        Answer::Tree(tree) => search_node(&below, tree.root(), context, work),
+        Answer::Tree(tree) => {
+            let walker = Meeting {
+                reading: below,
+                first: leaf,
+            };
+            walk(&walker, tree.root(), depth, context, work)
+        }
+    }
+}
+
+// The first point at which two answers differ on the rows' context, which has a point.
+pub(crate) fn search_answers(
+    alloc: Global,
+    first: &Answer,
+    second: &Answer,
+    context: &mut Context,
+    work: &mut Work,
+) -> Result<Option<Point>, ToolRefusal>
+    requires first { IsOver context.old.width first.now }
+    requires second { IsOver context.old.width second.now }
+    requires room { HasRoom (2 * answer_nesting first.now + 2 * answer_nesting second.now + 1) 0 0 context.old }
+    ensures { AgreesWalked (λ o. o) tool_fault result work.new
+        (same_first context.old.width (start_visit context.old.width context.old.forms) (answer_of first.now)
+        (answer_of second.now) work.old) }
+{
+    let reading = Reading {
+        alloc,
+        parameters: context.mark().width,
+        between: 0,
+    };
+    match first {
+        Answer::Void => search_second(&reading, Leaf::Void, second, 0, context, work),
+        Answer::Tree(tree) => walk(
+            &Searching { reading, second },
+            tree.root(),
+            0,
+            context,
+            work,
+        ),
     }
 }

@@ -1,55 +1,83 @@
--- The walk of an if, from what the calls at it answered.
+-- The walk of a node that chooses, from what the calls at it answered.
 use Rattle.std.proofs.Common.{◌≡◌, ◌∙◌, ap, sym, ℕ, List, ℤ, Option, Some, None}
 use Rattle.std.specs.Prelude.{IfSome}
 use Rattle.pip_model.specs.Forms.{opposite}
 use Rattle.pip_model.specs.Tree.{Tree, If}
 use Rattle.pip_model.specs.Run.{Work, Class, Plus, Minus, Unknown, class}
 use Rattle.pip_model.specs.Walks.{ToolRefusal, Walked, Made, Stopped, Walking, walk_on, ◌>>=◌, ◌>>◌, by_run, Visit, where_holds, Walker, by_class, walk}
+use Rattle.pip_model.specs.Tools.{spread, spread_tree}
 use Rattle.context.specs.Scoped.{ScopedForms, IsKeptContext}
 use Rattle.quast_walk.specs.Visits.{visit_of}
 use Rattle.quast_walk.proofs.Walking.{kept_visit}
 
-module _ {X : Type 0} (W : Walker X) (k0 k1 : ScopedForms) (kept : IsKeptContext k0 k1) (v : List ℤ) (t a b : Tree) (is : t ≡ If v a b) (w0 w1 : Work) (depth : ℕ) where
+module _ {X : Type 0} (W : Walker X) (m n : ℕ) (v f : List ℤ) (form : f ≡ spread m n v) (t a b : Tree) (node : t ≡ If v a b)
+    (k0 k1 : ScopedForms) (kept : IsKeptContext k0 k1) (depth : ℕ) (w0 w1 : Work) where
+  abbrev pub whole : Walked X
+  whole = walk W (visit_of k0 depth) (spread_tree m n t) w0
+
+  abbrev pub first : Visit → Walking X
+  first h = walk W h (spread_tree m n a)
+
+  abbrev pub second : Visit → Walking X
+  second h = walk W h (spread_tree m n b)
+
   abbrev both_trees : Visit → List ℤ → Walking X
-  both_trees h c = W.at_split h >> (walk W (where_holds h c) a >>= λ x. W.joined v x (walk W (where_holds h (opposite c)) b))
+  both_trees h c = W.at_split h >> (first (where_holds h c) >>= λ x. W.joined f x (second (where_holds h (opposite c))))
 
   abbrev by_sign : Visit → Walked Class → Walked X
-  by_sign h o = walk_on o (λ c. by_class c (walk W h a) (walk W h b) (both_trees h))
+  by_sign h o = walk_on o (λ c. by_class c (first h) (second h) (both_trees h))
 
-  from_sign : (o : Walked Class) → by_run (class k0.forms k0.width v) w0 ≡ o → walk W (visit_of k0 depth) t w0 ≡ by_sign (visit_of k1 depth) o
+  is : spread_tree m n t ≡ If f (spread_tree m n a) (spread_tree m n b)
+  is = ap (λ (u : Tree). spread_tree m n u) node ∙ ap (λ (g : List ℤ). If g (spread_tree m n a) (spread_tree m n b)) (sym form)
+
+  from_sign : (o : Walked Class) → by_run (class k0.forms k0.width f) w0 ≡ o → whole ≡ by_sign (visit_of k1 depth) o
   from_sign o s = ap (λ (u : Tree). walk W (visit_of k0 depth) u w0) is ∙ ap (by_sign (visit_of k0 depth)) s ∙ ap (λ (h : Visit). by_sign h o) (sym (kept_visit k0 k1 depth kept))
 
-  pub if_stops : (o : Option ToolRefusal) → IfSome o (λ f. by_run (class k0.forms k0.width v) w0 ≡ Stopped f w1) → IfSome o (λ f. walk W (visit_of k0 depth) t w0 ≡ Stopped f w1)
+  pub if_stops : (o : Option ToolRefusal) → IfSome o (λ e. by_run (class k0.forms k0.width f) w0 ≡ Stopped e w1) → IfSome o (λ e. whole ≡ Stopped e w1)
   if_stops None s = s
-  if_stops (Some f) s = from_sign (Stopped f w1) s
+  if_stops (Some e) s = from_sign (Stopped e w1) s
 
-  pub if_plus : by_run (class k0.forms k0.width v) w0 ≡ Made Plus w1 → walk W (visit_of k0 depth) t w0 ≡ walk W (visit_of k1 depth) a w1
-  if_plus s = from_sign (Made Plus w1) s
+  pub if_plus : by_run (class k0.forms k0.width f) w0 ≡ Made Plus w1 → first (visit_of k1 depth) w1 ≡ whole
+  if_plus s = sym (from_sign (Made Plus w1) s)
 
-  pub if_minus : by_run (class k0.forms k0.width v) w0 ≡ Made Minus w1 → walk W (visit_of k0 depth) t w0 ≡ walk W (visit_of k1 depth) b w1
-  if_minus s = from_sign (Made Minus w1) s
+  pub if_minus : by_run (class k0.forms k0.width f) w0 ≡ Made Minus w1 → second (visit_of k1 depth) w1 ≡ whole
+  if_minus s = sym (from_sign (Made Minus w1) s)
 
-  module _ (c : List ℤ) (known : by_run (class k0.forms k0.width v) w0 ≡ Made (Unknown c) w1) where
-    abbrev h1 : Visit
-    h1 = visit_of k1 depth
-
+  module _ (c : List ℤ) (known : by_run (class k0.forms k0.width f) w0 ≡ Made (Unknown c) w1) (w2 : Work) where
     abbrev after_split : Walked (Unit {0}) → Walked X
-    after_split o = walk_on o (λ done. walk W (where_holds h1 c) a >>= λ x. W.joined v x (walk W (where_holds h1 (opposite c)) b))
+    after_split o = walk_on o (λ done. first (where_holds (visit_of k1 depth) c) >>= λ x. W.joined f x (second (where_holds (visit_of k1 depth) (opposite c))))
 
-    pub split_stops : (o : Option ToolRefusal) (w2 : Work) → IfSome o (λ f. W.at_split h1 w1 ≡ Stopped f w2) → IfSome o (λ f. walk W (visit_of k0 depth) t w0 ≡ Stopped f w2)
-    split_stops None w2 s = s
-    split_stops (Some f) w2 s = from_sign (Made (Unknown c) w1) known ∙ ap after_split s
+    pub split_stops : (o : Option ToolRefusal) → IfSome o (λ e. W.at_split (visit_of k1 depth) w1 ≡ Stopped e w2) → IfSome o (λ e. whole ≡ Stopped e w2)
+    split_stops None s = s
+    split_stops (Some e) s = from_sign (Made (Unknown c) w1) known ∙ ap after_split s
 
-    module _ (w2 w3 : Work) (split : W.at_split h1 w1 ≡ Made tt w2) where
+    module _ (split : W.at_split (visit_of k1 depth) w1 ≡ Made tt w2) (w3 : Work) where
       abbrev after_first : Walked X → Walked X
-      after_first o = walk_on o (λ x. W.joined v x (walk W (where_holds h1 (opposite c)) b))
+      after_first o = walk_on o (λ x. W.joined f x (second (where_holds (visit_of k1 depth) (opposite c))))
 
-      from_first : walk W (visit_of k0 depth) t w0 ≡ after_first (walk W (where_holds h1 c) a w2)
+      from_first : whole ≡ after_first (first (where_holds (visit_of k1 depth) c) w2)
       from_first = from_sign (Made (Unknown c) w1) known ∙ ap after_split split
 
-      pub first_stops : (o : Option ToolRefusal) → IfSome o (λ f. walk W (where_holds h1 c) a w2 ≡ Stopped f w3) → IfSome o (λ f. walk W (visit_of k0 depth) t w0 ≡ Stopped f w3)
+      pub first_stops : (o : Option ToolRefusal) → IfSome o (λ e. first (where_holds (visit_of k1 depth) c) w2 ≡ Stopped e w3) → IfSome o (λ e. whole ≡ Stopped e w3)
       first_stops None s = s
-      first_stops (Some f) s = from_first ∙ ap after_first s
+      first_stops (Some e) s = from_first ∙ ap after_first s
 
-      pub first_made : (x : X) → walk W (where_holds h1 c) a w2 ≡ Made x w3 → walk W (visit_of k0 depth) t w0 ≡ W.joined v x (walk W (where_holds h1 (opposite c)) b) w3
-      first_made x s = from_first ∙ ap after_first s
+      module _ (x : X) (made : first (where_holds (visit_of k1 depth) c) w2 ≡ Made x w3) where
+        from_second : whole ≡ W.joined f x (second (where_holds (visit_of k1 depth) (opposite c))) w3
+        from_second = from_first ∙ ap after_first made
+
+        pub first_ends : ((g : List ℤ) (other : Walking X) (w : Work) → W.joined g x other w ≡ Made x w) → whole ≡ Made x w3
+        first_ends ends = from_second ∙ ends f (second (where_holds (visit_of k1 depth) (opposite c))) w3
+
+        -- the second tree, where its condition and the context are these
+        module _ (k2 : ScopedForms) (again : IsKeptContext k1 k2) (d : List ℤ) (fails : d ≡ opposite c) (w4 : Work) where
+          there : second (where_holds (visit_of k2 depth) d) w3 ≡ second (where_holds (visit_of k1 depth) (opposite c)) w3
+          there = ap (λ (h : Visit). second (where_holds h d) w3) (kept_visit k1 k2 depth again) ∙ ap (λ (e : List ℤ). second (where_holds (visit_of k1 depth) e) w3) fails
+
+          pub second_stops : ((g : List ℤ) (other : Walking X) (w y : Work) (e : ToolRefusal) → other w ≡ Stopped e y → W.joined g x other w ≡ Stopped e y)
+              → (o : Option ToolRefusal) → IfSome o (λ e. second (where_holds (visit_of k2 depth) d) w3 ≡ Stopped e w4) → IfSome o (λ e. whole ≡ Stopped e w4)
+          second_stops stops None s = s
+          second_stops stops (Some e) s = from_second ∙ stops f (second (where_holds (visit_of k1 depth) (opposite c))) w3 w4 e (sym there ∙ s)
+
+          pub both_made : (y z : X) → ((other : Walking X) (w u : Work) → other w ≡ Made y u → W.joined f x other w ≡ Made z u) → second (where_holds (visit_of k2 depth) d) w3 ≡ Made y w4 → whole ≡ Made z w4
+          both_made y z joined s = from_second ∙ joined (second (where_holds (visit_of k1 depth) (opposite c))) w3 w4 (sym there ∙ s)

@@ -1,7 +1,7 @@
 -- What is known of the trees that are walked, and of their leaves.
 use Rattle.std.proofs.Common.{◌≡◌, ◌∙◌, ap, sym, subst, ℕ, ◌-◌, ◌≤◌, arith, [], Option, Some, None, IsTrue}
 use Rattle.std.specs.Prelude.{IfSome}
-use Rattle.pip_model.specs.Tree.{Tree, Leaf, is_scoped}
+use Rattle.pip_model.specs.Tree.{Tree, Leaf, Solved, is_scoped}
 use Rattle.pip_model.specs.Run as run
 use Rattle.pip_model.specs.Run.{Work, Counted, Refused}
 use Rattle.pip_model.specs.Walks.{Stopped, by_run, walked_as, Visit}
@@ -9,7 +9,7 @@ use Rattle.pip_model.specs.Tools.{spread_tree}
 use Rattle.walk_laws.proofs.SecondTree.{second-scoped}
 use Rattle.quast.specs.Trees.{ScopedTree, IsQuast}
 use Rattle.quast_walk.specs.Faults.{by_run_fault}
-use Rattle.quast_walk.specs.Readings.{leaf_tree, IsWithin}
+use Rattle.quast_walk.specs.Readings.{leaf_answer, leaf_tree, IsWithin, IsTreeAt}
 use Rattle.quast_walk.specs.declared.reading.Leaf as code
 use Rattle.quast_walk.specs.declared.reading.Leaf.TheVariants as leaf
 use Rattle.quast_walk.proofs.Placing.{spread_tree-none}
@@ -20,17 +20,30 @@ leaf_within m n w leaf.Void none h = tt
 leaf_within m n w leaf.Bottom none h = tt
 leaf_within m n w (leaf.List cs) none h = (w, omega arith, subst (λ (t : Tree). IsTrue (is_scoped w t)) (ap (λ (k : ℕ). spread_tree m k (Leaf cs.now)) none ∙ spread_tree-none m (Leaf cs.now)) h)
 
+-- so it is the leaf that it is
+pub leaf_whole : (m n : ℕ) (l : code.Leaf) → n ≡ 0 → leaf_answer l ≡ Solved (leaf_tree l) → leaf_answer l ≡ Solved (spread_tree m n (leaf_tree l))
+leaf_whole m n l none kind = kind ∙ ap Solved (sym (ap (λ (k : ℕ). spread_tree m k (leaf_tree l)) none ∙ spread_tree-none m (leaf_tree l)))
+
+-- a leaf where there are more places
+pub wider_leaf : (w x : ℕ) (l : code.Leaf) → w ≤ x → IsWithin w l → IsWithin x l
+wider_leaf w x leaf.Void h i = tt
+wider_leaf w x leaf.Bottom h i = tt
+wider_leaf w x (leaf.List cs) h i = (i.0, omega (arith, h, i.1), i.2)
+
 -- the second tree where it is walked
-pub second_ready : (m w width : ℕ) (q : ScopedTree) (t : Tree) → t ≡ q.tree → q.width ≡ m → IsQuast q → m ≤ w → width ≡ w → IsTrue (is_scoped w (spread_tree m (width - m) t))
-second_ready m w width q t is over quast few wide =
+pub second_ready : (m w : ℕ) (q : ScopedTree) (t : Tree) → t ≡ q.tree → q.width ≡ m → IsQuast q → m ≤ w → IsTreeAt m (w - m) w t
+second_ready m w q t is over quast few =
     let h : Visit = record { places = w; context = []; depth = 0 } in
     let scoped = subst (λ (n : ℕ). IsTrue (is_scoped n q.tree)) over quast.well_formed.scoped in
-    rw (is, wide) (second-scoped m h q.tree few scoped)
+    record { few = omega (arith, few); scoped = rw is (second-scoped m h q.tree few scoped); numbers = rw is quast.fits }
 
 -- the first tree
-pub first_ready : (w : ℕ) (q : ScopedTree) (t : Tree) → t ≡ q.tree → q.width ≡ w → IsQuast q → IsTrue (is_scoped w (spread_tree w 0 t))
-first_ready w q t is over quast =
-    subst (λ (u : Tree). IsTrue (is_scoped w u)) (sym (spread_tree-none w t ∙ is)) (subst (λ (n : ℕ). IsTrue (is_scoped n q.tree)) over quast.well_formed.scoped)
+pub first_ready : (w : ℕ) (q : ScopedTree) (t : Tree) → t ≡ q.tree → q.width ≡ w → IsQuast q → IsTreeAt w 0 w t
+first_ready w q t is over quast = record {
+  few = omega arith;
+  scoped = subst (λ (u : Tree). IsTrue (is_scoped w u)) (sym (spread_tree-none w t ∙ is)) (subst (λ (n : ℕ). IsTrue (is_scoped n q.tree)) over quast.well_formed.scoped);
+  numbers = rw is quast.fits;
+}
 
 -- a count that was refused
 pub counted_stops : {A : Type 0} (part : Counted A) (o : Option run.Refusal) (w0 w1 : Work) → IfSome o (λ f. part w0 ≡ Refused f w1) → IfSome (by_run_fault o) (λ f. by_run part w0 ≡ Stopped f w1)

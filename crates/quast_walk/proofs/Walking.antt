@@ -1,7 +1,7 @@
 -- The steps of a walk, from what the calls at a node answered: a part that stops a walk stops it, and after one that is made the walk goes on.
 use Rattle.std.proofs.Common.{◌≡◌, ◌∙◌, ap, subst, refl, ℕ, ◌+◌, arith, List, [], ◌∷◌, ℤ, Option, Some, None, Result}
 use Rattle.std.specs.Prelude.{IfSome}
-use Rattle.pip_model.specs.Cuts.{Quotient}
+use Rattle.pip_model.specs.Cuts.{Quotient, lower_bound, upper_bound}
 use Rattle.pip_model.specs.Run.{Work}
 use Rattle.pip_model.specs.Walks.{ToolRefusal, Walked, Made, Stopped, Walking, walk_on, ◌>>=◌, where_holds, below}
 use Rattle.pip_model.specs.ToolAgreement.{AgreesWalked}
@@ -22,8 +22,12 @@ below_visit k l q depth h = ap (λ (w : ℕ). record { places = w; context = l.f
 pub kept_kept : (k l m : ScopedForms) → IsKeptContext k l → IsKeptContext l m → IsKeptContext k m
 kept_kept k l m f g = record { width = g.width ∙ f.width; forms = g.forms ∙ f.forms; spare = omega (arith, f.spare, g.spare) }
 
-pub under_grown : (k l m : ScopedForms) (c : List ℤ) → IsUnder k c l → IsKeptContext l m → IsGrown k m
-under_grown k l m c f g = record { added = c ∷ []; forms = g.forms ∙ f.forms; spare = omega (arith, f.spare, g.spare) }
+pub below_grown : (k l m : ScopedForms) (q : Quotient) → IsBelow k q l → IsKeptContext l m → IsGrown k m
+below_grown k l m q f g = record {
+  added = lower_bound (k.width + 1) k.width q ∷ upper_bound (k.width + 1) k.width q ∷ [];
+  forms = g.forms ∙ f.forms;
+  spare = omega (arith, f.spare, g.spare);
+}
 
 -- ---- what a call answered
 

@@ -1,19 +1,16 @@
--- How a tree is read: its forms have zeros at the places that another tree's new parameters took, and at its leaves
--- another answer is walked, or a leaf of another one is met.
-use Rattle.std.specs.Prelude.{◌≡◌, ℕ, ◌+◌, ◌*◌, ◌≤◌, IsTrue, List, length, ⊤}
+-- How a tree is read: its forms have zeros at the places that another tree's new parameters took.
+use Rattle.std.specs.Prelude.{◌≡◌, ℕ, ◌+◌, ◌*◌, ◌^◌, ◌<◌, ◌≤◌, IsTrue, List, length, ⊤}
 use Rattle.pip_model.specs.Forms.{width, widen_to}
+use Rattle.pip_model.specs.Printed.{tree_fits}
 use Rattle.pip_model.specs.Tree as model
-use Rattle.pip_model.specs.Tree.{Tree, Component, is_scoped, nesting, size}
+use Rattle.pip_model.specs.Tree.{Tree, Component, is_scoped, nesting}
 use Rattle.pip_model.specs.Tools.{spread, spread_tree}
 use Rattle.quast.specs.Components.{IsComponent}
-use Rattle.quast.specs.Answers.{IsOver}
+use Rattle.context.specs.Scoped.{ScopedForms}
 use Rattle.quast.specs.declared.answer.Answer.{Answer}
 use Rattle.quast.specs.declared.answer.Answer.TheVariants as answer
 use Rattle.quast_walk.specs.declared.reading.Leaf.{Leaf}
 use Rattle.quast_walk.specs.declared.reading.Leaf.TheVariants as leaf
-use Rattle.quast_walk.specs.declared.reading.AtLeaf.{AtLeaf}
-use Rattle.quast_walk.specs.declared.reading.AtLeaf.TheVariants as at
-use Rattle.quast_walk.specs.declared.reading.Reading.{Reading}
 
 -- ---- leaves
 
@@ -39,40 +36,33 @@ IsWithin w (leaf.List cs) = IsListWithin w cs.now
 
 -- ---- answers
 
--- no more than this many nodes that choose or define are on a path; the nodes
+-- no more than this many nodes that choose or define are on a path
 abbrev pub answer_nesting : Answer → ℕ
 answer_nesting answer.Void = 0
 answer_nesting (answer.Tree q) = nesting q.tree
-
-abbrev pub answer_size : Answer → ℕ
-answer_size answer.Void = 0
-answer_size (answer.Tree q) = size q.tree
 
 -- an answer with n zeros behind the first m coefficients of its forms
 abbrev pub spread_answer : ℕ → ℕ → model.Answer → model.Answer
 spread_answer m n model.Void = model.Void
 spread_answer m n (model.Solved t) = model.Solved (spread_tree m n t)
 
--- ---- what is done at a leaf
+-- ---- where a walk stands
 
--- the room that it needs in the context, and the nodes that are walked
-abbrev pub room_at : AtLeaf → ℕ
-room_at (at.Second b) = 2 * answer_nesting b.now
-room_at (at.Meet l) = 0
+-- a tree over m parameters and n places behind them, read at w places
+pub record IsTreeAt (m n w : ℕ) (t : Tree) : Type 0 where
+  pub few : m + n ≤ w
+  pub scoped : IsTrue (is_scoped w (spread_tree m n t))
+  pub numbers : IsTrue (tree_fits t)
 
-abbrev pub size_at : AtLeaf → ℕ
-size_at (at.Second b) = answer_size b.now
-size_at (at.Meet l) = 0
+-- a leaf of such a tree
+pub record IsLeafAt (m n w : ℕ) (l : Leaf) : Type 0 where
+  pub kind : leaf_answer l ≡ model.Solved (leaf_tree l)
+  pub tree : IsTreeAt m n w (leaf_tree l)
 
--- of a tree over m parameters and n places behind them, at w places
-abbrev pub IsAtLeaf : ℕ → ℕ → ℕ → AtLeaf → Type 0
-IsAtLeaf m n w (at.Second b) = (n ≡ 0) × IsOver m b.now
-IsAtLeaf m n w (at.Meet l) = IsWithin w l
-
--- a reading where the walk stands at w places
-pub record IsReading (r : Reading) (w : ℕ) : Type 0 where
-  pub few : r.parameters ≤ w
-  pub leaf : IsAtLeaf r.parameters r.between w r.at_leaf
+-- the context has room for the bounds of so many nested nodes and for what a leaf needs, and no depth is too great
+pub record HasRoom (leaf depth nested : ℕ) (k : ScopedForms) : Type 0 where
+  pub spare : 2 * nested + leaf ≤ k.spare
+  pub shallow : depth + nested + leaf < 2 ^ 63
 
 -- ---- components in memory
 

@@ -2,10 +2,8 @@
 use Rattle.std.specs.Prelude.{◌≡◌, ℕ, ◌+◌, ◌≤◌, ℤ, List, [], ◌∷◌, ◌++◌, length}
 use Rattle.pip_model.specs.Contexts.{IsContext}
 use Rattle.pip_model.specs.Cuts.{Quotient, lower_bound, upper_bound}
-use Rattle.pip_model.specs.Tree.{Tree}
 use Rattle.pip_model.specs.Run.{class}
 use Rattle.pip_model.specs.Walks.{Walking, ◌>>=◌, by_run, not_negative, Visit}
-use Rattle.quast.specs.Trees.{ScopedTree}
 use Rattle.context.specs.Scoped.{ScopedForms}
 use Rattle.context.specs.declared.context.ContextMark.{ContextMark}
 
@@ -16,10 +14,6 @@ visit_of k depth = record { places = k.width; context = k.forms; depth = depth }
 -- a new parameter's form is at least 0 on a context over w places, or the walk ends
 abbrev pub checked_sign : List (List ℤ) → ℕ → List ℤ → Walking (Unit {0})
 checked_sign K w v = by_run (class K w v) >>= not_negative
-
--- the tree of a quast
-abbrev pub tree_in : ScopedTree → Tree
-tree_in q = q.tree
 
 -- one form more
 pub record IsUnder (before : ScopedForms) (c : List ℤ) (now : ScopedForms) : Type 0 where

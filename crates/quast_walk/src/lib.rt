@@ -9,11 +9,13 @@ mod refusal;
 mod spreading;
 mod starting;
 mod steps;
+mod tree_walk;
 
 pub use differences::{above, below, difference, negated};
 pub use lists::copies;
-pub use reading::{AtLeaf, Leaf, Reading};
+pub use reading::{Leaf, Reading};
 pub use refusal::ToolRefusal;
 pub use spreading::{spread, spread_list, widened_list};
 pub use starting::{context_of, levels, point};
-pub use steps::{check_sign, enter, go_below, leave, mark, opposite, sign};
+pub use steps::{enter, leave, mark, sign};
+pub use tree_walk::{Walker, walk};

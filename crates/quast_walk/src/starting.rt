@@ -1,9 +1,9 @@
-ghost use Rattle.std.specs.Prelude.{◌≡◌, ℕ, ◌+◌, ◌*◌, ◌≤◌, length, IfOk, IfSome};
-ghost use Rattle.pip_model.specs.Limits.{most_nesting};
+ghost use Rattle.std.specs.Prelude.{◌≡◌, ℕ, ◌+◌, ◌*◌, ◌^◌, ◌<◌, ◌≤◌, length, IfOk, IfSome};
+ghost use Rattle.pip_model.specs.Limits.{most_components, most_nesting};
+ghost use Rattle.pip_model.specs.Printed.{IsPrintableAnswer};
 ghost use Rattle.pip_model.specs.Run.{point as point_of};
 ghost use Rattle.pip_model.specs.ToolAgreement.{AgreesWalked};
 ghost use Rattle.pip_model.specs.Walks.{by_run};
-ghost use Rattle.pip_model.specs.WellFormed.{IsWellFormedAnswer};
 ghost use Rattle.quast.specs.Answers.{answer_of, IsOver};
 ghost use Rattle.quast_walk.specs.Faults.{tool_fault};
 ghost use Rattle.quast_walk.specs.Readings.{answer_nesting};
@@ -14,10 +14,10 @@ use context::{Context, Point, Work};
 use quast::Answer;
 use std::alloc::Global;
 
-/// The context of the rows, with room for two more forms at each of so many levels: at most one more than those of two
-/// trees, each nested 200 deep.
+/// The context of the rows, with room for two more forms at each of so many levels: at most those of two trees, each
+/// nested 200 deep, and of two lists.
 pub fn context_of(alloc: Global, rows: &Forms, levels: usize) -> Result<Context, WantOfMemory>
-    requires { levels ≤ 2 * most_nesting + 1 }
+    requires { levels ≤ 2 * most_nesting + most_components }
     ensures width { IfOk result (λ k. k.width ≡ rows.now.width) }
     ensures forms { IfOk result (λ k. k.forms ≡ rows.now.forms) }
     ensures room { IfOk result (λ k. 2 * levels ≤ k.spare) }
@@ -41,7 +41,6 @@ pub fn point(
 ) -> Result<Option<Point>, ToolRefusal>
     ensures gives { AgreesWalked (λ o. o) tool_fault result work.new
         (by_run (point_of context.now.width context.now.forms) work.old) }
-    ensures budget { work.new.budget ≡ work.old.budget }
     ensures width { IfOk result (λ o. IfSome o (λ p. length p ≡ context.now.width)) }
 {
     let found = context.point(alloc, work)?;
@@ -49,11 +48,12 @@ pub fn point(
 }
 
 /// The most nodes that choose or define on a path of the answer, at most 200. An answer over so many parameters is well
-/// formed over them.
+/// formed over them, and its numbers fit.
 pub fn levels(answer: &Answer) -> usize
     ensures few { result ≤ most_nesting }
     ensures value { result ≡ answer_nesting answer.now }
-    ensures formed { (w : ℕ) → IsOver w answer.now → IsWellFormedAnswer w (answer_of answer.now) }
+    ensures sound { (w : ℕ) → IsOver w answer.now → w + most_nesting < 2 ^ 127
+        → IsPrintableAnswer w (answer_of answer.now) }
 {
     match answer {
         Answer::Void => 0,

@@ -1,4 +1,4 @@
-ghost use Rattle.std.specs.Prelude.{◌≡◌, ℕ, ◌+◌, ◌≤◌, ◌≤ℤ◌, pos, length, IfOk, OnOk, IsTrue};
+ghost use Rattle.std.specs.Prelude.{◌≡◌, ℕ, ◌+◌, ◌≤◌, ◌≤ℤ◌, pos, length, IfOk, OnOk, IfErr, IsTrue};
 ghost use Rattle.pip_model.specs.Agreement.{IsChecked};
 ghost use Rattle.pip_model.specs.Forms as model;
 ghost use Rattle.pip_model.specs.Listed.{all_fit, opposite_listed};
@@ -29,7 +29,6 @@ pub fn sign(
     ensures gives { AgreesWalked class_of tool_fault result work.new
         (by_run (class_in context.old.forms context.old.width form.now) work.old) }
     ensures kept { IsKeptContext context.old context.new }
-    ensures budget { work.new.budget ≡ work.old.budget }
     ensures condition { IfOk result (ConditionIs (length form.now)) }
 {
     let found = class(alloc, context, form, work)?;
@@ -38,7 +37,7 @@ pub fn sign(
 
 /// Whether a new parameter's form, which is no wider than the context, is at least 0 on it: else the walk ends, with
 /// Negative. The context stays as it was, with no less room. It is refused also as `sign` is.
-pub fn check_sign(
+pub(crate) fn check_sign(
     alloc: Global,
     form: &Form,
     context: &mut Context,
@@ -48,7 +47,6 @@ pub fn check_sign(
     ensures gives { AgreesWalked (λ x. tt) tool_fault result work.new
         (checked_sign context.old.forms context.old.width form.now work.old) }
     ensures kept { IsKeptContext context.old context.new }
-    ensures budget { work.new.budget ≡ work.old.budget }
 {
     match sign(alloc, form, context, work)? {
         Class::Plus => Ok(()),
@@ -58,7 +56,7 @@ pub fn check_sign(
 }
 
 /// The opposite of a condition, -c - 1: at least 0 just where the condition is below 0. Its numbers are known to fit.
-pub fn opposite(alloc: Global, condition: &Form) -> Result<Form, WantOfMemory>
+pub(crate) fn opposite(alloc: Global, condition: &Form) -> Result<Form, WantOfMemory>
     requires some { 1 ≤ length condition.now }
     requires fits { IsTrue (all_fit (opposite_listed condition.now)) }
     ensures value { IfOk result (λ form. form ≡ model.opposite condition.now) }
@@ -82,8 +80,8 @@ pub fn enter(context: &mut Context, condition: Form)
 
 /// Goes below a new parameter, the floor of a form over a divisor: it gets a place, and its two bounds join the
 /// context, which has room for both. The form is over the context's places, the divisor fits and is at least 1. It
-/// overflows exactly where a number of the bounds does not fit.
-pub fn go_below(
+/// overflows exactly where a number of the bounds does not fit; the context is as before then.
+pub(crate) fn go_below(
     alloc: Global,
     form: &Form,
     den: i128,
@@ -96,6 +94,7 @@ pub fn go_below(
     ensures listed { (depth : ℕ) → IsChecked is_form_overflow
         (below_listed (visit_of context.old depth) (record { form = form.now; den = den })) result }
     ensures below { OnOk result (IsBelow context.old (record { form = form.now; den = den }) context.new) }
+    ensures kept { IfErr result (λ e. IsKeptContext context.old context.new) }
 {
     let entries = form.as_slice();
     let width = entries.len();

@@ -17,5 +17,5 @@ returns-then-is_some-clause-gives c = λ depth.
 pub loop-i-preserved : goal.loop-i-preserved
 loop-i-preserved c = (
   λ depth. lists_go_on c.args.reading.now.parameters c.args.context.now c.loop-i.context c.loop-i.invariant.1 depth c.args.first.now c.args.second.now c.loop-i.i c.index-first-i.result c.index-second-i.result (search rules) (search rules) c.index-first-i.is c.index-second-i.is c.args.work.now c.loop-i.work c.find_unequal.new.work (c.loop-i.invariant.0 depth) c.in_ok-found.found (search rules) c.in_ok-found.ensures.gives,
-  kept_kept c.args.context.now c.loop-i.context c.find_unequal.new.context c.loop-i.invariant.1 c.in_ok-found.ensures.kept,
+  kept_kept c.args.context.now c.loop-i.context c.find_unequal.new.context c.loop-i.invariant.1 c.find_unequal.ensures.kept,
 )

@@ -15,5 +15,5 @@ pub returns-clause-gives : goal.returns-clause-gives
 returns-clause-gives c =
     let m = c.args.reading.now.parameters in
     let before = none_above m (visit_of c.args.context.now 0) c.args.first.now c.args.second.now c.in_ok-form.form c.in_ok-form.ensures.value c.args.work.now c.find_above.new.work c.in_ok-form.ensures.listed c.in_ok-point.field-0 c.in-None.is c.in_ok-point.ensures.gives in
-    let same = ap (λ (h : Visit). point_below m h c.in_ok-form.form c.find_above.new.work) (kept_visit c.args.context.now c.find_above.new.context 0 c.in_ok-point.ensures.kept) in
+    let same = ap (λ (h : Visit). point_below m h c.in_ok-form.form c.find_above.new.work) (kept_visit c.args.context.now c.find_above.new.context 0 c.find_above.ensures.kept) in
     agrees_as (λ o. o) tool_fault c.find_below.result c.find_below.new.work _ _ (same ∙ sym before) c.find_below.ensures.gives

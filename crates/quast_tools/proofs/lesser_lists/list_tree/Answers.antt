@@ -1,5 +1,0 @@
-use Rattle.quast_tools.proofs.Listing.{components_again}
-use Rattle.quast_tools.proofs.lesser_lists.list_tree.Goals as goal
-
-pub list-requires-clause-components : goal.list-requires-clause-components
-list-requires-clause-components c = components_again c.args.list.now _ c.in_ok-components.ensures c.requires.components

@@ -1,0 +1,19 @@
+use Rattle.std.proofs.Common.{ap}
+use Rattle.pip_model.specs.Tree as model
+use Rattle.pip_model.specs.Tools.{same_leaves}
+use Rattle.quast_walk.specs.Faults.{tool_fault}
+use Rattle.quast_walk.specs.Readings.{leaf_answer, spread_answer}
+use Rattle.quast_walk.specs.Visits.{visit_of}
+use Rattle.quast_walk.proofs.Readied.{wider_leaf}
+use Rattle.quast_walk.proofs.Walking.{agrees_as}
+use Rattle.quast_tools.proofs.searching.MeetingWalker.at_leaf.Goals as goal
+
+pub find_at_leaves-requires-clause-first : goal.find_at_leaves-requires-clause-first
+find_at_leaves-requires-clause-first c = wider_leaf _ _ c.args.self.now.first c.requires.leaf.tree.few c.requires.ready
+
+pub returns-clause-gives : goal.returns-clause-gives
+returns-clause-gives c =
+    let m = c.args.self.now.reading.parameters in
+    let n = c.args.self.now.reading.between in
+    let same = ap (λ (a : model.Answer). same_leaves m (visit_of c.args.context.now c.args._depth) (leaf_answer c.args.self.now.first) (spread_answer m n a) c.args.work.now) c.requires.leaf.kind in
+    agrees_as (λ o. o) tool_fault c.find_at_leaves.result c.find_at_leaves.new.work _ _ same (c.find_at_leaves.ensures.gives c.args._depth)

@@ -1,0 +1,18 @@
+use Rattle.std.proofs.Common.{ap}
+use Rattle.pip_model.specs.Tree as model
+use Rattle.pip_model.specs.Tree.{Tree, Solved}
+use Rattle.pip_model.specs.Tools.{same_second}
+use Rattle.quast.specs.Answers.{answer_of}
+use Rattle.quast_walk.specs.Faults.{tool_fault}
+use Rattle.quast_walk.specs.Visits.{visit_of}
+use Rattle.quast_walk.proofs.Readied.{leaf_within, leaf_whole}
+use Rattle.quast_walk.proofs.Walking.{agrees_as}
+use Rattle.quast_tools.proofs.searching.SearchingWalker.at_leaf.Goals as goal
+
+pub search_second-requires-clause-leaf : goal.search_second-requires-clause-leaf
+search_second-requires-clause-leaf c = leaf_within c.args.self.now.reading.parameters c.args.self.now.reading.between c.args.context.now.width c.args.leaf c.requires.ready.0 c.requires.leaf.tree.scoped
+
+pub returns-clause-gives : goal.returns-clause-gives
+returns-clause-gives c =
+    let same = ap (λ (a : model.Answer). same_second c.args.self.now.reading.parameters a (visit_of c.args.context.now c.args.depth) (answer_of c.args.self.now.second.now) c.args.work.now) (leaf_whole c.args.self.now.reading.parameters c.args.self.now.reading.between c.args.leaf c.requires.ready.0 c.requires.leaf.kind) in
+    agrees_as (λ o. o) tool_fault c.search_second.result c.search_second.new.work _ _ same c.search_second.ensures.gives

@@ -1,0 +1,29 @@
+use Rattle.std.proofs.Common.{◌∙◌, ap, sym, subst, ℕ}
+use Rattle.pip_model.specs.Tree.{Tree, Solved}
+use Rattle.pip_model.specs.Tools.{comparing, same_first, same_second, spread_tree}
+use Rattle.pip_model.specs.Walks.{start_visit, walk}
+use Rattle.quast.specs.Answers.{answer_of, IsOver}
+use Rattle.quast.specs.Trees.{tree_of}
+use Rattle.quast.specs.declared.answer.Answer as answer
+use Rattle.quast_walk.specs.Faults.{tool_fault}
+use Rattle.quast_walk.proofs.Placing.{spread_tree-none}
+use Rattle.quast_walk.proofs.Readied.{first_ready}
+use Rattle.quast_walk.proofs.Walking.{agrees_as}
+use Rattle.quast_tools.proofs.searching.search_answers.Goals as goal
+
+pub walk-requires-clause-tree : goal.walk-requires-clause-tree
+walk-requires-clause-tree c =
+    let w = c.args.context.now.width in
+    let over = subst (λ (x : answer.Answer). IsOver w x) c.in-Tree.is c.requires.first in
+    rw c.mark.ensures.width (first_ready w c.in-Tree.tree (tree_of c.root.result.now) c.root.ensures.tree over c.root.ensures.quast)
+
+pub returns-in-Tree : goal.returns-in-Tree
+returns-in-Tree c =
+    let w = c.args.context.now.width in
+    let h = start_visit w c.args.context.now.forms in
+    let b = answer_of c.args.second.now in
+    let w0 = c.args.work.now in
+    let places = ap (λ (m : ℕ). walk (comparing (λ g leaf. same_second m (Solved leaf) g b)) h (spread_tree m 0 (tree_of c.root.result.now)) w0) c.mark.ensures.width in
+    let tree = ap (λ (t : Tree). same_first w h (Solved t) b w0) (spread_tree-none w (tree_of c.root.result.now) ∙ c.root.ensures.tree) in
+    let whole = ap (λ (x : answer.Answer). same_first w h (answer_of x) b w0) c.in-Tree.is in
+    agrees_as (λ o. o) tool_fault c.walk.result c.walk.new.work _ _ (places ∙ tree ∙ sym whole) c.walk.ensures.gives
