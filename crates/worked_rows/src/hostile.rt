@@ -1,22 +1,18 @@
 //! Texts that are made to overrun a reader: deep comments and wide numbers.
 use crate::row::{Row, Wanted, are_answered, ends_over, ends_so};
+use crate::texts::{between, repeat};
 use std::alloc::{AllocError, Global};
 use std::test::Fail;
 
-// A text between so many brackets, each within the one before it, behind a front and before a back.
+// So many brackets, each within the one before it, behind a front and before a back.
 fn bracketed(
     alloc: Global,
     front: &[u8],
     count: usize,
     back: &[u8],
 ) -> Result<Vec<u8>, AllocError> {
-    let mut text = front.to_vec(alloc)?;
-    for _ in 0..count {
-        text.push(b'(')?;
-    }
-    for _ in 0..count {
-        text.push(b')')?;
-    }
+    let mut text = between(alloc, front, b"(", count, b"")?;
+    repeat(&mut text, b")", count)?;
     text.extend_from_slice(back)?;
     Ok(text)
 }

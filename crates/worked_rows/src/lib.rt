@@ -32,6 +32,8 @@ mod simplifying;
 #[cfg(test)]
 mod solving;
 #[cfg(test)]
+mod texts;
+#[cfg(test)]
 mod trials;
 #[cfg(test)]
 mod valuing;

@@ -1,5 +1,6 @@
 //! Texts that tests make: at a limit, or cut off at each of their bytes.
 use crate::row::{Wanted, ends_over, ends_so};
+use crate::texts::{between, repeat};
 use std::alloc::{AllocError, Global};
 use std::process::Abort;
 use std::test::Fail;
@@ -130,28 +131,6 @@ const LONGEST_GROUPS: &[Limit] = &[
         status: 9,
     },
 ];
-
-// Appends so many copies of a piece.
-fn repeat(text: &mut Vec<u8>, piece: &[u8], count: usize) -> Result<(), AllocError> {
-    for _ in 0..count {
-        text.extend_from_slice(piece)?;
-    }
-    Ok(())
-}
-
-// So many copies of a piece between two others.
-fn between(
-    alloc: Global,
-    front: &[u8],
-    piece: &[u8],
-    count: usize,
-    back: &[u8],
-) -> Result<Vec<u8>, AllocError> {
-    let mut text = front.to_vec(alloc)?;
-    repeat(&mut text, piece, count)?;
-    text.extend_from_slice(back)?;
-    Ok(text)
-}
 
 fn nested(alloc: Global, count: usize) -> Result<Vec<u8>, AllocError> {
     let mut text = between(alloc, b"((n)", b"(if #[0]", count, b"()")?;

@@ -1,3 +1,5 @@
+ghost use Rattle.std.specs.Prelude.{◌<◌};
+
 use pip_cli::pip_main;
 use pip_outside::{MemorySink, MemorySource};
 use std::alloc::{AllocError, Global};
