@@ -1,4 +1,4 @@
-ghost use Rattle.std.specs.Prelude.{◌≡◌, ◌+◌, ◌-◌, ◌≤◌, ◌<◌, ◌++◌, [], ◌∷◌, pos, length, map, All, IfOk, OnOk};
+ghost use Rattle.std.specs.Prelude.{◌≡◌, ◌+◌, ◌-◌, ◌≤◌, ◌<◌, ◌++◌, [], ◌∷◌, pos, length, map, take, All, IfOk, OnOk};
 ghost use Rattle.pip_model.specs.Forms.{unit_form, widen_to};
 ghost use Rattle.pip_model.specs.Check as model;
 ghost use Rattle.affine_forms.specs.Checks.{Fits};
@@ -64,6 +64,8 @@ impl Known {
         ensures ok { OnOk result (self.new ≡ record self.old {
           forms = self.old.forms ++ model.places_from self.old.width first n;
         }) }
+        ensures front { take (length self.old.forms) self.new.forms ≡ self.old.forms }
+        ensures width { self.new.width ≡ self.old.width }
     {
         let width = self.width();
         for i in 0..n {
@@ -79,6 +81,8 @@ impl Known {
         ensures ok { OnOk result (self.new ≡ record self.old {
           forms = self.old.forms ++ map (widen_to self.old.width) forms.now;
         }) }
+        ensures front { take (length self.old.forms) self.new.forms ≡ self.old.forms }
+        ensures width { self.new.width ≡ self.old.width }
     {
         let width = self.width();
         for form in forms {
@@ -102,6 +106,8 @@ impl Known {
         ensures ok { OnOk result (self.new ≡ record self.old {
           forms = self.old.forms ++ map (model.row_form unknowns scope) rows.now;
         }) }
+        ensures front { take (length self.old.forms) self.new.forms ≡ self.old.forms }
+        ensures width { self.new.width ≡ self.old.width }
     {
         for row in rows {
             let form = turned_row(alloc, unknowns, scope, row)?;

@@ -192,6 +192,8 @@ impl Known {
         ensures ok { OnOk result (self.new ≡ record self.old {
           forms = self.old.forms ++ model.smaller_from self.old.width scope front.now;
         }) }
+        ensures front { take (length self.old.forms) self.new.forms ≡ self.old.forms }
+        ensures width { self.new.width ≡ self.old.width }
     {
         let width = self.width();
         let last = front.len() - 1;

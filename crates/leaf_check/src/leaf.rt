@@ -1,4 +1,4 @@
-ghost use Rattle.std.specs.Prelude.{◌≡◌, ◌^◌, ◌+◌, ◌-◌, ◌≤◌, ◌<◌, ◌++◌, [], ◌∷◌, true, pos, Some, length, map, take, All, IfOk, OnOk, IsTrue, slice_index_or, option_copied};
+ghost use Rattle.std.specs.Prelude.{◌≡◌, ◌^◌, ◌+◌, ◌-◌, ◌≤◌, ◌<◌, ◌++◌, [], ◌∷◌, true, pos, Some, length, map, take, All, IfOk, OnOk, OnErr, IsTrue, slice_index_or, option_copied};
 ghost use Rattle.std.specs.List.{list_all};
 ghost use Rattle.pip_model.specs.Numbers.{same_number};
 ghost use Rattle.pip_model.specs.Tree.{Component};
@@ -96,9 +96,11 @@ impl Leaf<'_> {
     fn push_unknowns(&self, alloc: Global, known: &mut Known) -> Result<(), WantOfMemory>
         requires leaf { IsLeaf self.now.problem.now (case_of self.now) }
         requires width { known.old.width ≡ self.now.scope + self.now.problem.now.unknowns }
-        ensures { OnOk result (known.new ≡ record known.old {
+        ensures ok { OnOk result (known.new ≡ record known.old {
           forms = known.old.forms ++ model.unknown_forms self.now.problem.now (case_of self.now);
         }) }
+        ensures front { take (length known.old.forms) known.new.forms ≡ known.old.forms }
+        ensures width { known.new.width ≡ known.old.width }
     {
         let unknowns = self.problem.unknowns();
         known.push_places(alloc, self.scope, unknowns)?;
@@ -125,6 +127,8 @@ impl Leaf<'_> {
           forms = known.old.forms
               ++ (model.row_premises self.now.problem.now (case_of self.now) components.now row.now).known;
         }) }
+        ensures front { take (length known.old.forms) known.new.forms ≡ known.old.forms }
+        ensures width { known.new.width ≡ known.old.width }
     {
         let form = row_goal(alloc, self.problem.unknowns(), self.scope, row, components)?;
         known.push(form)?;
@@ -145,6 +149,8 @@ impl Leaf<'_> {
         ensures ok { OnOk result (known.new ≡ record known.old {
           forms = known.old.forms ++ (model.sign_premises self.now.problem.now (case_of self.now) component.now).known;
         }) }
+        ensures front { take (length known.old.forms) known.new.forms ≡ known.old.forms }
+        ensures width { known.new.width ≡ known.old.width }
     {
         let form = sign_goal(alloc, known.width(), component)?;
         known.push(form)?;
@@ -169,6 +175,8 @@ impl Leaf<'_> {
         ensures ok { OnOk result (known.new ≡ record known.old {
           forms = known.old.forms ++ (model.least_premises self.now.problem.now (case_of self.now) front.now).known;
         }) }
+        ensures front { take (length known.old.forms) known.new.forms ≡ known.old.forms }
+        ensures width { known.new.width ≡ known.old.width }
     {
         self.push_unknowns(alloc, known)?;
         known.push_smaller(alloc, self.scope, front)?;
@@ -195,6 +203,8 @@ impl Leaf<'_> {
           forms = known.old.forms ++ (slice_index_or
               (model.leaf_premises self.now.problem.now (case_of self.now) (Some components.now)) r nothing).known;
         }) }
+        ensures front { take (length known.old.forms) known.new.forms ≡ known.old.forms }
+        ensures width { known.new.width ≡ known.old.width }
     {
         let rows = self.problem.rows();
         if r < rows.len() {
@@ -208,7 +218,31 @@ impl Leaf<'_> {
         self.push_least_goal(alloc, known, front)
     }
 
-    /// Puts the forms of a refutation, from 0, behind the others.
+    // Puts the forms of a refutation, from 0, behind the others.
+    fn push_own_goal(&self, alloc: Global, known: &mut Known, r: usize) -> Result<(), FormRefusal>
+        requires leaf { IsLeaf self.now.problem.now (case_of self.now) }
+        requires whole { IsTrue (model.is_whole_list self.now.problem.now.unknowns (option_copied self.now.list)) }
+        requires width { known.old.width ≡ self.now.scope + self.now.problem.now.unknowns }
+        requires place { r < length (own_premises self.now) }
+        ensures listed { IsChecked is_form_overflow (slice_index_or
+            (own_premises self.now) r nothing).listed result }
+        ensures ok { OnOk result (known.new ≡ record known.old {
+          forms = known.old.forms ++ (slice_index_or
+              (own_premises self.now) r nothing).known;
+        }) }
+        ensures front { take (length known.old.forms) known.new.forms ≡ known.old.forms }
+        ensures width { known.new.width ≡ known.old.width }
+    {
+        match self.list {
+            Some(components) => self.push_list_goal(alloc, known, components, r),
+            None => {
+                self.push_unknowns(alloc, known)?;
+                Ok(())
+            }
+        }
+    }
+
+    /// Puts the forms of a refutation, from 0, behind the others. A refusal leaves them as they were.
     pub fn push_goal(&self, alloc: Global, known: &mut Known, r: usize) -> Result<(), FormRefusal>
         requires leaf { IsLeaf self.now.problem.now (case_of self.now) }
         requires whole { IsTrue (model.is_whole_list self.now.problem.now.unknowns (option_copied self.now.list)) }
@@ -220,12 +254,14 @@ impl Leaf<'_> {
           forms = known.old.forms ++ (slice_index_or
               (own_premises self.now) r nothing).known;
         }) }
+        ensures err { OnErr result (known.new ≡ known.old) }
     {
-        match self.list {
-            Some(components) => self.push_list_goal(alloc, known, components, r),
-            None => {
-                self.push_unknowns(alloc, known)?;
-                Ok(())
+        let before = known.len();
+        match self.push_own_goal(alloc, known, r) {
+            Ok(()) => Ok(()),
+            Err(refusal) => {
+                known.truncate(before);
+                Err(refusal)
             }
         }
     }

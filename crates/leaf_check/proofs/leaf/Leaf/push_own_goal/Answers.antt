@@ -2,7 +2,7 @@ use Rattle.std.proofs.Common.{rules}
 use Rattle.std.specs.Prelude.{option_copied}
 use Rattle.leaf_check.specs.Leaves.{case_of}
 use Rattle.leaf_check.proofs.Owned.{own_place}
-use Rattle.leaf_check.proofs.leaf.Leaf.push_goal.Goals as goal
+use Rattle.leaf_check.proofs.leaf.Leaf.push_own_goal.Goals as goal
 
 pub push_list_goal-requires-clause-place : goal.push_list_goal-requires-clause-place
 push_list_goal-requires-clause-place c =
