@@ -5,10 +5,8 @@ ghost use Rattle.pip_model.specs.Printed.{certificate_fits};
 ghost use Rattle.text_parts.specs.Printing.{Appends, Begins};
 ghost use Rattle.leaf_certificate.specs.Printing.{IsReadBack, spell_term, spell_step, spell_refutation, spell_leaf, spell_head};
 
-use certificate_parts::Certificate;
-use certificate_parts::{LeafProofs, Refutation};
-use certificate_parts::{Step, Terms};
 use affine_forms::WantOfMemory;
+use certificate_parts::{Certificate, LeafProofs, Refutation, Step, Terms};
 use std::alloc::AllocError;
 use text_parts::{put, put_entry, put_number, put_row};
 

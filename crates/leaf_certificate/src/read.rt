@@ -10,12 +10,12 @@ ghost use Rattle.leaf_certificate.specs.Faults.{certificate_fault};
 ghost use Rattle.leaf_certificate.specs.Sequences.{numbers_to_end};
 ghost use Rattle.certificate_parts.specs.Vectors.{numbers_of};
 
-use certificate_parts::Certificate;
 use crate::read_leaf::read_leaves;
 use crate::refusal::CertificateRefusal;
-use text_tokens::{Kind, next_open, token};
+use certificate_parts::Certificate;
 use std::alloc::Global;
 use text_steps::{Reads, TextFault, expect, expect_word, number, same_bracket, spells};
+use text_tokens::{Kind, next_open, token};
 
 // The format, which is 1 or 2, and the place behind it.
 #[tactic(auto, using(pip_model::proofs::Tests::same_number_yes, pip_model::proofs::Tests::same_number_no))]

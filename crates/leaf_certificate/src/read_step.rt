@@ -4,11 +4,10 @@ ghost use Rattle.affine_forms.specs.Checks.{Fits};
 ghost use Rattle.text_steps.specs.Steps.{fault_of, AreRead, IsRead};
 ghost use Rattle.leaf_certificate.specs.Sequences.{terms_to_end, steps_to_end};
 
-use certificate_parts::Refutation;
-use certificate_parts::{Step, Terms};
-use text_tokens::{Kind, token};
+use certificate_parts::{Refutation, Step, Terms};
 use std::alloc::Global;
 use text_steps::{Reads, TextFault, expect, number, same_bracket};
+use text_tokens::{Kind, token};
 
 // An index and its multiplier, and the place behind them.
 fn read_term(bytes: &[u8], place: usize) -> Reads<(i128, i128), TextFault>

@@ -5,10 +5,10 @@ ghost use Rattle.pip_reader.specs.Rows as model;
 
 use crate::row::form_row;
 use affine_forms::Form;
-use text_tokens::Kind;
 use pip_problem::ReadRefusal;
 use std::alloc::Global;
 use text_steps::{Reads, expect};
+use text_tokens::Kind;
 
 // So many rows of `width` numbers as forms, and the place behind them.
 fn form_rows(

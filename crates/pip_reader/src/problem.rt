@@ -12,10 +12,10 @@ ghost use Rattle.pip_reader.specs.Refusals.{IsNoOption};
 use crate::block::form_block;
 use crate::header::{Sizes, read_mode, read_sizes};
 use affine_forms::Form;
-use text_tokens::{Kind, next_open};
 use pip_problem::{Bytes, Problem, ReadRefusal};
 use std::alloc::Global;
 use text_steps::{Reads, block, expect, group};
+use text_tokens::{Kind, next_open};
 
 // What a problem is made of.
 #[derive(Drop)]

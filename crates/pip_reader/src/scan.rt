@@ -2,8 +2,8 @@ ghost use Rattle.std.specs.Prelude.{◌≡◌, ◌↔◌, ◌+◌, ◌<◌, ◌�
 ghost use Rattle.pip_model.specs.Reading.{open_after as open_after_of};
 ghost use Rattle.pip_reader.specs.Groups.{IsScanned, NoBracket, first_group_end, group_end_from, place_behind};
 
-use text_tokens::open_after;
 use std::marker::Model;
+use text_tokens::open_after;
 
 // Whether no byte is a bracket. Each byte is tested, whatever the others are.
 #[inline(always)]

@@ -9,8 +9,8 @@ ghost use Rattle.pip_stream.specs.Open.{DropsClosed, IsOpened};
 
 use crate::more::more;
 use crate::refusal::NextRefusal;
-use text_tokens::next_open;
 use pip_outside::{Source, Window};
+use text_tokens::next_open;
 
 // Drops the held bytes before the first `(`, or all where there is none, and tells which.
 fn skip_closed(window: &mut Window) -> bool

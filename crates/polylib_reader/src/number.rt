@@ -8,10 +8,10 @@ ghost use Rattle.polylib_reader.specs.Words.{word_of};
 ghost use Rattle.polylib_reader.specs.Matrices.{limited as limited_of};
 
 use crate::word::{Word, next_word};
-use text_tokens::{digits, integer, unsigned_part};
 use pip_problem::{LimitKind, ReadRefusal};
 use std::alloc::Global;
 use text_steps::{Reads, within};
+use text_tokens::{digits, integer, unsigned_part};
 
 // The number that a word spells, and the place behind it.
 pub(crate) fn number_word(word: &Word<'_>) -> Reads<i128, ReadRefusal>

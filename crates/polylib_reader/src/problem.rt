@@ -9,8 +9,8 @@ use crate::matrix::{constraint_matrix, context_matrix};
 use crate::number::number;
 use crate::option::options;
 use pip_problem::{Bytes, Problem, ReadRefusal};
-use text_steps::no_big_parameter;
 use std::alloc::Global;
+use text_steps::no_big_parameter;
 
 // The place behind the big parameter's column, which is to be -1: none.
 fn big_parameter(bytes: &[u8], place: usize) -> Result<usize, ReadRefusal>

@@ -16,7 +16,9 @@ ghost use Rattle.quast.specs.Places.{landing_of, landed, path_listed, IsLanding}
 use crate::component::{Component, Components};
 use crate::node::Node;
 use crate::quast::Quast;
-use affine_forms::{MOST_COMPONENTS, MOST_NESTING, MOST_PARAMETERS, Overflow, WantOfMemory, floor_div};
+use affine_forms::{
+    MOST_COMPONENTS, MOST_NESTING, MOST_PARAMETERS, Overflow, WantOfMemory, floor_div,
+};
 use std::alloc::Global;
 use std::marker::Model;
 

@@ -11,10 +11,10 @@ ghost use Rattle.quast_text.specs.Components.{component_of_parts};
 use crate::fraction::{Fraction, common_denominator, numerators, read_fractions};
 use crate::refusal::TextRefusal;
 use affine_forms::{Form, FormRefusal};
-use text_tokens::{Kind, token};
 use quast::Component;
 use std::alloc::Global;
 use text_steps::{Reads, expect};
+use text_tokens::{Kind, token};
 
 // The fractions over their common denominator; Wide, at the place of the component, where that or a numerator does not
 // fit.

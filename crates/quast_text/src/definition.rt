@@ -8,9 +8,9 @@ ghost use Rattle.quast_text.specs.Faults.{text_fault};
 use crate::refusal::TextRefusal;
 use crate::row::read_form;
 use affine_forms::Form;
-use text_tokens::{Kind, token};
 use std::alloc::Global;
 use text_steps::{Reads, expect, expect_word, number};
+use text_tokens::{Kind, token};
 
 // A form over a divisor, whose floor a new parameter is.
 #[derive(Drop)]

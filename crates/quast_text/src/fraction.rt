@@ -10,10 +10,10 @@ ghost use Rattle.quast_text.specs.Fractions.{IsFraction, next_fraction, numerato
 
 use crate::refusal::TextRefusal;
 use affine_forms::{FormRefusal, Overflow, floor_div, gcd, times};
-use text_tokens::{Kind, token};
 use std::alloc::Global;
 use std::marker::Model;
 use text_steps::Reads;
+use text_tokens::{Kind, token};
 
 // A fraction in lowest terms, its denominator at least 1.
 #[derive(Drop)]

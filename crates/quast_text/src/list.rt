@@ -10,10 +10,10 @@ ghost use Rattle.quast_text.specs.Trees.{next_component as next_component_of, co
 use crate::component::read_component;
 use crate::refusal::TextRefusal;
 use affine_forms::MOST_COMPONENTS;
-use text_tokens::{Kind, token};
 use quast::{Component, Quast};
 use std::alloc::Global;
 use text_steps::{Reads, expect, same_bracket};
+use text_tokens::{Kind, token};
 
 // The next component of a list of which so many may follow, and the place behind it; none at its `)`.
 fn next_component(

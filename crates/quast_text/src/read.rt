@@ -13,10 +13,10 @@ ghost use Rattle.quast_text.specs.Spoken.{spoken_of, found_of};
 use crate::refusal::TextRefusal;
 use crate::tree::read_tree;
 use affine_forms::{Bytes, MOST_NESTING};
-use text_tokens::{Kind, next_open, token};
 use quast::Answer;
 use std::alloc::Global;
 use text_steps::{Reads, expect, group, spells};
+use text_tokens::{Kind, next_open, token};
 
 /// An answer with its comment, a group with its brackets.
 #[derive(Drop)]

@@ -11,10 +11,10 @@ use crate::definition::read_definition;
 use crate::list::read_list;
 use crate::refusal::TextRefusal;
 use crate::row::read_form;
-use text_tokens::{Kind, token};
 use quast::Quast;
 use std::alloc::Global;
 use text_steps::{Reads, expect, same_bracket, spells};
+use text_tokens::{Kind, token};
 
 // Which tree begins behind a `(`.
 #[derive(Clone, Copy, Debug, PartialEq, Eq)]

@@ -8,8 +8,8 @@ ghost use Rattle.solve_certified.specs.Goals.{unknowns_at};
 
 use crate::refutation::Scope;
 use certificate_check::{Known, Leaf, refutation_count};
-use context::Work;
 use certificate_parts::{LeafProofs, Refutation};
+use context::Work;
 use pip_problem::Refusal;
 use std::alloc::Global;
 

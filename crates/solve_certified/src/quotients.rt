@@ -4,8 +4,8 @@ ghost use Rattle.affine_forms.specs.Checks.{Fits};
 ghost use Rattle.solve_certified.specs.Quotients.{steps_from, ReadsPlaces};
 
 use affine_forms::{Form, WantOfMemory};
-use context::push_positive;
 use certificate_parts::{Refutation, Step, Terms};
+use context::push_positive;
 use std::alloc::Global;
 use std::marker::Model;
 

@@ -11,8 +11,8 @@ use crate::narrowed::context_of;
 use crate::quotients::{PathQuotient, quotient_steps};
 use affine_forms::WantOfMemory;
 use certificate_check::Known;
-use context::Work;
 use certificate_parts::{Refutation, Step, Terms};
+use context::Work;
 use pip_problem::Refusal;
 use std::alloc::Global;
 

@@ -5,8 +5,8 @@ ghost use Rattle.text_steps.specs.Steps.{fault_of, IsRead};
 use crate::fault::{Reads, TextFault};
 use crate::steps::expect;
 use affine_forms::Bytes;
-use text_tokens::{Kind, group_end};
 use std::alloc::Global;
+use text_tokens::{Kind, group_end};
 
 /// The group that is next, with its brackets, and the place behind it.
 pub fn group(alloc: Global, bytes: &[u8], place: usize) -> Reads<Bytes, TextFault>

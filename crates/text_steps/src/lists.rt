@@ -6,8 +6,8 @@ ghost use Rattle.text_steps.specs.Steps.{fault_of, AreRead, IsRead};
 use crate::fault::{Reads, TextFault};
 use crate::steps::{expect, number};
 use affine_forms::Form;
-use text_tokens::Kind;
 use std::alloc::Global;
+use text_tokens::Kind;
 
 /// So many numbers, and the place behind them.
 pub fn numbers(
