@@ -1,8 +1,9 @@
 ghost use Rattle.std.specs.Prelude.{◌≡◌, ◌+◌, ◌*◌, ◌<◌, ◌≤◌, pos, ◌≤ℤ◌, ◌&&◌, false, length, map, slice_set, IsTrue, IsFalse};
 ghost use Rattle.std.specs.List.{list_all};
-ghost use Rattle.pip_model.specs.Forms.{entry};
+ghost use Rattle.pip_model.specs.Forms.{constant, entry};
 ghost use Rattle.pip_model.specs.Rows as model;
 ghost use Rattle.tableau.specs.Flat.{row_of_numbers};
+ghost use Rattle.tableau.specs.Short.{IsShort};
 ghost use Rattle.short_tableau.specs.Begun.{is_short_row};
 ghost use Rattle.short_tableau.specs.Dense.{IsDense, IsShortReduced, rows_in, row_size};
 ghost use Rattle.short_tableau.specs.Rows.{row_of};
@@ -28,6 +29,26 @@ pub(crate) fn row_in(numbers: &[i64], unknowns: usize, rows: usize, i: usize) ->
     let (_, behind) = numbers.split_at(place_of(unknowns, rows, i, numbers));
     let (row, _) = behind.split_at(unknowns + 2);
     view_of(row, unknowns)
+}
+
+// The constant of row i of so many.
+pub(crate) fn constant_at(numbers: &[i64], unknowns: usize, rows: usize, i: usize) -> i64
+    requires dense { IsDense unknowns rows numbers.now }
+    requires row { i < rows }
+    ensures { result ≡ constant (model.row_at (rows_in unknowns rows numbers.now) i).constant }
+{
+    numbers[place_of(unknowns, rows, i, numbers) + (unknowns + 1)]
+}
+
+// Its coefficient in column k.
+pub(crate) fn coef_at(numbers: &[i64], unknowns: usize, rows: usize, i: usize, k: usize) -> i64
+    requires dense { IsDense unknowns rows numbers.now }
+    requires row { i < rows }
+    requires column { k < unknowns }
+    ensures value { result ≡ entry (model.row_at (rows_in unknowns rows numbers.now) i).coefs k }
+    ensures short { IsShort result }
+{
+    numbers[place_of(unknowns, rows, i, numbers) + (1 + k)]
 }
 
 // Makes of row i of so many what it is after the pivot on row p and column c; whether its numbers are short.
