@@ -1,10 +1,11 @@
-ghost use Rattle.std.specs.Prelude.{◌≡◌, ◌+◌, ◌*◌, ◌<◌, ◌≤◌, pos, ◌≤ℤ◌, ◌&&◌, false, length, map, slice_set, IsTrue, IsFalse};
+ghost use Rattle.std.specs.Prelude.{◌≡◌, ◌+◌, ◌*◌, ◌<◌, ◌≤◌, pos, ◌≤ℤ◌, ◌&&◌, false, length, map, slice_set, IsTrue, IsFalse, IfSome};
 ghost use Rattle.std.specs.List.{list_all};
 ghost use Rattle.pip_model.specs.Forms.{constant, entry};
 ghost use Rattle.pip_model.specs.Rows as model;
 ghost use Rattle.tableau.specs.Flat.{row_of_numbers};
 ghost use Rattle.tableau.specs.Short.{IsShort};
 ghost use Rattle.short_tableau.specs.Begun.{is_short_row};
+ghost use Rattle.short_tableau.specs.Below.{negative_from};
 ghost use Rattle.short_tableau.specs.Dense.{IsDense, IsShortReduced, rows_in, row_size};
 ghost use Rattle.short_tableau.specs.Rows.{row_of};
 
@@ -40,7 +41,21 @@ pub(crate) fn constant_at(numbers: &[i64], unknowns: usize, rows: usize, i: usiz
     numbers[place_of(unknowns, rows, i, numbers) + (unknowns + 1)]
 }
 
-// Its coefficient in column k.
+// The first of so many rows whose constant is below 0.
+pub(crate) fn first_below_in(numbers: &[i64], unknowns: usize, rows: usize) -> Option<usize>
+    requires dense { IsDense unknowns rows numbers.now }
+    ensures value { result ≡ negative_from 0 (rows_in unknowns rows numbers.now) }
+    ensures bound { IfSome result (λ r. r < rows) }
+{
+    for i in 0..rows {
+        if constant_at(numbers, unknowns, rows, i) < 0 {
+            return Some(i);
+        }
+    }
+    None
+}
+
+// The coefficient of row i of so many in column k.
 pub(crate) fn coef_at(numbers: &[i64], unknowns: usize, rows: usize, i: usize, k: usize) -> i64
     requires dense { IsDense unknowns rows numbers.now }
     requires row { i < rows }
