@@ -82,6 +82,9 @@ fn turn_at(numbers: &mut [i64], rows: usize, i: usize, p: &ShortRow<'_>, c: usiz
     ensures size { length numbers.new ≡ length numbers.old }
 {
     let unknowns = p.coefs.len();
+    if coef_at(numbers, unknowns, rows, i, c) == 0 {
+        return true;
+    }
     let place = place_of(unknowns, rows, i, numbers);
     let (_, behind) = numbers.split_at_mut(place);
     let (row, _) = behind.split_at_mut(unknowns + 2);

@@ -1,7 +1,4 @@
-use Rattle.std.proofs.Common.{rules, sym, ◌≡◌, ◌∙◌, ◌+◌, ◌*◌, ap, pos}
-use Rattle.std.proofs.lemmas.Int.{to_z-of_z}
-use Rattle.std.proofs.lemmas.Grind.{common_steps}
-use Rattle.pip_model.specs.Forms.{entry}
+use Rattle.std.proofs.Common.{rules}
 use Rattle.short_tableau.proofs.Entries.{constant_here}
 use Rattle.short_tableau.proofs.rows.constant_at.Goals as goal
 
