@@ -1,20 +1,14 @@
 -- Steps of a run, and the run without parameters, turn by turn.
-use Rattle.std.specs.Prelude.{◌≡◌, ℕ, ◌+◌, ◌≤◌, Bool, true, false, Option, Some, None, List, [], ◌∷◌, ◌++◌, length, if◌then◌else◌}
-use Rattle.pip_model.specs.Numbers.{is_nonneg}
-use Rattle.pip_model.specs.Forms.{constant}
+use Rattle.std.specs.Prelude.{◌≡◌, ℕ, ◌+◌, ◌≤◌, Bool, true, false, Option, Some, None, List, [], ◌∷◌, ◌++◌, length}
 use Rattle.pip_model.specs.Tree.{Bottom}
 use Rattle.pip_model.specs.Rows.{Row, row_at}
 use Rattle.pip_model.specs.Cuts.{constant_cut}
 use Rattle.pip_model.specs.Run as run
 use Rattle.pip_model.specs.Run.{Counted, ◌>>◌, give, count_cut, Node, Setting, point_setting, leaf}
 use Rattle.tableau.specs.Tableaus.{TableauRows}
+pub use Rattle.short_tableau.specs.Below.{negative_from}
 use Rattle.context.specs.declared.point_turn.Turn.{Turn}
 use Rattle.context.specs.declared.point_turn.Turn.TheVariants as code
-
--- the first row, from place i on, whose constant is below 0
-abbrev pub negative_from : ℕ → List Row → Option ℕ
-negative_from i [] = None
-negative_from i (r ∷ rs) = if is_nonneg (constant r.constant) then negative_from (i + 1) rs else Some i
 
 -- a node without parameters
 abbrev pub node_of : List Row → Node

@@ -4,7 +4,7 @@ ghost use Rattle.pip_model.specs.Rows.{Row};
 ghost use Rattle.context.specs.Turns.{negative_from};
 ghost use Rattle.context.specs.Remembered.{IsFormed, IsReplay, IsRemembered, first_rows, is_end};
 
-use crate::short_rows::{first_below, start_short};
+use crate::short_rows::start_short;
 use crate::stop::Stop;
 use affine_forms::{Form, WantOfMemory};
 use short_tableau::ShortTableau;
@@ -88,7 +88,7 @@ fn run_up(m: &mut Replay) -> Result<(), Stop>
     ensures replay { OnOk result ((first : List Row) → IsReplay first m.old → IsReplay first m.new) }
 {
     for _ in 0..m.end.rows() {
-        let Some(r) = first_below(&m.end) else {
+        let Some(r) = m.end.first_below() else {
             return Ok(());
         };
         if !pivot_at(m, r)? {
@@ -103,7 +103,7 @@ fn shows_point(rows: &ShortTableau) -> bool
     requires { rows.now.unknowns ≤ length rows.now.rows }
     ensures { result ≡ is_end rows.now.unknowns rows.now.rows }
 {
-    first_below(rows).is_none() && rows.first_fraction().is_none()
+    rows.first_below().is_none() && rows.first_fraction().is_none()
 }
 
 // The run of the forms as rows up to its first cut or its end, but no more pivots than it has rows, in the room of the

@@ -4,7 +4,6 @@ ghost use Rattle.pip_model.specs.Forms.{widen_to};
 ghost use Rattle.pip_model.specs.Rows as model;
 ghost use Rattle.pip_model.specs.Rows.{form_row, count_from};
 ghost use Rattle.context.specs.Stops.{stop_fault};
-ghost use Rattle.context.specs.Turns.{negative_from};
 
 use crate::stop::Stop;
 use affine_forms::{Form, WantOfMemory};
@@ -55,17 +54,4 @@ pub(crate) fn start_short(
         push_short(rows, form)?;
     }
     Ok(())
-}
-
-// The first row whose constant is below 0.
-pub(crate) fn first_below(rows: &ShortTableau) -> Option<usize>
-    ensures value { result ≡ negative_from 0 rows.now.rows }
-    ensures bound { IfSome result (λ r. r < length rows.now.rows) }
-{
-    for i in 0..rows.rows() {
-        if rows.is_below(i) {
-            return Some(i);
-        }
-    }
-    None
 }

@@ -7,7 +7,6 @@ ghost use Rattle.context.specs.Turns.{node_of, made, counted_cut, HasSameScope};
 ghost use Rattle.context.specs.Remembered.{ended};
 
 use crate::point_turn::Turn;
-use crate::short_rows::first_below;
 use crate::stop::Stop;
 use run_counts::Work;
 use short_tableau::ShortTableau;
@@ -64,7 +63,7 @@ fn take_turn(rows: &mut ShortTableau, work: &mut Work) -> Result<Turn, Stop>
         (model.turn (point_setting rows.old.unknowns) (node_of rows.old.rows)) }
     ensures scope { OnOk result (HasSameScope rows.old rows.new) }
 {
-    match first_below(rows) {
+    match rows.first_below() {
         Some(r) => pivot_turn(rows, work, r),
         None => last_turn(rows, work),
     }

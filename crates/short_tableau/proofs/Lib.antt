@@ -4,3 +4,4 @@ pub mod Fitting
 pub mod ShortParts
 pub mod UnitNumbers
 pub mod Cutting
+pub mod Entries

@@ -1,7 +1,7 @@
 -- The numbers of the row of a column, and of a form's row.
 use Rattle.std.proofs.Common.{◌≡◌, refl, ap, sym, ◌∙◌, subst, ℕ, zero, suc, ◌+◌, ◌-◌, ◌<◌, ◌≤◌, ℤ, pos, List, [], ◌∷◌, ◌++◌, length, map, take, drop, replicate, get_or, arith, append-nil, append_assoc, length-append, length-drop, length-set}
 use Rattle.std.specs.Prelude.{All, slice_set}
-use Rattle.std.proofs.lemmas.List.{take_at, drop_at, take_all, drop_all, take_more, take-append-drop, length-replicate, set-append_left, length-take-le, drop_more, length_push}
+use Rattle.std.proofs.lemmas.List.{take_at, drop_at, take_all, drop_all, take_more, take-append-drop, length-replicate, set-append_left, set_at, length-take-le, drop_more, length_push, drop-replicate, take-replicate}
 use Rattle.std.proofs.lemmas.Int.{ints}
 use Rattle.std.proofs.lemmas.List.Elements.{All-push, All-append, All-take, All-drop, All-replicate}
 use Rattle.pip_model.specs.Forms.{width, coefficients, constant, widen_to}
@@ -86,3 +86,38 @@ module _ (n : ℕ) (c : List ℤ) (some : 1 ≤ length c) (narrow : length c ≤
     reduced = content-one (form_row n (widen_to n c)) refl;
     short = short;
   }
+
+-- ---- a row that is written over zeros
+
+-- one number more of a list is written over another
+pub written_step : (xs old now : List ℤ) (i : ℕ) (y : ℤ) → i < length xs → length old ≡ length xs → now ≡ take i xs ++ drop i old → y ≡ get_or xs i (pos 0)
+    → slice_set now i y ≡ take (i + 1) xs ++ drop (i + 1) old
+written_step xs old now i y h e is g =
+    let front = take i xs in
+    let long : length (take i xs) ≡ i = length-take-le i xs (omega (arith, h)) in
+    ap (λ (zs : List ℤ). slice_set zs i y) (is ∙ ap (λ (zs : List ℤ). front ++ zs) (drop_more old i (pos 0) (omega (arith, h, e))))
+    ∙ set_at front (get_or old i (pos 0)) (drop (i + 1) old) y i long
+    ∙ sym (append_assoc front (y ∷ []) (drop (i + 1) old))
+    ∙ ap (λ (zs : List ℤ). zs ++ drop (i + 1) old) (sym (take_more xs i (pos 0) h ∙ ap (λ (z : ℤ). front ++ z ∷ []) (sym g)))
+
+pub written_all : (xs old now : List ℤ) (i : ℕ) → length xs ≤ i → length old ≡ length xs → now ≡ take i xs ++ drop i old → now ≡ xs
+written_all xs old now i h e is = is ∙ rw (take_all i xs h, drop_all i old (omega (arith, h, e))) (append-nil xs)
+
+rest_zeros : (n k : ℕ) (row rest front back : List ℤ) → row ≡ replicate (n + 2) (pos 0) → rest ≡ drop 1 row → front ≡ take n rest → back ≡ drop k front → back ≡ replicate (n - k) (pos 0)
+rest_zeros n k row rest front back e f g h =
+    let more : n + 2 ≡ suc (n + 1) = omega arith in
+    h ∙ ap (drop k) (g ∙ ap (take n) (f ∙ ap (drop 1) (e ∙ ap (λ (m : ℕ). replicate m (pos 0)) more)) ∙ take-replicate n (n + 1) (pos 0) (omega arith)) ∙ drop-replicate k n (pos 0)
+
+one_set : (xs : List ℤ) (y : ℤ) → length xs ≡ 1 → slice_set xs 0 y ≡ y ∷ []
+one_set [] y e = absurd (omega arith)
+one_set (x ∷ []) y e = refl
+one_set (x ∷ z ∷ xs) y e = absurd (omega arith)
+
+pub form_written : (n : ℕ) (c : List ℤ) (some : 1 ≤ length c) (narrow : length c ≤ n + 1) (front last : List ℤ) → front ≡ take (length c - 1) c → last ≡ drop (length c - 1) c
+    → (row den rest middle back made_front made_last : List ℤ) → row ≡ replicate (n + 2) (pos 0) → length den ≡ 1 → rest ≡ drop 1 row → middle ≡ take n rest → back ≡ drop (length front) middle
+    → made_front ≡ front → made_last ≡ last
+    → slice_set den 0 (pos 1) ++ ((made_front ++ back) ++ made_last) ≡ numbers_of (form_row n (widen_to n c))
+form_written n c some narrow front last is_front is_last row den rest middle back made_front made_last e one f g h a b =
+    let wide : length front ≡ width c = ap length is_front ∙ length-take-le (length c - 1) c (omega arith) in
+    let zeros : back ≡ replicate (n - width c) (pos 0) = rest_zeros n (length front) row rest middle back e f g h ∙ ap (λ (k : ℕ). replicate (n - k) (pos 0)) wide in
+    rw (one_set den (pos 1) one, a, b, zeros) (sym (form_numbers n c some narrow front last is_front is_last))

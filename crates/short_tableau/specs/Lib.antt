@@ -1,3 +1,4 @@
 pub mod Begun
+pub mod Below
 pub mod Dense
 pub mod Rows

@@ -36,7 +36,7 @@ impl ShortTableau {
         requires b { b < self.now.unknowns }
         ensures { result ≡ product_at self.now.rows i (row_of p.now) k b }
     {
-        product(self.row(i).coefs[k], p.coefs[b])
+        product(self.coef(i, k), p.coefs[b])
     }
 
     // Whether column k has the smaller list of quotients a_ik / a_pk over the unknowns' rows than column b.

@@ -1,10 +1,11 @@
-ghost use Rattle.std.specs.Prelude.{◌≡◌, ◌+◌, ◌<◌, ◌≤◌, ◌++◌, length, take, All, false, IsTrue, IsFalse, IfOk, OnOk, OnErr, vec_len};
+ghost use Rattle.std.specs.Prelude.{◌≡◌, ◌+◌, ◌<◌, ◌≤◌, pos, ◌++◌, length, take, replicate, All, false, IsTrue, IsFalse, IfOk, OnOk, OnErr, vec_len};
 ghost use Rattle.std.specs.List.{list_all};
 ghost use Rattle.pip_model.specs.Forms.{widen_to};
 ghost use Rattle.pip_model.specs.Rows.{form_row, unit_row};
 ghost use Rattle.affine_forms.specs.Forms.{IsForm};
 ghost use Rattle.tableau.specs.Flat.{numbers_of};
 ghost use Rattle.tableau.specs.Short.{is_short, IsShort, IsShortRow};
+ghost use Rattle.short_tableau.specs.Dense.{row_size};
 ghost use Rattle.short_tableau.specs.Rows.{row_of};
 
 use crate::numbers::narrow;
@@ -54,19 +55,39 @@ pub(crate) fn push_unit_row(
     Ok(())
 }
 
-// Appends the numbers up to the first that is not short; whether all are.
-fn append_short(numbers: &mut Vec<i64>, entries: &[i128]) -> Result<bool, WantOfMemory>
-    ensures items { IfOk result (λ b. IsTrue b → numbers.new.items ≡ numbers.old.items ++ entries.now) }
-    ensures short { IfOk result (λ b. IsTrue b → All IsShort entries.now) }
-    ensures long { IfOk result (λ b. IsFalse b → list_all is_short entries.now ≡ false) }
+// Makes the numbers of as many entries, up to the first that is not short; whether all are.
+fn narrow_all(numbers: &mut [i64], entries: &[i128]) -> bool
+    requires { length numbers.old ≡ length entries.now }
+    ensures items { IsTrue result → numbers.new ≡ entries.now }
+    ensures short { IsTrue result → All IsShort entries.now }
+    ensures long { IsFalse result → list_all is_short entries.now ≡ false }
+    ensures length { length numbers.new ≡ length numbers.old }
 {
-    for number in entries {
-        let Some(short) = narrow(*number) else {
-            return Ok(false);
+    for i in 0..entries.len() {
+        let Some(short) = narrow(entries[i]) else {
+            return false;
         };
-        numbers.push(short)?;
+        numbers[i] = short;
     }
-    Ok(true)
+    true
+}
+
+// Makes of a row of zeros that of a form which is read over all columns, up to the first number that is not short;
+// whether all are.
+fn make_form(row: &mut [i64], unknowns: usize, form: &[i128]) -> bool
+    requires zeros { row.old ≡ replicate (row_size unknowns) (pos 0) }
+    requires form { IsForm form.now }
+    requires narrow { length form.now ≤ unknowns + 1 }
+    ensures items { IsTrue result → row.new ≡ numbers_of (form_row unknowns (widen_to unknowns form.now)) }
+    ensures short { IsTrue result → IsShortRow (form_row unknowns (widen_to unknowns form.now)) }
+    ensures long { IsFalse result → list_all is_short form.now ≡ false }
+{
+    let (coefficients, constant) = form.split_at(form.len() - 1);
+    let (den, rest) = row.split_at_mut(1);
+    let (front, last) = rest.split_at_mut(unknowns);
+    let (front, _) = front.split_at_mut(coefficients.len());
+    den[0] = 1;
+    narrow_all(front, coefficients) && narrow_all(last, constant)
 }
 
 // Appends the numbers of the row of a form that is read over all columns, up to the first that is not short; whether
@@ -83,16 +104,10 @@ pub(crate) fn append_form(
     ensures short { IfOk result (λ b. IsTrue b → IsShortRow (form_row unknowns (widen_to unknowns form.now))) }
     ensures long { IfOk result (λ b. IsFalse b → list_all is_short form.now ≡ false) }
 {
-    let (coefficients, constant) = form.split_at(form.len() - 1);
-    let more = unknowns.checked_add(1).ok_or(WantOfMemory)?;
-    let size = numbers.len().checked_add(more).ok_or(WantOfMemory)?;
-    numbers.push(1)?;
-    if !append_short(numbers, coefficients)? {
-        return Ok(false);
-    }
+    let before = numbers.len();
+    let more = unknowns.checked_add(2).ok_or(WantOfMemory)?;
+    let size = before.checked_add(more).ok_or(WantOfMemory)?;
     numbers.resize(size, 0)?;
-    if !append_short(numbers, constant)? {
-        return Ok(false);
-    }
-    Ok(true)
+    let (_, row) = numbers.split_at_mut(before);
+    Ok(make_form(row, unknowns, form))
 }

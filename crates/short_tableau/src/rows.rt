@@ -1,9 +1,11 @@
-ghost use Rattle.std.specs.Prelude.{◌≡◌, ◌+◌, ◌*◌, ◌<◌, ◌≤◌, pos, ◌≤ℤ◌, ◌&&◌, false, length, map, slice_set, IsTrue, IsFalse};
+ghost use Rattle.std.specs.Prelude.{◌≡◌, ◌+◌, ◌*◌, ◌<◌, ◌≤◌, pos, ◌≤ℤ◌, ◌&&◌, false, length, map, slice_set, IsTrue, IsFalse, IfSome};
 ghost use Rattle.std.specs.List.{list_all};
-ghost use Rattle.pip_model.specs.Forms.{entry};
+ghost use Rattle.pip_model.specs.Forms.{constant, entry};
 ghost use Rattle.pip_model.specs.Rows as model;
 ghost use Rattle.tableau.specs.Flat.{row_of_numbers};
+ghost use Rattle.tableau.specs.Short.{IsShort};
 ghost use Rattle.short_tableau.specs.Begun.{is_short_row};
+ghost use Rattle.short_tableau.specs.Below.{negative_from};
 ghost use Rattle.short_tableau.specs.Dense.{IsDense, IsShortReduced, rows_in, row_size};
 ghost use Rattle.short_tableau.specs.Rows.{row_of};
 
@@ -30,6 +32,40 @@ pub(crate) fn row_in(numbers: &[i64], unknowns: usize, rows: usize, i: usize) ->
     view_of(row, unknowns)
 }
 
+// The constant of row i of so many.
+pub(crate) fn constant_at(numbers: &[i64], unknowns: usize, rows: usize, i: usize) -> i64
+    requires dense { IsDense unknowns rows numbers.now }
+    requires row { i < rows }
+    ensures { result ≡ constant (model.row_at (rows_in unknowns rows numbers.now) i).constant }
+{
+    numbers[place_of(unknowns, rows, i, numbers) + (unknowns + 1)]
+}
+
+// The first of so many rows whose constant is below 0.
+pub(crate) fn first_below_in(numbers: &[i64], unknowns: usize, rows: usize) -> Option<usize>
+    requires dense { IsDense unknowns rows numbers.now }
+    ensures value { result ≡ negative_from 0 (rows_in unknowns rows numbers.now) }
+    ensures bound { IfSome result (λ r. r < rows) }
+{
+    for i in 0..rows {
+        if constant_at(numbers, unknowns, rows, i) < 0 {
+            return Some(i);
+        }
+    }
+    None
+}
+
+// The coefficient of row i of so many in column k.
+pub(crate) fn coef_at(numbers: &[i64], unknowns: usize, rows: usize, i: usize, k: usize) -> i64
+    requires dense { IsDense unknowns rows numbers.now }
+    requires row { i < rows }
+    requires column { k < unknowns }
+    ensures value { result ≡ entry (model.row_at (rows_in unknowns rows numbers.now) i).coefs k }
+    ensures short { IsShort result }
+{
+    numbers[place_of(unknowns, rows, i, numbers) + (1 + k)]
+}
+
 // Makes of row i of so many what it is after the pivot on row p and column c; whether its numbers are short.
 fn turn_at(numbers: &mut [i64], rows: usize, i: usize, p: &ShortRow<'_>, c: usize) -> bool
     requires dense { IsDense (length p.now.coefs.now) rows numbers.old }
@@ -46,6 +82,9 @@ fn turn_at(numbers: &mut [i64], rows: usize, i: usize, p: &ShortRow<'_>, c: usiz
     ensures size { length numbers.new ≡ length numbers.old }
 {
     let unknowns = p.coefs.len();
+    if coef_at(numbers, unknowns, rows, i, c) == 0 {
+        return true;
+    }
     let place = place_of(unknowns, rows, i, numbers);
     let (_, behind) = numbers.split_at_mut(place);
     let (row, _) = behind.split_at_mut(unknowns + 2);

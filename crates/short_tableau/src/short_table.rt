@@ -1,4 +1,4 @@
-ghost use Rattle.std.specs.Prelude.{◌≡◌, ◌+◌, ◌^◌, ◌<◌, ◌≤◌, pos, ◌≤ℤ◌, false, not, [], ◌∷◌, ◌++◌, All, length, map, flat_map, IsTrue, IsFalse, IfOk, OnOk, OnErr};
+ghost use Rattle.std.specs.Prelude.{◌≡◌, ◌+◌, ◌^◌, ◌<◌, ◌≤◌, pos, ◌≤ℤ◌, false, not, [], ◌∷◌, ◌++◌, All, length, map, flat_map, IsTrue, IsFalse, IfOk, OnOk, OnErr, IfSome};
 ghost use Rattle.std.specs.List.{list_all};
 ghost use Rattle.pip_model.specs.Cuts.{constant_cut};
 ghost use Rattle.pip_model.specs.Forms.{constant, entry, widen_to};
@@ -6,16 +6,17 @@ ghost use Rattle.pip_model.specs.Listed.{all_fit};
 ghost use Rattle.pip_model.specs.Numbers.{is_nonneg};
 ghost use Rattle.pip_model.specs.Rows as model;
 ghost use Rattle.affine_forms.specs.Forms.{IsForm};
-ghost use Rattle.tableau.specs.Short.{is_short};
+ghost use Rattle.tableau.specs.Short.{is_short, IsShort};
 ghost use Rattle.tableau.specs.Tableaus.{with_row};
 ghost use Rattle.short_tableau.specs.Begun.{is_short_row};
+ghost use Rattle.short_tableau.specs.Below.{negative_from};
 ghost use Rattle.short_tableau.specs.Dense.{IsShortReduced};
 ghost use Rattle.short_tableau.specs.Rows.{row_of};
 
 use crate::cuts::push_cut_row;
 use crate::pushing::{append_form, push_row, push_unit_row};
 use crate::row::ShortRow;
-use crate::rows::{pivot_rows, row_in, turn_rows};
+use crate::rows::{coef_at, constant_at, first_below_in, pivot_rows, row_in, turn_rows};
 use affine_forms::WantOfMemory;
 use std::alloc::Global;
 use std::marker::Model;
@@ -135,12 +136,30 @@ impl ShortTableau {
         row_in(&self.numbers, self.unknowns, self.count, i)
     }
 
+    // The coefficient of row i in column k.
+    pub(crate) fn coef(&self, i: usize, k: usize) -> i64
+        requires row { i < length self.now.rows }
+        requires column { k < self.now.unknowns }
+        ensures value { result ≡ entry (model.row_at self.now.rows i).coefs k }
+        ensures short { IsShort result }
+    {
+        coef_at(&self.numbers, self.unknowns, self.count, i, k)
+    }
+
     /// Whether the constant of row i is below 0.
     pub fn is_below(&self, i: usize) -> bool
         requires { i < length self.now.rows }
         ensures { result ≡ not (is_nonneg (constant (model.row_at self.now.rows i).constant)) }
     {
-        self.row(i).constant[0] < 0
+        constant_at(&self.numbers, self.unknowns, self.count, i) < 0
+    }
+
+    /// The first row whose constant is below 0.
+    pub fn first_below(&self) -> Option<usize>
+        ensures value { result ≡ negative_from 0 self.now.rows }
+        ensures bound { IfSome result (λ r. r < length self.now.rows) }
+    {
+        first_below_in(&self.numbers, self.unknowns, self.count)
     }
 
     /// Adds the row of column c, whose quantity is that column's. A refusal leaves all as it was.

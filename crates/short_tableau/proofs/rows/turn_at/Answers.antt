@@ -1,8 +1,12 @@
-use Rattle.std.proofs.Common.{rules, ◌∙◌, ap, length, ◌++◌, List, ℤ}
-use Rattle.pip_model.specs.Rows.{Row, eliminated}
+use Rattle.std.proofs.Common.{rules, ◌≡◌, ◌∙◌, ap, sym, pos, length, slice_set, [], ◌++◌, List, ℤ}
+use Rattle.std.proofs.lemmas.List.{set-get_or}
+use Rattle.pip_model.specs.Forms.{entry}
+use Rattle.pip_model.specs.Rows.{Row, row_at, form_row, eliminated}
 use Rattle.short_tableau.specs.Begun.{is_short_row}
+use Rattle.short_tableau.specs.Dense.{rows_in}
 use Rattle.short_tableau.specs.Rows.{row_of}
-use Rattle.short_tableau.proofs.Places.{AreParts, row_read, row_short, turned_rows, turned_dense}
+use Rattle.short_tableau.proofs.ShortParts.{stays}
+use Rattle.short_tableau.proofs.Places.{AreParts, dense_row, row_read, row_short, turned_rows, turned_dense}
 use Rattle.short_tableau.proofs.rows.turn_at.Goals as goal
 
 pub eliminate-requires-clause-row : goal.eliminate-requires-clause-row
@@ -46,3 +50,11 @@ returns-clause-long c = λ all.
     let whole = c.split_at_mut-behind.ensures.value ∙ ap (λ (zs : List ℤ). front ++ zs) c.split_at_mut-row.ensures.value in
     ap (λ (r : Row). is_short_row (eliminated (row_of c.args.p.now) c.args.c r)) (row_read n c.args.rows c.args.i c.args.numbers.now front mid mid back whole h h.mid_size)
     ∙ c.eliminate.ensures.long all
+
+pub returns-then-coef_at-eq0-clause-rows : goal.returns-then-coef_at-eq0-clause-rows
+returns-then-coef_at-eq0-clause-rows c = λ done.
+    let n = length c.args.p.now.coefs.now in
+    let rows = rows_in n c.args.rows c.args.numbers.now in
+    let none : entry (row_at (rows_in (length c.args.p.now.coefs.now) c.args.rows c.args.numbers.now) c.args.i).coefs c.args.c ≡ pos 0 = search rules in
+    let stay = stays n c.args.c (row_of c.args.p.now) (row_at rows c.args.i) c.requires.p (dense_row n c.args.rows c.args.i c.args.numbers.now c.requires.dense c.requires.row) c.requires.positive none in
+    sym (ap (λ (r : Row). slice_set (rows_in n c.args.rows c.args.numbers.now) c.args.i r) (sym stay) ∙ set-get_or rows c.args.i (form_row 0 []))

@@ -1,0 +1,7 @@
+use Rattle.std.proofs.Common.{◌≡◌, drop}
+use Rattle.short_tableau.specs.Below.{negative_from}
+use Rattle.short_tableau.specs.Dense.{rows_in}
+use Rattle.short_tableau.proofs.rows.first_below_in.Given as goal
+
+abbrev pub invariant-loop-i : goal.invariant-loop-i
+invariant-loop-i l = negative_from l.i (drop l.i (rows_in l.unknowns l.rows l.numbers)) ≡ negative_from 0 (rows_in l.unknowns l.rows l.numbers)
