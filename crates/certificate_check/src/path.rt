@@ -1,4 +1,4 @@
-ghost use Rattle.std.specs.Prelude.{◌≡◌, ◌^◌, ◌+◌, ◌<◌, ◌≤◌, ◌++◌, [], ◌∷◌, pos, ◌≤ℤ◌, length, take, All, IfOk, OnOk};
+ghost use Rattle.std.specs.Prelude.{◌≡◌, ◌^◌, ◌+◌, ◌<◌, ◌≤◌, ◌++◌, [], ◌∷◌, pos, ◌≤ℤ◌, length, take, All, IfOk, OnOk, OnErr};
 ghost use Rattle.pip_model.specs.Forms.{opposite, constant};
 ghost use Rattle.pip_model.specs.Listed.{opposite_listed};
 ghost use Rattle.pip_model.specs.Cuts.{Quotient, lower_bound as lower_bound_of, upper_bound as upper_bound_of};
@@ -100,44 +100,57 @@ impl Path {
         &self.forms
     }
 
-    // Puts a form behind the others.
+    // Puts a form behind the others. A refusal leaves them as they were.
     fn put(&mut self, form: Form) -> Result<(), WantOfMemory>
         requires { length form ≤ self.old.scope + 1 }
-        ensures { OnOk result (self.new ≡ record self.old { forms = self.old.forms ++ form ∷ [] }) }
+        ensures ok { OnOk result (self.new ≡ record self.old { forms = self.old.forms ++ form ∷ [] }) }
+        ensures err { OnErr result (self.new ≡ self.old) }
     {
         self.forms.push(form)?;
         Ok(())
     }
 
-    // Takes one more quotient into scope.
-    fn go_down(&mut self)
-        requires { self.old.scope + 1 < 2 ^ 64 }
-        ensures { self.new ≡ record self.old { scope = self.old.scope + 1 } }
+    // Takes one more quotient into scope, with its two bounds. A refusal leaves all as it was.
+    fn put_bounds(&mut self, lower: Form, upper: Form) -> Result<(), WantOfMemory>
+        requires room { self.old.scope + 1 < 2 ^ 64 }
+        requires lower { length lower ≡ self.old.scope + 2 }
+        requires upper { length upper ≡ self.old.scope + 2 }
+        ensures ok { OnOk result (self.new ≡ record {
+          scope = self.old.scope + 1;
+          forms = self.old.forms ++ lower ∷ upper ∷ [];
+        }) }
+        ensures err { OnErr result (self.new ≡ self.old) }
     {
+        self.forms.reserve(2)?;
         self.scope += 1;
+        self.forms.push(lower).unwrap();
+        self.forms.push(upper).unwrap();
+        Ok(())
     }
 
-    /// Goes on to the first tree of a choice.
+    /// Goes on to the first tree of a choice. A refusal leaves the path as it was.
     pub fn push(&mut self, alloc: Global, form: &Form) -> Result<(), WantOfMemory>
         requires { length form.now ≡ self.old.scope + 1 }
-        ensures { OnOk result (self.new ≡ record self.old { forms = self.old.forms ++ form.now ∷ [] }) }
+        ensures ok { OnOk result (self.new ≡ record self.old { forms = self.old.forms ++ form.now ∷ [] }) }
+        ensures err { OnErr result (self.new ≡ self.old) }
     {
         let form = form.try_clone(alloc)?;
         self.put(form)
     }
 
-    /// Goes on to the second tree of a choice.
+    /// Goes on to the second tree of a choice. A refusal leaves the path as it was.
     pub fn push_opposite(&mut self, alloc: Global, form: &Form) -> Result<(), FormRefusal>
         requires { length form.now ≡ self.old.scope + 1 }
         ensures listed { IsChecked is_form_overflow (opposite_listed form.now) result }
         ensures ok { OnOk result (self.new ≡ record self.old { forms = self.old.forms ++ opposite form.now ∷ [] }) }
+        ensures err { OnErr result (self.new ≡ self.old) }
     {
         let opposite = opposite_of(alloc, form)?;
         self.put(opposite)?;
         Ok(())
     }
 
-    /// Goes on below the definition of a quotient, with its two bounds.
+    /// Goes on below the definition of a quotient, with its two bounds. A refusal leaves the path as it was.
     pub fn push_bounds(&mut self, alloc: Global, form: &Form, d: i128) -> Result<(), FormRefusal>
         requires width { length form.now ≡ self.old.scope + 1 }
         requires room { self.old.scope + 1 < 2 ^ 64 }
@@ -150,13 +163,12 @@ impl Path {
           forms = self.old.forms ++ lower_bound_of (self.old.scope + 1) self.old.scope k
               ∷ upper_bound_of (self.old.scope + 1) self.old.scope k ∷ [];
         }) }
+        ensures err { OnErr result (self.new ≡ self.old) }
     {
         let place = self.scope;
         let lower = lower(alloc, place, form, d)?;
         let upper = upper(alloc, place, form, d)?;
-        self.go_down();
-        self.put(lower)?;
-        self.put(upper)?;
+        self.put_bounds(lower, upper)?;
         Ok(())
     }
 

@@ -14,32 +14,32 @@ use Rattle.certificate_check.proofs.walk.Walk.+check_node.Goals as goal
 pub returns-in_err-second-in-Select-clause-gives : goal.returns-in_err-second-in-Select-clause-gives
 returns-in_err-second-in-Select-clause-gives t c =
     let p = err_from_is_err_and c.from_residual-in_err-second-in-Select.result c.from_residual-in_err-second-in-Select.ensures.1 in
-    rw (p.1, p.2) (choice_stop c.args.self.now c.args.l c.args.path.now (tree_of c.args.node.now) c.requires c.in-Select.v (tree_of c.in-Select.a.value) (tree_of c.in-Select.b.value) (ap tree_of c.in-Select.is) c.push.new.self c.in_ok-push-in-Select.ensures (fault_of c.in_err-second-in-Select.field-0.0) (rw c.deref.ensures at c.in_err-second-in-Select.ensures.gives))
+    rw (p.1, p.2) (choice_stop c.args.self.now c.args.l c.args.path.now (tree_of c.args.node.now) c.requires c.in-Select.v (tree_of c.in-Select.a.value) (tree_of c.in-Select.b.value) (ap tree_of c.in-Select.is) c.push.new.self c.in_ok-push-in-Select.ensures.ok (fault_of c.in_err-second-in-Select.field-0.0) (rw c.deref.ensures at c.in_err-second-in-Select.ensures.gives))
 
 pub go_back-requires : goal.go_back-requires
 go_back-requires t c =
-    back_within c.args.path.now c.check_node.new.path (c.in-Select.v ∷ []) c.len-n.result c.scope-scope.result (ap (λ (q : PathForms). q.forms) (c.in_ok-second-in-Select.ensures.path ∙ c.in_ok-push-in-Select.ensures)) c.len-n.ensures.value c.scope-scope.ensures c.len-n.ensures.within
+    back_within c.args.path.now c.check_node.new.path (c.in-Select.v ∷ []) c.len-n.result c.scope-scope.result (ap (λ (q : PathForms). q.forms) (c.in_ok-second-in-Select.ensures.path ∙ c.in_ok-push-in-Select.ensures.ok)) c.len-n.ensures.value c.scope-scope.ensures c.len-n.ensures.within
 
 pub refused-requires : goal.refused-requires
-refused-requires t c = choice_place c.args.self.now c.args.l c.args.path.now (tree_of c.args.node.now) c.requires c.in-Select.v (tree_of c.in-Select.a.value) (tree_of c.in-Select.b.value) (ap tree_of c.in-Select.is) c.push.new.self c.in_ok-push-in-Select.ensures c.in_ok-second-in-Select.second (rw c.deref.ensures at c.in_ok-second-in-Select.ensures.next)
+refused-requires t c = choice_place c.args.self.now c.args.l c.args.path.now (tree_of c.args.node.now) c.requires c.in-Select.v (tree_of c.in-Select.a.value) (tree_of c.in-Select.b.value) (ap tree_of c.in-Select.is) c.push.new.self c.in_ok-push-in-Select.ensures.ok c.in_ok-second-in-Select.second (rw c.deref.ensures at c.in_ok-second-in-Select.ensures.next)
 
 pub returns-in-Err-clause-gives : goal.returns-in-Err-clause-gives
 returns-in-Err-clause-gives t c =
-    choice_unfit c.args.self.now c.args.l c.args.path.now (tree_of c.args.node.now) c.requires c.in-Select.v (tree_of c.in-Select.a.value) (tree_of c.in-Select.b.value) (ap tree_of c.in-Select.is) c.push.new.self c.in_ok-push-in-Select.ensures (is_form_overflow c.in-Err.refusal) (fault_of c.refused.result) c.in_ok-second-in-Select.second (rw c.deref.ensures at c.in_ok-second-in-Select.ensures.next) (rw c.deref.ensures at c.in_ok-second-in-Select.ensures.gives) c.in-Err.ensures.listed (rw c.deref-in-Err.ensures at c.refused.ensures)
+    choice_unfit c.args.self.now c.args.l c.args.path.now (tree_of c.args.node.now) c.requires c.in-Select.v (tree_of c.in-Select.a.value) (tree_of c.in-Select.b.value) (ap tree_of c.in-Select.is) c.push.new.self c.in_ok-push-in-Select.ensures.ok (is_form_overflow c.in-Err.refusal) (fault_of c.refused.result) c.in_ok-second-in-Select.second (rw c.deref.ensures at c.in_ok-second-in-Select.ensures.next) (rw c.deref.ensures at c.in_ok-second-in-Select.ensures.gives) c.in-Err.ensures.listed (rw c.deref-in-Err.ensures at c.refused.ensures)
 
 pub returns-in_err-next-in-Select-clause-gives : goal.returns-in_err-next-in-Select-clause-gives
 returns-in_err-next-in-Select-clause-gives t c =
     let p = err_from_is_err_and c.from_residual-in_err-next-in-Select.result c.from_residual-in_err-next-in-Select.ensures.1 in
-    let back = back_is c.args.path.now c.check_node.new.path (c.in-Select.v ∷ []) c.len-n.result c.scope-scope.result (ap (λ (q : PathForms). q.forms) (c.in_ok-second-in-Select.ensures.path ∙ c.in_ok-push-in-Select.ensures)) c.len-n.ensures.value c.scope-scope.ensures in
+    let back = back_is c.args.path.now c.check_node.new.path (c.in-Select.v ∷ []) c.len-n.result c.scope-scope.result (ap (λ (q : PathForms). q.forms) (c.in_ok-second-in-Select.ensures.path ∙ c.in_ok-push-in-Select.ensures.ok)) c.len-n.ensures.value c.scope-scope.ensures in
     let gone : c.go_back.new.self ≡ record { scope = c.scope-scope.result; forms = take c.len-n.result c.check_node.new.path.forms } = search rules in
     let pushed : c.push_opposite.new.self ≡ record c.go_back.new.self { forms = c.go_back.new.self.forms ++ opposite c.in-Select.v ∷ [] } = search rules in
     let second = pushed ∙ ap (λ (q : PathForms). let r : PathForms = record q { forms = q.forms ++ opposite c.in-Select.v ∷ [] } in r) (gone ∙ back) in
-    let same = choice_next c.args.self.now c.args.l c.args.path.now (tree_of c.args.node.now) c.requires c.in-Select.v (tree_of c.in-Select.a.value) (tree_of c.in-Select.b.value) (ap tree_of c.in-Select.is) c.push.new.self c.in_ok-push-in-Select.ensures c.in_ok-second-in-Select.second c.push_opposite.new.self (rw c.deref.ensures at c.in_ok-second-in-Select.ensures.next) second (rw c.deref.ensures at c.in_ok-second-in-Select.ensures.gives) (search rules) in
+    let same = choice_next c.args.self.now c.args.l c.args.path.now (tree_of c.args.node.now) c.requires c.in-Select.v (tree_of c.in-Select.a.value) (tree_of c.in-Select.b.value) (ap tree_of c.in-Select.is) c.push.new.self c.in_ok-push-in-Select.ensures.ok c.in_ok-second-in-Select.second c.push_opposite.new.self (rw c.deref.ensures at c.in_ok-second-in-Select.ensures.next) second (rw c.deref.ensures at c.in_ok-second-in-Select.ensures.gives) (search rules) in
     rw (p.1, p.2) (if_some_along (fault_of c.in_err-next-in-Select.field-0.0) _ _ same (rw c.deref-in-Select.ensures at c.in_err-next-in-Select.ensures.gives))
 
 pub go_back-requires-in-Select : goal.go_back-requires-in-Select
 go_back-requires-in-Select t c =
-    let back = back_is c.args.path.now c.check_node.new.path (c.in-Select.v ∷ []) c.len-n.result c.scope-scope.result (ap (λ (q : PathForms). q.forms) (c.in_ok-second-in-Select.ensures.path ∙ c.in_ok-push-in-Select.ensures)) c.len-n.ensures.value c.scope-scope.ensures in
+    let back = back_is c.args.path.now c.check_node.new.path (c.in-Select.v ∷ []) c.len-n.result c.scope-scope.result (ap (λ (q : PathForms). q.forms) (c.in_ok-second-in-Select.ensures.path ∙ c.in_ok-push-in-Select.ensures.ok)) c.len-n.ensures.value c.scope-scope.ensures in
     let gone : c.go_back.new.self ≡ record { scope = c.scope-scope.result; forms = take c.len-n.result c.check_node.new.path.forms } = search rules in
     let pushed : c.push_opposite.new.self ≡ record c.go_back.new.self { forms = c.go_back.new.self.forms ++ opposite c.in-Select.v ∷ [] } = search rules in
     let second = pushed ∙ ap (λ (q : PathForms). let r : PathForms = record q { forms = q.forms ++ opposite c.in-Select.v ∷ [] } in r) (gone ∙ back) in
@@ -72,11 +72,11 @@ go_back-requires-in-Define t c =
 
 pub returns-in_ok-next-in-Select-clause-gives : goal.returns-in_ok-next-in-Select-clause-gives
 returns-in_ok-next-in-Select-clause-gives t c =
-    let back = back_is c.args.path.now c.check_node.new.path (c.in-Select.v ∷ []) c.len-n.result c.scope-scope.result (ap (λ (q : PathForms). q.forms) (c.in_ok-second-in-Select.ensures.path ∙ c.in_ok-push-in-Select.ensures)) c.len-n.ensures.value c.scope-scope.ensures in
+    let back = back_is c.args.path.now c.check_node.new.path (c.in-Select.v ∷ []) c.len-n.result c.scope-scope.result (ap (λ (q : PathForms). q.forms) (c.in_ok-second-in-Select.ensures.path ∙ c.in_ok-push-in-Select.ensures.ok)) c.len-n.ensures.value c.scope-scope.ensures in
     let gone : c.go_back.new.self ≡ record { scope = c.scope-scope.result; forms = take c.len-n.result c.check_node.new.path.forms } = search rules in
     let pushed : c.push_opposite.new.self ≡ record c.go_back.new.self { forms = c.go_back.new.self.forms ++ opposite c.in-Select.v ∷ [] } = search rules in
     let second = pushed ∙ ap (λ (q : PathForms). let r : PathForms = record q { forms = q.forms ++ opposite c.in-Select.v ∷ [] } in r) (gone ∙ back) in
-    choice_next c.args.self.now c.args.l c.args.path.now (tree_of c.args.node.now) c.requires c.in-Select.v (tree_of c.in-Select.a.value) (tree_of c.in-Select.b.value) (ap tree_of c.in-Select.is) c.push.new.self c.in_ok-push-in-Select.ensures c.in_ok-second-in-Select.second c.push_opposite.new.self (rw c.deref.ensures at c.in_ok-second-in-Select.ensures.next) second (rw c.deref.ensures at c.in_ok-second-in-Select.ensures.gives) (search rules)
+    choice_next c.args.self.now c.args.l c.args.path.now (tree_of c.args.node.now) c.requires c.in-Select.v (tree_of c.in-Select.a.value) (tree_of c.in-Select.b.value) (ap tree_of c.in-Select.is) c.push.new.self c.in_ok-push-in-Select.ensures.ok c.in_ok-second-in-Select.second c.push_opposite.new.self (rw c.deref.ensures at c.in_ok-second-in-Select.ensures.next) second (rw c.deref.ensures at c.in_ok-second-in-Select.ensures.gives) (search rules)
     ∙ rw c.deref-in-Select.ensures at c.in_ok-next-in-Select.ensures.gives
 
 pub returns-in_ok-next-in-Define-clause-gives : goal.returns-in_ok-next-in-Define-clause-gives
