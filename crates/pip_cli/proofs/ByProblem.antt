@@ -1,12 +1,12 @@
 -- How a run of any command ends, also of the one that reads problem by problem, by its status.
 use Rattle.std.proofs.Common.{◌≡◌, ◌≢◌, ◌⊎◌, inl, inr, refl, sym, subst, ◌∙◌, ap, arith, ℕ, ◌≤◌, ◌<◌, List, [], Option, Some, None, Bool, true, false, not, length}
-use Rattle.std.specs.Prelude.{Result, Ok, Err, MatchBool}
+use Rattle.std.specs.Prelude.{Result, Ok, Err, IfSome, MatchBool}
 use Rattle.std.specs.List.{concat}
 use Rattle.std.specs.Io.KnownBytes.{Appends}
 use Rattle.pip_model.specs.Limits.{most_input_bytes}
 use Rattle.program_model.specs.Endings.{Ending, finished}
 use Rattle.program_model.specs.Items.{IsItself}
-use Rattle.program_model.specs.Commands.{Command, SolveOptions, Solve, item_text}
+use Rattle.program_model.specs.Commands.{Command, SolveOptions, Solve, Trial, item_text}
 use Rattle.program_model.specs.Output.{IsOutput, IsFirstOutput, MayBeAsked}
 use Rattle.headline.proofs.FirstItems.{first_items-first}
 use Rattle.headline.proofs.OutputRight.{output-right, first_output-right}
@@ -15,9 +15,10 @@ use Rattle.pip_endings.specs.Endings.{told, or_memory, ending_of, IsOfItem}
 use Rattle.pip_endings.specs.declared.ending.Ending.{Ending as Refused}
 use Rattle.pip_endings.specs.declared.ending.Ending.TheVariants as ending
 use Rattle.pip_items.specs.Items.{Gained, GainedFront}
-use Rattle.pip_items.specs.Outputs.{IsWithin}
-use Rattle.pip_items.specs.ByProblem.{AreEnded, AreAll, WritesTillEnd, WritesByProblem, WritesOf}
-use Rattle.pip_cli.specs.Ends.{AreFirst, AreFirstEnded, EndsByProblem, HasEndedByProblem, EndsAs, AnswersRight, Completes}
+use Rattle.pip_items.specs.Outputs.{IsWithin, IsRead, WritesOutput, bytes_read}
+use Rattle.pip_items.specs.ByProblem.{AreEnded, AreBefore, AreAll, ReadsWhole, WritesTillEnd, WritesByProblem, WritesOf}
+use Rattle.pip_cli.specs.Ends.{AreFirst, AreFirstEnded, AreFirstBefore, EndsByProblem, HasEndedByProblem, EndsAs, AnswersRight, Completes, IsShort, IsAfterInput}
+use Rattle.pip_cli.specs.Runs.{IsWordsEnding, WhereTold}
 use Rattle.pip_cli.proofs.Asked.{IsAsked}
 use Rattle.pip_cli.proofs.Ends.{IsItemEnd, item_end, ending_from, ends-by, answers-right, completes-by}
 
@@ -38,6 +39,9 @@ module _ (o : SolveOptions) (asked : IsAsked (Solve o)) (bytes : List ℕ) (n : 
   right_ended : (m : ℕ) (ts : List (List ℕ)) → AreEnded (Solve o) bytes m ts → AreFirstEnded (Solve o) bytes m ts
   right_ended m ts h = (h, first_output-right (Solve o) bytes may_be ts (first_items-first (item_text (Solve o) bytes) IsItself ts 0 h.place h.texts))
 
+  right_before : (ts : List (List ℕ)) → AreBefore (Solve o) bytes n ts → AreFirstBefore (Solve o) bytes n ts
+  right_before ts h = (h, first_output-right (Solve o) bytes may_be ts (first_items-first (item_text (Solve o) bytes) IsItself ts 0 h.place h.texts))
+
   module _ (Noted : Ending → Type 0) (s : ℕ) where
     end_of : (e : Ending) → s ≡ e.status → Noted e → Gained (AreAll (Solve o) bytes n e) a b → EndsByProblem (Solve o) bytes n a b Noted s
     end_of e k w h = record {
@@ -55,7 +59,7 @@ module _ (o : SolveOptions) (asked : IsAsked (Solve o)) (bytes : List ℕ) (n : 
       end = λ p. absurd (p.2 k);
       read_fault = λ p. absurd (omega arith);
       write_fault = λ p. absurd (omega arith);
-      want_of_memory = λ p. gained-as _ _ a b right_first h;
+      want_of_memory = λ p. gained-as _ _ a b right_before h;
     }
     item_ended (Some e) end k w h = record {
       end = λ p. inl (end_of e k w h);
@@ -161,3 +165,27 @@ pub complete-of : (c : Command) → IsAsked c → (bytes : List ℕ) (n : ℕ) (
 complete-of (Solve o) asked bytes n a b s r k p q h =
     either (not o.polylib) _ _ _ (complete_by o asked bytes n a b s r k p q) (completes-by (Solve o) bytes a b s r k p q) h
 complete-of c asked bytes n a b s r k p q h = completes-by c bytes a b s r k p q h
+
+-- ---- whether the whole input was read
+
+-- a command that reads its input whole
+long-whole : (c : Command) → ReadsWhole c → (bytes : List ℕ) (n : ℕ) (a b : Option (List ℕ)) → IfSome (bytes_read c (Some bytes)) (λ xs. WritesOf c xs n a b (Err ending.InputTooLong)) → most_input_bytes < length bytes
+long-whole (Solve o) whole bytes n a b h =
+    let k = subst (λ t. MatchBool (not t) (WritesByProblem (Solve o) bytes n a b (Err ending.InputTooLong)) (WritesOutput (Solve o) bytes a b (Err ending.InputTooLong))) whole h in
+    k.0.1
+long-whole (Trial seed count) whole bytes n a b h = absurd whole
+long-whole c whole bytes n a b h = h.0.1
+
+module _ (n : ℕ) (a b : Option (List ℕ)) where
+  too_long : (o : Option Command) (left : Option (List ℕ)) → IsShort left → (o ≡ None → IsWordsEnding (Err ending.InputTooLong)) → IfSome o ReadsWhole → WhereTold o left (λ c bytes. WritesOf c bytes n a b (Err ending.InputTooLong)) → ⊥
+  too_long None left short refused whole h = refused refl
+  too_long (Some c) None short refused whole h = short
+  too_long (Some c) (Some bytes) short refused whole h = let long = long-whole c whole bytes n a b h in omega (arith, short, long)
+
+  pub is-read : (o : Option Command) (left : Option (List ℕ)) (r : Result (Unit {0}) Refused) (s : ℕ) → s ≡ (ending_from r).status → (o ≡ None → IsWordsEnding r) → IfSome o ReadsWhole → WhereTold o left (λ c bytes. WritesOf c bytes n a b r) → IsAfterInput left s → IsRead r
+  is-read o left (Ok u) s k refused whole h after = tt
+  is-read o left (Err ending.Usage) s k refused whole h after = absurd (after.0 k)
+  is-read o left (Err ending.ReadFault) s k refused whole h after = absurd (after.1 k)
+  is-read o left (Err ending.WantOfMemory) s k refused whole h after = absurd (after.2 k)
+  is-read o left (Err ending.InputTooLong) s k refused whole h after = absurd (too_long o left (after.3 k) refused whole h)
+  is-read o left (Err e) s k refused whole h after = tt

@@ -1,5 +1,5 @@
 -- What the program promises of its status, its sink and its notes.
-use Rattle.std.specs.Prelude.{◌≡◌, ◌≢◌, ◌⊎◌, ℕ, ◌<◌, List, length, Option, Some, None, MatchBool}
+use Rattle.std.specs.Prelude.{◌≡◌, ◌≢◌, ◌⊎◌, ℕ, ◌<◌, ◌≤◌, List, length, Option, Some, None, MatchBool}
 use Rattle.pip_model.specs.Limits.{most_input_bytes}
 use Rattle.std.specs.List.{concat}
 use Rattle.std.specs.Io.KnownBytes.{Appends, Keeps}
@@ -14,14 +14,19 @@ use Rattle.pip_endings.specs.Endings.{ending_of}
 use Rattle.pip_endings.specs.declared.ending.Ending.{Ending as Refused}
 use Rattle.pip_items.specs.Items.{Gained, GainedFront}
 use Rattle.pip_items.specs.Outputs.{IsWithin, IsTooLong}
-use Rattle.pip_items.specs.ByProblem.{reads_by_problem, AreEnded, AreAll}
+use Rattle.pip_items.specs.ByProblem.{reads_by_problem, AreEnded, AreBefore, AreAll}
 
 -- ---- the status
 
--- no end that may come before the whole input is read
-abbrev pub IsAfterInput : ℕ → Type 0
-IsAfterInput status =
-    (status ≢ wrong_words) × (status ≢ read_failed) × (status ≢ memory_refused) × (status ≢ past_limit)
+-- an input that is told and within its limit
+abbrev pub IsShort : Option (List ℕ) → Type 0
+IsShort None = ⊥
+IsShort (Some bytes) = length bytes ≤ most_input_bytes
+
+-- no end that may come before the whole of such an input is read
+abbrev pub IsAfterInput : Option (List ℕ) → ℕ → Type 0
+IsAfterInput left status =
+    (status ≢ wrong_words) × (status ≢ read_failed) × (status ≢ memory_refused) × (status ≡ past_limit → IsShort left)
 
 -- no fault of the outside and no want of memory ends the run early
 abbrev pub IsOfItems : ℕ → Type 0
@@ -102,6 +107,10 @@ module _ (c : Command) (bytes : List ℕ) (before after : Option (List ℕ)) whe
 abbrev pub AreFirstEnded : Command → List ℕ → ℕ → List (List ℕ) → Type 0
 AreFirstEnded c bytes n ts = AreEnded c bytes n ts × IsRightFirstOutput c bytes ts
 
+-- those of all problems before one, right ones
+abbrev pub AreFirstBefore : Command → List ℕ → ℕ → List (List ℕ) → Type 0
+AreFirstBefore c bytes n ts = AreBefore c bytes n ts × IsRightFirstOutput c bytes ts
+
 -- how a run ends that reads problem by problem, and took so many of an input's bytes
 module _ (c : Command) (bytes : List ℕ) (taken : ℕ) (before after : Option (List ℕ)) where
   -- The sink gained all texts up to the end whose status and line these are, however long the input is. Behind the
@@ -126,7 +135,7 @@ module _ (c : Command) (bytes : List ℕ) (taken : ℕ) (before after : Option (
     pub end : IsOfItems status → EndsByProblem Noted status ⊎ StopsAtLimit Noted status
     pub read_fault : status ≡ read_failed → Gained (AreFirstEnded c bytes taken) before after
     pub write_fault : status ≡ write_failed → GainedFront (AreFirst c bytes) before after
-    pub want_of_memory : status ≡ memory_refused → Gained (AreFirst c bytes) before after
+    pub want_of_memory : status ≡ memory_refused → Gained (AreFirstBefore c bytes taken) before after
 
   -- how a run of any command ends
   abbrev pub EndsAs : (Ending → Type 0) → ℕ → Type 0

@@ -1,5 +1,6 @@
 ghost use Rattle.std.specs.Prelude.{◌≡◌, ◌≢◌, ◌⊎◌, ◌-◌, None, Ok, IsErrOf, IfSome};
 ghost use Rattle.std.specs.Io.KnownBytes.{IsAtEnd};
+ghost use Rattle.pip_outside.specs.Calls.{AsksOn};
 ghost use Rattle.pip_outside.specs.Faults.{HasRisen};
 ghost use Rattle.program_model.specs.Endings.{all_done, wrong_words, read_failed, write_failed, memory_refused, memory_ending};
 ghost use Rattle.pip_words.specs.Words.{command_given};
@@ -28,6 +29,7 @@ fn run<S: Source, K: Sink>(
     ensures done { IfSome (command_given words.now) TakesInput → result ≡ Ok tt → IsAtEnd (S.left source.new) }
     ensures spared { IfSome (command_given words.now) (λ c. ¬ TakesInput c → source.new ≡ source.old) }
     ensures taken { TakesInputAtMost (S.left source.old) (S.taken source.old) (S.taken source.new) }
+    ensures turns { IfSome (S.left source.old) (λ _. AsksOn S.calls S.taken source.old source.new) }
     ensures faults { EndsByFaults (S.faults source.old) (S.faults source.new) (K.faults sink.old) (K.faults sink.new)
         result }
     ensures unread { IfSome (command_given words.now) ReadsWhole → IsErrOf result Ending.ReadFault →
@@ -61,11 +63,12 @@ pub fn pip_main<S: Source, K: Sink, N: Sink>(
 
     // what is read of the source, whatever it tells; the trial reads nothing
     ensures spared { IfSome (command_given words.now) (λ c. ¬ TakesInput c → source.new ≡ source.old) }
-    ensures read_to_end { IfSome (command_given words.now) ReadsWhole → IsAfterInput result →
+    ensures read_to_end { IfSome (command_given words.now) ReadsWhole → IsAfterInput (S.left source.old) result →
         IsAtEnd (S.left source.new) }
     ensures done_at_end { IfSome (command_given words.now) TakesInput → result ≡ all_done →
         IsAtEnd (S.left source.new) }
     ensures taken { TakesInputAtMost (S.left source.old) (S.taken source.old) (S.taken source.new) }
+    ensures turns { IfSome (S.left source.old) (λ _. AsksOn S.calls S.taken source.old source.new) }
     ensures asked { WhereTold (command_given words.now) (S.left source.old)
         (StopsAtRefused S.calls S.taken source.old source.new) }
 

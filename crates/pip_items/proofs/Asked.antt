@@ -1,7 +1,8 @@
 -- That the source is not called again once the group of a refused problem has ended.
 use Rattle.std.proofs.Common.{◌≡◌, refl, sym, ap, subst, ◌∙◌, ℕ, ◌+◌, ◌≤◌, inl, inr, arith, true, false, List, [], ◌∷◌, length, length-drop, drop}
 use Rattle.std.specs.Prelude.{Option, Some, None, IfSome, Result, Ok, Err}
-use Rattle.pip_outside.specs.Calls.{CallsWithin}
+use Rattle.pip_outside.specs.Calls.{Takes, CallsWithin}
+use Rattle.pip_outside.proofs.Calls.{takes-then}
 use Rattle.pip_outside.specs.Windows.{HeldBytes}
 use Rattle.pip_model.specs.Problem.{Problem}
 use Rattle.pip_model.specs.Reading.{Fault}
@@ -103,17 +104,17 @@ module _ {S : Type 0} (Calls : S → S → Type 0) (taken : S → ℕ) where
   stops-whole s t c (Some bytes) whole = λ native. absurd (let both : true ≡ false = sym native ∙ whole in cc)
 
   module _ (o : SolveOptions) (native : o.polylib ≡ false) (s t u : S) (w : HeldBytes) (now a b : Option (List ℕ)) where
-    stops-more : (bytes : List ℕ) (f : Follows o bytes w now a b) → taken t ≡ taken s + taken_by w → StopsAtRefused Calls taken s t (Solve o) bytes → AsksWhileOpen Calls taken t u w f.left_now → StopsAtRefused Calls taken s u (Solve o) bytes
-    stops-more bytes f counted before asked by place n r ends =
+    stops-more : (bytes : List ℕ) (f : Follows o bytes w now a b) → taken t ≡ taken s + taken_by w → Takes Calls taken s t → StopsAtRefused Calls taken s t (Solve o) bytes → AsksWhileOpen Calls taken t u w f.left_now → StopsAtRefused Calls taken s u (Solve o) bytes
+    stops-more bytes f counted led before asked by place n r ends =
         let on = leads-on (text o bytes) f.texts.texts r.texts 0 w.base place r.ending f.texts.are r.before r.refused in
         let h = ends-before o native bytes w.base place n on.0 f.low on.1 ends in
         by_call h (asked h.size (ap first_group_end f.rest ∙ h.ended))
       where
         by_call : (h : EndsBefore o native bytes w.base (place + n)) → CallsWithin Calls taken t u (length w.held) h.size → CallsWithin Calls taken s u 0 (place + n)
         by_call h (inl same) = subst (λ x. CallsWithin Calls taken s x 0 (place + n)) (sym same) (before by place n r ends)
-        by_call h (inr c) = inr (c.0, c.1, omega (arith, c.2, counted, h.low))
+        by_call h (inr c) = inr (c.0, takes-then Calls taken s t c.0 led c.1, c.2, omega (arith, c.3, counted, h.low))
 
     -- behind the next problem
-    pub stops-next : (input : Option (List ℕ)) → IfSome input (λ bytes. Follows o bytes w now a b) → IfSome input (λ _. taken t ≡ taken s + taken_by w) → IfSome input (StopsAtRefused Calls taken s t (Solve o)) → IfSome now (AsksWhileOpen Calls taken t u w) → IfSome input (StopsAtRefused Calls taken s u (Solve o))
-    stops-next None f counted before asked = tt
-    stops-next (Some bytes) f counted before asked = stops-more bytes f counted before (if-some (AsksWhileOpen Calls taken t u w) now f.left_now f.told asked)
+    pub stops-next : (input : Option (List ℕ)) → IfSome input (λ bytes. Follows o bytes w now a b) → IfSome input (λ _. taken t ≡ taken s + taken_by w) → IfSome input (λ _. Takes Calls taken s t) → IfSome input (StopsAtRefused Calls taken s t (Solve o)) → IfSome now (AsksWhileOpen Calls taken t u w) → IfSome input (StopsAtRefused Calls taken s u (Solve o))
+    stops-next None f counted led before asked = tt
+    stops-next (Some bytes) f counted led before asked = stops-more bytes f counted led before (if-some (AsksWhileOpen Calls taken t u w) now f.left_now f.told asked)

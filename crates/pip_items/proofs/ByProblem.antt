@@ -1,8 +1,8 @@
 -- What the loop over the problems of an input has written so far, and what it is at each of its ends.
-use Rattle.std.proofs.Common.{◌≡◌, refl, sym, ap, subst, ◌∙◌, ℕ, ◌+◌, ◌-◌, ◌<◌, ◌≤◌, arith, Bool, true, false, not, List, [], length, length-append, length-drop, take, drop}
+use Rattle.std.proofs.Common.{◌≡◌, refl, sym, ap, subst, ◌∙◌, ℕ, ◌+◌, ◌-◌, ◌<◌, ◌≤◌, inl, inr, arith, Bool, true, false, not, List, [], length, length-append, length-drop, take, drop}
 use Rattle.std.proofs.KnownBytes.{Appends-nil}
 use Rattle.std.proofs.lemmas.List.{drop-drop, drop-take}
-use Rattle.std.specs.Prelude.{Option, Some, None, IfSome, Result, Ok, Err, IsErrOf, MatchBool, if◌then◌else◌}
+use Rattle.std.specs.Prelude.{◌⊎◌, ◌↔◌, Option, Some, None, IfSome, Result, Ok, Err, IsErrOf, MatchBool, if◌then◌else◌}
 use Rattle.std.specs.Option.{option_map}
 use Rattle.std.specs.List.{list_all}
 use Rattle.std.specs.Io.KnownBytes.{Appends}
@@ -25,9 +25,10 @@ use Rattle.text_laws.proofs.ReadProblems.{read_native-none}
 use Rattle.text_laws.proofs.Items.{next_open-closed}
 use Rattle.headline.proofs.FirstItems.{first_items-first, first_items-end}
 use Rattle.pip_problem.specs.Faults.{read_fault}
+use Rattle.pip_problem.specs.declared.refusal.ReadRefusal.{ReadRefusal}
 use Rattle.pip_reader.specs.Groups.{group_behind, first_group_end}
 use Rattle.pip_stream.specs.Windows.{taken_by, bytes_from}
-use Rattle.pip_stream.specs.Next.{ReadsNext, ReadsNone, RefusesNext, StaysOpen, HoldsRest, FindsNext, IsReady}
+use Rattle.pip_stream.specs.Next.{ReadsNext, ReadsNone, IsSpared, StaysOpen, HoldsRest, FindsNext, IsReady}
 use Rattle.pip_stream.specs.declared.refusal.NextRefusal.{NextRefusal}
 use Rattle.pip_stream.specs.declared.refusal.NextRefusal.TheVariants as next
 use Rattle.pip_endings.specs.Endings.{told, IsOfItem}
@@ -38,7 +39,8 @@ use Rattle.pip_items.specs.Items.{Gained, GainedFront}
 use Rattle.pip_outside.specs.Faults.{HasRisen}
 use Rattle.pip_items.specs.Outputs.{TakesInputAtMost, EndsByFaults, WritesOver, WritesOutput}
 use Rattle.pip_items.proofs.Outputs.{output-taken}
-use Rattle.pip_items.specs.ByProblem.{AreEnded, AreAll, WritesTillEnd, WritesByProblem, WritesOf}
+use Rattle.pip_items.specs.Answered.{Answers, IsUnread, IsUnanswered, AnswersNext}
+use Rattle.pip_items.specs.ByProblem.{AreEnded, AreBefore, AreAll, WritesTillEnd, WritesByProblem, WritesOf}
 use Rattle.pip_items.proofs.Written.{LeadTo, nothing, one_more, front_of_one}
 
 pub if-some : {X : Type 0} (P : X → Type 0) (o : Option X) (x : X) → o ≡ Some x → IfSome o P → P x
@@ -95,48 +97,55 @@ module _ (o : SolveOptions) (native : o.polylib ≡ false) (bytes : List ℕ) wh
         rest = r.drops.rest ∙ ap (drop (r.start + n)) f.rest ∙ drop-drop (r.start + n) w.base bytes ∙ ap (λ i. drop i bytes) (omega (arith, r.drops.base));
       }
 
-      pub front-written : (c : Option (List ℕ)) (t : List ℕ) → text_of (Solve o) P ≡ Ok t → AppendsFront b c t → GainedFront (IsFirstOutput (Solve o) bytes) a c
+      front-written : (c : Option (List ℕ)) (t : List ℕ) → text_of (Solve o) P ≡ Ok t → AppendsFront b c t → GainedFront (IsFirstOutput (Solve o) bytes) a c
       front-written c t e k = front_of_one (text o bytes) a b c w.base new.base t f.texts (text-written t e) k
 
     -- ---- the run ends
 
-    first-written : Gained (IsFirstOutput (Solve o) bytes) a b
-    first-written = record { texts = f.texts.texts; are = first_items-first (text o bytes) IsItself f.texts.texts 0 w.base f.texts.are; gained = f.texts.gained }
+    abbrev Spared : ℕ → Type 0
+    Spared n = (q : ℕ) → first_group_end (drop w.base bytes) ≡ Some q → n ≤ w.base + q + 4095
 
-    all-written : (n : ℕ) (e : Ending) → Ends (text o bytes) IsItself NoEnd (text o bytes w.base) e → ((q : ℕ) → first_group_end (drop w.base bytes) ≡ Some q → n ≤ w.base + q + 4095) → Gained (AreAll (Solve o) bytes n e) a b
-    all-written n e h spared = record {
+    before-written : (n : ℕ) → Spared n → Gained (AreBefore (Solve o) bytes n) a b
+    before-written n spared = record { texts = f.texts.texts; are = record { place = w.base; texts = f.texts.are; spared = spared }; gained = f.texts.gained }
+
+    all-written : (n : ℕ) (e : Ending) → n ≤ most_input_bytes → Ends (text o bytes) IsItself NoEnd (text o bytes w.base) e → Spared n → Gained (AreAll (Solve o) bytes n e) a b
+    all-written n e within h spared = record {
       texts = f.texts.texts;
-      are = record { place = w.base; texts = f.texts.are; output = first_items-end (text o bytes) IsItself NoEnd f.texts.texts 0 w.base e f.texts.are h; spared = spared };
+      are = record {
+        before = record { place = w.base; texts = f.texts.are; spared = spared };
+        output = first_items-end (text o bytes) IsItself NoEnd f.texts.texts 0 w.base e f.texts.are h;
+        within = within;
+      };
       gained = f.texts.gained;
     }
 
-    refused-written : (n : ℕ) (e : Ending) → text o bytes w.base ≡ Err e → ((q : ℕ) → first_group_end (drop w.base bytes) ≡ Some q → n ≤ w.base + q + 4095) → Gained (AreAll (Solve o) bytes n e) a b
-    refused-written n e h spared = all-written n e (subst (λ r. Ends (text o bytes) IsItself NoEnd r e) (sym h) refl) spared
+    refused-written : (n : ℕ) (e : Ending) → n ≤ most_input_bytes → text o bytes w.base ≡ Err e → Spared n → Gained (AreAll (Solve o) bytes n e) a b
+    refused-written n e within h spared = all-written n e within (subst (λ r. Ends (text o bytes) IsItself NoEnd r e) (sym h) refl) spared
 
     -- no problem is left
-    pub none-written : (n : ℕ) (new : HeldBytes) (after : Option (List ℕ)) → ReadsNone w f.left_now new after → Gained (AreAll (Solve o) bytes n finished) a b
-    none-written n new after r =
+    pub none-written : (n : ℕ) → n ≤ most_input_bytes → (new : HeldBytes) (after : Option (List ℕ)) → ReadsNone w f.left_now new after → Gained (AreAll (Solve o) bytes n finished) a b
+    none-written n within new after r =
         let none : text o bytes w.base ≡ Ok None = text-here ∙ ap (λ x. text_of_item (text_of (Solve o)) (or_ending (moved w.base x))) r.read in
         let closed : list_all is_closed (bytes_from w f.left_now) ≡ true = (read_native-none (bytes_from w f.left_now) 0).0 r.read in
         let no_group : first_group_end (drop w.base bytes) ≡ None = ap first_group_end (sym f.rest) ∙ ap (group_behind (bytes_from w f.left_now)) (next_open-closed 0 (bytes_from w f.left_now) closed) in
-        all-written n finished (subst (λ x. Ends (text o bytes) IsItself NoEnd x finished) (sym none) refl) (λ q e. absurd (not_both q e no_group))
+        all-written n finished within (subst (λ x. Ends (text o bytes) IsItself NoEnd x finished) (sym none) refl) (λ q e. absurd (not_both q e no_group))
       where
         not_both : (q : ℕ) → first_group_end (drop w.base bytes) ≡ Some q → first_group_end (drop w.base bytes) ≡ None → ⊥
         not_both q e k = cc
 
     -- the calculation of a problem is refused
     module _ (new : HeldBytes) (after : Option (List ℕ)) (P : Problem) (n : ℕ) (r : ReadsNext w f.left_now new after P n) (ready : IsReady new) where
-      run-spared : (q : ℕ) → first_group_end (drop w.base bytes) ≡ Some q → taken_by new ≤ w.base + q + 4095
+      run-spared : Spared (taken_by new)
       run-spared q e =
           let there : Some q ≡ Some (r.start + n) = sym e ∙ ap first_group_end (sym f.rest) ∙ r.ended in
           let same : q ≡ r.start + n = cc in
           omega (arith, same, r.drops.base, ready.few)
 
       run-till : (o' : Option Ending) → IfSome o' (λ e. text_of (Solve o) P ≡ Err e) → WritesTillEnd (Solve o) bytes (taken_by new) a b o'
-      run-till None h = first-written
-      run-till (Some e) h = refused-written (taken_by new) e (text-read new after P n r ∙ ap (λ x. text_with x new.base) h) run-spared
+      run-till None h = before-written (taken_by new) run-spared
+      run-till (Some e) h = refused-written (taken_by new) e ready.within (text-read new after P n r ∙ ap (λ x. text_with x new.base) h) run-spared
 
-      pub run-refused : (e : Refused) → IsOfItem e → IfSome (told e) (λ k. text_of (Solve o) P ≡ Err k) → WritesByProblem (Solve o) bytes (taken_by new) a b (Err e)
+      run-refused : (e : Refused) → IsOfItem e → IfSome (told e) (λ k. text_of (Solve o) P ≡ Err k) → WritesByProblem (Solve o) bytes (taken_by new) a b (Err e)
       run-refused ending.Usage own h = absurd own
       run-refused ending.ReadFault own h = absurd own
       run-refused ending.WriteFault own h = absurd own
@@ -145,10 +154,13 @@ module _ (o : SolveOptions) (native : o.polylib ≡ false) (bytes : List ℕ) wh
 
     -- the next problem is not read
     module _ (new : HeldBytes) (after : Option (List ℕ)) where
-      fault-till : (fault : Option Fault) → IfSome fault (RefusesNext w f.left_now new after) → WritesTillEnd (Solve o) bytes (taken_by new) a b (option_map fault_ending fault)
-      fault-till None h = first-written
-      fault-till (Some e) h =
-          refused-written (taken_by new) (fault_ending e) (text-here ∙ ap (λ x. text_of_item (text_of (Solve o)) (or_ending x)) h.read) (λ q k. h.spared q (ap first_group_end f.rest ∙ k))
+      next-spared : IsSpared w f.left_now new after → Spared (taken_by new)
+      next-spared h = λ q k. h.spared q (ap first_group_end f.rest ∙ k)
+
+      fault-till : (fault : Option Fault) → taken_by new ≤ most_input_bytes → IfSome fault (λ e. moved w.base (read_native (bytes_from w f.left_now) 0) ≡ Err e) → IsSpared w f.left_now new after → WritesTillEnd (Solve o) bytes (taken_by new) a b (option_map fault_ending fault)
+      fault-till None within h k = before-written (taken_by new) (next-spared k)
+      fault-till (Some e) within h k =
+          refused-written (taken_by new) (fault_ending e) within (text-here ∙ ap (λ x. text_of_item (text_of (Solve o)) (or_ending x)) h) (next-spared k)
 
       open-written : (n m : ℕ) → n ≡ w.base + m → StaysOpen w f.left_now new after m → Gained (AreEnded (Solve o) bytes n) a b
       open-written n m e h = record {
@@ -164,20 +176,37 @@ module _ (o : SolveOptions) (native : o.polylib ≡ false) (bytes : List ℕ) wh
 
       held-few : HoldsRest w f.left_now new after → taken_by new ≤ length bytes
       held-few h =
-          let d = h.1 in
-          let rest : length new.held + length d.left_now ≡ length (bytes_from w f.left_now) - h.0 = sym (length-append new.held d.left_now) ∙ ap length d.rest ∙ length-drop h.0 (bytes_from w f.left_now) in
+          let d = h.drops in
+          let rest : length new.held + length d.left_now ≡ length (bytes_from w f.left_now) - h.count = sym (length-append new.held d.left_now) ∙ ap length d.rest ∙ length-drop h.count (bytes_from w f.left_now) in
           omega (arith, rest, d.few, d.base, size, f.low)
 
-      pub next-refused : (e : NextRefusal) → IsReady w → (e ≡ next.InputBytes → most_input_bytes < taken_by new) → FindsNext w f.left_now new after (Err e) → WritesByProblem (Solve o) bytes (taken_by new) a b (Err (next_ending e))
-      next-refused (next.Read e) ready long h = fault-till (read_fault e) h
+      next-refused : (e : NextRefusal) → IsReady w → ((next_ending e ≡ ending.InputTooLong) ↔ (most_input_bytes < taken_by new)) → FindsNext w f.left_now new after (Err e) → WritesByProblem (Solve o) bytes (taken_by new) a b (Err (next_ending e))
+      next-refused (next.Read e) ready long h =
+          let few : ¬ (most_input_bytes < taken_by new) = λ k. no_input e (long.1 k) in
+          fault-till (read_fault e) (omega (arith, few)) h.read h.kept
+        where
+          no_input : (x : ReadRefusal) → ending.Problem x ≡ ending.InputTooLong → ⊥
+          no_input x k = cc
       next-refused next.Failed ready long h =
-          let base = h.rest.1.base in
+          let base = h.rest.drops.base in
           open-written (taken_by new) (taken_by new - w.base) (omega (arith, base)) h
       next-refused next.InputBytes ready long h =
           let few = held-few h.rest in
-          let more = long refl in
+          let more = long.0 refl in
           (omega arith, open-written most_input_bytes (most_input_bytes - w.base) (omega (arith, ready.within)) h)
-      next-refused next.WantOfMemory ready long h = first-written
+      next-refused next.WantOfMemory ready long h = before-written (taken_by new) (next-spared h)
+
+    -- the next problem is not answered
+    module _ (new : HeldBytes) (after : Option (List ℕ)) (ready : IsReady w) where
+      not-answered : (e : Refused) → ((e ≡ ending.InputTooLong) ↔ (most_input_bytes < taken_by new)) → IsUnread o w f.left_now new after e ⊎ IsUnanswered o w f.left_now new after e → WritesByProblem (Solve o) bytes (taken_by new) a b (Err e)
+      not-answered e long (inl u) =
+          subst (λ x. WritesByProblem (Solve o) bytes (taken_by new) a b (Err x)) (sym u.is) (next-refused new after u.refusal ready (subst (λ x. (x ≡ ending.InputTooLong) ↔ (most_input_bytes < taken_by new)) u.is long) u.finds)
+      not-answered e long (inr u) = run-refused new after u.problem u.size u.reads u.ready e u.own u.refused
+
+      pub err-written : (c : Option (List ℕ)) (e : Refused) → (¬ (e ≡ ending.WriteFault) → c ≡ b) → ((e ≡ ending.InputTooLong) ↔ (most_input_bytes < taken_by new)) → AnswersNext o w f.left_now new after b c (Err e) → WritesByProblem (Solve o) bytes (taken_by new) a c (Err e)
+      err-written c ending.WriteFault same long h = front-written new after h.problem h.size h.reads c h.text h.made h.gained
+      err-written c e same long h =
+          subst (λ x. WritesByProblem (Solve o) bytes (taken_by new) a x (Err e)) (sym (same (λ p. cc))) (not-answered e long h)
 
 -- ---- where the source tells
 
@@ -239,17 +268,20 @@ own-not ending.WriteFault own = absurd own
 own-not ending.InputTooLong own = absurd own
 own-not e own = (λ p. cc, λ p. cc, λ p. cc)
 
-err-same : {T : Type 0} (x y : Refused) → IsErrOf {T = T} (Err x) y → x ≡ y
+pub err-same : {T : Type 0} (x y : Refused) → IsErrOf {T = T} (Err x) y → x ≡ y
 err-same x y h = cc
 
 next-same : {T : Type 0} (x y : NextRefusal) → IsErrOf {T = T} (Err x) y → x ≡ y
 next-same x y h = cc
 
-module _ (rb r0 ra wb w0 wa : ℕ) (read : r0 ≡ rb) (write : w0 ≡ wb) where
-  pub faults-none : EndsByFaults rb r0 wb w0 (Ok tt)
-  faults-none = record { read_fault = λ h. absurd cc; write_fault = λ h. absurd cc; read_quiet = λ h. read; write_quiet = λ h. write }
+pub faults-ok : {T : Type 0} (rb ra wb wa : ℕ) (x : T) → EndsByFaults {T = T} rb ra wb wa (Ok x) → (ra ≡ rb) × (wa ≡ wb)
+faults-ok rb ra wb wa x h = (h.read_quiet (λ p. cc), h.write_quiet (λ p. cc))
 
-  pub faults-next : (e : NextRefusal) → (¬ IsErrOf {T = Option (Problem × ℕ)} (Err e) next.Failed → ra ≡ r0) → (IsErrOf {T = Option (Problem × ℕ)} (Err e) next.Failed → HasRisen r0 ra) → EndsByFaults rb ra wb w0 (Err (next_ending e))
+module _ (rb r0 ra wb w0 wa : ℕ) (read : r0 ≡ rb) (write : w0 ≡ wb) where
+  pub faults-none : {T : Type 0} (x : T) → EndsByFaults {T = T} rb r0 wb w0 (Ok x)
+  faults-none x = record { read_fault = λ h. absurd cc; write_fault = λ h. absurd cc; read_quiet = λ h. read; write_quiet = λ h. write }
+
+  pub faults-next : {T : Type 0} (e : NextRefusal) → (¬ IsErrOf {T = Option (Problem × ℕ)} (Err e) next.Failed → ra ≡ r0) → (IsErrOf {T = Option (Problem × ℕ)} (Err e) next.Failed → HasRisen r0 ra) → EndsByFaults {T = T} rb ra wb w0 (Err (next_ending e))
   faults-next e quiet cause = record {
     read_fault = λ h. risen-from r0 rb ra read (cause (ap Err (next-fault e (err-same _ _ h))));
     write_fault = λ h. absurd (next-no_write e (err-same _ _ h));
@@ -257,7 +289,7 @@ module _ (rb r0 ra wb w0 wa : ℕ) (read : r0 ≡ rb) (write : w0 ≡ wb) where
     write_quiet = λ h. write;
   }
 
-  pub faults-own : (e : Refused) → IsOfItem e → EndsByFaults rb r0 wb w0 (Err e)
+  pub faults-own : {T : Type 0} (e : Refused) → IsOfItem e → EndsByFaults {T = T} rb r0 wb w0 (Err e)
   faults-own e own =
       let n = own-not e own in
       record {
@@ -267,7 +299,7 @@ module _ (rb r0 ra wb w0 wa : ℕ) (read : r0 ≡ rb) (write : w0 ≡ wb) where
         write_quiet = λ h. write;
       }
 
-  pub faults-write : HasRisen w0 wa → EndsByFaults rb r0 wb wa (Err ending.WriteFault)
+  pub faults-write : {T : Type 0} → HasRisen w0 wa → EndsByFaults {T = T} rb r0 wb wa (Err ending.WriteFault)
   faults-write risen = record {
     read_fault = λ h. absurd cc;
     write_fault = λ h. risen-from w0 wb wa write risen;
@@ -275,13 +307,22 @@ module _ (rb r0 ra wb w0 wa : ℕ) (read : r0 ≡ rb) (write : w0 ≡ wb) where
     write_quiet = λ h. absurd (h refl);
   }
 
--- no window is made, for want of memory
-unmade_memory : (o : SolveOptions) (input a : Option (List ℕ)) (n : ℕ) → IfSome input (λ bytes. WritesByProblem (Solve o) bytes n a a (Err ending.WantOfMemory))
-unmade_memory o None a n = tt
-unmade_memory o (Some bytes) a n = record { texts = []; are = tt; gained = Appends-nil a }
+  -- behind calls without a fault
+  pub faults-after : {T U : Type 0} (e : Refused) → EndsByFaults {T = T} r0 ra w0 wa (Err e) → EndsByFaults {T = U} rb ra wb wa (Err e)
+  faults-after e h = record {
+    read_fault = λ k. risen-from r0 rb ra read (h.read_fault (ap (λ x. Err x) (err-same _ _ k)));
+    write_fault = λ k. risen-from w0 wb wa write (h.write_fault (ap (λ x. Err x) (err-same _ _ k)));
+    read_quiet = λ k. h.read_quiet (λ q. k (ap (λ x. Err x) (err-same _ _ q))) ∙ read;
+    write_quiet = λ k. h.write_quiet (λ q. k (ap (λ x. Err x) (err-same _ _ q))) ∙ write;
+  }
 
-pub unmade : (o : SolveOptions) (input a : Option (List ℕ)) (n : ℕ) (e : FillRefusal) → e ≡ fill.WantOfMemory → IfSome input (λ bytes. WritesByProblem (Solve o) bytes n a a (Err (unfilled_ending e)))
-unmade o input a n e w = subst (λ x. IfSome input (λ bytes. WritesByProblem (Solve o) bytes n a a (Err (unfilled_ending x)))) (sym w) (unmade_memory o input a n)
+-- no window is made, for want of memory
+unmade_memory : (o : SolveOptions) (input a : Option (List ℕ)) (n : ℕ) → n ≡ 0 → IfSome input (λ bytes. WritesByProblem (Solve o) bytes n a a (Err ending.WantOfMemory))
+unmade_memory o None a n zero = tt
+unmade_memory o (Some bytes) a n zero = record { texts = []; are = record { place = 0; texts = refl; spared = λ q e. omega (arith, zero) }; gained = Appends-nil a }
+
+pub unmade : (o : SolveOptions) (input a : Option (List ℕ)) (n : ℕ) → n ≡ 0 → (e : FillRefusal) → e ≡ fill.WantOfMemory → IfSome input (λ bytes. WritesByProblem (Solve o) bytes n a a (Err (unfilled_ending e)))
+unmade o input a n zero e w = subst (λ x. IfSome input (λ bytes. WritesByProblem (Solve o) bytes n a a (Err (unfilled_ending x)))) (sym w) (unmade_memory o input a n zero)
 
 pub none-taken : (input : Option (List ℕ)) (i : ℕ) → TakesInputAtMost input i i
 none-taken input i = taken-few input i i 0 (if-told _ input (omega arith)) (omega arith)
@@ -317,41 +358,92 @@ module _ (o : SolveOptions) (native : o.polylib ≡ false) (input : Option (List
   told-by c P r p h =
       taken-by input (λ bytes n. WritesByProblem (Solve o) bytes n a c r) i k (taken_by new) counts (each o input w now a b P (λ bytes. WritesByProblem (Solve o) bytes (taken_by new) a c r) fs p h)
 
-  pub next-output : (e : NextRefusal) → IsReady w → (e ≡ next.InputBytes → most_input_bytes < taken_by new) → IfSome now (λ left. FindsNext w left new after (Err e)) → IfSome input (λ bytes. WritesByProblem (Solve o) bytes (k - i) a b (Err (next_ending e)))
-  next-output e ready long finds =
-      told-by b (λ left. FindsNext w left new after (Err e)) (Err (next_ending e)) finds (λ bytes f h. next-refused o native bytes w now a b f new after e ready long h)
+  -- the problem is not answered
+  pub err-output : (c : Option (List ℕ)) (e : Refused) → IsReady w → (¬ (e ≡ ending.WriteFault) → c ≡ b) → ((e ≡ ending.InputTooLong) ↔ (most_input_bytes < taken_by new)) → IfSome now (λ left. AnswersNext o w left new after b c (Err e)) → IfSome input (λ bytes. WritesByProblem (Solve o) bytes (k - i) a c (Err e))
+  err-output c e ready same long h =
+      told-by c (λ left. AnswersNext o w left new after b c (Err e)) (Err e) h (λ bytes f x. err-written o native bytes w now a b f new after ready c e same long x)
 
-  pub none-output : IfSome now (λ left. ReadsNone w left new after) → IfSome input (λ bytes. WritesByProblem (Solve o) bytes (k - i) a b (Ok tt))
-  none-output finds = told-by b (λ left. ReadsNone w left new after) (Ok tt) finds (λ bytes f h. none-written o native bytes w now a b f (taken_by new) new after h)
+  -- none is left
+  pub none-output : (c : Option (List ℕ)) → c ≡ b → taken_by new ≤ most_input_bytes → IfSome now (λ left. ReadsNone w left new after) → IfSome input (λ bytes. WritesByProblem (Solve o) bytes (k - i) a c (Ok tt))
+  none-output c same within h =
+      told-by c (λ left. ReadsNone w left new after) (Ok tt) h (λ bytes f x. subst (λ y. Gained (AreAll (Solve o) bytes (taken_by new) finished) a y) (sym same) (none-written o native bytes w now a b f (taken_by new) within new after x))
 
-  module _ (P : Problem) (n : ℕ) (reads : IfSome now (λ left. ReadsNext w left new after P n)) where
-    pub run-output : IsReady new → (e : Refused) → IsOfItem e → IfSome (told e) (λ x. text_of (Solve o) P ≡ Err x) → IfSome input (λ bytes. WritesByProblem (Solve o) bytes (k - i) a b (Err e))
-    run-output ready e own h =
-        told-by b (λ left. ReadsNext w left new after P n) (Err e) reads (λ bytes f r. run-refused o native bytes w now a b f new after P n r ready e own h)
+  -- it is answered
+  pub answered-follows : (c : Option (List ℕ)) → IfSome now (λ left. Answers o w left new after (Appends b c)) → IfSome input (λ bytes. Follows o bytes new after a c)
+  answered-follows c h =
+      each o input w now a b (λ left. Answers o w left new after (Appends b c)) (λ bytes. Follows o bytes new after a c) fs h
+      (λ bytes f x. follows-more o native bytes w now a b f new after x.problem x.size x.reads c x.text x.made x.gained)
 
-    pub write-output : (c : Option (List ℕ)) (t : List ℕ) → text_of (Solve o) P ≡ Ok t → AppendsFront b c t → IfSome input (λ bytes. WritesByProblem (Solve o) bytes (k - i) a c (Err ending.WriteFault))
-    write-output c t e h =
-        told-by c (λ left. ReadsNext w left new after P n) (Err ending.WriteFault) reads (λ bytes f r. front-written o native bytes w now a b f new after P n r c t e h)
+-- ---- one problem
 
-    pub more-follows : (c : Option (List ℕ)) (t : List ℕ) → text_of (Solve o) P ≡ Ok t → Appends b c t → IfSome input (λ bytes. Follows o bytes new after a c)
-    more-follows c t e h =
-        each o input w now a b (λ left. ReadsNext w left new after P n) (λ bytes. Follows o bytes new after a c) fs reads (λ bytes f r. follows-more o native bytes w now a b f new after P n r c t e h)
+module _ (o : SolveOptions) (w : HeldBytes) (new : HeldBytes) (after b c : Option (List ℕ)) where
+  next-unread : (left : List ℕ) (e : NextRefusal) → FindsNext w left new after (Err e) → AnswersNext o w left new after b c (Err (next_ending e))
+  next-unread left (next.Read e) h = inl (record { refusal = next.Read e; is = refl; finds = h })
+  next-unread left next.Failed h = inl (record { refusal = next.Failed; is = refl; finds = h })
+  next-unread left next.InputBytes h = inl (record { refusal = next.InputBytes; is = refl; finds = h })
+  next-unread left next.WantOfMemory h = inl (record { refusal = next.WantOfMemory; is = refl; finds = h })
 
-pub unmade-faults : (r w : ℕ) (e : FillRefusal) → e ≡ fill.WantOfMemory → EndsByFaults r r w w (Err (unfilled_ending e))
-unmade-faults r w e h = subst (λ x. EndsByFaults r r w w (Err (unfilled_ending x))) (sym h) (faults-own r r r w w w refl refl ending.WantOfMemory tt)
+  pub unread-told : (now : Option (List ℕ)) (e : NextRefusal) → IfSome now (λ left. FindsNext w left new after (Err e)) → IfSome now (λ left. AnswersNext o w left new after b c (Err (next_ending e)))
+  unread-told None e h = tt
+  unread-told (Some left) e h = next-unread left e h
+
+  own-unanswered : (left : List ℕ) (P : Problem) (n : ℕ) → ReadsNext w left new after P n → IsReady new → (e : Refused) → IsOfItem e → IfSome (told e) (λ f. text_of (Solve o) P ≡ Err f) → AnswersNext o w left new after b c (Err e)
+  own-unanswered left P n r ready ending.Usage own h = absurd own
+  own-unanswered left P n r ready ending.ReadFault own h = absurd own
+  own-unanswered left P n r ready ending.WriteFault own h = absurd own
+  own-unanswered left P n r ready ending.InputTooLong own h = absurd own
+  own-unanswered left P n r ready e own h = inr (record { problem = P; size = n; reads = r; ready = ready; own = own; refused = h })
+
+  pub unanswered-told : (now : Option (List ℕ)) (P : Problem) (n : ℕ) → IfSome now (λ left. ReadsNext w left new after P n) → IsReady new → (e : Refused) → IsOfItem e → IfSome (told e) (λ f. text_of (Solve o) P ≡ Err f) → IfSome now (λ left. AnswersNext o w left new after b c (Err e))
+  unanswered-told None P n r ready e own h = tt
+  unanswered-told (Some left) P n r ready e own h = own-unanswered left P n r ready e own h
+
+  pub answers-told : (Gains : List ℕ → Type 0) (now : Option (List ℕ)) (P : Problem) (n : ℕ) (t : List ℕ) → IfSome now (λ left. ReadsNext w left new after P n) → text_of (Solve o) P ≡ Ok t → Gains t → IfSome now (λ left. Answers o w left new after Gains)
+  answers-told Gains None P n t r made h = tt
+  answers-told Gains (Some left) P n t r made h = record { problem = P; size = n; reads = r; text = t; made = made; gained = h }
+
+-- the limit is that of the input
+pub next-limit : {T U : Type 0} (e : NextRefusal) (n : ℕ) → (IsErrOf {T = T} (Err e) next.InputBytes ↔ (most_input_bytes < n)) → IsErrOf {T = U} (Err (next_ending e)) ending.InputTooLong ↔ (most_input_bytes < n)
+next-limit (next.Read e) n h = (λ p. absurd (problem-not e p), λ q. absurd (read-not e (h.1 q)))
+  where
+    problem-not : {U : Type 0} (x : ReadRefusal) → IsErrOf {T = U} (Err (ending.Problem x)) ending.InputTooLong → ⊥
+    problem-not x p = cc
+
+    read-not : {T : Type 0} (x : ReadRefusal) → IsErrOf {T = T} (Err (next.Read x)) next.InputBytes → ⊥
+    read-not x p = cc
+next-limit next.Failed n h = (λ p. absurd cc, λ q. absurd (let p = h.1 q in cc))
+next-limit next.InputBytes n h = (λ p. h.0 refl, λ q. refl)
+next-limit next.WantOfMemory n h = (λ p. absurd cc, λ q. absurd (let p = h.1 q in cc))
+
+-- any other end keeps within it
+pub own-limit : {U : Type 0} (r : Result U Refused) (n : ℕ) → ¬ IsErrOf r ending.InputTooLong → n ≤ most_input_bytes → IsErrOf r ending.InputTooLong ↔ (most_input_bytes < n)
+own-limit r n other within = (λ p. absurd (other p), λ q. absurd (omega (arith, within, q)))
+
+pub own-not_long : {U : Type 0} (e : Refused) → IsOfItem e → ¬ IsErrOf {T = U} (Err e) ending.InputTooLong
+own-not_long ending.Usage own h = own
+own-not_long ending.ReadFault own h = own
+own-not_long ending.WriteFault own h = own
+own-not_long ending.InputTooLong own h = own
+own-not_long e own h = cc
+
+pub err-limit : {T : Type 0} (e : Refused) (n : ℕ) → (IsErrOf {T = T} (Err e) ending.InputTooLong ↔ (most_input_bytes < n)) → (e ≡ ending.InputTooLong) ↔ (most_input_bytes < n)
+err-limit e n h = (λ p. h.0 (ap (λ x. Err x) p), λ q. err-same _ _ (h.1 q))
+
+pub unmade-faults : (r w : ℕ) (e : FillRefusal) → e ≡ fill.WantOfMemory → EndsByFaults {T = Unit {0}} r r w w (Err (unfilled_ending e))
+unmade-faults r w e h = subst (λ x. EndsByFaults {T = Unit {0}} r r w w (Err (unfilled_ending x))) (sym h) (faults-own r r r w w w refl refl ending.WantOfMemory tt)
 
 pub unmade-usage : (e : FillRefusal) → ¬ IsErrOf {T = Unit {0}} (Err (unfilled_ending e)) ending.Usage
 unmade-usage fill.Failed h = cc
 unmade-usage fill.WantOfMemory h = cc
 
-pub next-words : (e : NextRefusal) → ¬ IsErrOf {T = Unit {0}} (Err (next_ending e)) ending.Usage
+pub next-words : {T : Type 0} (e : NextRefusal) → ¬ IsErrOf {T = T} (Err (next_ending e)) ending.Usage
 next-words e h = next-usage e (err-same _ _ h)
 
-pub own-words : (e : Refused) → IsOfItem e → ¬ IsErrOf {T = Unit {0}} (Err e) ending.Usage
+pub own-words : {T : Type 0} (e : Refused) → IsOfItem e → ¬ IsErrOf {T = T} (Err e) ending.Usage
 own-words e own h = (own-not e own).0 (err-same _ _ h)
 
-pub err-not_done : {E : Type 0} (r : Result (Unit {0}) E) (e : E) {P : Type 0} → r ≡ Err e → r ≡ Ok tt → P
-err-not_done r e h k = absurd (let both : Err e ≡ Ok tt = sym h ∙ k in cc)
+pub err-not_ok : {T E : Type 0} (r : Result T E) (e : E) (x : T) {P : Type 0} → r ≡ Err e → r ≡ Ok x → P
+err-not_ok r e x h k = absurd (let both : Err e ≡ Ok x = sym h ∙ k in cc)
 
 pub none-left : {X : Type 0} (o : Option X) → ((x : X) → ¬ (o ≡ Some x)) → o ≡ None
 none-left None h = refl

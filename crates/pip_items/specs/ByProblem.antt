@@ -32,20 +32,25 @@ module _ (c : Command) (bytes : List ℕ) (n : ℕ) where
     pub within : place ≤ n
     pub open_still : first_group_end (drop place (take n bytes)) ≡ None
 
-  -- The texts are all up to an end. Where a problem is refused whose group ends, the n bytes that were taken are at
-  -- most a piece less one more than lead to that: the source was not asked again.
-  pub record AreAll (e : model.Ending) (ts : List (List ℕ)) : Type 0 where
+  -- The texts are those of all problems before one. Where its group ends, the n bytes that were taken are at most a
+  -- piece less one more than lead to that: the source was not asked again.
+  pub record AreBefore (ts : List (List ℕ)) : Type 0 where
     pub place : ℕ
     pub texts : FirstItemsTo (item_text c bytes) IsItself 0 ts place
-    pub output : IsOutput c bytes ts e
     pub spared : (q : ℕ) → first_group_end (drop place bytes) ≡ Some q → n ≤ place + q + 4095
+
+  -- The texts are all up to an end, and no byte past the limit was taken.
+  pub record AreAll (e : model.Ending) (ts : List (List ℕ)) : Type 0 where
+    pub before : AreBefore ts
+    pub output : IsOutput c bytes ts e
+    pub within : n ≤ most_input_bytes
 
 -- what a run writes that took so many bytes of an input
 module _ (c : Command) (bytes : List ℕ) (taken : ℕ) (before after : Option (List ℕ)) where
-  -- all texts up to this end, or first texts where memory was refused
+  -- all texts up to this end, or those of all problems before the one for which memory was refused
   abbrev pub WritesTillEnd : Option model.Ending → Type 0
   WritesTillEnd (Some e) = Gained (AreAll c bytes taken e) before after
-  WritesTillEnd None = Gained (IsFirstOutput c bytes) before after
+  WritesTillEnd None = Gained (AreBefore c bytes taken) before after
 
   abbrev pub WritesByProblem : Result (Unit {0}) Ending → Type 0
   WritesByProblem (Ok u) = WritesTillEnd (Some model.finished)

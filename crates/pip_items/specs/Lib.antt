@@ -2,7 +2,7 @@ pub mod Inputs
 pub mod Items
 pub mod Outputs
 pub mod ByProblem
-pub mod Held
+pub mod Answered
 pub mod Values
 pub mod Needed
 pub mod Triples

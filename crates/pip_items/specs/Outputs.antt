@@ -65,8 +65,8 @@ abbrev pub TakesInputAtMost : Option (List ℕ) → ℕ → ℕ → Type 0
 TakesInputAtMost left before after = IfSome left (λ _. after ≤ before + (most_input_bytes + 1))
 
 -- The faults of the source and of the sink are counted, and each of them ends the run.
-pub record EndsByFaults (read_before read_after write_before write_after : ℕ)
-    (r : Result (Unit {0}) Ending) : Type 0 where
+pub record EndsByFaults {T : Type 0} (read_before read_after write_before write_after : ℕ)
+    (r : Result T Ending) : Type 0 where
   pub read_fault : IsErrOf r ending.ReadFault → HasRisen read_before read_after
   pub write_fault : IsErrOf r ending.WriteFault → HasRisen write_before write_after
   pub read_quiet : ¬ IsErrOf r ending.ReadFault → read_after ≡ read_before

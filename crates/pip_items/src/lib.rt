@@ -8,3 +8,4 @@ mod output;
 mod problems;
 
 pub use output::write_output;
+pub use problems::answer_next;

@@ -1,5 +1,6 @@
 ghost use Rattle.std.specs.Prelude.{◌≡◌, ◌-◌, Ok, IfSome, IsErrOf};
 ghost use Rattle.std.specs.Io.KnownBytes.{IsAtEnd};
+ghost use Rattle.pip_outside.specs.Calls.{AsksOn};
 ghost use Rattle.pip_words.specs.Words.{meaning_of};
 ghost use Rattle.pip_items.specs.Items.{WritesItems};
 ghost use Rattle.pip_items.specs.Outputs.{WritesOver, TakesInput, TakesInputAtMost, IsRead, EndsByFaults, bytes_read};
@@ -30,6 +31,7 @@ fn write_over_input<C: ItemTexts, S: Source, K: Sink>(
         WritesOver (C.text_at command.now) bytes (K.written sink.old) (K.written sink.new) result) }
     ensures words { ¬ IsErrOf result Ending.Usage }
     ensures end { IsRead result → IsAtEnd (S.left source.new) }
+    ensures turns { IfSome (S.left source.old) (λ _. AsksOn S.calls S.taken source.old source.new) }
     ensures taken { TakesInputAtMost (S.left source.old) (S.taken source.old) (S.taken source.new) }
     ensures faults { EndsByFaults (S.faults source.old) (S.faults source.new) (K.faults sink.old) (K.faults sink.new)
         result }
@@ -56,6 +58,7 @@ pub fn write_output<S: Source, K: Sink>(
     ensures spared { ¬ TakesInput (meaning_of command.now) → source.new ≡ source.old }
     ensures asked { IfSome (bytes_read (meaning_of command.now) (S.left source.old))
         (StopsAtRefused S.calls S.taken source.old source.new (meaning_of command.now)) }
+    ensures turns { IfSome (S.left source.old) (λ _. AsksOn S.calls S.taken source.old source.new) }
     ensures taken { TakesInputAtMost (S.left source.old) (S.taken source.old) (S.taken source.new) }
     ensures faults { EndsByFaults (S.faults source.old) (S.faults source.new) (K.faults sink.old) (K.faults sink.new)
         result }

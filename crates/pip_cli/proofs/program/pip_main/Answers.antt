@@ -5,7 +5,7 @@ use Rattle.pip_endings.specs.Endings.{ending_of}
 use Rattle.pip_items.specs.ByProblem.{WritesOf}
 use Rattle.pip_cli.proofs.Asked.{command-asked}
 use Rattle.pip_cli.proofs.Ends.{read_fault-by, write_fault-by, line-gained, is-noted, where_told}
-use Rattle.pip_cli.proofs.ByProblem.{ends-of, right-of, complete-of}
+use Rattle.pip_cli.proofs.ByProblem.{ends-of, right-of, complete-of, is-read}
 use Rattle.pip_cli.proofs.program.pip_main.Goals as goal
 
 pub returns-in-Ok-clause-right : goal.returns-in-Ok-clause-right
@@ -52,3 +52,7 @@ returns-in-Err-clause-complete g c read_well written_well =
     (λ c' bytes asked h. complete-of c' asked bytes _ _ _ c.number-in-Err.result (Err c.in-Err.ending) status
     (λ p. read_well (c.in-Err.ensures.faults.read_fault (read_fault-by (Err c.in-Err.ending) _ status p)))
     (λ p. written_well (c.in-Err.ensures.faults.write_fault (write_fault-by (Err c.in-Err.ending) _ status p))) h) c.in-Err.ensures.output
+
+pub returns-in-Err-clause-read_to_end : goal.returns-in-Err-clause-read_to_end
+returns-in-Err-clause-read_to_end g c whole after =
+    c.in-Err.ensures.end whole (is-read _ (g.K.Sink.written c.args.sink.now) (g.K.Sink.written c.run.new.sink) _ (g.S.Source.left c.args.source.now) (Err c.in-Err.ending) c.number-in-Err.result (c.number-in-Err.ensures ∙ c.status.ensures) c.in-Err.ensures.refused whole c.in-Err.ensures.output after)

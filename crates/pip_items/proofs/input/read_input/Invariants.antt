@@ -1,6 +1,7 @@
 use Rattle.std.proofs.Common.{◌≡◌, ◌+◌, ◌-◌, ◌≤◌, vec_len}
 use Rattle.std.specs.Prelude.{IfSome}
 use Rattle.std.specs.Io.KnownBytes.{Consumes}
+use Rattle.pip_outside.specs.Calls.{Takes}
 use Rattle.pip_model.specs.Limits.{most_input_bytes}
 use Rattle.pip_items.proofs.input.read_input.Given as goal
 
@@ -10,6 +11,7 @@ invariant-loop-buf g l =
     × (g.S.Source.faults l.source ≡ g.S.Source.faults l.fn.source)
     × IfSome (g.S.Source.left l.fn.source) (λ _. g.S.Source.taken l.source ≡ g.S.Source.taken l.fn.source + vec_len l.bytes)
     × (vec_len l.bytes ≤ most_input_bytes + 1)
+    × IfSome (g.S.Source.left l.fn.source) (λ _. Takes g.S.Source.calls g.S.Source.taken l.fn.source l.source)
 
 abbrev pub decreases-loop-buf : goal.decreases-loop-buf
 decreases-loop-buf g l = most_input_bytes + 1 - vec_len l.bytes

@@ -3,6 +3,7 @@ use Rattle.program_model.specs.Commands.{Solve, Eval, Simplify, CheckAll, ShareA
 use Rattle.pip_words.specs.Words.{options_of}
 use Rattle.pip_items.proofs.ByProblem.{output-matrices}
 use Rattle.pip_items.proofs.Asked.{stops-whole}
+use Rattle.pip_items.proofs.Turns.{asks-start}
 use Rattle.pip_items.proofs.Outputs.{output-taken, output-trial}
 use Rattle.pip_items.proofs.output.write_output.Goals as goal
 
@@ -95,3 +96,6 @@ returns-in-Least-clause-asked g c =
 pub returns-in-Trial-clause-asked : goal.returns-in-Trial-clause-asked
 returns-in-Trial-clause-asked g c =
     rw c.in-Trial.is (stops-whole g.S.Source.calls g.S.Source.taken c.args.source.now c.args.source.now (Trial c.in-Trial.options.seed c.in-Trial.options.count) (Some []) refl)
+
+pub returns-in-Trial-clause-turns : goal.returns-in-Trial-clause-turns
+returns-in-Trial-clause-turns g c = asks-start g.S.Source.calls g.S.Source.taken c.args.source.now (g.S.Source.left c.args.source.now)

@@ -1,40 +1,127 @@
-use Rattle.std.proofs.Common.{◌-◌, rules}
+use Rattle.std.proofs.Common.{◌≡◌, ◌-◌, refl, ap, ◌∙◌, arith, rules, Ok, Err, length}
 use Rattle.std.proofs.lemmas.Result.{err_from_is_err_and}
-use Rattle.std.specs.Prelude.{◌≢◌, [], IsErrOf}
+use Rattle.pip_outside.specs.Windows.{HeldBytes}
 use Rattle.program_model.specs.Commands.{Solve}
 use Rattle.pip_words.specs.Words.{options_of}
-use Rattle.pip_endings.specs.declared.ending.Ending.TheVariants as ending
-use Rattle.pip_items.proofs.Held.{all-written, empty_is, faults-failed, front-written, none-held}
+use Rattle.pip_stream.specs.Windows.{taken_by}
+use Rattle.pip_items.proofs.ByProblem.{starts, if-told, none-taken, unmade, unmade-faults, unmade-usage, err-same, err-limit, err-not_ok, counts, taken-at_most, err-output, none-output, answered-follows, faults-none, faults-ok, faults-after}
+use Rattle.pip_items.proofs.Asked.{stops-start, stops-next}
+use Rattle.pip_items.proofs.Turns.{takes-start, asks-start, asks-next, takes-next}
 use Rattle.pip_items.proofs.problems.write_problems.Goals as goal
 
--- ---- nothing is held
+-- ---- no window is made
 
-pub returns-then-is_empty-clause-output : goal.returns-then-is_empty-clause-output
-returns-then-is_empty-clause-output g c =
-    none-held (Solve (options_of c.args.options.now)) (g.S.Source.left c.args.source.now) (g.S.Source.taken c.answer_problems-ended.new.source - g.S.Source.taken c.args.source.now) (g.K.Sink.written c.args.sink.now) (g.K.Sink.written c.answer_problems-ended.new.sink) (g.K.Sink.written c.answer_problems-ended.new.sink) c.answer_problems-ended.new.text.items c.answer_problems-ended.result c.answer_problems-ended.ensures.output
-    (empty_is c.answer_problems-ended.new.text.items (search rules))
+pub returns-in_err-window-clause-output : goal.returns-in_err-window-clause-output
+returns-in_err-window-clause-output g c = let p = err_from_is_err_and c.from_residual.result c.from_residual.ensures.1 in rw (p.1, p.2) (unmade (options_of c.args.options.now) (g.S.Source.left c.args.source.now) (g.K.Sink.written c.args.sink.now) ((g.S.Source.taken c.args.source.now) - (g.S.Source.taken c.args.source.now)) (omega arith) _ c.in_err-window.ensures.err)
 
--- ---- the last write fails
+pub returns-in_err-window-clause-words : goal.returns-in_err-window-clause-words
+returns-in_err-window-clause-words g c = let p = err_from_is_err_and c.from_residual.result c.from_residual.ensures.1 in rw (p.1, p.2) (unmade-usage _)
 
-pub returns-in_err-write_all-clause-output : goal.returns-in_err-write_all-clause-output
-returns-in_err-write_all-clause-output g c =
-    let p = err_from_is_err_and c.from_residual.result c.from_residual.ensures.1 in
-    let some : c.answer_problems-ended.new.text.items ≢ [] = search rules in
-    let other : ¬ IsErrOf c.answer_problems-ended.result ending.WriteFault = λ e. some (c.answer_problems-ended.ensures.nothing e) in
-    rw (p.1, p.2) (front-written (Solve (options_of c.args.options.now)) (g.S.Source.left c.args.source.now) (g.S.Source.taken c.answer_problems-ended.new.source - g.S.Source.taken c.args.source.now) (g.K.Sink.written c.args.sink.now) (g.K.Sink.written c.answer_problems-ended.new.sink) (g.K.Sink.written c.write_all.new.sink) c.answer_problems-ended.new.text.items c.answer_problems-ended.result c.answer_problems-ended.ensures.output
-    other (c.answer_problems-ended.ensures.gained other) (rw c.deref.ensures.value at c.in_err-write_all.ensures.bytes))
+pub returns-in_err-window-clause-end : goal.returns-in_err-window-clause-end
+returns-in_err-window-clause-end g c h = let p = err_from_is_err_and c.from_residual.result c.from_residual.ensures.1 in err-not_ok _ _ tt p.1 h
 
-pub returns-in_err-write_all-clause-faults : goal.returns-in_err-write_all-clause-faults
-returns-in_err-write_all-clause-faults g c =
-    let p = err_from_is_err_and c.from_residual.result c.from_residual.ensures.1 in
-    let some : c.answer_problems-ended.new.text.items ≢ [] = search rules in
-    let other : ¬ IsErrOf c.answer_problems-ended.result ending.WriteFault = λ e. some (c.answer_problems-ended.ensures.nothing e) in
-    let before = c.answer_problems-ended.ensures.faults in
-    rw (p.1, p.2) (faults-failed _ _ _ _ _ c.answer_problems-ended.result before other (c.answer_problems-ended.ensures.held some) c.in_err-write_all.ensures.cause.failed)
+pub returns-in_err-window-clause-asked : goal.returns-in_err-window-clause-asked
+returns-in_err-window-clause-asked g c = stops-start g.S.Source.calls g.S.Source.taken c.args.source.now (Solve (options_of c.args.options.now)) (g.S.Source.left c.args.source.now)
 
--- ---- all is written
+pub returns-in_err-window-clause-turns : goal.returns-in_err-window-clause-turns
+returns-in_err-window-clause-turns g c = asks-start g.S.Source.calls g.S.Source.taken c.args.source.now (g.S.Source.left c.args.source.now)
+
+pub returns-in_err-window-clause-taken : goal.returns-in_err-window-clause-taken
+returns-in_err-window-clause-taken g c = none-taken (g.S.Source.left c.args.source.now) _
+
+pub returns-in_err-window-clause-faults : goal.returns-in_err-window-clause-faults
+returns-in_err-window-clause-faults g c = let p = err_from_is_err_and c.from_residual.result c.from_residual.ensures.1 in rw (p.1, p.2) (unmade-faults _ _ _ c.in_err-window.ensures.err)
+
+pub loop-window-init : goal.loop-window-init
+loop-window-init g c =
+    let is = c.in_ok-window.ensures.ok in
+    record {
+      ready = record { few = omega (arith, ap (λ (x : HeldBytes). length x.held) is); within = omega (arith, ap (λ (x : HeldBytes). taken_by x) is) };
+      follows = starts (options_of c.args.options.now) c.requires (g.S.Source.left c.args.source.now) c.in_ok-window.window (g.K.Sink.written c.args.sink.now) is;
+      counted = if-told _ (g.S.Source.left c.args.source.now) (omega (arith, ap (λ (x : HeldBytes). taken_by x) is));
+      takes = takes-start g.S.Source.calls g.S.Source.taken c.args.source.now (g.S.Source.left c.args.source.now);
+      asked = stops-start g.S.Source.calls g.S.Source.taken c.args.source.now (Solve (options_of c.args.options.now)) (g.S.Source.left c.args.source.now);
+      read_quiet = refl;
+      write_quiet = refl;
+    }
+
+-- ---- a problem is not answered
+
+pub answer_next-requires-clause-held : goal.answer_next-requires-clause-held
+answer_next-requires-clause-held g c = c.loop-window.invariant.ready.few
+
+pub answer_next-requires-clause-taken : goal.answer_next-requires-clause-taken
+answer_next-requires-clause-taken g c = c.loop-window.invariant.ready.within
+
+pub returns-in_err-answer_next-clause-output : goal.returns-in_err-answer_next-clause-output
+returns-in_err-answer_next-clause-output g c =
+    let p = err_from_is_err_and c.from_residual-in_err-answer_next.result c.from_residual-in_err-answer_next.ensures.1 in
+    rw (p.1, p.2) (err-output (options_of c.args.options.now) c.requires (g.S.Source.left c.args.source.now) c.loop-window.window (g.S.Source.left c.loop-window.source) (g.K.Sink.written c.args.sink.now) (g.K.Sink.written c.loop-window.sink) (g.S.Source.taken c.args.source.now) (g.S.Source.taken c.loop-window.source) c.loop-window.invariant.follows c.loop-window.invariant.counted c.answer_next.new.window (g.S.Source.left c.answer_next.new.source) (g.S.Source.taken c.answer_next.new.source) c.answer_next.ensures.counted (g.K.Sink.written c.answer_next.new.sink) _ c.loop-window.invariant.ready (λ q. ap g.K.Sink.written (c.in_err-answer_next.ensures.kept (λ h. cc) (λ h. q (err-same _ _ h)))) (err-limit _ _ c.in_err-answer_next.ensures.limit) c.in_err-answer_next.ensures.answers)
+
+pub returns-in_err-answer_next-clause-words : goal.returns-in_err-answer_next-clause-words
+returns-in_err-answer_next-clause-words g c = let p = err_from_is_err_and c.from_residual-in_err-answer_next.result c.from_residual-in_err-answer_next.ensures.1 in rw (p.1, p.2) (λ h. c.in_err-answer_next.ensures.words (ap (λ x. Err x) (err-same _ _ h)))
+
+pub returns-in_err-answer_next-clause-end : goal.returns-in_err-answer_next-clause-end
+returns-in_err-answer_next-clause-end g c h = let p = err_from_is_err_and c.from_residual-in_err-answer_next.result c.from_residual-in_err-answer_next.ensures.1 in err-not_ok _ _ tt p.1 h
+
+pub returns-in_err-answer_next-clause-asked : goal.returns-in_err-answer_next-clause-asked
+returns-in_err-answer_next-clause-asked g c = stops-next g.S.Source.calls g.S.Source.taken (options_of c.args.options.now) c.requires c.args.source.now c.loop-window.source c.answer_next.new.source c.loop-window.window (g.S.Source.left c.loop-window.source) (g.K.Sink.written c.args.sink.now) (g.K.Sink.written c.loop-window.sink) (g.S.Source.left c.args.source.now) c.loop-window.invariant.follows c.loop-window.invariant.counted c.loop-window.invariant.takes c.loop-window.invariant.asked c.answer_next.ensures.asked
+
+pub returns-in_err-answer_next-clause-turns : goal.returns-in_err-answer_next-clause-turns
+returns-in_err-answer_next-clause-turns g c = asks-next g.S.Source.calls g.S.Source.taken (options_of c.args.options.now) (g.S.Source.left c.args.source.now) c.loop-window.window (g.S.Source.left c.loop-window.source) (g.K.Sink.written c.args.sink.now) (g.K.Sink.written c.loop-window.sink) c.loop-window.invariant.follows c.args.source.now c.loop-window.source c.answer_next.new.source c.loop-window.invariant.takes c.answer_next.result c.answer_next.ensures.turns
+
+pub returns-in_err-answer_next-clause-taken : goal.returns-in_err-answer_next-clause-taken
+returns-in_err-answer_next-clause-taken g c = taken-at_most (options_of c.args.options.now) c.requires (g.S.Source.left c.args.source.now) c.loop-window.window (g.S.Source.left c.loop-window.source) (g.K.Sink.written c.args.sink.now) (g.K.Sink.written c.loop-window.sink) (g.S.Source.taken c.args.source.now) (g.S.Source.taken c.loop-window.source) c.loop-window.invariant.follows c.loop-window.invariant.counted c.answer_next.new.window (g.S.Source.left c.answer_next.new.source) (g.S.Source.taken c.answer_next.new.source) c.answer_next.ensures.counted c.answer_next.ensures.bound
+
+pub returns-in_err-answer_next-clause-faults : goal.returns-in_err-answer_next-clause-faults
+returns-in_err-answer_next-clause-faults g c = let p = err_from_is_err_and c.from_residual-in_err-answer_next.result c.from_residual-in_err-answer_next.ensures.1 in rw (p.1, p.2) (faults-after _ _ _ _ _ _ c.loop-window.invariant.read_quiet c.loop-window.invariant.write_quiet _ c.in_err-answer_next.ensures.faults)
+
+-- ---- once more
+
+pub same-window : goal.same-window
+same-window g c = search rules
+
+pub loop-window-smaller : goal.loop-window-smaller
+loop-window-smaller g c =
+    let more = c.in_ok-answer_next.ensures.dropped (ap (λ x. Ok x) c.if-branch.true) in
+    let ready = c.in_ok-answer_next.ensures.ready in
+    omega (arith, more, ready.within)
+
+pub loop-window-preserved : goal.loop-window-preserved
+loop-window-preserved g c =
+    let done = faults-ok _ _ _ _ _ c.in_ok-answer_next.ensures.faults in
+    record {
+      ready = c.in_ok-answer_next.ensures.ready;
+      follows = answered-follows (options_of c.args.options.now) c.requires (g.S.Source.left c.args.source.now) c.loop-window.window (g.S.Source.left c.loop-window.source) (g.K.Sink.written c.args.sink.now) (g.K.Sink.written c.loop-window.sink) (g.S.Source.taken c.args.source.now) (g.S.Source.taken c.loop-window.source) c.loop-window.invariant.follows c.loop-window.invariant.counted c.answer_next.new.window (g.S.Source.left c.answer_next.new.source) (g.S.Source.taken c.answer_next.new.source) c.answer_next.ensures.counted (g.K.Sink.written c.answer_next.new.sink) (rw c.if-branch.true at c.in_ok-answer_next.ensures.answers);
+      counted = counts (options_of c.args.options.now) c.requires (g.S.Source.left c.args.source.now) c.loop-window.window (g.S.Source.left c.loop-window.source) (g.K.Sink.written c.args.sink.now) (g.K.Sink.written c.loop-window.sink) (g.S.Source.taken c.args.source.now) (g.S.Source.taken c.loop-window.source) c.loop-window.invariant.follows c.loop-window.invariant.counted c.answer_next.new.window (g.S.Source.left c.answer_next.new.source) (g.S.Source.taken c.answer_next.new.source) c.answer_next.ensures.counted;
+      takes = takes-next g.S.Source.calls g.S.Source.taken (options_of c.args.options.now) (g.S.Source.left c.args.source.now) c.loop-window.window (g.S.Source.left c.loop-window.source) (g.K.Sink.written c.args.sink.now) (g.K.Sink.written c.loop-window.sink) c.loop-window.invariant.follows c.args.source.now c.loop-window.source c.answer_next.new.source c.loop-window.invariant.takes (rw c.if-branch.true at c.in_ok-answer_next.ensures.turns);
+      asked = stops-next g.S.Source.calls g.S.Source.taken (options_of c.args.options.now) c.requires c.args.source.now c.loop-window.source c.answer_next.new.source c.loop-window.window (g.S.Source.left c.loop-window.source) (g.K.Sink.written c.args.sink.now) (g.K.Sink.written c.loop-window.sink) (g.S.Source.left c.args.source.now) c.loop-window.invariant.follows c.loop-window.invariant.counted c.loop-window.invariant.takes c.loop-window.invariant.asked c.answer_next.ensures.asked;
+      read_quiet = done.0 ∙ c.loop-window.invariant.read_quiet;
+      write_quiet = done.1 ∙ c.loop-window.invariant.write_quiet;
+    }
+
+-- ---- no problem is left
 
 pub returns-clause-output : goal.returns-clause-output
 returns-clause-output g c =
-    all-written (Solve (options_of c.args.options.now)) (g.S.Source.left c.args.source.now) (g.S.Source.taken c.answer_problems-ended.new.source - g.S.Source.taken c.args.source.now) (g.K.Sink.written c.args.sink.now) (g.K.Sink.written c.answer_problems-ended.new.sink) (g.K.Sink.written c.write_all.new.sink) c.answer_problems-ended.new.text.items c.answer_problems-ended.result c.answer_problems-ended.ensures.output
-    (rw c.deref.ensures.value at c.in_ok-write_all.ensures.bytes)
+    none-output (options_of c.args.options.now) c.requires (g.S.Source.left c.args.source.now) c.loop-window.window (g.S.Source.left c.loop-window.source) (g.K.Sink.written c.args.sink.now) (g.K.Sink.written c.loop-window.sink) (g.S.Source.taken c.args.source.now) (g.S.Source.taken c.loop-window.source) c.loop-window.invariant.follows c.loop-window.invariant.counted c.answer_next.new.window (g.S.Source.left c.answer_next.new.source) (g.S.Source.taken c.answer_next.new.source) c.answer_next.ensures.counted (g.K.Sink.written c.answer_next.new.sink) (ap g.K.Sink.written (c.in_ok-answer_next.ensures.kept (λ h. absurd (let t = h in let f = c.if-branch.false in cc)) (λ h. cc))) c.in_ok-answer_next.ensures.ready.within (rw c.if-branch.false at c.in_ok-answer_next.ensures.answers)
+
+pub returns-clause-words : goal.returns-clause-words
+returns-clause-words g c = λ h. cc
+
+pub returns-clause-end : goal.returns-clause-end
+returns-clause-end g c h = c.in_ok-answer_next.ensures.end (ap (λ x. Ok x) c.if-branch.false)
+
+pub returns-clause-asked : goal.returns-clause-asked
+returns-clause-asked g c = stops-next g.S.Source.calls g.S.Source.taken (options_of c.args.options.now) c.requires c.args.source.now c.loop-window.source c.answer_next.new.source c.loop-window.window (g.S.Source.left c.loop-window.source) (g.K.Sink.written c.args.sink.now) (g.K.Sink.written c.loop-window.sink) (g.S.Source.left c.args.source.now) c.loop-window.invariant.follows c.loop-window.invariant.counted c.loop-window.invariant.takes c.loop-window.invariant.asked c.answer_next.ensures.asked
+
+pub returns-clause-turns : goal.returns-clause-turns
+returns-clause-turns g c = asks-next g.S.Source.calls g.S.Source.taken (options_of c.args.options.now) (g.S.Source.left c.args.source.now) c.loop-window.window (g.S.Source.left c.loop-window.source) (g.K.Sink.written c.args.sink.now) (g.K.Sink.written c.loop-window.sink) c.loop-window.invariant.follows c.args.source.now c.loop-window.source c.answer_next.new.source c.loop-window.invariant.takes c.answer_next.result c.answer_next.ensures.turns
+
+pub returns-clause-taken : goal.returns-clause-taken
+returns-clause-taken g c = taken-at_most (options_of c.args.options.now) c.requires (g.S.Source.left c.args.source.now) c.loop-window.window (g.S.Source.left c.loop-window.source) (g.K.Sink.written c.args.sink.now) (g.K.Sink.written c.loop-window.sink) (g.S.Source.taken c.args.source.now) (g.S.Source.taken c.loop-window.source) c.loop-window.invariant.follows c.loop-window.invariant.counted c.answer_next.new.window (g.S.Source.left c.answer_next.new.source) (g.S.Source.taken c.answer_next.new.source) c.answer_next.ensures.counted c.answer_next.ensures.bound
+
+pub returns-clause-faults : goal.returns-clause-faults
+returns-clause-faults g c =
+    let done = faults-ok _ _ _ _ _ c.in_ok-answer_next.ensures.faults in
+    faults-none _ _ 0 _ _ 0 (done.0 ∙ c.loop-window.invariant.read_quiet) (done.1 ∙ c.loop-window.invariant.write_quiet) tt

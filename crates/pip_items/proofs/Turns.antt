@@ -1,0 +1,55 @@
+-- That each call of a source but the last takes a byte, through a whole run.
+use Rattle.std.proofs.Common.{◌≡◌, ℕ, ◌+◌, ◌<◌, inl, inr, arith, Bool, true, false, List, Option, Some, None}
+use Rattle.std.specs.Prelude.{◌⊎◌, IfSome, Result, Ok, Err}
+use Rattle.std.specs.Io.KnownBytes.{Consumes}
+use Rattle.pip_outside.specs.Calls.{Takes, AsksOn}
+use Rattle.pip_outside.proofs.Calls.{takes-none, takes-more, takes-then, asks-none, asks-once, asks-then}
+use Rattle.pip_outside.specs.Windows.{HeldBytes}
+use Rattle.program_model.specs.Commands.{SolveOptions}
+use Rattle.pip_stream.specs.Asked.{AsksUntil}
+use Rattle.pip_items.proofs.ByProblem.{if-some, Follows}
+
+module _ {S : Type 0} (Calls : S → S → Type 0) (taken : S → ℕ) where
+  pub takes-start : (s : S) (o : Option (List ℕ)) → IfSome o (λ _. Takes Calls taken s s)
+  takes-start s None = tt
+  takes-start s (Some left) = takes-none Calls taken s
+
+  pub asks-told : (s t : S) (o : Option (List ℕ)) → IfSome o (λ _. Takes Calls taken s t) → IfSome o (λ _. AsksOn Calls taken s t)
+  asks-told s t None h = tt
+  asks-told s t (Some left) h = asks-none Calls taken s t h
+
+  pub asks-start : (s : S) (o : Option (List ℕ)) → IfSome o (λ _. AsksOn Calls taken s s)
+  asks-start s o = asks-told s s o (takes-start s o)
+
+  -- ---- a read
+
+  pub asks-read : (s t u : S) (o : Option (List ℕ)) → IfSome o (λ _. Takes Calls taken s t) → Calls t u → IfSome o (λ _. AsksOn Calls taken s u)
+  asks-read s t u None h called = tt
+  asks-read s t u (Some left) h called = asks-once Calls taken s t u h (inr called)
+
+  pub takes-read : (s t u : S) (o m : Option (List ℕ)) (xs : List ℕ) (n : ℕ) → Consumes o m xs → IfSome o (λ _. Takes Calls taken s t) → IfSome m (λ _. taken u ≡ taken t + n) → 0 < n → Calls t u → IfSome o (λ _. Takes Calls taken s u)
+  takes-read s t u None m xs n k h counted some called = tt
+  takes-read s t u (Some left) None xs n k h counted some called = absurd k
+  takes-read s t u (Some left) (Some rest) xs n k h counted some called = takes-more Calls taken s t u h (inr called) (omega (arith, counted, some))
+
+  -- ---- a problem
+
+  until-asks : {E : Type 0} (t u : S) (r : Result Bool E) → AsksUntil Calls taken t u r → AsksOn Calls taken t u
+  until-asks t u (Ok true) h = asks-none Calls taken t u h
+  until-asks t u (Ok false) h = h
+  until-asks t u (Err e) h = h
+
+  module _ (o : SolveOptions) (input : Option (List ℕ)) (w : HeldBytes) (now a b : Option (List ℕ)) (fs : IfSome input (λ bytes. Follows o bytes w now a b)) (s t u : S) (led : IfSome input (λ _. Takes Calls taken s t)) where
+    pub asks-next : {E : Type 0} (r : Result Bool E) → IfSome now (λ _. AsksUntil Calls taken t u r) → IfSome input (λ _. AsksOn Calls taken s u)
+    asks-next r h = by_told input fs led
+      where
+        by_told : (i : Option (List ℕ)) → IfSome i (λ bytes. Follows o bytes w now a b) → IfSome i (λ _. Takes Calls taken s t) → IfSome i (λ _. AsksOn Calls taken s u)
+        by_told None f g = tt
+        by_told (Some bytes) f g = asks-then Calls taken s t u g (until-asks t u r (if-some (λ _. AsksUntil Calls taken t u r) now f.left_now f.told h))
+
+    pub takes-next : IfSome now (λ _. Takes Calls taken t u) → IfSome input (λ _. Takes Calls taken s u)
+    takes-next h = by_told input fs led
+      where
+        by_told : (i : Option (List ℕ)) → IfSome i (λ bytes. Follows o bytes w now a b) → IfSome i (λ _. Takes Calls taken s t) → IfSome i (λ _. Takes Calls taken s u)
+        by_told None f g = tt
+        by_told (Some bytes) f g = takes-then Calls taken s t u g (if-some (λ _. Takes Calls taken t u) now f.left_now f.told h)
