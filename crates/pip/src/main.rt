@@ -6,12 +6,38 @@ use pip_cli::{pip_main, refuse_words};
 use pip_outside::{StdSink, StdSource};
 use std::alloc::{AllocError, Global};
 use std::env;
+use std::env::{Env, FillError};
 use std::io::ErrorKind;
 use std::process::ExitCode;
 
-// The words of the command line; none of them where one is no UTF-8.
+// The words and variables that the program is called with, but for its name, which is left empty: nothing looks at it,
+// so it may be anything.
+#[derive(Drop)]
+struct Unnamed<'r> {
+    rt: &'r HostRuntime,
+}
+
+impl Env for Unnamed<'_> {
+    fn arg(&self, i: usize, buf: &mut [u8]) -> Result<usize, FillError> {
+        match self.rt.arg(i, buf) {
+            Ok(_) if i == 0 => Ok(0),
+            Err(FillError::TooLong) if i == 0 => Ok(0),
+            other => other,
+        }
+    }
+
+    fn var(&self, name: &str, buf: &mut [u8]) -> Result<usize, FillError> {
+        self.rt.var(name, buf)
+    }
+
+    fn var_at(&self, i: usize, buf: &mut [u8]) -> Result<usize, FillError> {
+        self.rt.var_at(i, buf)
+    }
+}
+
+// The words of the command line; none of them where one, the program's name apart, is no UTF-8.
 fn words_of(alloc: Global, rt: &HostRuntime) -> Result<Vec<String>, AllocError> {
-    match env::args(rt) {
+    match env::args(&(Unnamed { rt }, alloc)) {
         Ok(words) => Ok(words.collect(alloc)?),
         Err(error) if error.kind() == ErrorKind::OutOfMemory => Err(AllocError),
         Err(_) => Ok(Vec::new(alloc)),

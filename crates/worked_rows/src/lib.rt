@@ -18,6 +18,8 @@ mod matrices;
 #[cfg(test)]
 mod pieces;
 #[cfg(test)]
+mod pipes;
+#[cfg(test)]
 mod points;
 #[cfg(test)]
 mod reading;
