@@ -23,7 +23,7 @@ use Rattle.program_model.specs.Output.{IsFirstOutput}
 use Rattle.text_laws.proofs.LocalProblems.{read_native-moved}
 use Rattle.text_laws.proofs.ReadProblems.{read_native-none}
 use Rattle.text_laws.proofs.Items.{next_open-closed}
-use Rattle.headline.proofs.FirstItems.{first_items-first, first_items-end}
+use Rattle.headline.proofs.FirstItems.{first_items-end}
 use Rattle.pip_problem.specs.Faults.{read_fault}
 use Rattle.pip_problem.specs.declared.refusal.ReadRefusal.{ReadRefusal}
 use Rattle.pip_reader.specs.Groups.{group_behind, first_group_end}

@@ -1,6 +1,6 @@
 -- That each call of a source but the last takes a byte, through a whole run.
-use Rattle.std.proofs.Common.{◌≡◌, ℕ, ◌+◌, ◌<◌, inl, inr, arith, Bool, true, false, List, Option, Some, None}
-use Rattle.std.specs.Prelude.{◌⊎◌, IfSome, Result, Ok, Err}
+use Rattle.std.proofs.Common.{◌≡◌, ℕ, ◌+◌, ◌<◌, inr, arith, Bool, true, false, List, Option, Some, None}
+use Rattle.std.specs.Prelude.{IfSome, Result, Ok, Err}
 use Rattle.std.specs.Io.KnownBytes.{Consumes}
 use Rattle.pip_outside.specs.Calls.{Takes, AsksOn}
 use Rattle.pip_outside.proofs.Calls.{takes-none, takes-more, takes-then, asks-none, asks-once, asks-then}

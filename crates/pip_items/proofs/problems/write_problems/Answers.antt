@@ -1,4 +1,4 @@
-use Rattle.std.proofs.Common.{◌≡◌, ◌-◌, refl, ap, ◌∙◌, arith, rules, Ok, Err, length}
+use Rattle.std.proofs.Common.{◌-◌, refl, ap, ◌∙◌, arith, rules, Ok, Err, length}
 use Rattle.std.proofs.lemmas.Result.{err_from_is_err_and}
 use Rattle.pip_outside.specs.Windows.{HeldBytes}
 use Rattle.program_model.specs.Commands.{Solve}
