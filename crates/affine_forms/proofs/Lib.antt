@@ -1,3 +1,4 @@
+pub mod Bits
 pub mod QuotientForms
 pub mod Combined
 pub mod Divisors

@@ -1,5 +1,7 @@
 -- A list whose first elements were mapped in place.
-use Rattle.std.proofs.Common.{◌≡◌, ℕ, ◌+◌, ◌<◌, List, [], ◌∷◌, ◌++◌, map, length, get_or, set, take, drop, sym, ap, ◌∙◌, arith, append_assoc}
+use Rattle.std.proofs.Common.{◌≡◌, ℕ, ◌+◌, ◌<◌, List, [], ◌∷◌, ◌++◌, map, length, get_or, set, take, drop, sym, ap, subst, ◌∙◌, arith, append_assoc}
+use Rattle.std.specs.Prelude.{All}
+use Rattle.std.proofs.lemmas.List.Elements.{All-push}
 use Rattle.std.proofs.lemmas.List.{drop_more, map_more, set_at, get_or_at, length-map, length-take}
 
 abbrev pub mapped : {X : Type 0} → (X → X) → ℕ → List X → List X
@@ -28,3 +30,9 @@ mapped_step f old now i y d h e g =
 -- one more image is pushed
 pub pushed_step : {X Y : Type 0} (f : X → Y) (xs : List X) (found : List Y) (i : ℕ) (y : Y) (d : X) → i < length xs → found ≡ map f (take i xs) → y ≡ f (get_or xs i d) → found ++ y ∷ [] ≡ map f (take (i + 1) xs)
 pushed_step f xs found i y d h e g = rw (e, g) (sym (map_more f xs i d h))
+
+pub pushed_made : {X Y : Type 0} (f : X → Y) (xs : List X) (found now : List Y) (i : ℕ) (y : Y) (d : X) → i < length xs → now ≡ found ++ y ∷ [] → found ≡ map f (take i xs) → y ≡ f (get_or xs i d) → now ≡ map f (take (i + 1) xs)
+pushed_made f xs found now i y d h p e g = p ∙ pushed_step f xs found i y d h e g
+
+pub pushed_all : {X : Type 0} (P : X → Type 0) (xs now : List X) (y : X) → now ≡ xs ++ y ∷ [] → All P xs → P y → All P now
+pushed_all P xs now y p all e = subst (All P) (sym p) (All-push P xs y all e)

@@ -1,9 +1,11 @@
 -- The form of a quotient, `-g + d*q`, and the form with a number added, as they are made in place.
-use Rattle.std.proofs.Common.{◌≡◌, ℕ, ◌+◌, ◌-◌, ◌<◌, ◌≤◌, ℤ, pos, ◌+ℤ◌, neg_ℤ, List, length, ap, sym, ◌∙◌, arith}
-use Rattle.std.specs.Prelude.{slice_set}
+use Rattle.std.proofs.Common.{◌≡◌, ℕ, ◌+◌, ◌-◌, ◌<◌, ◌≤◌, ℤ, pos, ◌+ℤ◌, neg_ℤ, List, length, [], ◌∷◌, refl, ap, sym, ◌∙◌, arith}
+use Rattle.std.specs.Prelude.{slice_set, IsTrue}
 use Rattle.std.proofs.lemmas.Int.{ints}
 use Rattle.std.proofs.lemmas.List.{length-map, get_or-map}
 use Rattle.pip_model.specs.Forms.{width, constant, entry, negate, plus, widen_to}
+use Rattle.pip_model.specs.Listed.{all_fit}
+use Rattle.affine_forms.specs.Checks.{Fits}
 use Rattle.pip_model.specs.Cuts.{rounding}
 use Rattle.pip_model.proofs.Forms.{length-widened, entry-widened, constant-plus}
 use Rattle.affine_forms.proofs.Units.{add_unit, add_last}
@@ -30,3 +32,9 @@ plus_is c z h = sym (add_last c (width c) z (omega (arith, h)))
 
 pub constant_plus : (c : List ℤ) (z : ℤ) → 0 < length c → constant (plus c z) ≡ entry c (length c - 1) +ℤ z
 constant_plus c z h = constant-plus c z (omega (arith, h))
+
+pub plus_made : (c : List ℤ) (z v : ℤ) → 0 < length c → v ≡ entry c (length c - 1) +ℤ z → slice_set c (length c - 1) v ≡ plus c z
+plus_made c z v h e = ap (λ x. slice_set c (length c - 1) x) e ∙ plus_is c z h
+
+pub plus_listed : (c : List ℤ) (z : ℤ) → 0 < length c → Fits (entry c (length c - 1) +ℤ z) → IsTrue (all_fit (constant (plus c z) ∷ []))
+plus_listed c z h f = rw (constant_plus c z h, f) refl

@@ -21,3 +21,6 @@ all_three x y z a b c = rw (a, b, c) refl
 -- p and q are the products x and y
 pub difference_listed : (p q x y : ℤ) → p ≡ x → q ≡ y → Fits x → Fits y → Fits (p -ℤ q) → IsTrue (all_fit (x ∷ y ∷ (x -ℤ y) ∷ []))
 difference_listed p q x y e f a b c = all_three x y (x -ℤ y) a b (rw (sym e, sym f) c)
+
+pub difference_is : (p q d x y : ℤ) → p ≡ x → q ≡ y → d ≡ p -ℤ q → d ≡ x -ℤ y
+difference_is p q d x y e f g = rw (sym e, sym f) g

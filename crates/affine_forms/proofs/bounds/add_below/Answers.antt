@@ -1,11 +1,21 @@
-use Rattle.std.proofs.Common.{rules}
+use Rattle.std.proofs.Common.{◌≡◌, rules, pos, ◌-◌, ◌+ℤ◌, ◌-ℤ◌, get_or, length, to_z, of_z}
+use Rattle.std.specs.Int.{w128}
 use Rattle.std.proofs.lemmas.List.Elements.{All-set}
 use Rattle.affine_forms.specs.Checks.{Fits}
-use Rattle.affine_forms.proofs.QuotientForms.{plus_is}
+use Rattle.affine_forms.proofs.QuotientForms.{plus_made, plus_listed}
 use Rattle.affine_forms.proofs.bounds.add_below.Goals as goal
 
+pub returns-clause-listed : goal.returns-clause-listed
+returns-clause-listed c =
+    let entries = c.args.entries.now in
+    let fits : Fits (get_or entries (length entries - 1) (pos 0) +ℤ (c.args.d -ℤ pos 1)) = search rules in
+    plus_listed entries (c.args.d -ℤ pos 1) c.requires.form.some fits
+
 pub returns-clause-ok : goal.returns-clause-ok
-returns-clause-ok c = search (rules, plus_is)
+returns-clause-ok c =
+    let entries = c.args.entries.now in
+    let made : to_z w128 (of_z w128 c.in_ok-constant.constant) ≡ get_or entries (length entries - 1) (pos 0) +ℤ (c.args.d -ℤ pos 1) = search rules in
+    plus_made entries (c.args.d -ℤ pos 1) _ c.requires.form.some made
 
 pub returns-clause-form : goal.returns-clause-form
 returns-clause-form c = record { some = search rules; fits = All-set Fits _ _ _ (search rules) c.requires.form.fits }

@@ -1,12 +1,18 @@
-use Rattle.std.proofs.Common.{pos, arith, rules}
-use Rattle.std.proofs.lemmas.List.Elements.{All-push}
+use Rattle.std.proofs.Common.{pos, get_or, neg_ℤ, arith, to_z, of_z}
+use Rattle.std.specs.Int.{w128}
+use Rattle.pip_model.specs.Numbers.{floor_mod}
 use Rattle.affine_forms.specs.Checks.{Fits}
-use Rattle.affine_forms.proofs.Mapped.{pushed_step}
+use Rattle.affine_forms.proofs.Bits.{residue_made, held_fits}
+use Rattle.affine_forms.proofs.Mapped.{pushed_made, pushed_all}
 use Rattle.affine_forms.proofs.division.residues.Goals as goal
 
 pub loop-entry-preserved : goal.loop-entry-preserved
 loop-entry-preserved c =
-    rw c.in_ok-push.ensures.items (
-      pushed_step _ c.args.entries.now _ c.loop-entry.entry-index _ (pos 0) (omega arith) c.loop-entry.invariant.0 (search rules),
-      All-push Fits _ _ c.loop-entry.invariant.1 (search rules),
+    let xs = c.args.entries.now in
+    let i = c.loop-entry.entry-index in
+    let fits = c.requires.fits i (pos 0) (omega arith) in
+    let d = to_z w128 (of_z w128 c.args.d) in (
+      pushed_made (λ x. floor_mod (neg_ℤ x) d) xs c.loop-entry.found.items c.push.new.self.items i _ (pos 0) (omega arith) c.in_ok-push.ensures.items c.loop-entry.invariant.0
+          (residue_made (get_or xs i (pos 0)) d c.floor_mod.result fits c.floor_mod.ensures.fits c.floor_mod.ensures.value),
+      pushed_all Fits c.loop-entry.found.items c.push.new.self.items _ c.in_ok-push.ensures.items c.loop-entry.invariant.1 (held_fits c.floor_mod.result c.floor_mod.ensures.fits),
     )
