@@ -1,4 +1,4 @@
-ghost use Rattle.std.specs.Prelude.{◌≡◌, OnOk, OnErr, IfOk};
+ghost use Rattle.std.specs.Prelude.{◌≡◌, ◌++◌, OnOk, OnErr, IfOk};
 ghost use Rattle.pip_model.specs.Forms.{opposite};
 ghost use Rattle.pip_model.specs.Listed.{opposite_listed};
 ghost use Rattle.pip_model.specs.Agreement.{IsChecked};
@@ -73,6 +73,7 @@ fn put_solution(out: &mut Vec<u8>, answer: &Answer) -> Result<(), PiecesRefusal>
 
 // The pieces of the tree below a node, each behind the text of the path to the node. The path is as it was where
 // nothing is refused.
+#[cycle(pieces)]
 fn put_pieces(
     alloc: Global,
     out: &mut Vec<u8>,
@@ -84,27 +85,44 @@ fn put_pieces(
     ensures path { OnOk result (path.new.items ≡ path.old.items) }
     ensures listed { IsChecked is_pieces_overflow (pieces_listed (tree_of node.now)) result }
 {
-    let above = path.len();
     match node {
         Node::Bottom => put_piece(out, path, node),
         Node::Leaf(_) => put_piece(out, path, node),
         Node::Select(v, a, b) => {
             let opposite = opposite_of(alloc, v)?;
-            put_where(path, v)?;
-            put_pieces(alloc, out, path, a)?;
-            path.truncate(above);
-            put_where(path, &opposite)?;
-            put_pieces(alloc, out, path, b)?;
-            path.truncate(above);
-            Ok(())
+            put_pieces_where(alloc, out, path, v, a)?;
+            put_pieces_where(alloc, out, path, &opposite, b)
         }
         Node::Define(v, d, a) => {
+            let above = path.len();
             put_definition(path, v, *d)?;
             put_pieces(alloc, out, path, a)?;
             path.truncate(above);
             Ok(())
         }
     }
+}
+
+// The same where a condition is at least 0.
+#[cycle(pieces)]
+fn put_pieces_where(
+    alloc: Global,
+    out: &mut Vec<u8>,
+    path: &mut Vec<u8>,
+    condition: &Form,
+    node: &Node,
+) -> Result<(), PiecesRefusal>
+    ensures ok { Appends (spell_under (path.old.items ++ spell_entry (Where condition.now)) (tree_of node.now))
+        out.old.items out.new.items result }
+    ensures kept { Begins out.old.items out.new.items }
+    ensures path { OnOk result (path.new.items ≡ path.old.items) }
+    ensures listed { IsChecked is_pieces_overflow (pieces_listed (tree_of node.now)) result }
+{
+    let above = path.len();
+    put_where(path, condition)?;
+    put_pieces(alloc, out, path, node)?;
+    path.truncate(above);
+    Ok(())
 }
 
 // `-v - 1`.
