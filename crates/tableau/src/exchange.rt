@@ -6,7 +6,7 @@ ghost use Rattle.pip_model.specs.Agreement.{IsChecked};
 ghost use Rattle.affine_forms.specs.Checks.{is_overflow};
 ghost use Rattle.tableau.specs.KeptRows.{IsOver, IsLent, AreLent, AreSteady, IsFlat, IsRun, IsSteady, SameShape, lent_row, lent_rows, row_length, with_more, with_rows, unit_run};
 ghost use Rattle.tableau_row.specs.Rows.{IsRow, IsOwnRow, IsReduced};
-ghost use Rattle.tableau_row.specs.Views.{row_of};
+ghost use Rattle.tableau_row.specs.Views.{row_of, is_known_short};
 
 use crate::copying::copy_kept;
 use crate::flat_rows::FlatRows;
@@ -22,7 +22,7 @@ fn check_row(p: &RowView<'_>, c: usize, row: &RowView<'_>) -> Result<(), Overflo
     requires column { c < length p.now.coefs.now }
     ensures { IsChecked is_overflow (model.eliminated_listed (row_of p.now) c (row_of row.now)) result }
 {
-    if p.short && row.short {
+    if p.is_known_short() && row.is_known_short() {
         return Ok(());
     }
     if p.coefs[c] == 1 && row.coefs[c] == 0 {
@@ -34,14 +34,9 @@ fn check_row(p: &RowView<'_>, c: usize, row: &RowView<'_>) -> Result<(), Overflo
 // The row, as one that is not known to be short.
 fn as_long<'t>(row: &RowView<'t>) -> RowView<'t>
     ensures value { row_of result ≡ row_of row.now }
-    ensures short { result.short ≡ false }
+    ensures short { is_known_short result ≡ false }
 {
-    RowView {
-        den: row.den,
-        coefs: row.coefs,
-        constant: row.constant,
-        short: false,
-    }
+    RowView::new(row.den, row.coefs, row.constant, false)
 }
 
 // Adds what a kept row is after the pivot on row p and column c. A row that is 0 in the column stays, since its numbers
@@ -88,7 +83,7 @@ fn turn_kept(
     requires units { lent.now.units.now ≡ unit_run lent.now.unknowns lent.now.width }
     requires one { IsLent lent.now one }
     requires p { IsRow lent.now.unknowns lent.now.width (row_of p.now) }
-    requires p_reduced { IsTrue p.now.short → IsReduced (row_of p.now) }
+    requires p_reduced { IsTrue (is_known_short p.now) → IsReduced (row_of p.now) }
     requires column { c < lent.now.unknowns }
     requires positive { pos 1 ≤ℤ entry p.now.coefs.now c }
     ensures listed { IsChecked is_overflow (model.eliminated_listed (row_of p.now) c (lent_row lent.now one)) result }
@@ -97,7 +92,7 @@ fn turn_kept(
     ensures err { OnErr result (next.new ≡ next.old) }
 {
     if let Kept::Unit(k) = one {
-        if k == c && p.short {
+        if k == c && p.is_known_short() {
             next.push_solved(p, c);
             return Ok(());
         }
@@ -120,7 +115,11 @@ fn steady_end(p: &RowView<'_>, c: usize, lent: &Lent<'_>, one: Kept, at: usize) 
     match one {
         Kept::Unit(k) => { if k != c { Some(at) } else { None } }
         Kept::At(place) => {
-            if place.first == at && place.short && p.short && lent.numbers[at + 1 + c] == 0 {
+            if place.first == at
+                && place.short
+                && p.is_known_short()
+                && lent.numbers[at + 1 + c] == 0
+            {
                 Some(lent.behind(one, at))
             } else {
                 None
@@ -198,7 +197,7 @@ fn turn_rows(
     requires units { lent.now.units.now ≡ unit_run lent.now.unknowns lent.now.width }
     requires lent { AreLent lent.now kept.now }
     requires p { IsRow lent.now.unknowns lent.now.width (row_of p.now) }
-    requires p_reduced { IsTrue p.now.short → IsReduced (row_of p.now) }
+    requires p_reduced { IsTrue (is_known_short p.now) → IsReduced (row_of p.now) }
     requires column { c < lent.now.unknowns }
     requires positive { pos 1 ≤ℤ entry p.now.coefs.now c }
     ensures listed { IsChecked is_overflow

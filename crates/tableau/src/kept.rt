@@ -42,12 +42,7 @@ impl<'t> Lent<'t> {
         let (coefs, _) = behind.split_at(self.unknowns);
         let (_, behind) = self.units.split_at(self.unknowns + 1);
         let (constant, _) = behind.split_at(self.width + 1);
-        RowView {
-            den: 1,
-            coefs,
-            constant,
-            short: true,
-        }
+        RowView::new(1, coefs, constant, true)
     }
 
     // The numbers of the row whose first number stands at a place.

@@ -111,7 +111,7 @@ impl FlatRows {
         append_row(&mut self.numbers, row);
         let last = Place {
             first,
-            short: row.short,
+            short: row.is_known_short(),
         };
         seal(
             &mut self.kept,
@@ -246,7 +246,7 @@ impl FlatRows {
         append_widened(&mut self.numbers, row);
         let last = Place {
             first,
-            short: row.short,
+            short: row.is_known_short(),
         };
         seal(
             &mut self.kept,

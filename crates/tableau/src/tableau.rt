@@ -245,12 +245,9 @@ impl Tableau {
         ensures err { OnErr result (self.new ≡ self.old) }
     {
         make_room(&mut self.rows, &mut self.next, &mut self.units)?;
-        self.rows.push_divided(&RowView {
-            den,
-            coefs,
-            constant,
-            short: is_short_row(den, coefs, constant),
-        });
+        let short = is_short_row(den, coefs, constant);
+        self.rows
+            .push_divided(&RowView::new(den, coefs, constant, short));
         Ok(())
     }
 

@@ -138,6 +138,13 @@ combined_all a b r s i same h = rw (take_all i r h, take_all i s (omega arith), 
 pub combine_taken : (a b : ℤ) (r s : List ℤ) (i : ℕ) → length r ≡ length s → length r ≤ i → combine a (take i r) b (take i s) ≡ combine a r b s
 combine_taken a b r s i same h = rw (take_all i r h, take_all i s (omega arith)) refl
 
+-- a fact of all entries, whose factors x and y are a and b
+pub combine_whole : (P : List ℤ → Type 0) (a b x y : ℤ) (r s : List ℤ) (i : ℕ) → length r ≡ length s → length r ≤ i → x ≡ a → y ≡ b
+    → P (combine x (take i r) y (take i s)) → P (combine a r b s)
+combine_whole P a b x y r s i same h e f all =
+    subst P (combine_taken a b r s i same h)
+    (subst (λ z. P (combine z (take i r) b (take i s))) e (subst (λ z. P (combine x (take i r) z (take i s))) f all))
+
 -- the numbers in front of a place and behind it
 pub listed_sides : (a b : ℤ) (r s : List ℤ) (c : ℕ) → length r ≡ length s → IsTrue (all_fit (combine_listed a (remove c r) b (remove c s)))
     → IsTrue (all_fit (combine_listed a (take c r) b (take c s))) × IsTrue (all_fit (combine_listed a (drop (c + 1) r) b (drop (c + 1) s)))

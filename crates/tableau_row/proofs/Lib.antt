@@ -1,6 +1,7 @@
 pub mod Combining
 pub mod Contents
 pub mod Dividing
+pub mod Lent
 pub mod Numbers
 pub mod Places
 pub mod Quotients

@@ -79,7 +79,6 @@ pub fn append_divided(numbers: &mut Vec<i128>, row: &RowView<'_>) -> bool
 }
 
 // Appends `a*r - b*s`, entry by entry, for short numbers, a and b being of 32 bits; whether those are short too.
-#[tactic(auto, using(crate::proofs::Combining::combine_taken))]
 fn append_combined(numbers: &mut Vec<i128>, a: i64, r: &[i128], b: i64, s: &[i128]) -> bool
     requires room { vec_len numbers.old + length r.now ≤ vec_capacity numbers.old }
     requires lengths { length r.now ≡ length s.now }

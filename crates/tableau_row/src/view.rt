@@ -1,4 +1,4 @@
-ghost use Rattle.std.specs.Prelude.{◌<◌, ◌*ℤ◌, length, IsTrue};
+ghost use Rattle.std.specs.Prelude.{◌≡◌, ◌<◌, ◌*ℤ◌, length, IsTrue};
 ghost use Rattle.pip_model.specs.Forms.{entry};
 ghost use Rattle.affine_forms.specs.Checks.{IsFitted};
 ghost use Rattle.tableau_row.specs.Short.{IsShortRow};
@@ -16,12 +16,36 @@ pub struct RowView<'t> {
     pub coefs: &'t [i128],
     /// The entries of t: the coefficients of the parameters and quotients, and then the constant.
     pub constant: &'t [i128],
-    /// Whether each number is known to lie from `-(2^63 - 1)` to `2^63 - 1`.
-    pub short: bool,
+    // Whether each number is known to lie from -(2^63 - 1) to 2^63 - 1.
+    pub(crate) short: bool,
     ghost short_numbers: { IsTrue short → IsShortRow (row_from den coefs.now constant.now) },
 }
 
-impl RowView<'_> {
+impl<'t> RowView<'t> {
+    ghost use Rattle.tableau_row.specs.Views.{row_of, is_known_short};
+
+    /// The row of these parts; `short` says that all its numbers are known to lie from `-(2^63 - 1)` to `2^63 - 1`.
+    pub fn new(den: i128, coefs: &'t [i128], constant: &'t [i128], short: bool) -> RowView<'t>
+        requires short { IsTrue short → IsShortRow (row_from den coefs.now constant.now) }
+        ensures value { row_of result ≡ row_from den coefs.now constant.now }
+        ensures short { is_known_short result ≡ short }
+    {
+        RowView {
+            den,
+            coefs,
+            constant,
+            short,
+        }
+    }
+
+    /// Whether all its numbers are known to lie from `-(2^63 - 1)` to `2^63 - 1`.
+    pub fn is_known_short(&self) -> bool
+        ensures value { result ≡ is_known_short self.now }
+        ensures short { IsTrue result → IsShortRow (row_of self.now) }
+    {
+        self.short
+    }
+
     /// Its coefficient k times the other row's coefficient b. It overflows exactly where that does not fit.
     pub fn product(&self, k: usize, other: &RowView<'_>, b: usize) -> Result<i128, Overflow>
         requires k { k < length self.now.coefs.now }

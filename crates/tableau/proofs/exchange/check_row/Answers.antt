@@ -12,6 +12,6 @@ returns-then-row-c-eq0 c =
     eliminated_listed_one (row_of c.args.p.now) c.args.c (row_of c.args.row.now) one none c.requires.row.coefs (omega (arith, c.requires.row.constant, c.requires.p.constant))
     c.requires.row.den_fits c.requires.row.coefs_fit c.requires.row.constant_fit
 
-pub returns-then-row : goal.returns-then-row
-returns-then-row c =
+pub returns-then-is_known_short-2 : goal.returns-then-is_known_short-2
+returns-then-is_known_short-2 c =
     short_eliminated (row_of c.args.p.now) c.args.c (row_of c.args.row.now) (search rules) (search rules) c.requires.column c.requires.row.coefs

@@ -1,8 +1,10 @@
-use Rattle.std.proofs.Common.{arith, rules, ◌≡◌, pos, to_z, of_z, ◌*ℤ◌, ◌-ℤ◌, get_or}
+use Rattle.std.proofs.Common.{arith, rules, ◌≡◌, pos, to_z, of_z, ◌*ℤ◌, ◌-ℤ◌, ◌++◌, get_or, ℤ, List}
 use Rattle.std.specs.Int.{w64}
+use Rattle.std.specs.Prelude.{All}
+use Rattle.std.proofs.lemmas.Int.{to_z-of_z}
 use Rattle.affine_forms.specs.Checks.{Fits}
 use Rattle.tableau_row.specs.Short.{IsShort}
-use Rattle.tableau_row.proofs.Combining.{made_taken, made_step}
+use Rattle.tableau_row.proofs.Combining.{made_taken, made_step, combine_whole}
 use Rattle.tableau_row.proofs.append.append_combined.Goals as goal
 
 pub loop-i-preserved : goal.loop-i-preserved
@@ -17,3 +19,18 @@ loop-i-preserved c =
       length = search rules;
       room = search rules;
     }
+
+pub returns-clause-items : goal.returns-clause-items
+returns-clause-items c =
+    combine_whole (λ (xs : List ℤ). c.loop-i.numbers.items ≡ c.args.numbers.now.items ++ xs) c.args.a c.args.b _ _ c.args.r.now c.args.s.now c.loop-i.i c.requires.lengths c.loop-i-test.false
+    (to_z-of_z w64 c.args.a c.ranges.a) (to_z-of_z w64 c.args.b c.ranges.b) c.loop-i.invariant.items
+
+pub returns-clause-fits : goal.returns-clause-fits
+returns-clause-fits c =
+    combine_whole (All Fits) c.args.a c.args.b _ _ c.args.r.now c.args.s.now c.loop-i.i c.requires.lengths c.loop-i-test.false
+    (to_z-of_z w64 c.args.a c.ranges.a) (to_z-of_z w64 c.args.b c.ranges.b) c.loop-i.invariant.fits
+
+pub returns-clause-short : goal.returns-clause-short
+returns-clause-short c = λ all.
+    combine_whole (All IsShort) c.args.a c.args.b _ _ c.args.r.now c.args.s.now c.loop-i.i c.requires.lengths c.loop-i-test.false
+    (to_z-of_z w64 c.args.a c.ranges.a) (to_z-of_z w64 c.args.b c.ranges.b) (c.loop-i.invariant.short all)

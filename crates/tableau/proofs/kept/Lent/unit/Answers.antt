@@ -40,12 +40,12 @@ split_at-requires-4 c =
     let long : length s.units.now ≡ s.unknowns + suc (max s.unknowns (s.width + 1)) = ap length c.requires.units ∙ length_run s.unknowns s.width in
     omega arith
 
-pub returns : goal.returns
-returns c = lent_unit c.args.self.now.unknowns c.args.self.now.width c.args.c _ _ c.requires.column (search rules) (search rules)
-
-pub invariant_of-result : goal.invariant_of-result
-invariant_of-result c =
+pub new-requires : goal.new-requires
+new-requires c =
     let s = c.args.self.now in
     record {
-      short_numbers = λ short. subst IsShortRow (sym (lent_unit s.unknowns s.width c.args.c c.split_at-2.result.0.now c.split_at-4.result.0.now c.requires.column (search rules) (search rules))) (unit_short s.unknowns s.width c.args.c);
+      short = λ short. subst IsShortRow (sym (lent_unit s.unknowns s.width c.args.c c.split_at-2.result.0.now c.split_at-4.result.0.now c.requires.column (search rules) (search rules))) (unit_short s.unknowns s.width c.args.c);
     }
+
+pub returns : goal.returns
+returns c = c.new.ensures.value ∙ lent_unit c.args.self.now.unknowns c.args.self.now.width c.args.c _ _ c.requires.column (search rules) (search rules)

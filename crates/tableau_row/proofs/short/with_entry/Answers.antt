@@ -1,0 +1,13 @@
+use Rattle.std.proofs.Common.{ap, sym, ◌∙◌}
+use Rattle.std.specs.Int.{w128}
+use Rattle.std.proofs.lemmas.Int.{to_z-of_z}
+use Rattle.tableau_row.specs.Short.{is_short}
+use Rattle.tableau_row.proofs.Combining.{short_bound}
+use Rattle.tableau_row.proofs.short.with_entry.Goals as goal
+
+pub returns-then-short-clause-so_far : goal.returns-then-short-clause-so_far
+returns-then-short-clause-so_far c = λ _. c.if-short.true
+
+pub returns-then-short-clause-entry : goal.returns-then-short-clause-entry
+returns-then-short-clause-entry c = λ e.
+    short_bound c.args.entry (ap is_short (sym (to_z-of_z w128 c.args.entry c.ranges.entry)) ∙ sym c.is_short.ensures ∙ e)
