@@ -21,15 +21,25 @@ pub(crate) fn place_of(unknowns: usize, rows: usize, i: usize, numbers: &[i64]) 
     i * (unknowns + 2)
 }
 
+// The numbers of row i of so many.
+pub(crate) fn numbers_in(numbers: &[i64], unknowns: usize, rows: usize, i: usize) -> &[i64]
+    requires dense { IsDense unknowns rows numbers.now }
+    requires row { i < rows }
+    ensures value { row_of_numbers unknowns result.now ≡ model.row_at (rows_in unknowns rows numbers.now) i }
+    ensures length { length result.now ≡ row_size unknowns }
+{
+    let (_, behind) = numbers.split_at(place_of(unknowns, rows, i, numbers));
+    let (row, _) = behind.split_at(unknowns + 2);
+    row
+}
+
 // Row i of so many.
 pub(crate) fn row_in(numbers: &[i64], unknowns: usize, rows: usize, i: usize) -> ShortRow<'_>
     requires dense { IsDense unknowns rows numbers.now }
     requires row { i < rows }
     ensures { row_of result ≡ model.row_at (rows_in unknowns rows numbers.now) i }
 {
-    let (_, behind) = numbers.split_at(place_of(unknowns, rows, i, numbers));
-    let (row, _) = behind.split_at(unknowns + 2);
-    view_of(row, unknowns)
+    view_of(numbers_in(numbers, unknowns, rows, i), unknowns)
 }
 
 // The constant of row i of so many.

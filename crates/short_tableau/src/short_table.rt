@@ -6,17 +6,21 @@ ghost use Rattle.pip_model.specs.Listed.{all_fit};
 ghost use Rattle.pip_model.specs.Numbers.{is_nonneg};
 ghost use Rattle.pip_model.specs.Rows as model;
 ghost use Rattle.affine_forms.specs.Forms.{IsForm};
+ghost use Rattle.tableau.specs.Flat.{row_of_numbers};
 ghost use Rattle.tableau.specs.Short.{is_short, IsShort};
 ghost use Rattle.tableau.specs.Tableaus.{with_row};
 ghost use Rattle.short_tableau.specs.Begun.{is_short_row};
 ghost use Rattle.short_tableau.specs.Below.{negative_from};
-ghost use Rattle.short_tableau.specs.Dense.{IsShortReduced};
+ghost use Rattle.short_tableau.specs.Dense.{IsShortReduced, row_size};
 ghost use Rattle.short_tableau.specs.Rows.{row_of};
 
 use crate::cuts::push_cut_row;
 use crate::pushing::{append_form, push_row, push_unit_row};
 use crate::row::ShortRow;
-use crate::rows::{coef_at, constant_at, first_below_in, pivot_rows, row_in, turn_rows};
+use crate::rows::{
+    coef_at, constant_at, first_below_in, numbers_in, pivot_rows, row_in, turn_rows,
+};
+use crate::wide::widened;
 use affine_forms::WantOfMemory;
 use std::alloc::Global;
 use std::marker::Model;
@@ -144,6 +148,18 @@ impl ShortTableau {
         ensures short { IsShort result }
     {
         coef_at(&self.numbers, self.unknowns, self.count, i, k)
+    }
+
+    /// The numbers of row i in 128 bits: the denominator, the coefficients, the constant.
+    pub fn wide_row(&self, alloc: Global, i: usize) -> Result<Vec<i128>, WantOfMemory>
+        requires { i < length self.now.rows }
+        ensures value { IfOk result (λ numbers. row_of_numbers self.now.unknowns numbers.items
+            ≡ model.row_at self.now.rows i) }
+        ensures length { IfOk result (λ numbers. length numbers.items ≡ row_size self.now.unknowns) }
+        ensures row { IsShortReduced self.now.unknowns (model.row_at self.now.rows i) }
+    {
+        let row = numbers_in(&self.numbers, self.unknowns, self.count, i);
+        widened(alloc, row)
     }
 
     /// Whether the constant of row i is below 0.

@@ -1,4 +1,4 @@
-ghost use Rattle.std.specs.Prelude.{◌≡◌, ◌≤◌, pos, ◌≤ℤ◌, false, length, All, IsTrue, IsFalse, IfSome, IfNone};
+ghost use Rattle.std.specs.Prelude.{◌≡◌, ◌≤◌, pos, ◌≤ℤ◌, false, length, All, IsTrue, IsFalse, IfOk, IfSome, IfNone};
 ghost use Rattle.std.specs.List.{list_all};
 ghost use Rattle.pip_model.specs.Forms.{combine, floor_divided};
 ghost use Rattle.pip_model.specs.Numbers.{gcd as gcd_of_two, gcd_of, floor_div as floor_div_of};
@@ -7,7 +7,19 @@ ghost use Rattle.tableau.specs.Short.{is_short, IsShort};
 ghost use Rattle.short_tableau.specs.Begun.{finished};
 
 use crate::numbers::{narrow, wide_entry};
-use affine_forms::{floor_div, gcd};
+use affine_forms::{WantOfMemory, floor_div, gcd};
+use std::alloc::Global;
+
+// The numbers in 128 bits.
+pub(crate) fn widened(alloc: Global, numbers: &[i64]) -> Result<Vec<i128>, WantOfMemory>
+    ensures { IfOk result (λ wide. wide.items ≡ numbers.now) }
+{
+    let mut wide = Vec::with_capacity(alloc, numbers.len())?;
+    for number in numbers {
+        wide.push(i128::from(*number))?;
+    }
+    Ok(wide)
+}
 
 // What the entries of a row and those of the pivot's row are multiplied by: `a*r - b*s`.
 #[derive(Clone, Copy)]
