@@ -1,9 +1,10 @@
 -- The row of a form that is read over all columns.
-use Rattle.std.proofs.Common.{◌≡◌, refl, ap, sym, ◌∙◌, ℕ, ◌+◌, ◌-◌, ◌≤◌, ℤ, pos, arith, List, [], ◌∷◌, ◌++◌, length, take, drop, replicate, length-append}
-use Rattle.std.proofs.lemmas.List.{drop_more, drop_all, take_all, take-append-le, drop-append-le, length-take-le, length-replicate}
+use Rattle.std.proofs.Common.{◌≡◌, refl, ap, sym, ◌∙◌, ℕ, ◌+◌, ◌-◌, ◌<◌, ◌≤◌, ℤ, pos, arith, List, [], ◌∷◌, ◌++◌, length, map, take, get_or, drop, replicate, length-append, append_assoc}
+use Rattle.std.proofs.lemmas.List.{drop_more, drop_all, take_all, take-append-le, drop-append-le, length-take-le, length-replicate, map_more, map-append}
 use Rattle.pip_model.specs.Numbers.{gcd, gcd_of, floor_div}
 use Rattle.pip_model.specs.Forms.{floor_divided, width, coefficients, constant, widen_to}
-use Rattle.pip_model.specs.Rows.{Row, divided, form_row}
+use Rattle.pip_model.specs.Rows.{Row, divided, form_row, unit_row, count_from, start}
+use Rattle.tableau.specs.Tableaus.{TableauRows}
 use Rattle.affine_forms.proofs.Divisors.{gcd_one, floor_divided_one}
 
 abbrev whole_row : List ℤ → List ℤ → Row
@@ -40,3 +41,18 @@ module _ (n : ℕ) (c : List ℤ) (some : 1 ≤ length c) (narrow : length c ≤
   pub filled : (coefs front : List ℤ) (filled_from : ℕ) → front ≡ coefficients c → filled_from ≡ width c → coefs ≡ take n front ++ replicate (n - filled_from) (pos 0)
       → coefs ≡ coefficients c ++ replicate (n - width c) (pos 0)
   filled coefs front m e f g = rw (g, f, e, take_all n (coefficients c) (omega (arith, some, narrow, length-take-le (width c) c (omega arith)))) refl
+
+-- the rows that a run starts from, with one form more
+pub start_more : (n : ℕ) (forms : List (List ℤ)) (i : ℕ) (form : List ℤ) (now next : TableauRows) → i < length forms
+    → now ≡ record { unknowns = n; width = 0; rows = start n 0 (map (widen_to n) (take i forms)) }
+    → next ≡ record now { rows = now.rows ++ form_row now.unknowns (widen_to now.unknowns (get_or forms i form)) ∷ [] }
+    → next ≡ record { unknowns = n; width = 0; rows = start n 0 (map (widen_to n) (take (i + 1) forms)) }
+start_more n forms i form now next h before more =
+    let units : List Row = map (unit_row n 0) (count_from 0 n) in
+    let widened : List ℤ = widen_to n (get_or forms i form) in
+    let first : List (List ℤ) = map (widen_to n) (take i forms) in
+    let with_form : TableauRows → TableauRows = λ (t : TableauRows). record t { rows = t.rows ++ form_row t.unknowns (widen_to t.unknowns (get_or forms i form)) ∷ [] } in
+    more ∙ ap with_form before ∙ ap (λ (rows : List Row). let t : TableauRows = record { unknowns = n; width = 0; rows = rows } in t)
+    (append_assoc units (map (form_row n) first) (form_row n widened ∷ [])
+    ∙ ap (λ (rows : List Row). units ++ rows) (sym (map-append (form_row n) first (widened ∷ [])))
+    ∙ ap (λ (fs : List (List ℤ)). units ++ map (form_row n) fs) (sym (map_more (widen_to n) forms i form h)))

@@ -1,0 +1,14 @@
+use Rattle.std.proofs.Common.{◌≡◌, ◌∙◌, ap, ◌++◌, [], ◌∷◌, List, ℤ, get_or}
+use Rattle.pip_model.specs.Forms.{widen_to}
+use Rattle.pip_model.specs.Rows.{form_row}
+use Rattle.tableau.specs.Tableaus.{TableauRows}
+use Rattle.context.proofs.WidenedRows.{start_more}
+use Rattle.context.proofs.rows.start_rows.Goals as goal
+
+pub loop-form-preserved : goal.loop-form-preserved
+loop-form-preserved c =
+    let now : TableauRows = c.loop-form.rows in
+    let with_form : List ℤ → TableauRows = λ (form : List ℤ). record now { rows = now.rows ++ form_row now.unknowns (widen_to now.unknowns form) ∷ [] } in
+    let form : c.as_slice.result.now ≡ get_or c.args.forms.now c.loop-form.form-index c.form-item.result = c.as_slice.ensures.value ∙ c.form-item.is in
+    start_more c.args.places c.args.forms.now c.loop-form.form-index c.form-item.result now c.push_widened.new.rows c.loop-form-test.true c.loop-form.invariant
+    (c.in_ok-push_widened.ensures.ok ∙ ap with_form form)
