@@ -7,6 +7,7 @@ pub mod Places
 pub mod Quotients
 pub mod Rounding
 pub mod RowLaws
+pub mod ShortHeld
 pub mod ShortRows
 pub mod Solved
 pub mod Substituting
