@@ -41,6 +41,7 @@ pub fn point(
 ) -> Result<Option<Point>, ToolRefusal>
     ensures gives { AgreesWalked (λ o. o) tool_fault result work.new
         (by_run (point_of context.now.width context.now.forms) work.old) }
+    ensures budget { work.new.budget ≡ work.old.budget }
     ensures width { IfOk result (λ o. IfSome o (λ p. length p ≡ context.now.width)) }
 {
     let found = context.point(alloc, work)?;

@@ -29,6 +29,7 @@ pub fn sign(
     ensures gives { AgreesWalked class_of tool_fault result work.new
         (by_run (class_in context.old.forms context.old.width form.now) work.old) }
     ensures kept { IsKeptContext context.old context.new }
+    ensures budget { work.new.budget ≡ work.old.budget }
     ensures condition { IfOk result (ConditionIs (length form.now)) }
 {
     let found = class(alloc, context, form, work)?;
@@ -47,6 +48,7 @@ pub(crate) fn check_sign(
     ensures gives { AgreesWalked (λ x. tt) tool_fault result work.new
         (checked_sign context.old.forms context.old.width form.now work.old) }
     ensures kept { IsKeptContext context.old context.new }
+    ensures budget { work.new.budget ≡ work.old.budget }
 {
     match sign(alloc, form, context, work)? {
         Class::Plus => Ok(()),
