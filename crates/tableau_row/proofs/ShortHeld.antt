@@ -1,5 +1,5 @@
 -- Short numbers as code holds them: written to bits and read back.
-use Rattle.std.proofs.Common.{◌≡◌, ℕ, ◌^◌, ◌<◌, ℤ, pos, to_z, of_z, unsigned_abs, arith, List, length, get_or, All}
+use Rattle.std.proofs.Common.{ℕ, ◌<◌, ℤ, pos, to_z, of_z, arith, List, length, get_or, All}
 use Rattle.std.specs.Int.{w128}
 use Rattle.std.proofs.lemmas.Int.{to_z-of_z, fits_signed_from_abs}
 use Rattle.std.proofs.lemmas.List.Elements.{All-get_or}

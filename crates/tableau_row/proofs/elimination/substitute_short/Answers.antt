@@ -11,7 +11,7 @@ use Rattle.tableau_row.proofs.Substituting.{substituted_row, substituted_is}
 use Rattle.tableau_row.proofs.elimination.substitute_short.Goals as goal
 
 pub short_product-den-requires-clause-a : goal.short_product-den-requires-clause-a
-short_product-den-requires-clause-a c = short_held _ c.requires.row_short.den
+short_product-den-requires-clause-a c = short_held c.args.den c.requires.row_short.den
 
 pub short_product-den-requires-clause-b : goal.short_product-den-requires-clause-b
 short_product-den-requires-clause-b c = short_entry_held _ _ c.requires.p_short.coefs (omega (arith, c.requires.p.coefs, c.requires.column))
@@ -20,7 +20,7 @@ pub short_product-entry-requires-clause-a : goal.short_product-entry-requires-cl
 short_product-entry-requires-clause-a c = short_entry_held _ _ c.requires.row_short.coefs c.requires.column
 
 pub short_product-entry-requires-clause-b : goal.short_product-entry-requires-clause-b
-short_product-entry-requires-clause-b c = short_held _ c.requires.p_short.den
+short_product-entry-requires-clause-b c = short_held c.args.p.now.den c.requires.p_short.den
 
 pub combine_short-requires-clause-a : goal.combine_short-requires-clause-a
 combine_short-requires-clause-a c = short_entry_held _ _ c.requires.p_short.coefs (omega (arith, c.requires.p.coefs, c.requires.column))
