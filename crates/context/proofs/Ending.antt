@@ -49,7 +49,7 @@ finds_here n E S v h e f whole =
 
 -- ---- one row behind them
 
-only : (rows : List Row) → length rows ≡ 1 → row_at rows 0 ∷ [] ≡ rows
+pub only : (rows : List Row) → length rows ≡ 1 → row_at rows 0 ∷ [] ≡ rows
 only [] h = absurd (omega arith)
 only (r ∷ []) h = refl
 only (r ∷ s ∷ rows) h = absurd (omega arith)

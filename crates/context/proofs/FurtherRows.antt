@@ -52,7 +52,7 @@ module _ (R S : List Row) (r : ℕ) (h : r < length R) where
   pivot_listed-front : (c : ℕ) → pivot_listed (R ++ S) r c ≡ pivot_listed R r c ++ flat_map (eliminated_listed (row_at R r) c) S
   pivot_listed-front c = rw (row_at-front R S r h, others) (flat_map-append (eliminated_listed (row_at R r) c) (other_rows R r) S)
 
-all_fit-append : (xs ys : List ℤ) → all_fit (xs ++ ys) ≡ (all_fit xs && all_fit ys)
+pub all_fit-append : (xs ys : List ℤ) → all_fit (xs ++ ys) ≡ (all_fit xs && all_fit ys)
 all_fit-append [] ys = refl
 all_fit-append (x ∷ xs) ys = ap (λ (b : Bool). fits x && b) (all_fit-append xs ys) ∙ regroup (fits x) (all_fit xs) (all_fit ys)
   where

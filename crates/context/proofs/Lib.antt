@@ -4,6 +4,7 @@ pub mod Pointing
 pub mod WidenedRows
 pub mod FurtherRows
 pub mod Replaying
+pub mod GoingFurther
 pub mod Positives
 pub mod Tracing
 pub mod OneFormMore

@@ -26,7 +26,7 @@ asked_is m first rows w is =
     each (Done x v) = refl
     each (Refused f v) = refl
 
-first_more : (n : ℕ) (K : List (List ℤ)) (c : List ℤ) → first_rows n (K ++ c ∷ []) ≡ first_rows n K ++ form_row n (widen_to n c) ∷ []
+pub first_more : (n : ℕ) (K : List (List ℤ)) (c : List ℤ) → first_rows n (K ++ c ∷ []) ≡ first_rows n K ++ form_row n (widen_to n c) ∷ []
 first_more n K c =
     let units : List Row = map (unit_row n 0) (count_from 0 n) in
     ap (λ (forms : List (List ℤ)). units ++ map (form_row n) forms) (map-append (widen_to n) K (c ∷ []))

@@ -1,5 +1,5 @@
 -- The run without parameters of some rows, remembered, and what it makes of further rows behind them.
-use Rattle.std.specs.Prelude.{◌≡◌, ℕ, ◌<◌, ◌≤◌, ℤ, pos, ◌≤ℤ◌, Bool, true, false, ◌&&◌, is_none, is_some, IsTrue, List, [], ◌∷◌, ◌++◌, length, map, flat_map, get_or}
+use Rattle.std.specs.Prelude.{◌≡◌, ℕ, ◌<◌, ◌≤◌, ℤ, pos, ◌≤ℤ◌, Bool, true, false, ◌&&◌, is_none, is_some, IsTrue, List, [], ◌∷◌, ◌++◌, length, take, map, flat_map, get_or}
 use Rattle.pip_model.specs.Contexts.{IsContext}
 use Rattle.pip_model.specs.Forms.{entry, widen_to}
 use Rattle.pip_model.specs.Tree.{Tree, Bottom}
@@ -40,6 +40,10 @@ replayed (p ∷ ps) [] rows = give rows
 replayed (p ∷ ps) (c ∷ cs) rows = do
   now ← turned p c rows
   replayed ps cs now
+
+-- these pivots make of these rows `now`, and refuse none of their numbers, whatever stands behind them
+pub record IsTurned (ps : List Row) (cs : List ℕ) (rows now : List Row) : Type 0 where
+  pub turns : (further : List Row) (w : Work) → replayed ps cs (rows ++ further) w ≡ go_on (replayed ps cs further w) (λ more. give (now ++ more))
 
 -- row p may be solved for the quantity of column c, one of n
 pub record IsPivot (n : ℕ) (p : Row) (c : ℕ) : Type 0 where
@@ -87,10 +91,11 @@ pub record IsRemembered (n : ℕ) (K : List (List ℤ)) (m : Remembered) : Type 
   pub stopped : IsStopped m
   pub replay : IsReplay (first_rows n K) m.run
 
--- narrow forms, and their run where one is known
-pub record IsKnown (n : ℕ) (K : List (List ℤ)) (is_known : Bool) (run : Remembered) : Type 0 where
+-- narrow forms, and the run of the first so many of them where one is known
+pub record IsKnown (n : ℕ) (K : List (List ℤ)) (is_known : Bool) (known : ℕ) (run : Remembered) : Type 0 where
   pub context : IsContext n K
-  pub known : IsTrue is_known → IsRemembered n K run
+  pub within : IsTrue is_known → known ≤ length K
+  pub remembered : IsTrue is_known → IsRemembered n (take known K) run
 
 -- where a run shows a point, it ends at once with these rows behind its own, with a point or without one
 abbrev pub EndsWith : List Row → Bool → Type 0

@@ -10,6 +10,7 @@ ghost use Rattle.context.specs.Remembered.{has_point};
 ghost use Rattle.context.specs.Scoped.{IsKeptContext};
 
 use crate::asking::{ask_plainly, ask_shortly};
+use crate::further::go_further;
 use crate::point::Point;
 use crate::point_run::find_point;
 use crate::question::Question;
@@ -27,16 +28,19 @@ use std::marker::Model;
 /// at which no form is below 0. Contracts see the width, the forms in order, and the room that is left for more.
 ///
 /// From one question with a form more to the next a context keeps the first pivots of its own forms' run, no more
-/// than it has places and forms, and the rows that they made, until its forms or its width change. Their room stays
-/// then, and so does that of a question's rows.
+/// than it has places and forms, and the rows that they made. It goes on from them where forms were added, and begins
+/// again after its width changed or one of these forms was dropped. Their room stays, and so does that of a question's
+/// rows.
 #[derive(Drop)]
 pub struct Context {
     width: usize,
     forms: Vec<Form>,
-    // The run of these forms, where it is known, and else nothing but its room.
+    // The run of the first forms, where it is known, and else nothing but its room.
     run: Remembered,
     is_known: bool,
-    // Whether it was tried to make the run of these forms.
+    // How many forms' run it is.
+    known: usize,
+    // Whether it was tried to make the run of all forms.
     is_tried: bool,
     question: Question,
 }
@@ -59,7 +63,7 @@ impl Model for Context {
     ghost view = { λ k.
         record { width = k.width; forms = k.forms.items; spare = vec_capacity k.forms - vec_len k.forms } };
 
-    ghost invariant = { λ k. IsKnown k.width k.forms.items k.is_known k.run };
+    ghost invariant = { λ k. IsKnown k.width k.forms.items k.is_known k.known k.run };
 }
 
 impl Context {
@@ -73,6 +77,7 @@ impl Context {
             forms: Vec::new(alloc),
             run: Remembered::new(alloc),
             is_known: false,
+            known: 0,
             is_tried: false,
             question: Question::new(alloc),
         }
@@ -98,7 +103,6 @@ impl Context {
     {
         let _ = f.width();
         self.forms.push(f).unwrap();
-        self.is_known = false;
         self.is_tried = false;
     }
 
@@ -136,8 +140,8 @@ impl Context {
         ensures spare { self.old.spare + (length self.old.forms - mark.forms) ≤ self.new.spare }
     {
         self.forms.truncate(mark.forms);
+        self.is_known = self.is_known && self.known <= mark.forms && self.width == mark.width;
         self.width = mark.width;
-        self.is_known = false;
         self.is_tried = false;
     }
 
@@ -176,7 +180,7 @@ impl Context {
         refute_forms(alloc, &self.forms, places, first, work)
     }
 
-    // Makes the run of the forms alone, where that was not tried before.
+    // Makes the run of all forms alone, where that was not tried before.
     fn recall(&mut self)
         ensures kept { IsKeptContext self.old self.new }
     {
@@ -184,11 +188,17 @@ impl Context {
             return;
         }
         self.is_tried = true;
-        self.is_known = remember(&mut self.run, self.width, &self.forms).is_ok();
+        self.is_known = if self.is_known {
+            let further = &self.forms[self.known..];
+            go_further(&mut self.run, further, &mut self.question.row).is_ok()
+        } else {
+            remember(&mut self.run, self.width, &self.forms).is_ok()
+        };
+        self.known = self.forms.len();
     }
 
-    // Whether the context with one form more has a point, by the remembered run; None where there is none, or a number
-    // is not short, and nothing is counted then.
+    // Whether the context with one form more has a point, by the remembered run of all forms; None where there is none,
+    // or a number is not short, and nothing is counted then.
     fn ask_known(&mut self, form: &Form, work: &mut Work) -> Option<Result<bool, Refusal>>
         requires narrow { length form.now ≤ self.old.width + 1 }
         ensures gives { IfSome result (λ r. IsCountedRun (λ b. b) run_fault r work.old work.new
@@ -196,7 +206,7 @@ impl Context {
         ensures none { IfNone result (work.new ≡ work.old) }
         ensures kept { IsKeptContext self.old self.new }
     {
-        if !self.is_known {
+        if !self.is_known || self.known < self.forms.len() {
             return None;
         }
         ask_shortly(&self.run, &mut self.question, form, work)

@@ -3,6 +3,7 @@
 
 mod asking;
 mod context;
+mod further;
 mod point;
 mod point_run;
 mod point_turn;

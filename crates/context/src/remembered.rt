@@ -2,7 +2,7 @@ ghost use Rattle.std.specs.Prelude.{◌≡◌, ◌<◌, ◌≤◌, Some, List, [
 ghost use Rattle.pip_model.specs.Contexts.{IsContext};
 ghost use Rattle.pip_model.specs.Rows.{Row};
 ghost use Rattle.context.specs.Turns.{negative_from};
-ghost use Rattle.context.specs.Remembered.{IsFormed, IsReplay, IsRemembered, first_rows, is_end};
+ghost use Rattle.context.specs.Remembered.{IsFormed, IsReplay, IsStopped, IsRemembered, first_rows, is_end};
 
 use crate::short_rows::start_short;
 use crate::stop::Stop;
@@ -80,14 +80,14 @@ fn pivot_at(m: &mut Replay, r: usize) -> Result<bool, Stop>
     Ok(true)
 }
 
-// Pivots up to the run's first cut or its end, but no more than it has rows.
+// Pivots up to the run's first cut or its end, but no more in all than it has rows.
 fn run_up(m: &mut Replay) -> Result<(), Stop>
     requires { IsFormed m.old }
     ensures formed { OnOk result (IsFormed m.new) }
     ensures unknowns { OnOk result (m.new.end.unknowns ≡ m.old.end.unknowns) }
     ensures replay { OnOk result ((first : List Row) → IsReplay first m.old → IsReplay first m.new) }
 {
-    for _ in 0..m.end.rows() {
+    for _ in m.columns.len()..m.end.rows() {
         let Some(r) = m.end.first_below() else {
             return Ok(());
         };
@@ -106,6 +106,18 @@ fn shows_point(rows: &ShortTableau) -> bool
     rows.first_below().is_none() && rows.first_fraction().is_none()
 }
 
+// Goes on from the last rows up to the run's first cut or its end, and sees whether they show a point.
+pub(crate) fn run_to_end(m: &mut Remembered) -> Result<(), Stop>
+    requires { IsFormed m.old.run }
+    ensures stopped { OnOk result (IsStopped m.new) }
+    ensures unknowns { OnOk result (m.new.run.end.unknowns ≡ m.old.run.end.unknowns) }
+    ensures replay { OnOk result ((first : List Row) → IsReplay first m.old.run → IsReplay first m.new.run) }
+{
+    run_up(&mut m.run)?;
+    m.at_end = shows_point(&m.run.end);
+    Ok(())
+}
+
 // The run of the forms as rows up to its first cut or its end, but no more pivots than it has rows, in the room of the
 // run before it. Nothing is counted.
 pub(crate) fn remember(m: &mut Remembered, places: usize, forms: &[Form]) -> Result<(), Stop>
@@ -113,7 +125,5 @@ pub(crate) fn remember(m: &mut Remembered, places: usize, forms: &[Form]) -> Res
     ensures { OnOk result (IsRemembered places forms.now m.new) }
 {
     restart(&mut m.run, places, forms)?;
-    run_up(&mut m.run)?;
-    m.at_end = shows_point(&m.run.end);
-    Ok(())
+    run_to_end(m)
 }

@@ -1,12 +1,8 @@
-use Rattle.std.proofs.Common.{rules, arith, refl, ap, ◌≡◌, ◌∙◌, ◌++◌, List, [], ◌∷◌, length}
+use Rattle.std.proofs.Common.{rules, ap, ◌≡◌, ◌∙◌, ◌++◌, List, [], ◌∷◌}
 use Rattle.pip_model.specs.Rows.{Row, row_at}
 use Rattle.tableau.specs.Tableaus.{TableauRows}
+use Rattle.context.proofs.Ending.{only}
 use Rattle.context.proofs.asking.go_on.Goals as goal
-
-only : (rows : List Row) → length rows ≡ 1 → row_at rows 0 ∷ [] ≡ rows
-only [] h = absurd (omega arith)
-only (r ∷ []) h = refl
-only (r ∷ s ∷ rows) h = absurd (omega arith)
 
 pub returns : goal.returns
 returns c =

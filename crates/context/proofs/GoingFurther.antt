@@ -1,0 +1,104 @@
+-- A run remembered goes on with further rows behind its first ones: they are turned by its pivots, and stand behind its last rows.
+use Rattle.std.proofs.Common.{◌≡◌, ◌∙◌, refl, ap, sym, subst, ℕ, ◌+◌, ◌-◌, ◌<◌, ◌≤◌, ℤ, arith, List, [], ◌∷◌, ◌++◌, length, map, take, get_or, drop, Bool, true, false}
+use Rattle.std.specs.Prelude.{flat_map, if◌then◌else◌, ◌&&◌, IsTrue, Result, Ok, Err, OnOk, is_ok}
+use Rattle.std.proofs.lemmas.List.{map-append, drop_more, drop_all, take_all, take_rest, take-append-drop}
+use Rattle.std.proofs.lemmas.Grind.{flat_map-append}
+use Rattle.pip_model.specs.Contexts.{IsContext}
+use Rattle.pip_model.specs.Listed.{all_fit}
+use Rattle.pip_model.specs.Rows.{Row, row_at, form_row, eliminated, eliminated_listed}
+use Rattle.pip_model.specs.Run.{Work, Outcome, Done, Refused, Overflow, ◌>>◌, go_on, give, listed, count_pivot, run_from, point_setting}
+use Rattle.context.specs.Turns.{node_of}
+use Rattle.context.specs.Remembered.{turned, replayed, IsTurned, IsRemembered, IsKnown}
+use Rattle.context.specs.declared.remembered.Remembered.{Remembered}
+use Rattle.context.proofs.FurtherRows.{append-assoc, all_fit-append}
+use Rattle.context.proofs.Replaying.{Reaches}
+
+abbrev counted_on : Work → Outcome (Unit {0})
+counted_on v = Done tt v
+
+-- a pivot turns rows whose numbers fit, and then those behind them
+turned-front : (p : Row) (c : ℕ) (R F : List Row) (w : Work) → all_fit (flat_map (eliminated_listed p c) R) ≡ true
+    → turned p c (R ++ F) w ≡ go_on (turned p c F w) (λ more. give (map (eliminated p c) R ++ more))
+turned-front p c R F w fit =
+    ap (λ (zs : List ℤ). go_on (count_pivot w) (λ done. listed zs >> give (map (eliminated p c) (R ++ F)))) (flat_map-append (eliminated_listed p c) R F)
+    ∙ ap (λ (now : List Row). go_on (count_pivot w) (λ done. listed (flat_map (eliminated_listed p c) R ++ flat_map (eliminated_listed p c) F) >> give now)) (map-append (eliminated p c) R F)
+    ∙ counted (count_pivot w)
+  where
+    A : List ℤ
+    A = flat_map (eliminated_listed p c) R
+
+    B : List ℤ
+    B = flat_map (eliminated_listed p c) F
+
+    G : List Row
+    G = map (eliminated p c) R
+
+    H : List Row
+    H = map (eliminated p c) F
+
+    checked : (a b : Bool) (v : Work) → a ≡ b
+        → go_on (if a then counted_on v else Refused Overflow v) (λ done. give (G ++ H))
+        ≡ go_on (go_on (if b then counted_on v else Refused Overflow v) (λ done. give H)) (λ more. give (G ++ more))
+    checked true true v e = refl
+    checked false false v e = refl
+    checked true false v e = absurd cc
+    checked false true v e = absurd cc
+
+    counted : (o : Outcome (Unit {0})) → go_on o (λ done. listed (A ++ B) >> give (G ++ H)) ≡ go_on (go_on o (λ done. listed B >> give H)) (λ more. give (G ++ more))
+    counted (Done x v) = checked (all_fit (A ++ B)) (all_fit B) v (all_fit-append A B ∙ ap (λ (t : Bool). t && all_fit B) fit)
+    counted (Refused f v) = refl
+
+turns_more : (p : Row) (c : ℕ) (ps : List Row) (cs : List ℕ) (R now : List Row) → all_fit (flat_map (eliminated_listed p c) R) ≡ true → IsTurned ps cs (map (eliminated p c) R) now
+    → IsTurned (p ∷ ps) (c ∷ cs) R now
+turns_more p c ps cs R now fit is = record {
+  turns = λ F w. ap (λ o. go_on o (λ rows. replayed ps cs rows)) (turned-front p c R F w fit) ∙ each (turned p c F w);
+}
+  where
+    each : (o : Outcome (List Row)) → go_on (go_on o (λ more. give (map (eliminated p c) R ++ more))) (λ rows. replayed ps cs rows)
+        ≡ go_on (go_on o (λ rows. replayed ps cs rows)) (λ more. give (now ++ more))
+    each (Done more v) = is.turns more v
+    each (Refused f v) = refl
+
+-- one more of the pivots
+pub turned_at : (ps : List Row) (cs : List ℕ) (i : ℕ) (R now : List Row) → length ps ≡ length cs → i < length cs → all_fit (flat_map (eliminated_listed (row_at ps i) (get_or cs i 0)) R) ≡ true
+    → IsTurned (drop (i + 1) ps) (drop (i + 1) cs) (map (eliminated (row_at ps i) (get_or cs i 0)) R) now → IsTurned (drop i ps) (drop i cs) R now
+turned_at ps cs i R now e h fit is =
+    rw (drop_more ps i (form_row 0 []) (omega (arith, e, h)), drop_more cs i 0 h)
+    (turns_more (row_at ps i) (get_or cs i 0) (drop (i + 1) ps) (drop (i + 1) cs) R now fit is)
+
+-- no more of them
+pub turned_end : (ps : List Row) (cs : List ℕ) (i : ℕ) (R : List Row) → length ps ≡ length cs → length cs ≤ i → IsTurned (drop i ps) (drop i cs) R R
+turned_end ps cs i R e h = rw (drop_all i ps (omega (arith, e, h))) (record { turns = λ F w. refl })
+
+-- the further rows stand behind the first ones, and what the pivots made of them behind the last ones
+pub reaches_further : (n : ℕ) (first : List Row) (ps : List Row) (cs : List ℕ) (E R now : List Row) → Reaches n first ps cs E → IsTurned ps cs R now → Reaches n (first ++ R) ps cs (E ++ now)
+reaches_further n first ps cs E R now run is F w =
+    ap (λ (rows : List Row). run_from (point_setting n) (node_of rows) w) (append-assoc first R F)
+    ∙ run (R ++ F) w
+    ∙ ap (λ o. go_on o (λ rows. run_from (point_setting n) (node_of (E ++ rows)))) (is.turns F w)
+    ∙ each (replayed ps cs F w)
+  where
+    each : (o : Outcome (List Row)) → go_on (go_on o (λ more. give (now ++ more))) (λ rows. run_from (point_setting n) (node_of (E ++ rows)))
+        ≡ go_on o (λ rows. run_from (point_setting n) (node_of ((E ++ now) ++ rows)))
+    each (Done more v) = ap (λ (rows : List Row). run_from (point_setting n) (node_of rows) v) (sym (append-assoc E now more))
+    each (Refused f v) = refl
+
+-- ---- a context's run, known of its first forms and then of all
+
+pub known_all : (n number : ℕ) (K : List (List ℤ)) (is_known : Bool) (m : Remembered) → IsContext n K → number ≡ length K → (IsTrue is_known → IsRemembered n K m) → IsKnown n K is_known number m
+known_all n number K is_known m narrow e is = record {
+  context = narrow;
+  within = λ h. omega (arith, e);
+  remembered = λ h. subst (λ (l : List (List ℤ)). IsRemembered n l m) (sym (take_all number K (omega (arith, e)))) (is h);
+}
+
+pub of_all : (n known : ℕ) (K l : List (List ℤ)) (old now : Remembered) → l ≡ K → IsRemembered n (take known K) old
+    → ((n : ℕ) (front : List (List ℤ)) → IsRemembered n front old → IsRemembered n (front ++ take (length l - known) (drop known l)) now) → IsRemembered n K now
+of_all n known K l old now e is further =
+    subst (λ (forms : List (List ℤ)). IsRemembered n forms now)
+    (ap (λ (forms : List (List ℤ)). take known K ++ take (length forms - known) (drop known forms)) e ∙ ap (λ (rest : List (List ℤ)). take known K ++ rest) (take_rest K known) ∙ take-append-drop known K)
+    (further n (take known K) is)
+
+pub ok_tells : {A E P : Type 0} (r : Result A E) (b : Bool) → b ≡ is_ok r → OnOk r P → IsTrue b → P
+ok_tells (Ok x) b e told h = told
+ok_tells (Err x) b e told h = absurd cc
