@@ -12,6 +12,7 @@ mod question;
 mod refute;
 mod remembered;
 mod rows;
+mod short_refute;
 mod short_rows;
 mod short_run;
 mod steps;

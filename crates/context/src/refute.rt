@@ -10,6 +10,7 @@ ghost use Rattle.context.specs.Turns.{node_of};
 
 use crate::point_turn::{Turn, take_turn};
 use crate::rows::start_rows;
+use crate::short_refute::refute_shortly;
 use crate::trace::Trace;
 use affine_forms::Form;
 use certificate_parts::Refutation;
@@ -85,6 +86,9 @@ pub(crate) fn refute_forms(
 {
     if places.is_empty() && forms.is_empty() {
         return Ok(None);
+    }
+    if let Some(found) = refute_shortly(alloc, forms, places, first, work) {
+        return found;
     }
     run(alloc, forms, places, first, work)
 }

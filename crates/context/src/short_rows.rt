@@ -48,6 +48,7 @@ pub(crate) fn start_short(
     ensures value { OnOk result (rows.new
         ≡ record { unknowns = places; width = 0; rows = model.start places 0 (map (widen_to places) forms.now) }) }
     ensures rows { OnOk result (places ≤ length rows.new.rows) }
+    ensures free { IfErr result (λ e. stop_fault e ≡ None) }
 {
     start_columns(rows, places, forms.len())?;
     for form in forms {

@@ -1,9 +1,12 @@
-ghost use Rattle.std.specs.Prelude.{◌≡◌, ◌<◌, ◌≤◌, length, OnOk};
+ghost use Rattle.std.specs.Prelude.{◌≡◌, ◌<◌, ◌≤◌, None, Some, ◌∷◌, [], ◌++◌, length, IfOk, OnOk};
+ghost use Rattle.pip_model.specs.Cuts.{constant_cut};
+ghost use Rattle.pip_model.specs.Rows.{row_at};
 ghost use Rattle.pip_model.specs.Run as model;
 ghost use Rattle.pip_model.specs.Run.{turn_by, run_from, MinusAt, AllPlus, point_setting};
 ghost use Rattle.run_counts.specs.Counts.{IsCountedRun};
 ghost use Rattle.context.specs.Stops.{stop_fault};
-ghost use Rattle.context.specs.Turns.{node_of, made, counted_cut, HasSameScope};
+ghost use Rattle.context.specs.Traces.{IsTurnAt};
+ghost use Rattle.context.specs.Turns.{negative_from, node_of, made, counted_cut, HasSameScope};
 ghost use Rattle.context.specs.Remembered.{ended};
 
 use crate::point_turn::Turn;
@@ -15,8 +18,10 @@ use short_tableau::ShortTableau;
 fn pivot_turn(rows: &mut ShortTableau, work: &mut Work, r: usize) -> Result<Turn, Stop>
     requires rows { rows.old.unknowns ≤ length rows.old.rows }
     requires row { r < length rows.old.rows }
+    requires first { negative_from 0 rows.old.rows ≡ Some r }
     ensures gives { IsCountedRun (made rows.old.unknowns rows.new.rows) stop_fault result work.old work.new
         (turn_by (point_setting rows.old.unknowns) (node_of rows.old.rows) (MinusAt r)) }
+    ensures place { IfOk result (IsTurnAt rows.old.unknowns rows.old.rows rows.new.rows) }
     ensures scope { OnOk result (HasSameScope rows.old rows.new) }
 {
     let Some(c) = rows.entering(r) else {
@@ -34,6 +39,7 @@ fn count_and_cut(rows: &mut ShortTableau, i: usize, work: &mut Work) -> Result<(
     requires { i < length rows.old.rows }
     ensures gives { IsCountedRun (λ x. rows.new.rows) stop_fault result work.old work.new
         (counted_cut rows.old.rows i) }
+    ensures row { OnOk result (rows.new.rows ≡ rows.old.rows ++ constant_cut (row_at rows.old.rows i) ∷ []) }
     ensures scope { OnOk result (HasSameScope rows.old rows.new) }
 {
     work.count_cut()?;
@@ -43,9 +49,11 @@ fn count_and_cut(rows: &mut ShortTableau, i: usize, work: &mut Work) -> Result<(
 
 // A cut at the first fraction, where there is one.
 fn last_turn(rows: &mut ShortTableau, work: &mut Work) -> Result<Turn, Stop>
-    requires { rows.old.unknowns ≤ length rows.old.rows }
+    requires rows { rows.old.unknowns ≤ length rows.old.rows }
+    requires none { negative_from 0 rows.old.rows ≡ None }
     ensures gives { IsCountedRun (made rows.old.unknowns rows.new.rows) stop_fault result work.old work.new
         (turn_by (point_setting rows.old.unknowns) (node_of rows.old.rows) AllPlus) }
+    ensures place { IfOk result (IsTurnAt rows.old.unknowns rows.old.rows rows.new.rows) }
     ensures scope { OnOk result (HasSameScope rows.old rows.new) }
 {
     let Some(i) = rows.first_fraction() else {
@@ -57,10 +65,11 @@ fn last_turn(rows: &mut ShortTableau, work: &mut Work) -> Result<Turn, Stop>
 
 // One turn over short rows: a pivot at a row below 0, else a cut at a fraction.
 #[tactic(auto, using(crate::proofs::Turning::turn_is))]
-fn take_turn(rows: &mut ShortTableau, work: &mut Work) -> Result<Turn, Stop>
+pub(crate) fn take_turn(rows: &mut ShortTableau, work: &mut Work) -> Result<Turn, Stop>
     requires { rows.old.unknowns ≤ length rows.old.rows }
     ensures gives { IsCountedRun (made rows.old.unknowns rows.new.rows) stop_fault result work.old work.new
         (model.turn (point_setting rows.old.unknowns) (node_of rows.old.rows)) }
+    ensures place { IfOk result (IsTurnAt rows.old.unknowns rows.old.rows rows.new.rows) }
     ensures scope { OnOk result (HasSameScope rows.old rows.new) }
 {
     match rows.first_below() {
