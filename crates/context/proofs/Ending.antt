@@ -37,7 +37,7 @@ negative-append (x ∷ E) S i e f = by (is_nonneg (constant x.constant)) e (λ h
     by true e later = later e
     by false e later = absurd cc
 
-finds_here : (n : ℕ) (E S : List Row) (v : Work) → n ≤ length E → negative_from 0 E ≡ None → negative_from 0 S ≡ None → first_fraction n E ≡ None → finds_point n (E ++ S) v ≡ Done true v
+pub finds_here : (n : ℕ) (E S : List Row) (v : Work) → n ≤ length E → negative_from 0 E ≡ None → negative_from 0 S ≡ None → first_fraction n E ≡ None → finds_point n (E ++ S) v ≡ Done true v
 finds_here n E S v h e f whole =
     let rows = E ++ S in
     let none : first_fraction n (E ++ S) ≡ None = ap (fraction_from 0) (take-append-le n E S h) ∙ whole in
@@ -68,6 +68,13 @@ pub ends_point : (now : List Row) → length now ≡ 1 → is_nonneg (constant (
 ends_point now one above n E v h e =
     let parts = both (is_none (negative_from 0 E)) (is_none (first_fraction n E)) e in
     finds_here n E now v h (none_of (negative_from 0 E) parts.0) (alone now one above) (none_of (first_fraction n E) parts.1)
+
+-- with no row behind it stays too
+pub ends_alone : (now : List Row) → length now ≡ 0 → EndsWith now true
+ends_alone [] none n E v h e =
+    let parts = both (is_none (negative_from 0 E)) (is_none (first_fraction n E)) e in
+    finds_here n E [] v h (none_of (negative_from 0 E) parts.0) refl (none_of (first_fraction n E) parts.1)
+ends_alone (r ∷ now) none n E v h e = absurd (omega arith)
 
 -- at a row below 0 in which no column is positive, there is none
 neither : (a b : Bool) → (a || b) ≡ false → (a ≡ false) × (b ≡ false)

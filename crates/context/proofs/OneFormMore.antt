@@ -1,5 +1,5 @@
 -- What a run with one row more behind its first rows tells of a context with one form more.
-use Rattle.std.proofs.Common.{◌≡◌, ◌∙◌, refl, ap, sym, subst, ℕ, zero, suc, ℤ, Bool, List, [], ◌∷◌, ◌++◌, map, is_some, Option, Some, None}
+use Rattle.std.proofs.Common.{◌≡◌, ◌∙◌, refl, ap, sym, subst, ℕ, zero, suc, ℤ, Bool, List, [], ◌∷◌, ◌++◌, map, is_some, Option, Some, None, arith, append-nil}
 use Rattle.std.specs.Prelude.{Result, IfSome}
 use Rattle.std.proofs.lemmas.List.{map-append}
 use Rattle.pip_model.specs.Forms.{widen_to}
@@ -14,6 +14,7 @@ use Rattle.context.specs.Turns.{node_of}
 use Rattle.context.specs.Remembered.{has_point, finds_point, replayed, asked, first_rows, IsReplay, IsRemembered}
 use Rattle.context.specs.declared.remembered.Remembered.{Remembered}
 use Rattle.context.proofs.FurtherRows.{append-assoc}
+use Rattle.context.proofs.Ending.{finds_here}
 
 -- the remembered pivots, and then the run from their end
 asked_is : (m : Remembered) (first rows : List Row) (w : Work) → IsReplay first m.run → finds_point m.run.end.unknowns (first ++ rows) w ≡ asked m rows w
@@ -38,15 +39,36 @@ point_some zero [] c = refl
 point_some zero (d ∷ K) c = refl
 point_some (suc n) K c = refl
 
-has_point_is : (n : ℕ) (K : List (List ℤ)) (c : List ℤ) (w : Work) → has_point n (K ++ c ∷ []) w ≡ finds_point n (first_rows n K ++ form_row n (widen_to n c) ∷ []) w
-has_point_is n K c w =
-    ap (λ part. go_on (part w) (λ p. give (is_some p))) (point_some n K c)
-    ∙ each (run_from (point_setting n) (node_of (first_rows n (K ++ c ∷ []))) w)
-    ∙ ap (λ (rows : List Row). finds_point n rows w) (first_more n K c)
+by_run : (n : ℕ) (K : List (List ℤ)) (w : Work) → point n K ≡ point_run n K → has_point n K w ≡ finds_point n (first_rows n K) w
+by_run n K w is =
+    ap (λ part. go_on (part w) (λ p. give (is_some p))) is
+    ∙ each (run_from (point_setting n) (node_of (first_rows n K)) w)
   where
     each : (o : Outcome Tree) → go_on (go_on o (λ t. give (numbers_of t))) (λ p. give (is_some p)) ≡ go_on o (λ t. give (is_some (numbers_of t)))
     each (Done x v) = refl
     each (Refused f v) = refl
+
+has_point_is : (n : ℕ) (K : List (List ℤ)) (c : List ℤ) (w : Work) → has_point n (K ++ c ∷ []) w ≡ finds_point n (first_rows n K ++ form_row n (widen_to n c) ∷ []) w
+has_point_is n K c w = by_run n (K ++ c ∷ []) w (point_some n K c) ∙ ap (λ (rows : List Row). finds_point n rows w) (first_more n K c)
+
+-- the run of the context's own forms
+alone_is : (n : ℕ) (K : List (List ℤ)) (w : Work) → has_point n K w ≡ finds_point n (first_rows n K) w
+alone_is zero [] w = sym (finds_here 0 [] [] w (omega arith) refl refl refl)
+alone_is zero (c ∷ K) w = by_run zero (c ∷ K) w refl
+alone_is (suc n) K w = by_run (suc n) K w refl
+
+alone_asked : (n : ℕ) (K : List (List ℤ)) (w : Work) (m : Remembered) → IsRemembered n K m → has_point n K w ≡ asked m [] w
+alone_asked n K w m is =
+    alone_is n K w
+    ∙ ap (λ (rows : List Row). finds_point n rows w) (sym (append-nil (first_rows n K)))
+    ∙ ap (λ (k : ℕ). finds_point k (first_rows n K ++ []) w) (sym is.unknowns)
+    ∙ asked_is m (first_rows n K) [] w is.replay
+
+pub alone_tells : (n : ℕ) (K : List (List ℤ)) (before after : Work) (m : Remembered) → IsRemembered n K m → (o : Option (Result Bool code.Refusal))
+    → IfSome o (λ r. IsCountedRun (λ b. b) run_fault r before after (asked m [])) → IfSome o (λ r. IsCountedRun (λ b. b) run_fault r before after (has_point n K))
+alone_tells n K before after m is None told = told
+alone_tells n K before after m is (Some r) told =
+    record { agrees = subst (λ (o : Outcome Bool). AgreesCounted (λ b. b) run_fault r after o) (sym (alone_asked n K before m is)) told.agrees; counted = told.counted }
 
 module _ (n : ℕ) (K : List (List ℤ)) (c : List ℤ) (before after : Work) (r : Result Bool code.Refusal) where
   pub plainly_tells : AgreesCounted (λ b. b) run_fault r after (finds_point n (first_rows n K ++ form_row n (widen_to n c) ∷ []) before) → AgreesCounted (λ b. b) run_fault r after (has_point n (K ++ c ∷ []) before)

@@ -9,6 +9,7 @@ ghost use Rattle.run_counts.specs.Counts.{IsCountedRun};
 ghost use Rattle.context.specs.Remembered.{has_point};
 ghost use Rattle.context.specs.Scoped.{IsKeptContext};
 
+use crate::alone::find_shortly;
 use crate::asking::{ask_plainly, ask_shortly};
 use crate::further::go_further;
 use crate::point::Point;
@@ -210,6 +211,35 @@ impl Context {
             return None;
         }
         ask_shortly(&self.run, &mut self.question, form, work)
+    }
+
+    // Whether the context has a point, by the remembered run of all forms; None where there is none, or a number is not
+    // short, and nothing is counted then.
+    fn find_known(&mut self, work: &mut Work) -> Option<Result<bool, Refusal>>
+        ensures gives { IfSome result (λ r. IsCountedRun (λ b. b) run_fault r work.old work.new
+            (has_point self.old.width self.old.forms)) }
+        ensures none { IfNone result (work.new ≡ work.old) }
+        ensures kept { IsKeptContext self.old self.new }
+    {
+        if !self.is_known || self.known < self.forms.len() {
+            return None;
+        }
+        find_shortly(&self.run, &mut self.question, work)
+    }
+
+    /// Whether the context has a point, as `point` would find it, with its counts and refusals. The context stays as it
+    /// was, and the pivots are kept for the questions that follow.
+    pub fn has_point(&mut self, alloc: Global, work: &mut Work) -> Result<bool, Refusal>
+        ensures gives { IsCountedRun (λ b. b) run_fault result work.old work.new
+            (has_point self.old.width self.old.forms) }
+        ensures kept { IsKeptContext self.old self.new }
+    {
+        self.recall();
+        if let Some(answer) = self.find_known(work) {
+            return answer;
+        }
+        let point = find_point(alloc, self.width, &self.forms, work)?;
+        Ok(point.is_some())
     }
 
     /// Whether the context with one form more has a point, as `point` would find it; the form is no wider than the

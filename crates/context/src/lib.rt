@@ -1,6 +1,7 @@
 //! Contexts, which are lists of forms, and their whole points.
 #![tactic(auto)]
 
+mod alone;
 mod asking;
 mod context;
 mod further;

@@ -184,9 +184,9 @@ fn answer(
     let levels = limits.nesting() as usize;
     let mut path = empty_path(alloc, problem);
     start_path(alloc, problem, &mut path)?;
-    let Some(_) = path.context.point(alloc, work)? else {
+    if !path.context.has_point(alloc, work)? {
         return Ok(Answer::Void);
-    };
+    }
     let tree = tree(alloc, problem, &mut path, levels, work)?;
     Ok(Answer::Tree(tree))
 }

@@ -1,0 +1,15 @@
+use Rattle.std.proofs.Common.{rules, ◌≡◌, subst, ◌≤◌, ℤ, List, length, take}
+use Rattle.std.proofs.lemmas.List.{take_all}
+use Rattle.context.specs.Remembered.{IsRemembered}
+use Rattle.context.proofs.OneFormMore.{alone_tells}
+use Rattle.context.proofs.context.Context.find_known.Goals as goal
+
+pub returns-clause-gives : goal.returns-clause-gives
+returns-clause-gives c =
+    let width : c.self.inside.width ≡ c.args.self.now.width = search rules in
+    let forms : c.self.inside.forms.items ≡ c.args.self.now.forms = search rules in
+    let number : length c.self.inside.forms.items ≤ c.self.inside.known = search rules in
+    let all : take c.self.inside.known c.self.inside.forms.items ≡ c.self.inside.forms.items = take_all c.self.inside.known c.self.inside.forms.items number in
+    let is : IsRemembered c.self.inside.width c.self.inside.forms.items c.self.inside.run
+    = subst (λ (K : List (List ℤ)). IsRemembered c.self.inside.width K c.self.inside.run) all (c.self.invariant.remembered c.if-not-self.false) in
+    rw (← width, ← forms) (alone_tells c.self.inside.width c.self.inside.forms.items c.args.work.now c.find_shortly.new.work c.self.inside.run is c.find_shortly.result c.find_shortly.ensures.gives)
