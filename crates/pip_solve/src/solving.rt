@@ -42,15 +42,15 @@ fn add_forms(alloc: Global, problem: &Problem, context: &mut Context) -> Result<
 }
 
 // The path to a problem's first node, but for the forms of its context.
-fn empty_path(alloc: Global, problem: &Problem) -> Path
-    ensures { IsFirstPath (record problem.now { context = [] }) result }
+fn empty_path(alloc: Global, problem: &Problem) -> Result<Path, WantOfMemory>
+    ensures { IfOk result (IsFirstPath (record problem.now { context = [] })) }
 {
-    Path {
+    Ok(Path {
         integer: problem.integer(),
         depth: 0,
-        context: Context::new(alloc, problem.params()),
-        quotients: Quotients::new(alloc, problem.params()),
-    }
+        context: Context::try_new(alloc, problem.params())?,
+        quotients: Quotients::try_new(alloc, problem.params())?,
+    })
 }
 
 // Makes of such a path the one to the problem's first node.
@@ -140,7 +140,7 @@ pub fn context_point(
     ensures gives { IsCountedRun (λ o. o) run_fault result work.old work.new
         (model.point problem.now.params problem.now.context) }
 {
-    let mut context = Context::new(alloc, problem.params());
+    let mut context = Context::try_new(alloc, problem.params())?;
     add_forms(alloc, problem, &mut context)?;
     context.point(alloc, work)
 }
@@ -162,7 +162,7 @@ pub fn answer_from(
     match point {
         None => Ok(Answer::Void),
         Some(_) => {
-            let mut path = empty_path(alloc, problem);
+            let mut path = empty_path(alloc, problem)?;
             start_path(alloc, problem, &mut path)?;
             let tree = tree(alloc, problem, &mut path, levels, work)?;
             Ok(Answer::Tree(tree))
@@ -182,7 +182,7 @@ fn answer(
     ensures scope { IfOk result (IsOver problem.now.params) }
 {
     let levels = limits.nesting() as usize;
-    let mut path = empty_path(alloc, problem);
+    let mut path = empty_path(alloc, problem)?;
     start_path(alloc, problem, &mut path)?;
     let Some(_) = path.context.point(alloc, work)? else {
         return Ok(Answer::Void);
