@@ -14,9 +14,8 @@ ghost use Rattle.quast.specs.Answers.{answer_of, IsOver};
 ghost use Rattle.pip_solve.specs.Turns.{tree_in};
 ghost use Rattle.pip_solve.specs.Starts.{IsFirstPath};
 
-use crate::node::run;
+use crate::node::run_first;
 use crate::path::Path;
-use crate::pending::Pending;
 use affine_forms::{Form, WantOfMemory};
 use context::{Context, Point, Work};
 use new_parameters::Quotients;
@@ -108,8 +107,8 @@ fn start_rows(alloc: Global, problem: &Problem, rows: &mut Tableau) -> Result<()
     }
 }
 
-// The tree of a problem whose context has a point, from the path to its first node. What is pending and what joins the
-// context takes memory as the run goes down.
+// The tree of a problem whose context has a point, from the path to its first node. What joins the context takes memory
+// as the run goes down.
 fn tree(
     alloc: Global,
     problem: &Problem,
@@ -126,8 +125,7 @@ fn tree(
 {
     let mut rows = Tableau::new(alloc, problem.unknowns(), problem.params());
     start_rows(alloc, problem, &mut rows)?;
-    let mut pending = Pending::new(alloc, levels);
-    let tree = run(&mut rows, path, &mut pending, work)?;
+    let tree = run_first(&mut rows, path, levels, work)?;
     Ok(tree)
 }
 
