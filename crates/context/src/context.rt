@@ -68,12 +68,12 @@ impl Model for Context {
 }
 
 impl Context {
-    /// The context of no forms over so many places. Takes no memory.
-    pub fn new(alloc: Global, width: usize) -> Context
-        ensures width { result.width ≡ width }
-        ensures forms { result.forms ≡ [] }
+    /// The context of no forms over so many places.
+    pub fn try_new(alloc: Global, width: usize) -> Result<Context, WantOfMemory>
+        ensures width { IfOk result (λ k. k.width ≡ width) }
+        ensures forms { IfOk result (λ k. k.forms ≡ []) }
     {
-        Context {
+        Ok(Context {
             width,
             forms: Vec::new(alloc),
             run: Remembered::new(alloc),
@@ -81,7 +81,7 @@ impl Context {
             known: 0,
             is_tried: false,
             question: Question::new(alloc),
-        }
+        })
     }
 
     /// Makes room for at least n more forms. The context stays as it was, and so does the room after a refusal.

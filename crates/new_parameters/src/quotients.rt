@@ -29,14 +29,14 @@ impl Model for Quotients {
 }
 
 impl Quotients {
-    /// No quotients, behind so many parameters. It takes no memory.
-    pub fn new(alloc: Global, np: usize) -> Quotients
-        ensures { result ≡ record { params = np; quotients = [] } }
+    /// No quotients, behind so many parameters.
+    pub fn try_new(alloc: Global, np: usize) -> Result<Quotients, WantOfMemory>
+        ensures { IfOk result (λ s. s ≡ record { params = np; quotients = [] }) }
     {
-        Quotients {
+        Ok(Quotients {
             params: np,
             set: IndexSet::new(alloc),
-        }
+        })
     }
 
     /// The place of the quotient that equals k. It takes no memory.

@@ -281,12 +281,22 @@ module _ (start : TableauRows) (from : Path) (before : Waiting) (v : Work) (rows
     pub follows : IsTurned now later pending T
     follows = turned_running rows now path later pending T g.running within kept
 
+    -- the whole run is that from what the turn leaves
+    pub leaves : whole_run start from before.frames v ≡ turned_run now later pending.frames T u
+    leaves = sym g.same ∙ turned_on rows now path later pending T w u g.running e within kept
+
+    pub leaves_params : later.quotients.params ≡ from.quotients.params
+    leaves_params = ap (λ (q : Scope). q.params) kept.quotients ∙ g.params
+
+    pub leaves_budget : pending.most ≡ u.budget.nesting
+    leaves_budget = g.budget ∙ ap (λ (b : Budget). b.nesting) (sym budget)
+
     pub goes_on : (next : TableauRows) (there : Path) (waiting : Waiting) → IsNextNode (weight T) later pending next there waiting → ((x : Work) → turned_run now later pending.frames T x ≡ whole_run next there waiting.frames x) → GoesOn start from before v next there waiting u
     goes_on next there waiting n same = record {
       running = n.running;
-      budget = n.most ∙ g.budget ∙ ap (λ (b : Budget). b.nesting) (sym budget);
-      params = n.params ∙ ap (λ (q : Scope). q.params) kept.quotients ∙ g.params;
-      same = sym (same u) ∙ sym (turned_on rows now path later pending T w u g.running e within kept) ∙ g.same;
+      budget = n.most ∙ leaves_budget;
+      params = n.params ∙ leaves_params;
+      same = sym (same u) ∙ sym leaves;
     }
 
     pub smaller : (next : TableauRows) (there : Path) (waiting : Waiting) → IsNextNode (weight T) later pending next there waiting → 2 * left u + dues waiting.frames < 2 * left w + dues pending.frames
@@ -294,7 +304,7 @@ module _ (start : TableauRows) (from : Path) (before : Waiting) (v : Work) (rows
 
     -- the whole tree is made
     pub ends : (tree : Tree) → ((x : Work) → turned_run now later pending.frames T x ≡ give tree x) → whole_run start from before.frames v ≡ Done tree u
-    ends tree same = sym g.same ∙ turned_on rows now path later pending T w u g.running e within kept ∙ same u
+    ends tree same = leaves ∙ same u
 
   -- the node goes on, and nothing else changes
   module _ (now : TableauRows) (later : Path) (T : turns.Turn) (u : Work) (e : turn (setting_of rows path) (node_of rows path) w ≡ Done (turn_of now path T) u) (given : TurnIs rows now path u.budget.nesting T) (kept : IsKept path later) (budget : u.budget ≡ w.budget) (again : T ≡ code.Again) where

@@ -62,7 +62,7 @@ pub(crate) fn close(
                 pending.push(Frame::FirstMade {
                     condition,
                     first: tree,
-                })?;
+                });
                 *rows = due;
                 return Ok(Next::Node);
             }

@@ -94,7 +94,7 @@ fn split(
         rows: later,
         context: path.context.mark(),
         quotients: path.quotients.mark(),
-    })?;
+    });
     path.enter(holds)?;
     Ok(Next::Node)
 }
@@ -117,7 +117,7 @@ fn define_below(
     let alloc = rows.allocator();
     let form = key.form.try_clone(alloc)?;
     cut_below(rows, i, &key.form)?;
-    pending.push(Frame::NewParm { form, den: key.den })?;
+    pending.push(Frame::NewParm { form, den: key.den });
     add_quotient(alloc, path, key)?;
     Ok(Next::Node)
 }
@@ -150,7 +150,7 @@ fn follow(
 
 // The tree of a node and of the frames that wait for it: the run from it, turn by turn. A node that goes on stays where
 // it is, and so do the forms that are known on its context.
-pub(crate) fn run(
+fn run(
     rows: &mut Tableau,
     path: &mut Path,
     pending: &mut Pending,
@@ -172,6 +172,51 @@ pub(crate) fn run(
         match follow(turn, rows, path, pending)? {
             Next::Node => {}
             Next::Tree(tree) => return Ok(tree),
+        }
+    }
+}
+
+// The tree of a problem's first node after a turn that leaves it for a node below. From here on there is room for the
+// frames of so many levels.
+fn run_below(
+    turn: Turn,
+    rows: &mut Tableau,
+    path: &mut Path,
+    levels: usize,
+    work: &mut Work,
+) -> Result<Quast, Refusal>
+    requires turned { IsTurned rows.old path.old (record { frames = []; most = levels }) turn }
+    requires budget { levels ≡ work.old.budget.nesting }
+    ensures gives { AgreesCounted tree_in run_fault result work.new (turned_run rows.old path.old [] turn work.old) }
+    ensures width { IfOk result (λ tree. tree.width ≡ path.old.quotients.params) }
+{
+    let mut pending = Pending::reserve(rows.allocator(), levels)?;
+    match follow(turn, rows, path, &mut pending)? {
+        Next::Node => run(rows, path, &mut pending, work),
+        Next::Tree(tree) => Ok(tree),
+    }
+}
+
+// The tree of a problem's first node, with at most so many levels below it. Where no turn leaves the node, no frame
+// ever waits, and no room is taken for any.
+pub(crate) fn run_first(
+    rows: &mut Tableau,
+    path: &mut Path,
+    levels: usize,
+    work: &mut Work,
+) -> Result<Quast, Refusal>
+    requires running { IsRunning rows.old path.old (record { frames = []; most = levels }) }
+    requires budget { levels ≡ work.old.budget.nesting }
+    ensures gives { AgreesCounted tree_in run_fault result work.new (whole_run rows.old path.old [] work.old) }
+    ensures width { IfOk result (λ tree. tree.width ≡ path.old.quotients.params) }
+{
+    let mut known = KnownForms::new(rows.allocator());
+    loop {
+        let turn = take_turn(rows, path, &mut known, work)?;
+        match turn {
+            Turn::Again => {}
+            Turn::Closed(tree) => return Ok(tree),
+            turn => return run_below(turn, rows, path, levels, work),
         }
     }
 }

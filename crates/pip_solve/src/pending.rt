@@ -1,4 +1,4 @@
-ghost use Rattle.std.specs.Prelude.{◌≡◌, ◌<◌, ◌≤◌, [], ◌∷◌, length, IfSome, IsTrue, ◌↔◌, OnOk, OnErr, None};
+ghost use Rattle.std.specs.Prelude.{◌≡◌, ◌<◌, ◌≤◌, [], ◌∷◌, length, IfSome, IsTrue, ◌↔◌, IfOk, None};
 
 use affine_forms::{Form, WantOfMemory};
 use context::ContextMark;
@@ -28,7 +28,7 @@ pub enum Frame {
     },
 }
 
-/// The frames that wait, on a stack that takes memory as they come. Contracts see them as a list, the one pushed last
+/// The frames that wait, on a stack with room for all that may. Contracts see them as a list, the one pushed last
 /// first, and how many may wait.
 #[derive(Drop)]
 pub struct Pending {
@@ -38,6 +38,7 @@ pub struct Pending {
 
 impl Model for Pending {
     ghost use Rattle.std.specs.Prelude.{◌≤◌, reverse, length};
+    ghost use Rattle.std.specs.Vec.{vec_capacity};
     ghost use Rattle.std.specs.Coded.{codes};
     ghost use Rattle.quast.specs.Trees.{scoped_code};
     ghost use Rattle.pip_solve.specs.Waiting.{Waiting};
@@ -48,18 +49,16 @@ impl Model for Pending {
 
     ghost view = { λ p. record { frames = reverse p.stack.items; most = p.most } };
 
-    ghost invariant = { λ p. length p.stack.items ≤ p.most };
+    ghost invariant = { λ p. (length p.stack.items ≤ p.most) × (p.most ≤ vec_capacity p.stack) };
 }
 
 impl Pending {
-    /// Nothing waits, and so many frames may. Takes no memory.
-    pub fn new(alloc: Global, most: usize) -> Pending
-        ensures { result ≡ record { frames = []; most = most } }
+    /// Nothing waits, and n frames may, for which there is room.
+    pub fn reserve(alloc: Global, n: usize) -> Result<Pending, WantOfMemory>
+        ensures { IfOk result (λ p. p ≡ record { frames = []; most = n }) }
     {
-        Pending {
-            most,
-            stack: Vec::new(alloc),
-        }
+        let stack = Vec::with_capacity(alloc, n)?;
+        Ok(Pending { most: n, stack })
     }
 
     /// Whether nothing waits.
@@ -69,14 +68,12 @@ impl Pending {
         self.stack.is_empty()
     }
 
-    /// One more frame waits. After a refusal those wait that waited before.
-    pub fn push(&mut self, f: Frame) -> Result<(), WantOfMemory>
+    /// One more frame waits. Takes no memory.
+    pub fn push(&mut self, f: Frame)
         requires { length self.old.frames < self.old.most }
-        ensures ok { OnOk result (self.new ≡ record self.old { frames = f ∷ self.old.frames }) }
-        ensures err { OnErr result (self.new ≡ self.old) }
+        ensures { self.new ≡ record self.old { frames = f ∷ self.old.frames } }
     {
-        self.stack.push(f)?;
-        Ok(())
+        self.stack.push(f).unwrap();
     }
 
     /// The frame that was pushed last, which waits no more; none where nothing waits. No more than may ever wait.

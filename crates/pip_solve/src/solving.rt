@@ -14,9 +14,8 @@ ghost use Rattle.quast.specs.Answers.{answer_of, IsOver};
 ghost use Rattle.pip_solve.specs.Turns.{tree_in};
 ghost use Rattle.pip_solve.specs.Starts.{IsFirstPath};
 
-use crate::node::run;
+use crate::node::run_first;
 use crate::path::Path;
-use crate::pending::Pending;
 use affine_forms::{Form, WantOfMemory};
 use context::{Context, Point, Work};
 use new_parameters::Quotients;
@@ -42,15 +41,15 @@ fn add_forms(alloc: Global, problem: &Problem, context: &mut Context) -> Result<
 }
 
 // The path to a problem's first node, but for the forms of its context.
-fn empty_path(alloc: Global, problem: &Problem) -> Path
-    ensures { IsFirstPath (record problem.now { context = [] }) result }
+fn empty_path(alloc: Global, problem: &Problem) -> Result<Path, WantOfMemory>
+    ensures { IfOk result (IsFirstPath (record problem.now { context = [] })) }
 {
-    Path {
+    Ok(Path {
         integer: problem.integer(),
         depth: 0,
-        context: Context::new(alloc, problem.params()),
-        quotients: Quotients::new(alloc, problem.params()),
-    }
+        context: Context::try_new(alloc, problem.params())?,
+        quotients: Quotients::try_new(alloc, problem.params())?,
+    })
 }
 
 // Makes of such a path the one to the problem's first node.
@@ -108,8 +107,8 @@ fn start_rows(alloc: Global, problem: &Problem, rows: &mut Tableau) -> Result<()
     }
 }
 
-// The tree of a problem whose context has a point, from the path to its first node. What is pending and what joins the
-// context takes memory as the run goes down.
+// The tree of a problem whose context has a point, from the path to its first node. What joins the context takes memory
+// as the run goes down.
 fn tree(
     alloc: Global,
     problem: &Problem,
@@ -126,8 +125,7 @@ fn tree(
 {
     let mut rows = Tableau::new(alloc, problem.unknowns(), problem.params());
     start_rows(alloc, problem, &mut rows)?;
-    let mut pending = Pending::new(alloc, levels);
-    let tree = run(&mut rows, path, &mut pending, work)?;
+    let tree = run_first(&mut rows, path, levels, work)?;
     Ok(tree)
 }
 
@@ -140,7 +138,7 @@ pub fn context_point(
     ensures gives { IsCountedRun (λ o. o) run_fault result work.old work.new
         (model.point problem.now.params problem.now.context) }
 {
-    let mut context = Context::new(alloc, problem.params());
+    let mut context = Context::try_new(alloc, problem.params())?;
     add_forms(alloc, problem, &mut context)?;
     context.point(alloc, work)
 }
@@ -162,7 +160,7 @@ pub fn answer_from(
     match point {
         None => Ok(Answer::Void),
         Some(_) => {
-            let mut path = empty_path(alloc, problem);
+            let mut path = empty_path(alloc, problem)?;
             start_path(alloc, problem, &mut path)?;
             let tree = tree(alloc, problem, &mut path, levels, work)?;
             Ok(Answer::Tree(tree))
@@ -182,7 +180,7 @@ fn answer(
     ensures scope { IfOk result (IsOver problem.now.params) }
 {
     let levels = limits.nesting() as usize;
-    let mut path = empty_path(alloc, problem);
+    let mut path = empty_path(alloc, problem)?;
     start_path(alloc, problem, &mut path)?;
     if !path.context.has_point(alloc, work)? {
         return Ok(Answer::Void);

@@ -23,7 +23,7 @@ pub fn context_of(alloc: Global, rows: &Forms, levels: usize) -> Result<Context,
     ensures room { IfOk result (λ k. 2 * levels ≤ k.spare) }
 {
     let forms = rows.as_slice();
-    let mut context = Context::new(alloc, rows.width());
+    let mut context = Context::try_new(alloc, rows.width())?;
     context.reserve(forms.len() + 2 * levels)?;
     for form in forms {
         let copy = form.try_clone(alloc)?;

@@ -30,7 +30,7 @@ pub(crate) fn context_of(
     ensures forms { IfOk result (λ k. k.forms ≡ map (narrow_to width) known.now.forms) }
 {
     let forms = known.as_slice();
-    let mut context = Context::new(alloc, width);
+    let mut context = Context::try_new(alloc, width)?;
     context.reserve(forms.len())?;
     for form in forms {
         let form = narrowed(alloc, form, width)?;

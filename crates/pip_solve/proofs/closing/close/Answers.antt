@@ -14,7 +14,7 @@ returns-in-SecondDue-clause-gives c =
     let h = popped c.args.tree c.args.path.now c.args.pending.now c.loop-frame.tree c.loop-frame.path c.loop-frame.pending c.pop.new.self due c.loop-frame.invariant e in
     let entered = subst (λ f. IsBelow c.back_to.new.self (f ∷ []) [] c.enter.new.self) c.in_ok-fails-in-SecondDue.ensures.value c.in_ok-enter-in-SecondDue.ensures in
     let deep : c.loop-frame.path.depth - 1 + 1 ≡ c.loop-frame.path.depth = omega (arith, h.closing.depth) in
-    second_same c.args.tree c.args.path.now c.args.pending.now c.loop-frame.tree c.loop-frame.path c.pop.new.self (c.loop-frame.path.depth - 1) c.in-SecondDue.condition c.in-SecondDue.due c.in-SecondDue.context c.in-SecondDue.quotients h c.back_to.new.self c.enter.new.self c.push.new.self deep c.back_to.ensures entered c.in_ok-push-in-SecondDue.ensures.ok
+    second_same c.args.tree c.args.path.now c.args.pending.now c.loop-frame.tree c.loop-frame.path c.pop.new.self (c.loop-frame.path.depth - 1) c.in-SecondDue.condition c.in-SecondDue.due c.in-SecondDue.context c.in-SecondDue.quotients h c.back_to.new.self c.enter.new.self c.push.new.self deep c.back_to.ensures entered c.push.ensures
 
 pub returns-in-SecondDue-clause-next : goal.returns-in-SecondDue-clause-next
 returns-in-SecondDue-clause-next c =
@@ -23,7 +23,7 @@ returns-in-SecondDue-clause-next c =
     let h = popped c.args.tree c.args.path.now c.args.pending.now c.loop-frame.tree c.loop-frame.path c.loop-frame.pending c.pop.new.self due c.loop-frame.invariant e in
     let entered = subst (λ f. IsBelow c.back_to.new.self (f ∷ []) [] c.enter.new.self) c.in_ok-fails-in-SecondDue.ensures.value c.in_ok-enter-in-SecondDue.ensures in
     let deep : c.loop-frame.path.depth - 1 + 1 ≡ c.loop-frame.path.depth = omega (arith, h.closing.depth) in
-    second_next c.args.tree c.args.path.now c.args.pending.now c.loop-frame.tree c.loop-frame.path c.pop.new.self (c.loop-frame.path.depth - 1) c.in-SecondDue.condition c.in-SecondDue.due c.in-SecondDue.context c.in-SecondDue.quotients h c.back_to.new.self c.enter.new.self c.push.new.self deep c.back_to.ensures entered c.in_ok-push-in-SecondDue.ensures.ok
+    second_next c.args.tree c.args.path.now c.args.pending.now c.loop-frame.tree c.loop-frame.path c.pop.new.self (c.loop-frame.path.depth - 1) c.in-SecondDue.condition c.in-SecondDue.due c.in-SecondDue.context c.in-SecondDue.quotients h c.back_to.new.self c.enter.new.self c.push.new.self deep c.back_to.ensures entered c.push.ensures
 
 pub loop-frame-preserved-in-FirstMade : goal.loop-frame-preserved-in-FirstMade
 loop-frame-preserved-in-FirstMade c =

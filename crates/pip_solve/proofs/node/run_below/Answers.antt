@@ -1,0 +1,17 @@
+use Rattle.std.proofs.Common.{rules, ap, ◌∙◌}
+use Rattle.pip_solve.specs.Waiting.{Waiting}
+use Rattle.pip_solve.specs.Frames.{IsNextNode, weight}
+use Rattle.pip_solve.proofs.node.run_below.Goals as goal
+
+pub follow-requires : goal.follow-requires
+follow-requires c = rw c.in_ok-pending.ensures c.requires.turned
+
+pub run-requires-clause-running : goal.run-requires-clause-running
+run-requires-clause-running c =
+    let n : IsNextNode (weight c.args.turn) c.args.path.now c.in_ok-pending.pending c.follow.new.rows c.follow.new.path c.follow.new.pending = search rules in
+    n.running
+
+pub run-requires-clause-budget : goal.run-requires-clause-budget
+run-requires-clause-budget c =
+    let n : IsNextNode (weight c.args.turn) c.args.path.now c.in_ok-pending.pending c.follow.new.rows c.follow.new.path c.follow.new.pending = search rules in
+    n.most ∙ ap (λ (p : Waiting). p.most) c.in_ok-pending.ensures ∙ c.requires.budget

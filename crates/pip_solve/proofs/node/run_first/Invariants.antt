@@ -1,0 +1,14 @@
+use Rattle.std.proofs.Common.{◌*◌, []}
+use Rattle.pip_model.specs.Run.{left}
+use Rattle.pip_solve.specs.Known.{AreKnown}
+use Rattle.pip_solve.proofs.Handing.{GoesOn}
+use Rattle.pip_solve.proofs.node.run_first.Given as goal
+
+abbrev pub invariant-loop-known : goal.invariant-loop-known
+invariant-loop-known l = record {
+  on : GoesOn l.fn.rows l.fn.path (record { frames = []; most = l.levels }) l.fn.work l.rows l.path (record { frames = []; most = l.levels }) l.work;
+  known : AreKnown l.path.context.forms l.path.context.width l.work.budget l.known;
+}
+
+abbrev pub decreases-loop-known : goal.decreases-loop-known
+decreases-loop-known l = 2 * left l.work
