@@ -6,6 +6,8 @@ pub mod FurtherRows
 pub mod Replaying
 pub mod Positives
 pub mod Tracing
+pub mod Retracing
+pub mod FurtherForms
 pub mod OneFormMore
 pub mod Ending
 pub mod PointMeaning

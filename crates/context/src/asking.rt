@@ -38,7 +38,7 @@ fn turn_rows(rows: &mut ShortTableau, m: &Replay, i: usize, work: &mut Work) -> 
 }
 
 // Turns the rows by the pivots in order.
-fn replay(m: &Replay, rows: &mut ShortTableau, work: &mut Work) -> Result<(), Stop>
+pub(crate) fn replay(m: &Replay, rows: &mut ShortTableau, work: &mut Work) -> Result<(), Stop>
     requires formed { IsFormed m.now }
     requires unknowns { rows.old.unknowns ≡ m.now.end.unknowns }
     ensures gives { IsCountedRun (λ x. rows.new.rows) stop_fault result work.old work.new
