@@ -33,7 +33,7 @@ length-mapped g (x ∷ R) = ap suc (length-mapped g R)
 
 module _ (R S : List Row) (r : ℕ) (h : r < length R) where
   -- the same column enters, and by the same comparisons
-  entering-front : length (row_at R r).coefs ≤ length R → entering (R ++ S) r ≡ entering R r
+  pub entering-front : length (row_at R r).coefs ≤ length R → entering (R ++ S) r ≡ entering R r
   entering-front k = rw (row_at-front R S r h, take-append-le (length (row_at R r).coefs) R S k) refl
 
   entering_listed-front : length (row_at R r).coefs ≤ length R → entering_listed (R ++ S) r ≡ entering_listed R r
@@ -74,7 +74,7 @@ turn-front S N R F r c w h k e enters fit =
     ∙ ap (λ (b : Bool). b && all_fit (flat_map (eliminated_listed (row_at R r) c) F)) fit in
     rw (entering_listed-front R F r h k, enters, entering-front R F r h k, e, last, pivot-front R F r h c) refl
 
-negative-front : (R S : List Row) (i r : ℕ) → negative_from i R ≡ Some r → negative_from i (R ++ S) ≡ Some r
+pub negative-front : (R S : List Row) (i r : ℕ) → negative_from i R ≡ Some r → negative_from i (R ++ S) ≡ Some r
 negative-front [] S i r e = absurd cc
 negative-front (x ∷ R) S i r e = by (is_nonneg (constant x.constant)) e (negative-front R S (i + 1) r)
   where
@@ -98,17 +98,22 @@ counted_on w = Done tt w
 less : (b p c d : ℕ) → p < b → (b - p) + c + d ≡ suc ((b - (p + 1)) + c + d)
 less b p c d h = omega arith
 
--- with further rows behind, it turns them, and the run goes on
+-- with further rows behind, it turns them
+pub turn-behind : (n : ℕ) (R F : List Row) (r c : ℕ) (w : Work) → IsStep R r c
+    → turn (point_setting n) (node_of (R ++ F)) w
+    ≡ go_on (count_pivot w) (λ counted v. go_on (listed (flat_map (eliminated_listed (row_at R r) c) F) v)
+    (λ checked. give (Again (node_of (pivot R r c ++ map (eliminated (row_at R r) c) F)))))
+turn-behind n R F r c w is =
+    turn_is n (R ++ F) w
+    ∙ ap (λ o. turn_by (point_setting n) (node_of (R ++ F)) (signs_of o) w) (negative-front R F 0 r is.below)
+    ∙ turn-front (point_setting n) (node_of []) R F r c w is.within is.columns is.enters is.compared is.fits
+
+-- and the run goes on
 pub step-front : (n : ℕ) (R F : List Row) (r c : ℕ) (w : Work) → IsStep R r c
     → run_from (point_setting n) (node_of (R ++ F)) w
     ≡ go_on (turned (row_at R r) c F w) (λ now. run_from (point_setting n) (node_of (pivot R r c ++ now)))
 step-front n R F r c w is =
-    let same : turn (point_setting n) (node_of (R ++ F)) w
-    ≡ go_on (count_pivot w) (λ counted v. go_on (listed zs v) (λ checked. give (Again N)))
-    = turn_is n (R ++ F) w
-    ∙ ap (λ o. turn_by (point_setting n) (node_of (R ++ F)) (signs_of o) w) (negative-front R F 0 r is.below)
-    ∙ turn-front (point_setting n) (node_of []) R F r c w is.within is.columns is.enters is.compared is.fits in
-    ap (λ o. go_on o (λ first. run (point_setting n) (left w) first)) same
+    ap (λ o. go_on o (λ first. run (point_setting n) (left w) first)) (turn-behind n R F r c w is)
     ∙ counted (nat_lt w.pivots w.budget.pivots) refl
   where
     G : List Row

@@ -7,6 +7,8 @@ pub mod Replaying
 pub mod GoingFurther
 pub mod Positives
 pub mod Tracing
+pub mod Retracing
+pub mod FurtherForms
 pub mod OneFormMore
 pub mod Ending
 pub mod PointMeaning

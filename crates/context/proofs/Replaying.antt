@@ -11,7 +11,7 @@ use Rattle.context.specs.Remembered.{turned, replayed, IsPivot}
 use Rattle.context.proofs.FurtherRows.{IsStep, step-front}
 
 -- the two parts of a replay
-replayed-append : (ps qs : List Row) (cs ds : List ℕ) (F : List Row) (w : Work) → length ps ≡ length cs
+pub replayed-append : (ps qs : List Row) (cs ds : List ℕ) (F : List Row) (w : Work) → length ps ≡ length cs
     → replayed (ps ++ qs) (cs ++ ds) F w ≡ go_on (replayed ps cs F w) (λ now. replayed qs ds now)
 replayed-append [] qs [] ds F w e = refl
 replayed-append [] qs (c ∷ cs) ds F w e = absurd (omega arith)
@@ -23,7 +23,7 @@ replayed-append (p ∷ ps) qs (c ∷ cs) ds F w e = each (turned p c F w) (λ x 
     each (Done x v) later = later x v
     each (Refused f v) later = refl
 
-given : {B : Type 0} (o : Outcome (List Row)) (k : List Row → Counted B) → go_on (go_on o (λ now. give now)) k ≡ go_on o k
+pub given : {B : Type 0} (o : Outcome (List Row)) (k : List Row → Counted B) → go_on (go_on o (λ now. give now)) k ≡ go_on o k
 given (Done x v) k = refl
 given (Refused f v) k = refl
 

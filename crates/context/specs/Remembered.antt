@@ -5,6 +5,8 @@ use Rattle.pip_model.specs.Forms.{entry, widen_to}
 use Rattle.pip_model.specs.Tree.{Tree, Bottom}
 use Rattle.pip_model.specs.Rows.{Row, row_at, start, eliminated, eliminated_listed, first_fraction}
 use Rattle.pip_model.specs.Run.{Work, Counted, Done, ◌>>=◌, ◌>>◌, go_on, give, listed, count_pivot, leaf, run_from, numbers_of, point, point_setting}
+use Rattle.pip_model.specs.Refuting.{Trace, refute_from}
+use Rattle.context.specs.Traces.{exchanges}
 use Rattle.context.specs.Turns.{negative_from, node_of}
 use Rattle.context.specs.declared.remembered.Replay.{Replay}
 use Rattle.context.specs.declared.remembered.Remembered.{Remembered}
@@ -60,11 +62,20 @@ pub record IsFormed (m : Replay) : Type 0 where
   pub each : (i : ℕ) → i < length m.columns.items
       → IsPivot m.end.unknowns (row_at m.pivots.rows i) (get_or m.columns.items i 0)
 
+-- with further rows behind them the first rows make these pivots, and go on from the rows E; so with a trace
+abbrev pub RetracesTo : ℕ → List Row → List Row → List ℕ → List ℕ → List Row → Type 0
+RetracesTo n first ps rs cs E = (T : Trace) (rows : List Row) (w : Work) → refute_from n T (node_of (first ++ rows)) w
+    ≡ go_on (replayed ps cs rows w) (λ now. refute_from n (exchanges rs cs T) (node_of (E ++ now)))
+
 -- with further rows behind them the first rows make these pivots, and go on from the last rows
 pub record IsReplay (first : List Row) (m : Replay) : Type 0 where
+  pub places : length m.rows.items ≡ length m.columns.items
+  pub within : (i : ℕ) → i < length m.columns.items → get_or m.rows.items i 0 < length first
+  pub number : length m.end.rows ≡ length first
   pub run : (rows : List Row) (w : Work) → run_from (point_setting m.end.unknowns) (node_of (first ++ rows)) w
       ≡ go_on (replayed m.pivots.rows m.columns.items rows w)
       (λ now. run_from (point_setting m.end.unknowns) (node_of (m.end.rows ++ now)))
+  pub traced : RetracesTo m.end.unknowns first m.pivots.rows m.rows.items m.columns.items m.end.rows
 
 -- the run of these rows ends at them with a point: no row is below 0, and those of the unknowns are whole
 abbrev pub is_end : ℕ → List Row → Bool

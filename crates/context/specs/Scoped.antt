@@ -12,3 +12,8 @@ pub record IsKeptContext (before now : ScopedForms) : Type 0 where
   pub width : now.width ≡ before.width
   pub forms : now.forms ≡ before.forms
   pub spare : before.spare ≤ now.spare
+
+-- forms that are kept from one refutation to the next, over the first `width` places or fewer of them
+pub record KeptForms : Type 0 where
+  pub width : ℕ
+  pub forms : List (List ℤ)

@@ -1,5 +1,6 @@
 -- What a run without parameters has derived, turn by turn.
-use Rattle.std.specs.Prelude.{◌≡◌, ℕ, ◌<◌, pos, ◌+ℤ◌, Bool, true, false, Option, Some, None, List, [], ◌∷◌, ◌++◌, length}
+use Rattle.std.specs.Prelude.{◌≡◌, ℕ, ◌<◌, pos, ◌+ℤ◌, Bool, true, false, Option, Some, None, List, [], ◌∷◌, ◌++◌, length, slice_set}
+use Rattle.pip_model.specs.Forms.{entry}
 use Rattle.pip_model.specs.Rows.{Row, row_at, entering, first_fraction}
 use Rattle.pip_model.specs.Cuts.{constant_cut}
 use Rattle.pip_model.specs.Certificate.{Refutation}
@@ -16,6 +17,16 @@ with_cut T R = record {
   next = T.next +ℤ pos 1;
   steps = T.steps ++ cut_step R T.columns ∷ [];
 }
+
+-- the trace after a pivot on row r and column c
+abbrev pub exchanged : Trace → ℕ → ℕ → Trace
+exchanged T r c = record T { columns = slice_set T.columns c (entry T.rows r) }
+
+-- the same of pivots in order, by their rows' places and their columns
+abbrev pub exchanges : List ℕ → List ℕ → Trace → Trace
+exchanges [] cs T = T
+exchanges (r ∷ rs) [] T = T
+exchanges (r ∷ rs) (c ∷ cs) T = exchanges rs cs (exchanged T r c)
 
 -- which turn it was: the first row below 0 and the column that entered there, or the first fraction and its cut
 abbrev pub IsTurnAt : ℕ → List Row → List Row → Turn → Type 0

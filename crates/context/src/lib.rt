@@ -3,14 +3,17 @@
 
 mod alone;
 mod asking;
+mod behind;
 mod context;
 mod further;
+mod narrowed;
 mod point;
 mod point_run;
 mod point_turn;
 mod positive_terms;
 mod question;
 mod refute;
+mod refuter;
 mod remembered;
 mod rows;
 mod short_refute;
@@ -23,5 +26,6 @@ mod trace;
 pub use context::{Context, ContextMark};
 pub use point::Point;
 pub use positive_terms::push_positive;
+pub use refuter::Refuter;
 pub use run_counts::{Counts, Work};
 pub use steps::{count_and_cut, enter_and_pivot};

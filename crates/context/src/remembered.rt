@@ -10,11 +10,12 @@ use affine_forms::{Form, WantOfMemory};
 use short_tableau::ShortTableau;
 use std::alloc::Global;
 
-// Pivots of a run without parameters, in order: their rows as they stood before each, and their columns. And the rows
-// that the pivots made of the first ones.
+// Pivots of a run without parameters, in order: their rows as they stood before each, the places of these rows, and
+// their columns. And the rows that the pivots made of the first ones.
 #[derive(Drop)]
 pub(crate) struct Replay {
     pub pivots: ShortTableau,
+    pub rows: Vec<usize>,
     pub columns: Vec<usize>,
     pub end: ShortTableau,
 }
@@ -32,6 +33,7 @@ impl Remembered {
     pub(crate) fn new(alloc: Global) -> Remembered {
         let run = Replay {
             pivots: ShortTableau::new(alloc, 0),
+            rows: Vec::new(alloc),
             columns: Vec::new(alloc),
             end: ShortTableau::new(alloc, 0),
         };
@@ -47,16 +49,17 @@ fn restart(m: &mut Replay, places: usize, forms: &[Form]) -> Result<(), Stop>
     ensures replay { OnOk result (IsReplay (first_rows places forms.now) m.new) }
 {
     m.pivots.restart(places);
+    m.rows.clear();
     m.columns.clear();
     start_short(&mut m.end, places, forms)?;
     Ok(())
 }
 
-// Adds a column.
-fn push_column(columns: &mut Vec<usize>, c: usize) -> Result<(), WantOfMemory>
-    ensures { OnOk result (columns.new.items ≡ columns.old.items ++ c ∷ []) }
+// Adds the place of a row or a column.
+fn push_place(places: &mut Vec<usize>, i: usize) -> Result<(), WantOfMemory>
+    ensures { OnOk result (places.new.items ≡ places.old.items ++ i ∷ []) }
 {
-    columns.push(c)?;
+    places.push(i)?;
     Ok(())
 }
 
@@ -73,7 +76,8 @@ fn pivot_at(m: &mut Replay, r: usize) -> Result<bool, Stop>
         return Ok(false);
     };
     m.pivots.push_copy(&m.end, r)?;
-    push_column(&mut m.columns, c)?;
+    push_place(&mut m.rows, r)?;
+    push_place(&mut m.columns, c)?;
     if !m.end.pivot(r, c) {
         return Err(Stop::Long);
     }

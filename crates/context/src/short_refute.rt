@@ -55,7 +55,7 @@ fn trace_last(
 }
 
 // The run over short rows to its end, with its trace: whether it found no point.
-fn refute_on(
+pub(crate) fn refute_on(
     alloc: Global,
     rows: &mut ShortTableau,
     trace: &mut Trace,

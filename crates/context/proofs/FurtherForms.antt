@@ -1,0 +1,169 @@
+-- The kept run of some forms with others behind them.
+use Rattle.std.proofs.Common.{◌≡◌, ◌∙◌, refl, ap, ap₂, sym, subst, ℕ, zero, suc, ◌+◌, ◌<◌, ◌≤◌, arith, ℤ, Bool, false, List, [], ◌∷◌, ◌++◌, All, length, length-append, map, get_or, take, drop, Option, Some, None}
+use Rattle.std.specs.Prelude.{IfSome, nat_eq}
+use Rattle.std.proofs.lemmas.List.{map-append, length-map, length-take-le, drop_more, drop_all}
+use Rattle.std.proofs.lemmas.List.Elements.{All-head, All-tail}
+use Rattle.pip_model.specs.Contexts.{IsContext}
+use Rattle.pip_model.specs.Made.{narrow_to}
+use Rattle.pip_model.specs.Certificate.{Refutation}
+use Rattle.pip_model.specs.Forms.{constant, entry, widen_to}
+use Rattle.pip_model.specs.Rows.{Row, form_row, unit_row, count_from}
+use Rattle.pip_model.specs.Run.{Work, Outcome, Done, Refused, Refusal, go_on}
+use Rattle.pip_model.specs.Refuting.{Trace, refute, refute_from, refute_by, first_trace}
+use Rattle.run_laws.proofs.RowsAt.{length_slice_set}
+use Rattle.context.specs.Turns.{node_of}
+use Rattle.context.specs.Remembered.{replayed, first_rows, IsRemembered}
+use Rattle.context.specs.Traces.{exchanged, exchanges, IsTraced, steps_if}
+use Rattle.context.specs.declared.remembered.Remembered.{Remembered}
+use Rattle.context.proofs.FurtherRows.{append-assoc}
+use Rattle.context.proofs.Tracing.{first-traced, refute_by_run}
+
+-- the rows of forms
+abbrev pub rows_of : ℕ → List (List ℤ) → List Row
+rows_of n M = map (form_row n) (map (widen_to n) M)
+
+pub rows-more : (n : ℕ) (K M : List (List ℤ)) → first_rows n (K ++ M) ≡ first_rows n K ++ rows_of n M
+rows-more n K M =
+    let units : List Row = map (unit_row n 0) (count_from 0 n) in
+    ap (λ (forms : List (List ℤ)). units ++ map (form_row n) forms) (map-append (widen_to n) K M)
+    ∙ ap (λ (rows : List Row). units ++ rows) (map-append (form_row n) (map (widen_to n) K) (map (widen_to n) M))
+    ∙ sym (append-assoc units (map (form_row n) (map (widen_to n) K)) (rows_of n M))
+
+pub length-rows_of : (n : ℕ) (M : List (List ℤ)) → length (rows_of n M) ≡ length M
+length-rows_of n M = length-map (map (widen_to n) M) (form_row n) ∙ length-map M (widen_to n)
+
+-- ---- exchanges
+
+pub exchanges-rows : (rs cs : List ℕ) (T : Trace) → (exchanges rs cs T).rows ≡ T.rows
+exchanges-rows [] cs T = refl
+exchanges-rows (r ∷ rs) [] T = refl
+exchanges-rows (r ∷ rs) (c ∷ cs) T = exchanges-rows rs cs (exchanged T r c)
+
+pub exchanges-columns : (rs cs : List ℕ) (T : Trace) → length (exchanges rs cs T).columns ≡ length T.columns
+exchanges-columns [] cs T = refl
+exchanges-columns (r ∷ rs) [] T = refl
+exchanges-columns (r ∷ rs) (c ∷ cs) T = exchanges-columns rs cs (exchanged T r c) ∙ length_slice_set T.columns c _
+
+-- one more of them, and no more
+pub exchanges-on : (rs cs : List ℕ) (i : ℕ) (T : Trace) → length rs ≡ length cs → i < length cs
+    → exchanges (drop i rs) (drop i cs) T ≡ exchanges (drop (i + 1) rs) (drop (i + 1) cs) (exchanged T (get_or rs i 0) (get_or cs i 0))
+exchanges-on rs cs i T e h = rw (drop_more rs i 0 (omega (arith, e, h)), drop_more cs i 0 h) refl
+
+pub exchanges-end : (rs cs : List ℕ) (i : ℕ) (T : Trace) → length rs ≡ length cs → length cs ≤ i → exchanges (drop i rs) (drop i cs) T ≡ T
+exchanges-end rs cs i T e h = rw (drop_all i rs (omega (arith, e, h))) refl
+
+-- ---- the run
+
+module _ (n : ℕ) (K M : List (List ℤ)) (m : Remembered) (is : IsRemembered n K m) (T : Trace) (w : Work) where
+  abbrev from_end : List Row → Work → Outcome (Option Refutation)
+  from_end now = refute_from m.run.end.unknowns (exchanges m.run.rows.items m.run.columns.items T) (node_of (m.run.end.rows ++ now))
+
+  abbrev replay : Outcome (List Row)
+  replay = replayed m.run.pivots.rows m.run.columns.items (rows_of m.run.end.unknowns M) w
+
+  abbrev pub whole : Outcome (Option Refutation)
+  whole = refute_from n T (node_of (first_rows n (K ++ M))) w
+
+  behind : whole ≡ go_on replay from_end
+  behind =
+      ap (λ (rows : List Row). refute_from n T (node_of rows) w) (rows-more n K M)
+      ∙ ap (λ (k : ℕ). refute_from k T (node_of (first_rows n K ++ rows_of k M)) w) (sym is.unknowns)
+      ∙ is.replay.traced T (rows_of m.run.end.unknowns M) w
+
+  pub behind-made : (now : List Row) (v : Work) → replay ≡ Done now v → whole ≡ from_end now v
+  behind-made now v e = behind ∙ ap (λ (o : Outcome (List Row)). go_on o from_end) e
+
+  pub behind-refused : (o : Option Refusal) (v : Work) → IfSome o (λ f. replay ≡ Refused f v) → IfSome o (λ f. whole ≡ Refused f v)
+  behind-refused None v e = e
+  behind-refused (Some f) v e = behind ∙ ap (λ (p : Outcome (List Row)). go_on p from_end) e
+
+  module _ (traced : IsTraced n (first_rows n (K ++ M)) T) where
+    length-whole : length T.rows ≡ length (first_rows n K) + length M
+    length-whole =
+        traced.rows_traced ∙ ap length (rows-more n K M) ∙ length-append (first_rows n K) (rows_of n M)
+        ∙ ap (λ k. length (first_rows n K) + k) (length-rows_of n M)
+
+    pub row-within : (i : ℕ) → i < length m.run.columns.items → get_or m.run.rows.items i 0 < length T.rows
+    row-within i h = omega (arith, is.replay.within i h, length-whole)
+
+    pub column-within : (i : ℕ) → i < length m.run.columns.items → get_or m.run.columns.items i 0 < length T.columns
+    column-within i h = omega (arith, (is.stopped.formed.each i h).column, is.unknowns, traced.columns_traced)
+
+    pub traced-end : (now : List Row) → length now ≡ length M → IsTraced m.run.end.unknowns (m.run.end.rows ++ now) (exchanges m.run.rows.items m.run.columns.items T)
+    traced-end now e = record {
+      rows_traced = ap length (exchanges-rows m.run.rows.items m.run.columns.items T) ∙ length-whole ∙ omega (arith, e, is.replay.number, length-append m.run.end.rows now);
+      columns_traced = exchanges-columns m.run.rows.items m.run.columns.items T ∙ traced.columns_traced ∙ sym is.unknowns;
+    }
+
+-- ---- known forms over their first places
+
+narrow-length : (w : ℕ) (c : List ℤ) → w < length c → length (narrow_to w c) ≡ w + 1
+narrow-length w c h = length-append (take w c) (constant c ∷ []) ∙ ap (λ k. k + 1) (length-take-le w c (omega (arith, h)))
+
+pub narrow-context : (w i : ℕ) (forms : List (List ℤ)) → All (λ c. w < length c) forms → IsContext w (map (narrow_to w) (take i forms))
+narrow-context w zero [] all = tt
+narrow-context w zero (c ∷ forms) all = tt
+narrow-context w (suc i) [] all = tt
+narrow-context w (suc i) (c ∷ forms) all =
+    let long = narrow-length w c (All-head (λ c. w < length c) c forms all) in
+    (record { some = omega (arith, long); most = omega (arith, long) }, narrow-context w i forms (All-tail (λ c. w < length c) c forms all))
+
+-- a form of so many places is its front and its constant
+unsplit : (w : ℕ) (x : List ℤ) → length x ≡ w + 1 → x ≡ take w x ++ entry x w ∷ []
+unsplit zero [] h = absurd (omega (arith, h))
+unsplit zero (a ∷ []) h = refl
+unsplit zero (a ∷ b ∷ x) h = absurd (omega (arith, h))
+unsplit (suc w) [] h = absurd (omega (arith, h))
+unsplit (suc w) (a ∷ x) h = ap (λ (l : List ℤ). a ∷ l) (unsplit w x (omega (arith, h)))
+
+pub same-narrow : (w : ℕ) (x c : List ℤ) → length x ≡ w + 1 → take w x ≡ take w c → entry x w ≡ constant c → x ≡ narrow_to w c
+same-narrow w x c h front last = unsplit w x h ∙ ap₂ (λ (l : List ℤ) z. l ++ z ∷ []) front last
+
+module _ (places : List ℤ) (known front rest : List (List ℤ)) (first : ℤ) (W : ℕ) (F M : List (List ℤ)) (T : Trace)
+    (parts : known ≡ front ++ rest) (wide : W ≡ length places) (fronts : F ≡ map (narrow_to (length places)) front) (rests : M ≡ map (narrow_to (length places)) rest)
+    (trace : T ≡ first_trace places (length known) first) where
+  abbrev n : ℕ
+  n = length places
+
+  abbrev forms : List (List ℤ)
+  forms = map (narrow_to n) known
+
+  whole-forms : F ++ M ≡ forms
+  whole-forms =
+      ap (λ (X : List (List ℤ)). X ++ M) fronts ∙ ap (λ (X : List (List ℤ)). map (narrow_to n) front ++ X) rests
+      ∙ sym (map-append (narrow_to n) front rest) ∙ ap (λ (X : List (List ℤ)). map (narrow_to n) X) (sym parts)
+
+  whole-trace : T ≡ first_trace places (length forms) first
+  whole-trace = trace ∙ ap (λ k. first_trace places k first) (sym (length-map known (narrow_to n)))
+
+  pub kept-traced : IsTraced W (first_rows W (F ++ M)) T
+  kept-traced =
+      subst (λ k. IsTraced k (first_rows k (F ++ M)) T) (sym wide)
+      (subst (λ (K : List (List ℤ)). IsTraced n (first_rows n K) T) (sym whole-forms)
+      (first-traced forms places first (record { unknowns = n; width = 0; rows = first_rows n forms }) T refl whole-trace))
+
+  pub kept-run : (w : Work) → refute_from W T (node_of (first_rows W (F ++ M))) w ≡ refute_by n forms places first w
+  kept-run w =
+      ap (λ k. refute_from k T (node_of (first_rows k (F ++ M))) w) wide
+      ∙ ap (λ (K : List (List ℤ)). refute_from n T (node_of (first_rows n K)) w) whole-forms
+      ∙ ap (λ (U : Trace). refute_from n U (node_of (first_rows n forms)) w) whole-trace
+
+  pub kept-fault : (w u : Work) (o : Option Refusal) → IfSome o (λ f. refute_from W T (node_of (first_rows W (F ++ M))) w ≡ Refused f u) → IfSome o (λ f. refute_by n forms places first w ≡ Refused f u)
+  kept-fault w u None e = e
+  kept-fault w u (Some f) e = sym (kept-run w) ∙ e
+
+  pub kept-steps : (w u : Work) (b : Bool) (U : Trace) (o : Option Refutation) → refute_from W T (node_of (first_rows W (F ++ M))) w ≡ Done (steps_if b U) u → steps_if b U ≡ o → refute_by n forms places first w ≡ Done o u
+  kept-steps w u b U o e s = sym (kept-run w) ∙ e ∙ ap (λ x. Done x u) s
+
+-- of known forms, of which there are some, it is the run
+pub known-run : (places : List ℤ) (known : List (List ℤ)) (first : ℤ) (w : Work) → nat_eq (length known) 0 ≡ false
+    → refute (length places) (map (narrow_to (length places)) known) places first w ≡ refute_by (length places) (map (narrow_to (length places)) known) places first w
+known-run places [] first w some = absurd cc
+known-run places (c ∷ known) first w some =
+    refute_by_run (length places) (narrow_to (length places) c ∷ map (narrow_to (length places)) known) places first w (λ z e. absurd cc)
+
+pub known-fault : (places : List ℤ) (known : List (List ℤ)) (first : ℤ) (w u : Work) (o : Option Refusal) → nat_eq (length known) 0 ≡ false
+    → IfSome o (λ f. refute_by (length places) (map (narrow_to (length places)) known) places first w ≡ Refused f u)
+    → IfSome o (λ f. refute (length places) (map (narrow_to (length places)) known) places first w ≡ Refused f u)
+known-fault places known first w u None some e = e
+known-fault places known first w u (Some f) some e = known-run places known first w some ∙ e

@@ -1,0 +1,5 @@
+use Rattle.std.proofs.Common.{◌≡◌, ◌++◌, take}
+use Rattle.context.proofs.behind.push_rows.Given as goal
+
+abbrev pub invariant-loop-i : goal.invariant-loop-i
+invariant-loop-i l = l.rows ≡ record l.fn.rows { rows = l.fn.rows.rows ++ take l.i l.more.rows }

@@ -1,0 +1,6 @@
+use Rattle.std.proofs.Common.{◌≡◌, map, take}
+use Rattle.pip_model.specs.Made.{narrow_to}
+use Rattle.context.proofs.narrowed.narrow_all.Given as goal
+
+abbrev pub invariant-loop-form : goal.invariant-loop-form
+invariant-loop-form l = l.made.items ≡ map (narrow_to l.width) (take l.form-index l.forms)

@@ -1,0 +1,27 @@
+use Rattle.std.proofs.Common.{rules, arith, ◌≡◌, ◌∙◌, nat_eq, length, map, false}
+use Rattle.std.proofs.lemmas.Grind.{common_steps}
+use Rattle.pip_model.specs.Made.{narrow_to}
+use Rattle.pip_model.specs.Refuting.{refute_by}
+use Rattle.pip_model.specs.Run.{Done}
+use Rattle.pip_problem.specs.Faults.{run_fault}
+use Rattle.context.proofs.FurtherForms.{known-run, known-fault}
+use Rattle.context.proofs.refuter.Refuter.refute.Goals as goal
+
+pub returns-in-Ok : goal.returns-in-Ok
+returns-in-Ok c =
+    let some : nat_eq (length c.args.known.now) 0 ≡ false = search rules in
+    let made : refute_by (length c.args.places.now) (map (narrow_to (length c.args.places.now)) c.args.known.now) c.args.places.now c.args.first c.args.work.now ≡ Done c.in-Ok.found c.refute_kept.new.work
+    = search (rules, c.in-Ok.ensures.gives.agrees) in
+    record {
+      gives = record {
+        agrees = known-run c.args.places.now c.args.known.now c.args.first c.args.work.now some ∙ made;
+        counted = c.refute_kept.ensures.gives.counted;
+      };
+    }
+
+pub returns-in-Err-Refused : goal.returns-in-Err-Refused
+returns-in-Err-Refused c =
+    let some : nat_eq (length c.args.known.now) 0 ≡ false = search rules in
+    let fault = known-fault c.args.places.now c.args.known.now c.args.first c.args.work.now c.refute_kept.new.work (run_fault c.in-Err-Refused.refusal) some
+    (search (rules, c.in-Err-Refused.ensures.gives.agrees)) in
+    record { gives = record { agrees = grind (arith, common_steps, fault); counted = c.in-Err-Refused.ensures.gives.counted } }

@@ -1,0 +1,62 @@
+use Rattle.std.proofs.Common.{rules, arith, ◌≡◌}
+use Rattle.std.proofs.lemmas.Grind.{common_steps}
+use Rattle.run_counts.proofs.Counting.{counted_on}
+use Rattle.context.specs.Stops.{stop_fault}
+use Rattle.context.specs.Remembered.{IsRemembered}
+use Rattle.context.proofs.FurtherForms.{row-within, column-within, traced-end, behind-made, behind-refused}
+use Rattle.context.proofs.refuter.Refuter.refute_behind.Goals as goal
+
+pub exchange_all-requires-clause-lengths : goal.exchange_all-requires-clause-lengths
+exchange_all-requires-clause-lengths c =
+    let is : IsRemembered c.self.inside.width c.self.inside.forms.items c.self.inside.run = search rules in
+    is.replay.places
+
+pub exchange_all-requires-clause-rows : goal.exchange_all-requires-clause-rows
+exchange_all-requires-clause-rows c =
+    let width : c.self.inside.width ≡ c.args.self.now.width = search rules in
+    let forms : c.self.inside.forms.items ≡ c.args.self.now.forms = search rules in
+    let is : IsRemembered c.self.inside.width c.self.inside.forms.items c.self.inside.run = search rules in
+    let traced = rw (← width, ← forms) at c.requires.traced in
+    row-within c.self.inside.width c.self.inside.forms.items c.args.more.now c.self.inside.run is c.args.trace.now c.args.work.now traced
+
+pub exchange_all-requires-clause-columns : goal.exchange_all-requires-clause-columns
+exchange_all-requires-clause-columns c =
+    let width : c.self.inside.width ≡ c.args.self.now.width = search rules in
+    let forms : c.self.inside.forms.items ≡ c.args.self.now.forms = search rules in
+    let is : IsRemembered c.self.inside.width c.self.inside.forms.items c.self.inside.run = search rules in
+    let traced = rw (← width, ← forms) at c.requires.traced in
+    column-within c.self.inside.width c.self.inside.forms.items c.args.more.now c.self.inside.run is c.args.trace.now c.args.work.now traced
+
+pub refute_on-requires-clause-traced : goal.refute_on-requires-clause-traced
+refute_on-requires-clause-traced c =
+    let width : c.self.inside.width ≡ c.args.self.now.width = search rules in
+    let forms : c.self.inside.forms.items ≡ c.args.self.now.forms = search rules in
+    let is : IsRemembered c.self.inside.width c.self.inside.forms.items c.self.inside.run = search rules in
+    let traced = rw (← width, ← forms) at c.requires.traced in
+    rw (c.in_ok-rows_behind.ensures.rows, c.exchange_all.ensures)
+    (traced-end c.self.inside.width c.self.inside.forms.items c.args.more.now c.self.inside.run is c.args.trace.now c.args.work.now traced c.rows_behind.new.question.row.rows c.in_ok-rows_behind.ensures.number)
+
+pub returns-in_err-rows_behind : goal.returns-in_err-rows_behind
+returns-in_err-rows_behind c =
+    let width : c.self.inside.width ≡ c.args.self.now.width = search rules in
+    let forms : c.self.inside.forms.items ≡ c.args.self.now.forms = search rules in
+    let is : IsRemembered c.self.inside.width c.self.inside.forms.items c.self.inside.run = search rules in
+    let fault = behind-refused c.self.inside.width c.self.inside.forms.items c.args.more.now c.self.inside.run is c.args.trace.now c.args.work.now
+    (stop_fault c.in_err-rows_behind.field-0.0) c.rows_behind.new.work c.in_err-rows_behind.ensures.gives.agrees in
+    rw (← width, ← forms) (record { gives = record { agrees = grind (arith, common_steps, fault); counted = c.rows_behind.ensures.gives.counted } })
+
+pub returns : goal.returns
+returns c =
+    let width : c.self.inside.width ≡ c.args.self.now.width = search rules in
+    let forms : c.self.inside.forms.items ≡ c.args.self.now.forms = search rules in
+    let is : IsRemembered c.self.inside.width c.self.inside.forms.items c.self.inside.run = search rules in
+    let m = c.self.inside.run in
+    let made = behind-made c.self.inside.width c.self.inside.forms.items c.args.more.now m is c.args.trace.now c.args.work.now c.rows_behind.new.question.row.rows c.rows_behind.new.work c.in_ok-rows_behind.ensures.gives.agrees in
+    let told = rw (c.in_ok-rows_behind.ensures.rows, c.exchange_all.ensures) at c.refute_on.ensures.gives in
+    rw (← width, ← forms)
+    (record {
+      gives = record {
+        agrees = rw made told.agrees;
+        counted = counted_on c.args.work.now c.rows_behind.new.work c.refute_on.new.work c.in_ok-rows_behind.ensures.gives.counted told.counted;
+      };
+    })

@@ -1,0 +1,83 @@
+ghost use Rattle.std.specs.Prelude.{◌≡◌, ℕ, ◌<◌, None, ◌++◌, length, map, get_or, IfErr, OnOk};
+ghost use Rattle.pip_model.specs.Contexts.{IsContext};
+ghost use Rattle.pip_model.specs.Forms.{widen_to};
+ghost use Rattle.pip_model.specs.Rows.{form_row};
+ghost use Rattle.run_counts.specs.Counts.{IsCountedRun};
+ghost use Rattle.context.specs.Stops.{stop_fault};
+ghost use Rattle.context.specs.Remembered.{IsFormed, replayed};
+ghost use Rattle.context.specs.Traces.{exchanges};
+
+use crate::asking::replay;
+use crate::question::Question;
+use crate::remembered::Replay;
+use crate::short_rows::push_short;
+use crate::stop::Stop;
+use crate::trace::Trace;
+use affine_forms::{Form, WantOfMemory};
+use run_counts::Work;
+use short_tableau::ShortTableau;
+
+// Starts again with the rows of these forms alone, whose numbers have to be short.
+fn start_forms(rows: &mut ShortTableau, unknowns: usize, forms: &[Form]) -> Result<(), Stop>
+    requires { IsContext unknowns forms.now }
+    ensures value { OnOk result (rows.new ≡ record {
+      unknowns = unknowns;
+      width = 0;
+      rows = map (form_row unknowns) (map (widen_to unknowns) forms.now);
+    }) }
+    ensures free { IfErr result (λ e. stop_fault e ≡ None) }
+{
+    rows.restart(unknowns);
+    for form in forms {
+        push_short(rows, form)?;
+    }
+    Ok(())
+}
+
+// Adds the rows of another tableau over the same columns.
+fn push_rows(rows: &mut ShortTableau, more: &ShortTableau) -> Result<(), WantOfMemory>
+    requires { more.now.unknowns ≡ rows.old.unknowns }
+    ensures { OnOk result (rows.new ≡ record rows.old { rows = rows.old.rows ++ more.now.rows }) }
+{
+    for i in 0..more.rows() {
+        rows.push_copy(more, i)?;
+    }
+    Ok(())
+}
+
+// Makes the rows of further forms, turned by the remembered pivots, and puts them behind the last rows of the run.
+pub(crate) fn rows_behind(
+    m: &Replay,
+    question: &mut Question,
+    forms: &[Form],
+    work: &mut Work,
+) -> Result<(), Stop>
+    requires formed { IsFormed m.now }
+    requires context { IsContext m.now.end.unknowns forms.now }
+    ensures gives { IsCountedRun (λ x. question.new.row.rows) stop_fault result work.old work.new
+        (replayed m.now.pivots.rows m.now.columns.items
+        (map (form_row m.now.end.unknowns) (map (widen_to m.now.end.unknowns) forms.now))) }
+    ensures rows { OnOk result (question.new.run ≡ record m.now.end {
+      rows = m.now.end.rows ++ question.new.row.rows;
+    }) }
+    ensures number { OnOk result (length question.new.row.rows ≡ length forms.now) }
+{
+    start_forms(&mut question.row, m.end.unknowns(), forms)?;
+    replay(m, &mut question.row, work)?;
+    question.run.copy_from(&m.end)?;
+    push_rows(&mut question.run, &question.row)?;
+    Ok(())
+}
+
+// The trace after the remembered pivots.
+pub(crate) fn exchange_all(m: &Replay, trace: &mut Trace)
+    requires lengths { length m.now.rows.items ≡ length m.now.columns.items }
+    requires rows { (i : ℕ) → i < length m.now.columns.items → get_or m.now.rows.items i 0 < length trace.old.rows }
+    requires columns { (i : ℕ) → i < length m.now.columns.items
+        → get_or m.now.columns.items i 0 < length trace.old.columns }
+    ensures { trace.new ≡ exchanges m.now.rows.items m.now.columns.items trace.old }
+{
+    for i in 0..m.columns.len() {
+        trace.exchange(m.rows[i], m.columns[i]);
+    }
+}

@@ -1,0 +1,199 @@
+ghost use Rattle.std.specs.Prelude.{◌≡◌, ◌^◌, ◌<◌, ◌++◌, pos, ◌≤ℤ◌, ◌<ℤ◌, length, map, All, OnOk};
+ghost use Rattle.pip_model.specs.Contexts.{IsContext};
+ghost use Rattle.pip_model.specs.Made.{narrow_to};
+ghost use Rattle.pip_model.specs.Refuting as model;
+ghost use Rattle.pip_model.specs.Refuting.{refute_by, refute_from};
+ghost use Rattle.affine_forms.specs.Checks.{Fits};
+ghost use Rattle.pip_problem.specs.Faults.{run_fault};
+ghost use Rattle.run_counts.specs.Counts.{IsCountedRun};
+ghost use Rattle.context.specs.Remembered.{first_rows};
+ghost use Rattle.context.specs.Stops.{stop_fault};
+ghost use Rattle.context.specs.Traces.{IsTraced, steps_if};
+ghost use Rattle.context.specs.Turns.{node_of};
+
+use crate::behind::{exchange_all, rows_behind};
+use crate::narrowed::{are_narrowed, narrow_all};
+use crate::question::Question;
+use crate::refute::refute_forms;
+use crate::remembered::{Remembered, remember};
+use crate::short_refute::refute_on;
+use crate::stop::Stop;
+use crate::trace::Trace;
+use affine_forms::{Form, WantOfMemory};
+use certificate_parts::Refutation;
+use pip_problem::Refusal;
+use run_counts::Work;
+use std::alloc::Global;
+use std::marker::Model;
+
+/// Makes refutations of known forms, one after the other. From one to the next it keeps the first pivots of the run of
+/// so many first forms as it is told, and makes them again only where these forms or the places are others. What it was
+/// asked before changes no answer.
+#[derive(Drop)]
+pub struct Refuter {
+    alloc: Global,
+    kept: usize,
+    width: usize,
+    // The first forms of an earlier list, over as many places.
+    forms: Vec<Form>,
+    // Their run, where it is known, and else nothing but its room.
+    run: Remembered,
+    is_known: bool,
+    question: Question,
+}
+
+impl Model for Refuter {
+    ghost use Rattle.context.specs.Remembered.{IsKnown};
+    ghost use Rattle.context.specs.Scoped.{KeptForms};
+
+    ghost Value = { KeptForms };
+
+    ghost view = { λ k. record { width = k.width; forms = k.forms.items } };
+
+    ghost invariant = { λ k. IsKnown k.width k.forms.items k.is_known k.run };
+}
+
+impl Refuter {
+    /// It keeps no forms. Takes no memory.
+    pub fn new(alloc: Global) -> Refuter {
+        Refuter {
+            alloc,
+            kept: 0,
+            width: 0,
+            forms: Vec::new(alloc),
+            run: Remembered::new(alloc),
+            is_known: false,
+            question: Question::new(alloc),
+        }
+    }
+
+    /// From now on it keeps the run of so many of the first known forms; of none where there are fewer.
+    pub fn keep(&mut self, forms: usize) {
+        self.kept = forms;
+    }
+
+    // Makes the run of these forms anew, over so many places.
+    fn recall(&mut self, known: &[Form], width: usize) -> Result<(), WantOfMemory>
+        requires { All (λ c. width < length c) known.now }
+        ensures width { OnOk result (self.new.width ≡ width) }
+        ensures forms { OnOk result (self.new.forms ≡ map (narrow_to width) known.now) }
+    {
+        let forms = narrow_all(self.alloc, known, width)?;
+        self.is_known = remember(&mut self.run, width, &forms).is_ok();
+        self.width = width;
+        self.forms = forms;
+        Ok(())
+    }
+
+    // Has the run of these forms, over so many places.
+    fn recall_others(&mut self, known: &[Form], width: usize) -> Result<(), WantOfMemory>
+        requires { All (λ c. width < length c) known.now }
+        ensures width { OnOk result (self.new.width ≡ width) }
+        ensures forms { OnOk result (self.new.forms ≡ map (narrow_to width) known.now) }
+    {
+        if self.width == width && are_narrowed(&self.forms, known, width) {
+            return Ok(());
+        }
+        self.recall(known, width)
+    }
+
+    // The kept run with further forms behind its own, with its trace: whether it found no point.
+    fn refute_behind(
+        &mut self,
+        more: &[Form],
+        trace: &mut Trace,
+        work: &mut Work,
+    ) -> Result<bool, Stop>
+        requires more { IsContext self.old.width more.now }
+        requires traced { IsTraced self.old.width
+            (first_rows self.old.width (self.old.forms ++ more.now)) trace.old }
+        ensures gives { IsCountedRun (λ b. steps_if b trace.new) stop_fault result work.old work.new
+            (refute_from self.old.width trace.old
+            (node_of (first_rows self.old.width (self.old.forms ++ more.now)))) }
+    {
+        if !self.is_known {
+            return Err(Stop::Long);
+        }
+        rows_behind(&self.run.run, &mut self.question, more, work)?;
+        exchange_all(&self.run.run, trace);
+        refute_on(self.alloc, &mut self.question.run, trace, work)
+    }
+
+    // The steps by which known forms have no point, by the run of those that are kept; `Long` where none are.
+    fn refute_kept(
+        &mut self,
+        known: &[Form],
+        places: &[i128],
+        first: i128,
+        work: &mut Work,
+    ) -> Result<Option<Refutation>, Stop>
+        requires wide { All (λ c. length places.now < length c) known.now }
+        requires places { All Fits places.now }
+        requires some { pos 0 ≤ℤ first }
+        requires few { first <ℤ pos (2 ^ 64) }
+        ensures gives { IsCountedRun (λ o. o) stop_fault result work.old work.new
+            (refute_by (length places.now) (map (narrow_to (length places.now)) known.now) places.now first) }
+    {
+        if known.len() < self.kept || self.kept == 0 {
+            return Err(Stop::Long);
+        }
+        let (front, more) = known.split_at(self.kept);
+        self.recall_others(front, places.len())?;
+        let more = narrow_all(self.alloc, more, places.len())?;
+        let mut trace = Trace::start(self.alloc, places, known.len(), first)?;
+        if !self.refute_behind(&more, &mut trace, work)? {
+            return Ok(None);
+        }
+        Ok(Some(trace.into_steps()))
+    }
+
+    // The same by the run of all of them.
+    fn refute_all(
+        &self,
+        known: &[Form],
+        places: &[i128],
+        first: i128,
+        work: &mut Work,
+    ) -> Result<Option<Refutation>, Refusal>
+        requires wide { All (λ c. length places.now < length c) known.now }
+        requires places { All Fits places.now }
+        requires some { pos 0 ≤ℤ first }
+        requires few { first <ℤ pos (2 ^ 64) }
+        ensures gives { IsCountedRun (λ o. o) run_fault result work.old work.new
+            (model.refute (length places.now) (map (narrow_to (length places.now)) known.now) places.now first) }
+    {
+        let forms = narrow_all(self.alloc, known, places.len())?;
+        refute_forms(self.alloc, &forms, places, first, work)
+    }
+
+    /// The steps by which the known forms, each over its first places alone and its constant, have no point, as
+    /// `Context::refute` gives them of these forms, with its counts and its refusals.
+    #[tactic(auto, using(crate::proofs::Tracing::refute_by_run))]
+    pub fn refute(
+        &mut self,
+        known: &[Form],
+        places: &[i128],
+        first: i128,
+        work: &mut Work,
+    ) -> Result<Option<Refutation>, Refusal>
+        requires wide { All (λ c. length places.now < length c) known.now }
+        requires places { All Fits places.now }
+        requires some { pos 0 ≤ℤ first }
+        requires few { first <ℤ pos (2 ^ 64) }
+        ensures gives { IsCountedRun (λ o. o) run_fault result work.old work.new
+            (model.refute (length places.now) (map (narrow_to (length places.now)) known.now) places.now first) }
+    {
+        if known.is_empty() {
+            return self.refute_all(known, places, first, work);
+        }
+        let before = work.counts();
+        match self.refute_kept(known, places, first, work) {
+            Ok(found) => Ok(found),
+            Err(Stop::Refused(refusal)) => Err(refusal),
+            Err(Stop::Long) => {
+                work.back_to(before);
+                self.refute_all(known, places, first, work)
+            }
+        }
+    }
+}
