@@ -115,7 +115,9 @@ module _ (first : ScopedTree) (from : Path) (before : Waiting) (tree : ScopedTre
       over = h.closing.waits.2.node.context
 
       pub second_back : (mid : Path) → depth + 1 ≡ path.depth → IsBack (at_depth path depth) mark quotients mid → HasRoom now.most mid
-      second_back mid deep back = back_room now.most (at_depth path depth) mid mark quotients (length now.frames) h.closing.waits.0 back h.closing.waits.2.room (omega (arith, back.depth, deep, h.closing.depth))
+      second_back mid deep back =
+          let there = waits_grown now.most tree.width path (at_depth path depth) (frame.SecondDue c rows mark quotients ∷ now.frames) (grown_depth path depth) h.closing.waits in
+          back_room now.most (at_depth path depth) mid mark quotients (length now.frames) there.0 back there.2.room (omega (arith, back.depth, deep, h.closing.depth))
 
       pub second_enters : (mid : Path) → depth + 1 ≡ path.depth → IsBack (at_depth path depth) mark quotients mid → 1 ≤ mid.context.spare
       second_enters mid deep back = omega (arith, second_back mid deep back, h.closing.waits.2.nested, back.depth, deep, h.closing.depth)
