@@ -1,7 +1,7 @@
 -- What is in hand after a turn, and after a tree.
 use Rattle.std.proofs.Common.{◌≡◌, sym, ap, ◌∙◌, ℕ, ◌+◌, ◌++◌, ◌∷◌, [], map, take, List, ℤ, length, arith}
 use Rattle.std.proofs.Math.Seq.{take-append_seam}
-use Rattle.std.proofs.lemmas.List.{append-nil}
+use Rattle.std.proofs.lemmas.List.{append-nil, length-append, length-take-le}
 use Rattle.pip_model.specs.Forms.{opposite}
 use Rattle.pip_model.specs.Tree.{If, NewParm}
 use Rattle.pip_model.specs.Rows.{row_at, widened}
@@ -17,7 +17,7 @@ use Rattle.pip_solve.specs.declared.pending.Frame.TheVariants as frame
 use Rattle.pip_solve.specs.declared.turn.Turn.TheVariants as code
 use Rattle.pip_solve.specs.Nodes.{node_of, setting_of, IsBelow, IsBack}
 use Rattle.pip_solve.specs.Turns.{under, below}
-use Rattle.pip_solve.specs.Frames.{node_run, gone_back, path_under, finished, whole_run, turned_run, Waits}
+use Rattle.pip_solve.specs.Frames.{node_run, gone_back, path_under, finished, whole_run, turned_run, AreMarks, Waits}
 use Rattle.pip_solve.proofs.Running.{grouped, same_after, node_same, Grown, finished_grown, grown_below}
 
 -- ---- an if: the second tree is due back here
@@ -37,6 +37,11 @@ module _ (path now : Path) (c : List ℤ) (entered : IsBelow path (c ∷ []) [] 
   back_again = record {
     integer = entered.integer;
     forms = ([], forms_back ∙ sym (append-nil _));
+    room =
+        let more = ap (λ (fs : List (List ℤ)). length fs) entered.forms in
+        let long = length-append path.context.forms (c ∷ []) in
+        let kept = ap (λ (fs : List (List ℤ)). length fs) forms_back in
+        omega (arith, more, long, kept, forms, entered.room);
     params = ap (λ (q : Scope). q.params) quotients_back;
     quotients = ([], ap (λ (q : Scope). q.quotients) quotients_back ∙ sym (append-nil _));
   }
@@ -60,11 +65,14 @@ split_on most w rows path now frames c mark quotients waits entered forms added 
     same : record path.quotients { quotients = path.quotients.quotients ++ [] } ≡ path.quotients
     same = ap (λ (qs : List Quotient). let q : Scope = record path.quotients { quotients = qs } in q) (append-nil path.quotients.quotients)
 
-pub second_grown : (path mid now : Path) (frames : List Frame) (c : List ℤ) (mark : ContextMark) (quotients : ℕ) → IsBack path mark quotients mid → IsBelow mid (opposite c ∷ []) [] now
+pub second_grown : (path mid now : Path) (frames : List Frame) (c : List ℤ) (mark : ContextMark) (quotients : ℕ) → AreMarks path mark quotients → IsBack path mark quotients mid → IsBelow mid (opposite c ∷ []) [] now
     → Grown (gone_back path mark quotients (length frames)) now
-second_grown path mid now frames c mark quotients back entered = record {
+second_grown path mid now frames c mark quotients marks back entered = record {
   integer = entered.integer ∙ back.integer;
   forms = (opposite c ∷ [], entered.forms ∙ ap (λ (fs : List (List ℤ)). fs ++ opposite c ∷ []) back.forms);
+  room =
+      let long = length-take-le mark.forms path.context.forms marks.forms in
+      omega (arith, long, marks.forms, back.room, entered.room);
   params = ap (λ (q : Scope). q.params) entered.quotients ∙ ap (λ (q : Scope). q.params) back.quotients;
   quotients = ([], ap (λ (q : Scope). q.quotients) entered.quotients ∙ ap (λ (q : Scope). q.quotients ++ []) back.quotients);
 }
@@ -82,7 +90,7 @@ second_on most w rows path mid now frames c mark quotients waits back entered de
     same = ap (λ (qs : List Quotient). let q : Scope = record mid.quotients { quotients = qs } in q) (append-nil mid.quotients.quotients)
 
     grown : Grown (gone_back path mark quotients (length frames)) now
-    grown = second_grown path mid now frames c mark quotients back entered
+    grown = second_grown path mid now frames c mark quotients waits.0 back entered
 
 -- the node below a new parameter
 below_there : (rows now_rows : TableauRows) (path now : Path) (i : ℕ) (k : Quotient) → rows.width ≡ size path.quotients

@@ -1,7 +1,7 @@
 -- What is in hand keeps what the run needs of it.
 use Rattle.std.proofs.Common.{◌≡◌, refl, sym, ap, subst, ◌∙◌, ℕ, ◌+◌, ◌-◌, ◌*◌, ◌<◌, ◌≤◌, ◌++◌, ◌∷◌, [], Bool, Option, Some, None, List, ℤ, length, arith}
 use Rattle.std.specs.Prelude.{IfSome}
-use Rattle.std.proofs.lemmas.List.{length-append}
+use Rattle.std.proofs.lemmas.List.{length-append, length-take-le}
 use Rattle.pip_model.specs.Contexts.{IsContext}
 use Rattle.pip_model.specs.Forms.{opposite}
 use Rattle.pip_model.specs.Limits.{most_nesting}
@@ -23,13 +23,13 @@ use Rattle.pip_solve.specs.Nodes.{node_of, setting_of, IsNode, IsKept, IsBelow, 
 use Rattle.pip_solve.specs.Signs.{IsCondition}
 use Rattle.pip_solve.specs.Turns.{turn_of, after, IsNewParameter, TurnIs}
 use Rattle.pip_solve.specs.Waiting.{Waiting}
-use Rattle.pip_solve.specs.Frames.{node_run, gone_back, path_under, finished, whole_run, turned_run, Waits, IsRunning, IsTurned, IsNextNode, weight, dues}
+use Rattle.pip_solve.specs.Frames.{node_run, gone_back, path_under, finished, whole_run, turned_run, HasRoom, AreMarks, Waits, IsRunning, IsTurned, IsNextNode, weight, dues}
 use Rattle.pip_solve.proofs.Running.{same_after, by_turn, node_same, finished_grown, waits_grown, grown_kept, grown_below}
 use Rattle.pip_solve.proofs.Going.{forms_back, quotients_back, back_again, second_grown}
 
 -- ---- one level down
 
-module _ (rows : TableauRows) (path now : Path) (pending : Waiting) (running : IsRunning rows path pending) (nested : path.depth + 1 ≤ pending.most) where
+module _ (rows : TableauRows) (path now : Path) (pending : Waiting) (running : IsRunning rows path pending) (nested : path.depth + 1 ≤ pending.most) (room : HasRoom pending.most path) where
   -- the node of the first tree, and that of the second which is due
   pub split_running : (c : List ℤ) (mark : ContextMark) (quotients : ℕ) → IsCondition rows.width c → IsBelow path (c ∷ []) [] now → mark.forms ≡ length path.context.forms → mark.width ≡ path.context.width → IsContext path.context.width path.context.forms → quotients ≡ length path.quotients.quotients
       → IsRunning rows now (record pending { frames = frame.SecondDue c rows mark quotients ∷ pending.frames })
@@ -76,6 +76,7 @@ module _ (rows : TableauRows) (path now : Path) (pending : Waiting) (running : I
             };
             condition = condition;
             nested = omega (arith, nested, running.depth);
+            room = omega (arith, room, running.depth, entered.room, long, more, forms);
           },
           waits_grown pending.most rows.width path (gone_back now mark quotients (length pending.frames)) pending.frames (back_again path now c entered mark quotients forms added (length pending.frames)) running.waits,
         );
@@ -113,6 +114,18 @@ module _ (rows : TableauRows) (path now : Path) (pending : Waiting) (running : I
           subst (λ n. Waits pending.most n now pending.frames) over (waits_grown pending.most rows.width path now pending.frames (grown_below path now _ _ entered) running.waits),
         );
       }
+
+  pub split_room : (c : List ℤ) → IsBelow path (c ∷ []) [] now → HasRoom pending.most now
+  split_room c entered =
+      let long = length-append path.context.forms (c ∷ []) in
+      let more = ap (λ (fs : List (List ℤ)). length fs) entered.forms in
+      omega (arith, room, nested, entered.depth, entered.room, long, more)
+
+  pub below_room : (a b : List ℤ) (k : Quotient) → IsBelow path (a ∷ b ∷ []) (k ∷ []) now → HasRoom pending.most now
+  below_room a b k entered =
+      let long = length-append path.context.forms (a ∷ b ∷ []) in
+      let more = ap (λ (fs : List (List ℤ)). length fs) entered.forms in
+      omega (arith, room, nested, entered.depth, entered.room, long, more)
 
   pub split_next : (c : List ℤ) (mark : ContextMark) (quotients : ℕ) → IsCondition rows.width c → IsBelow path (c ∷ []) [] now → mark.forms ≡ length path.context.forms → mark.width ≡ path.context.width → IsContext path.context.width path.context.forms → quotients ≡ length path.quotients.quotients
       → IsNextNode 2 path pending rows now (record pending { frames = frame.SecondDue c rows mark quotients ∷ pending.frames })
@@ -243,9 +256,31 @@ second_running most w rows path mid now frames c mark quotients first waits back
         due.condition.wide,
         width ∙ sym waits.1,
         nested,
-        subst (λ n. Waits most n now frames) (sym waits.1) (waits_grown most w (gone_back path mark quotients (length frames)) now frames (second_grown path mid now frames c mark quotients back entered) waits.3),
+        subst (λ n. Waits most n now frames) (sym waits.1) (waits_grown most w (gone_back path mark quotients (length frames)) now frames (second_grown path mid now frames c mark quotients waits.0 back entered) waits.3),
       );
     }
+
+-- back at its marks the context has room for what the second tree may need
+pub back_room : (most : ℕ) (path mid : Path) (mark : ContextMark) (quotients depth : ℕ) → AreMarks path mark quotients → IsBack path mark quotients mid → HasRoom most (gone_back path mark quotients depth) → mid.depth ≡ depth → HasRoom most mid
+back_room most path mid mark quotients depth marks back room deep =
+    let marked = length-take-le mark.forms path.context.forms marks.forms in
+    let gone = ap (λ (fs : List (List ℤ)). length fs) back.forms in
+    omega (arith, room, back.room, marked, gone, marks.forms, deep)
+
+pub kept_room : (most : ℕ) (path later : Path) → IsKept path later → HasRoom most path → HasRoom most later
+kept_room most path later kept room = omega (arith, kept.depth, kept.context.spare, room)
+
+pub kept_kept : (path mid later : Path) → IsKept path mid → IsKept mid later → IsKept path later
+kept_kept path mid later f g = record {
+  integer = g.integer ∙ f.integer;
+  depth = g.depth ∙ f.depth;
+  context = record {
+    width = g.context.width ∙ f.context.width;
+    forms = g.context.forms ∙ f.context.forms;
+    spare = omega (arith, f.context.spare, g.context.spare);
+  };
+  quotients = g.quotients ∙ f.quotients;
+}
 
 -- ---- the loop
 

@@ -1,7 +1,7 @@
 -- Frames that are closed over a tree.
 use Rattle.std.proofs.Common.{◌≡◌, refl, sym, ap, subst, ◌∙◌, ℕ, ◌+◌, ◌-◌, ◌<◌, ◌≤◌, ◌∷◌, [], List, ℤ, length, arith}
 use Rattle.std.specs.Prelude.{max}
-use Rattle.std.proofs.lemmas.List.{append-nil}
+use Rattle.std.proofs.lemmas.List.{append-nil, length-append}
 use Rattle.pip_model.specs.Forms.{opposite}
 use Rattle.pip_model.specs.Limits.{most_nesting}
 use Rattle.pip_model.specs.Tree.{If, NewParm, nesting}
@@ -16,10 +16,10 @@ use Rattle.pip_solve.specs.declared.pending.Frame.TheVariants as frame
 use Rattle.pip_solve.specs.Nodes.{IsBelow, IsBack}
 use Rattle.pip_solve.specs.Signs.{IsCondition}
 use Rattle.pip_solve.specs.Waiting.{Waiting}
-use Rattle.pip_solve.specs.Frames.{finished, whole_run, AreMarks, Waits, IsClosing, IsNextNode, dues}
+use Rattle.pip_solve.specs.Frames.{finished, whole_run, HasRoom, AreMarks, Waits, IsClosing, IsNextNode, dues}
 use Rattle.pip_solve.proofs.Running.{Grown, finished_grown, waits_grown}
 use Rattle.pip_solve.proofs.Going.{second_on}
-use Rattle.pip_solve.proofs.Handing.{second_running}
+use Rattle.pip_solve.proofs.Handing.{second_running, back_room}
 
 -- the path, its depth set
 abbrev pub at_depth : Path → ℕ → Path
@@ -29,6 +29,7 @@ pub grown_depth : (path : Path) (depth : ℕ) → Grown path (at_depth path dept
 grown_depth path depth = record {
   integer = refl;
   forms = ([], sym (append-nil _));
+  room = omega arith;
   params = refl;
   quotients = ([], sym (append-nil _));
 }
@@ -112,6 +113,20 @@ module _ (first : ScopedTree) (from : Path) (before : Waiting) (tree : ScopedTre
 
       pub over : mark.width ≡ rows.width
       over = h.closing.waits.2.node.context
+
+      pub second_back : (mid : Path) → depth + 1 ≡ path.depth → IsBack (at_depth path depth) mark quotients mid → HasRoom now.most mid
+      second_back mid deep back =
+          let there = waits_grown now.most tree.width path (at_depth path depth) (frame.SecondDue c rows mark quotients ∷ now.frames) (grown_depth path depth) h.closing.waits in
+          back_room now.most (at_depth path depth) mid mark quotients (length now.frames) there.0 back there.2.room (omega (arith, back.depth, deep, h.closing.depth))
+
+      pub second_enters : (mid : Path) → depth + 1 ≡ path.depth → IsBack (at_depth path depth) mark quotients mid → 1 ≤ mid.context.spare
+      second_enters mid deep back = omega (arith, second_back mid deep back, h.closing.waits.2.nested, back.depth, deep, h.closing.depth)
+
+      pub second_room : (mid later : Path) → depth + 1 ≡ path.depth → IsBack (at_depth path depth) mark quotients mid → IsBelow mid (opposite c ∷ []) [] later → HasRoom now.most later
+      second_room mid later deep back entered =
+          let long = length-append mid.context.forms (opposite c ∷ []) in
+          let more = ap (λ (fs : List (List ℤ)). length fs) entered.forms in
+          omega (arith, second_back mid deep back, h.closing.waits.2.nested, back.depth, deep, h.closing.depth, entered.depth, entered.room, long, more)
 
       pub second_next : (mid later : Path) (last : Waiting) → depth + 1 ≡ path.depth → IsBack (at_depth path depth) mark quotients mid → IsBelow mid (opposite c ∷ []) [] later → last ≡ record now { frames = frame.FirstMade c tree ∷ now.frames } → IsNextNode 0 from before rows later last
       second_next mid later last deep back entered e =

@@ -1,6 +1,6 @@
 -- How a run goes on from a node in hand to the next.
-use Rattle.std.proofs.Common.{◌≡◌, refl, sym, ap, ◌∙◌, ℕ, ◌-◌, ◌≤◌, ◌++◌, ◌∷◌, [], take, Bool, List, ℤ, length, arith}
-use Rattle.std.proofs.lemmas.List.{append-nil, length-append, take-append-le}
+use Rattle.std.proofs.Common.{◌≡◌, refl, sym, ap, ◌∙◌, ℕ, ◌+◌, ◌-◌, ◌≤◌, ◌++◌, ◌∷◌, [], take, Bool, List, ℤ, length, arith}
+use Rattle.std.proofs.lemmas.List.{append-nil, length-append, take-append-le, length-take-le}
 use Rattle.pip_model.specs.Forms.{opposite}
 use Rattle.pip_model.specs.Tree.{Tree, If, NewParm}
 use Rattle.pip_model.specs.Run.{Work, Outcome, Done, Refused, Counted, ◌>>=◌, go_on, Turn, Closed, Again, Below, Split, turn, run_from, class}
@@ -42,10 +42,11 @@ node_same t path now integer depth forms quotients w =
 
 -- ---- paths that went on from others
 
--- the path has the other's forms and quotients at its start
+-- the path has the other's forms and quotients at its start, and no less room in all
 pub record Grown (path now : Path) : Type 0 where
   pub integer : now.integer ≡ path.integer
   pub forms : (more : List (List ℤ)) × (now.context.forms ≡ path.context.forms ++ more)
+  pub room : length path.context.forms + path.context.spare ≤ length now.context.forms + now.context.spare
   pub params : now.quotients.params ≡ path.quotients.params
   pub quotients : (more : List _) × (now.quotients.quotients ≡ path.quotients.quotients ++ more)
 
@@ -68,12 +69,16 @@ module _ (path now : Path) (grown : Grown path now) (mark : ContextMark) (quotie
       ∙ ap (λ (qs : List _). let q : Scope = record { params = path.quotients.params; quotients = qs } in q) quotients_there
 
   pub grown_back : Grown (gone_back path mark quotients depth) (gone_back now mark quotients depth)
-  grown_back = record {
-    integer = grown.integer;
-    forms = ([], forms_there ∙ sym (append-nil _));
-    params = grown.params;
-    quotients = ([], quotients_there ∙ sym (append-nil _));
-  }
+  grown_back =
+      let long = length-take-le mark.forms path.context.forms marks.forms in
+      let still = length-take-le mark.forms now.context.forms (omega (arith, marks.forms, longer)) in
+      record {
+        integer = grown.integer;
+        forms = ([], forms_there ∙ sym (append-nil _));
+        room = omega (arith, long, still, longer, grown.room, marks.forms);
+        params = grown.params;
+        quotients = ([], quotients_there ∙ sym (append-nil _));
+      }
 
   pub marks_there : AreMarks now mark quotients
   marks_there = record {
@@ -96,6 +101,7 @@ module _ (path now : Path) (grown : Grown path now) (mark : ContextMark) (quotie
     };
     condition = due.condition;
     nested = due.nested;
+    room = omega (arith, due.room, longer, grown.room, marks.forms);
   }
 
   pub node_there : (rows : TableauRows) (c : List ℤ) (w : Work) → node_run rows (path_under (gone_back now mark quotients depth) c) w ≡ node_run rows (path_under (gone_back path mark quotients depth) c) w
@@ -128,6 +134,7 @@ pub grown_kept : (path now : Path) → IsKept path now → Grown path now
 grown_kept path now kept = record {
   integer = kept.integer;
   forms = ([], kept.context.forms ∙ sym (append-nil _));
+  room = let e = ap (λ (fs : List (List ℤ)). length fs) kept.context.forms in omega (arith, e, kept.context.spare);
   params = ap (λ (q : Scope). q.params) kept.quotients;
   quotients = ([], ap (λ (q : Scope). q.quotients) kept.quotients ∙ sym (append-nil _));
 }
@@ -136,6 +143,7 @@ pub grown_below : (path now : Path) (forms : List (List ℤ)) (quotients : List 
 grown_below path now forms quotients below = record {
   integer = below.integer;
   forms = (forms, below.forms);
+  room = below.room;
   params = ap (λ (q : Scope). q.params) below.quotients;
   quotients = (quotients, ap (λ (q : Scope). q.quotients) below.quotients);
 }

@@ -1,5 +1,5 @@
 -- The run of a node whose tree frames wait for.
-use Rattle.std.specs.Prelude.{◌≡◌, ℕ, ℤ, pos, ◌≤ℤ◌, ◌+◌, ◌-◌, ◌≤◌, List, [], ◌∷◌, ◌++◌, length, take}
+use Rattle.std.specs.Prelude.{◌≡◌, ℕ, ℤ, pos, ◌≤ℤ◌, ◌+◌, ◌-◌, ◌*◌, ◌≤◌, List, [], ◌∷◌, ◌++◌, length, take}
 use Rattle.pip_model.specs.Forms.{opposite}
 use Rattle.pip_model.specs.Contexts.{IsContext}
 use Rattle.pip_model.specs.Limits.{most_nesting}
@@ -29,7 +29,11 @@ node_run t path = run_from (setting_of t path) (node_of t path)
 abbrev pub gone_back : Path → ContextMark → ℕ → ℕ → Path
 gone_back path mark quotients depth = record path {
   depth = depth;
-  context = record path.context { width = mark.width; forms = take mark.forms path.context.forms };
+  context = record {
+    width = mark.width;
+    forms = take mark.forms path.context.forms;
+    spare = path.context.spare + (length path.context.forms - mark.forms);
+  };
   quotients = record path.quotients { quotients = take quotients path.quotients.quotients };
 }
 
@@ -66,6 +70,15 @@ abbrev pub next_run : TableauRows → Path → List Frame → Next → Counted T
 next_run rows path frames next.Node = whole_run rows path frames
 next_run rows path frames (next.Tree t) = give t.tree
 
+-- the context has room for the forms of all levels that may be below
+abbrev pub HasRoom : ℕ → Path → Type 0
+HasRoom most path = 2 * (most - path.depth) ≤ path.context.spare
+
+-- the same where a node is in hand
+abbrev pub HasNextRoom : ℕ → Path → Next → Type 0
+HasNextRoom most path next.Node = HasRoom most path
+HasNextRoom most path (next.Tree t) = Unit {0}
+
 -- marks that the path can go back to
 pub record AreMarks (path : Path) (mark : ContextMark) (count : ℕ) : Type 0 where
   pub forms : mark.forms ≤ length path.context.forms
@@ -77,6 +90,7 @@ pub record IsDue (most : ℕ) (rows : TableauRows) (path : Path) (c : List ℤ) 
   pub node : IsNode rows path
   pub condition : IsCondition rows.width c
   pub nested : path.depth + 1 ≤ most
+  pub room : HasRoom most path
 
 -- the frames wait for a tree over w places, with at most so many if and newparm nodes on a path of the whole tree
 abbrev pub Waits : ℕ → ℕ → Path → List Frame → Type 0

@@ -29,7 +29,7 @@ pub record IsNode (t : TableauRows) (path : Path) : Type 0 where
   pub few_quotients : length path.quotients.quotients ≤ path.depth
   pub shallow : path.depth ≤ most_nesting
 
--- the path is as before
+-- the path is as before, and its context has as much room
 pub record IsKept (path now : Path) : Type 0 where
   pub integer : now.integer ≡ path.integer
   pub depth : now.depth ≡ path.depth
@@ -42,6 +42,7 @@ pub record IsBelow (path : Path) (added : List (List ℤ)) (keys : List Quotient
   pub depth : now.depth ≡ path.depth + 1
   pub width : now.context.width ≡ path.context.width + length keys
   pub forms : now.context.forms ≡ path.context.forms ++ added
+  pub room : length path.context.forms + path.context.spare ≤ length now.context.forms + now.context.spare
   pub quotients : now.quotients ≡ record path.quotients { quotients = path.quotients.quotients ++ keys }
 
 -- at the same depth, with the context and the quotients as they were at marks
@@ -50,4 +51,5 @@ pub record IsBack (path : Path) (mark : ContextMark) (count : ℕ) (now : Path) 
   pub depth : now.depth ≡ path.depth
   pub width : now.context.width ≡ mark.width
   pub forms : now.context.forms ≡ take mark.forms path.context.forms
+  pub room : length path.context.forms + path.context.spare ≤ length now.context.forms + now.context.spare
   pub quotients : now.quotients ≡ record path.quotients { quotients = take count path.quotients.quotients }

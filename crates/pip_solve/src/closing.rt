@@ -2,7 +2,7 @@ ghost use Rattle.std.specs.Prelude.{◌≡◌, ◌≤◌, length, IfOk, IsTrue};
 ghost use Rattle.pip_model.specs.Forms as model;
 ghost use Rattle.pip_model.specs.Listed.{all_fit, opposite_listed};
 ghost use Rattle.pip_model.specs.Run.{Work as Counts};
-ghost use Rattle.pip_solve.specs.Frames.{finished, next_run, IsClosing, IsNext};
+ghost use Rattle.pip_solve.specs.Frames.{finished, next_run, HasNextRoom, IsClosing, IsNext};
 
 use crate::path::Path;
 use crate::pending::{Frame, Pending};
@@ -44,6 +44,7 @@ pub(crate) fn close(
     ensures gives { IfOk result (λ next. (w : Counts) → finished path.old pending.old.frames tree.tree w
         ≡ next_run rows.new path.new pending.new.frames next w) }
     ensures next { IfOk result (IsNext 0 path.old pending.old rows.new path.new pending.new) }
+    ensures room { IfOk result (HasNextRoom pending.new.most path.new) }
 {
     let alloc = rows.allocator();
     let mut tree = tree;
@@ -58,7 +59,7 @@ pub(crate) fn close(
             } => {
                 let fails = opposite(alloc, &condition)?;
                 path.back_to(context, quotients);
-                path.enter(fails)?;
+                path.enter(fails);
                 pending.push(Frame::FirstMade {
                     condition,
                     first: tree,

@@ -1,4 +1,5 @@
 ghost use Rattle.std.specs.Prelude.{◌≡◌, ℕ, ◌+◌, ◌*◌, ◌-◌, ◌^◌, ◌<◌, ◌≤◌, None, [], ◌∷◌, ◌++◌, map, length, IfOk, OnOk};
+ghost use Rattle.pip_model.specs.Limits.{most_nesting};
 ghost use Rattle.pip_model.specs.Rows.{row_at, widened};
 ghost use Rattle.pip_model.specs.Cuts as cuts;
 ghost use Rattle.pip_model.specs.Run.{Work as Counts};
@@ -6,10 +7,10 @@ ghost use Rattle.pip_model.specs.Agreement.{AgreesCounted};
 ghost use Rattle.pip_problem.specs.Faults.{run_fault};
 ghost use Rattle.tableau.specs.Tableaus.{IsRow};
 ghost use Rattle.new_parameters.specs.Scopes.{IsQuotient, size};
-ghost use Rattle.pip_solve.specs.Nodes.{IsBelow};
+ghost use Rattle.pip_solve.specs.Nodes.{IsBelow, IsKept};
 ghost use Rattle.pip_solve.specs.Signs.{IsCondition};
 ghost use Rattle.pip_solve.specs.Turns.{tree_in, IsNewParameter};
-ghost use Rattle.pip_solve.specs.Frames.{whole_run, turned_run, next_run, IsRunning, IsTurned, IsNext, weight};
+ghost use Rattle.pip_solve.specs.Frames.{whole_run, turned_run, next_run, HasRoom, HasNextRoom, IsRunning, IsTurned, IsNext, weight};
 ghost use Rattle.pip_solve.specs.declared.turn.Turn.TheVariants as turned;
 
 use crate::closing::{Next, close};
@@ -56,6 +57,7 @@ fn add_quotient(alloc: Global, path: &mut Path, key: Quotient) -> Result<(), Wan
     requires wide { length key.form ≡ size path.old.quotients + 1 }
     requires scope { path.old.context.width ≡ size path.old.quotients }
     requires room { size path.old.quotients < 2 ^ 64 - 1 }
+    requires spare { 2 ≤ path.old.context.spare }
     requires depth { path.old.depth < 2 ^ 64 - 1 }
     ensures { OnOk result (IsBelow path.old
         (cuts.lower_bound (size path.old.quotients + 1) (size path.old.quotients) key
@@ -64,7 +66,6 @@ fn add_quotient(alloc: Global, path: &mut Path, key: Quotient) -> Result<(), Wan
 {
     let place = path.quotients.add(key)?;
     let (lower, upper) = path.quotients.bounds(alloc, place)?;
-    path.context.reserve(2)?;
     path.context.widen();
     path.context.add(lower);
     path.context.add(upper);
@@ -81,10 +82,12 @@ fn split(
 ) -> Result<Next, WantOfMemory>
     requires running { IsRunning rows.now path.old pending.old }
     requires nested { path.old.depth + 1 ≤ pending.old.most }
+    requires room { HasRoom pending.old.most path.old }
     requires condition { IsCondition rows.now.width condition }
     ensures gives { IfOk result (λ next. (w : Counts) → turned_run rows.now path.old pending.old.frames
         (turned.Split condition) w ≡ next_run rows.now path.new pending.new.frames next w) }
     ensures next { IfOk result (IsNext 2 path.old pending.old rows.now path.new pending.new) }
+    ensures room { IfOk result (HasNextRoom pending.new.most path.new) }
 {
     let alloc = rows.allocator();
     let holds = condition.try_clone(alloc)?;
@@ -95,7 +98,7 @@ fn split(
         context: path.context.mark(),
         quotients: path.quotients.mark(),
     });
-    path.enter(holds)?;
+    path.enter(holds);
     Ok(Next::Node)
 }
 
@@ -109,10 +112,12 @@ fn define_below(
 ) -> Result<Next, WantOfMemory>
     requires running { IsRunning rows.old path.old pending.old }
     requires nested { path.old.depth + 1 ≤ pending.old.most }
+    requires room { HasRoom pending.old.most path.old }
     requires parameter { IsNewParameter rows.old path.old.quotients i key }
     ensures gives { IfOk result (λ next. (w : Counts) → turned_run rows.old path.old pending.old.frames
         (turned.Below i key) w ≡ next_run rows.new path.new pending.new.frames next w) }
     ensures next { IfOk result (IsNext 2 path.old pending.old rows.new path.new pending.new) }
+    ensures room { IfOk result (HasNextRoom pending.new.most path.new) }
 {
     let alloc = rows.allocator();
     let form = key.form.try_clone(alloc)?;
@@ -129,10 +134,12 @@ fn follow(
     path: &mut Path,
     pending: &mut Pending,
 ) -> Result<Next, WantOfMemory>
-    requires { IsTurned rows.old path.old pending.old turn }
+    requires turned { IsTurned rows.old path.old pending.old turn }
+    requires room { HasRoom pending.old.most path.old }
     ensures gives { IfOk result (λ next. (w : Counts) → turned_run rows.old path.old pending.old.frames turn w
         ≡ next_run rows.new path.new pending.new.frames next w) }
     ensures next { IfOk result (IsNext (weight turn) path.old pending.old rows.new path.new pending.new) }
+    ensures room { IfOk result (HasNextRoom pending.new.most path.new) }
 {
     match turn {
         Turn::Closed(tree) => {
@@ -157,6 +164,7 @@ fn run(
     work: &mut Work,
 ) -> Result<Quast, Refusal>
     requires running { IsRunning rows.old path.old pending.old }
+    requires room { HasRoom pending.old.most path.old }
     requires budget { pending.old.most ≡ work.old.budget.nesting }
     ensures gives { AgreesCounted tree_in run_fault result work.new
         (whole_run rows.old path.old pending.old.frames work.old) }
@@ -176,6 +184,16 @@ fn run(
     }
 }
 
+// Makes room in the context for the forms of so many levels: at most two for each.
+fn make_room(path: &mut Path, levels: usize) -> Result<(), WantOfMemory>
+    requires few { levels ≤ most_nesting }
+    ensures kept { OnOk result (IsKept path.old path.new) }
+    ensures room { OnOk result (HasRoom levels path.new) }
+{
+    path.context.reserve(2 * levels + 1)?;
+    Ok(())
+}
+
 // The tree of a problem's first node after a turn that leaves it for a node below. From here on there is room for the
 // frames of so many levels.
 fn run_below(
@@ -186,6 +204,7 @@ fn run_below(
     work: &mut Work,
 ) -> Result<Quast, Refusal>
     requires turned { IsTurned rows.old path.old (record { frames = []; most = levels }) turn }
+    requires room { HasRoom levels path.old }
     requires budget { levels ≡ work.old.budget.nesting }
     ensures gives { AgreesCounted tree_in run_fault result work.new (turned_run rows.old path.old [] turn work.old) }
     ensures width { IfOk result (λ tree. tree.width ≡ path.old.quotients.params) }
@@ -198,7 +217,7 @@ fn run_below(
 }
 
 // The tree of a problem's first node, with at most so many levels below it. Where no turn leaves the node, no frame
-// ever waits, and no room is taken for any.
+// ever waits, and no room is taken for any, nor for the forms of levels below.
 pub(crate) fn run_first(
     rows: &mut Tableau,
     path: &mut Path,
@@ -216,7 +235,10 @@ pub(crate) fn run_first(
         match turn {
             Turn::Again => {}
             Turn::Closed(tree) => return Ok(tree),
-            turn => return run_below(turn, rows, path, levels, work),
+            turn => {
+                make_room(path, levels)?;
+                return run_below(turn, rows, path, levels, work);
+            }
         }
     }
 }

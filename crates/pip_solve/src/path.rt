@@ -1,8 +1,8 @@
-ghost use Rattle.std.specs.Prelude.{◌^◌, ◌+◌, ◌-◌, ◌<◌, ◌≤◌, [], ◌∷◌, length, take, OnOk};
+ghost use Rattle.std.specs.Prelude.{◌^◌, ◌+◌, ◌-◌, ◌<◌, ◌≤◌, [], ◌∷◌, length, take};
 ghost use Rattle.pip_model.specs.Contexts.{IsContext};
 ghost use Rattle.pip_solve.specs.Nodes.{IsBelow, IsBack};
 
-use affine_forms::{Form, WantOfMemory};
+use affine_forms::Form;
 use context::{Context, ContextMark};
 use new_parameters::Quotients;
 
@@ -17,16 +17,15 @@ pub(crate) struct Path {
 }
 
 impl Path {
-    // Goes one level down, with one more form in the context.
-    pub(crate) fn enter(&mut self, form: Form) -> Result<(), WantOfMemory>
+    // Goes one level down, with one more form in the context. Takes no memory.
+    pub(crate) fn enter(&mut self, form: Form)
+        requires room { 1 ≤ self.old.context.spare }
         requires narrow { length form ≤ self.old.context.width + 1 }
         requires depth { self.old.depth < 2 ^ 64 - 1 }
-        ensures { OnOk result (IsBelow self.old (form ∷ []) [] self.new) }
+        ensures { IsBelow self.old (form ∷ []) [] self.new }
     {
-        self.context.reserve(1)?;
         self.context.add(form);
         self.depth += 1;
-        Ok(())
     }
 
     // Goes back to marks of the context and of the quotients. The depth stays.

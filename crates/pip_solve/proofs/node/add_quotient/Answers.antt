@@ -1,4 +1,5 @@
-use Rattle.std.proofs.Common.{rules, arith, refl, ◌≡◌, ◌∙◌, ◌+◌, ◌++◌, ◌∷◌, []}
+use Rattle.std.proofs.Common.{rules, arith, refl, ap, List, ℤ, length, ◌≡◌, ◌∙◌, ◌+◌, ◌++◌, ◌∷◌, []}
+use Rattle.std.proofs.lemmas.List.{length-append}
 use Rattle.pip_model.specs.Cuts as cuts
 use Rattle.new_parameters.specs.Scopes.{size, quotient_at}
 use Rattle.run_laws.proofs.Scopes.{length-bounds}
@@ -13,7 +14,8 @@ add-requires-2-clause-narrow c =
     let last = quotient_at-added c.args.path.now.quotients c.args.key in
     let lower : c.in_ok-lower.lower ≡ cuts.lower_bound (size c.args.path.now.quotients + 1) (size c.args.path.now.quotients) c.args.key = cc in
     let long = length-bounds (size c.args.path.now.quotients + 1) (size c.args.path.now.quotients) c.args.key (omega (arith, c.requires.wide)) (omega (arith, c.requires.wide)) (omega arith) in
-    rw lower (omega (arith, long.0, c.requires.scope, c.reserve.ensures.kept.width, c.widen.ensures.width))
+    let width = c.widen.ensures.width in
+    rw lower (omega (arith, long.0, c.requires.scope, c.widen.ensures.width))
 
 pub add-requires-3-clause-narrow : goal.add-requires-3-clause-narrow
 add-requires-3-clause-narrow c =
@@ -23,7 +25,7 @@ add-requires-3-clause-narrow c =
     let last = quotient_at-added c.args.path.now.quotients c.args.key in
     let upper : c.in_ok-lower.upper ≡ cuts.upper_bound (size c.args.path.now.quotients + 1) (size c.args.path.now.quotients) c.args.key = cc in
     let long = length-bounds (size c.args.path.now.quotients + 1) (size c.args.path.now.quotients) c.args.key (omega (arith, c.requires.wide)) (omega (arith, c.requires.wide)) (omega arith) in
-    rw upper (omega (arith, long.1, c.requires.scope, c.reserve.ensures.kept.width, c.widen.ensures.width, c.add-2.ensures.width))
+    rw upper (omega (arith, long.1, c.requires.scope, c.widen.ensures.width, c.add-2.ensures.width))
 
 pub returns : goal.returns
 returns c =
@@ -36,10 +38,13 @@ returns c =
     let upper : c.in_ok-lower.upper ≡ cuts.upper_bound (size c.args.path.now.quotients + 1) (size c.args.path.now.quotients) c.args.key = cc in
     let both : c.add-3.new.self.forms ≡ c.args.path.now.context.forms ++ c.in_ok-lower.lower ∷ [] ++ c.in_ok-lower.upper ∷ [] = search rules in
     let forms = both ∙ two_more c.args.path.now.context.forms c.in_ok-lower.lower c.in_ok-lower.upper in
+    let more = ap (λ (fs : List (List ℤ)). length fs) forms in
+    let long = length-append c.args.path.now.context.forms (c.in_ok-lower.lower ∷ c.in_ok-lower.upper ∷ []) in
     record {
       integer = refl;
       depth = refl;
-      width = omega (arith, c.reserve.ensures.kept.width, c.widen.ensures.width, c.add-2.ensures.width, c.add-3.ensures.width);
+      width = omega (arith, c.widen.ensures.width, c.add-2.ensures.width, c.add-3.ensures.width);
       forms = forms ∙ cc;
+      room = omega (arith, more, long, c.widen.ensures.spare, c.add-2.ensures.spare, c.add-3.ensures.spare);
       quotients = now;
     }

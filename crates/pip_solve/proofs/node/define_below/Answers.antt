@@ -6,8 +6,9 @@ use Rattle.pip_model.specs.Rows.{row_at, widened}
 use Rattle.pip_model.specs.Cuts as cuts
 use Rattle.tableau.specs.Tableaus.{TableauRows}
 use Rattle.pip_solve.specs.declared.pending.Frame.TheVariants as frame
+use Rattle.pip_solve.specs.Waiting.{Waiting}
 use Rattle.pip_solve.proofs.Going.{below_on}
-use Rattle.pip_solve.proofs.Handing.{below_next}
+use Rattle.pip_solve.proofs.Handing.{below_next, below_room}
 use Rattle.pip_solve.proofs.node.define_below.Goals as goal
 
 pub returns-clause-gives : goal.returns-clause-gives
@@ -28,4 +29,10 @@ returns-clause-next c =
     let added = length-append (map widened c.args.rows.now.rows) (cuts.parametric_cut (widened (row_at c.args.rows.now.rows c.args.i)) c.args.rows.now.width ∷ []) in
     let mapped = length-map c.args.rows.now.rows widened in
     let some : c.args.rows.now.unknowns ≤ length c.cut_below.new.rows.rows = omega (arith, rows, added, mapped, c.requires.running.node.rows) in
-    rw pushed (below_next c.args.rows.now c.args.path.now c.add_quotient.new.path c.args.pending.now c.requires.running c.requires.nested c.cut_below.new.rows _ _ c.args.key c.args.i c.requires.parameter c.in_ok-add_quotient.ensures unknowns width some)
+    rw pushed (below_next c.args.rows.now c.args.path.now c.add_quotient.new.path c.args.pending.now c.requires.running c.requires.nested c.requires.room c.cut_below.new.rows _ _ c.args.key c.args.i c.requires.parameter c.in_ok-add_quotient.ensures unknowns width some)
+
+pub returns-clause-room : goal.returns-clause-room
+returns-clause-room c =
+    let most = ap (λ (p : Waiting). p.most) c.push.ensures in
+    let room = below_room c.args.rows.now c.args.path.now c.add_quotient.new.path c.args.pending.now c.requires.running c.requires.nested c.requires.room _ _ c.args.key c.in_ok-add_quotient.ensures in
+    omega (arith, most, room)

@@ -1,7 +1,7 @@
 use Rattle.std.proofs.Common.{rules, refl, ◌≡◌}
 use Rattle.pip_model.specs.Run.{Work, give}
 use Rattle.pip_solve.specs.Frames.{turned_run, whole_run, IsNextNode, weight}
-use Rattle.pip_solve.proofs.Handing.{follows, goes_on, smaller, goes_on_again, smaller_again, ends}
+use Rattle.pip_solve.proofs.Handing.{follows, kept_room, goes_on, smaller, goes_on_again, smaller_again, ends}
 use Rattle.pip_solve.proofs.Knowing.{known_none, known_on}
 use Rattle.pip_solve.proofs.node.run.Goals as goal
 
@@ -13,11 +13,15 @@ loop-known-init c = record {
     params = refl;
     same = refl;
   };
+  room = c.requires.room;
   known = known_none c.args.path.now.context.forms c.args.path.now.context.width c.args.work.now.budget c.new-known.result c.new-known.ensures;
 }
 
-pub follow-requires : goal.follow-requires
-follow-requires c = follows c.args.rows.now c.args.path.now c.args.pending.now c.args.work.now c.loop-known.rows c.loop-known.path c.loop-known.pending c.loop-known.work c.loop-known.invariant.on c.take_turn.new.rows c.take_turn.new.path c.in_ok-turn.turn c.take_turn.new.work c.in_ok-turn.ensures.gives.agrees c.in_ok-turn.ensures.turn c.take_turn.ensures.path c.take_turn.ensures.gives.counted.budget
+pub follow-requires-clause-room : goal.follow-requires-clause-room
+follow-requires-clause-room c = kept_room c.loop-known.pending.most c.loop-known.path c.take_turn.new.path c.take_turn.ensures.path c.loop-known.invariant.room
+
+pub follow-requires-clause-turned : goal.follow-requires-clause-turned
+follow-requires-clause-turned c = follows c.args.rows.now c.args.path.now c.args.pending.now c.args.work.now c.loop-known.rows c.loop-known.path c.loop-known.pending c.loop-known.work c.loop-known.invariant.on c.take_turn.new.rows c.take_turn.new.path c.in_ok-turn.turn c.take_turn.new.work c.in_ok-turn.ensures.gives.agrees c.in_ok-turn.ensures.turn c.take_turn.ensures.path c.take_turn.ensures.gives.counted.budget
 
 pub loop-known-smaller : goal.loop-known-smaller
 loop-known-smaller c =
@@ -30,6 +34,7 @@ loop-known-preserved c =
     let same : (x : Work) → turned_run c.take_turn.new.rows c.take_turn.new.path c.loop-known.pending.frames c.in_ok-turn.turn x ≡ whole_run c.follow.new.rows c.follow.new.path c.follow.new.pending.frames x = rw c.in-Node.is at c.in_ok-follow.ensures.gives in
     record {
       on = goes_on c.args.rows.now c.args.path.now c.args.pending.now c.args.work.now c.loop-known.rows c.loop-known.path c.loop-known.pending c.loop-known.work c.loop-known.invariant.on c.take_turn.new.rows c.take_turn.new.path c.in_ok-turn.turn c.take_turn.new.work c.in_ok-turn.ensures.gives.agrees c.in_ok-turn.ensures.turn c.take_turn.ensures.path c.take_turn.ensures.gives.counted.budget c.follow.new.rows c.follow.new.path c.follow.new.pending n same;
+      room = rw c.in-Node.is at c.in_ok-follow.ensures.room;
       known = known_none c.follow.new.path.context.forms c.follow.new.path.context.width c.take_turn.new.work.budget c.forget.new.self c.forget.ensures;
     }
 
@@ -39,6 +44,7 @@ loop-known-smaller-in-Again c = smaller_again c.args.rows.now c.args.path.now c.
 pub loop-known-preserved-in-Again : goal.loop-known-preserved-in-Again
 loop-known-preserved-in-Again c = record {
   on = goes_on_again c.args.rows.now c.args.path.now c.args.pending.now c.args.work.now c.loop-known.rows c.loop-known.path c.loop-known.pending c.loop-known.work c.loop-known.invariant.on c.take_turn.new.rows c.take_turn.new.path c.in_ok-turn.turn c.take_turn.new.work c.in_ok-turn.ensures.gives.agrees c.in_ok-turn.ensures.turn c.take_turn.ensures.path c.take_turn.ensures.gives.counted.budget c.in-Again.is;
+  room = kept_room c.loop-known.pending.most c.loop-known.path c.take_turn.new.path c.take_turn.ensures.path c.loop-known.invariant.room;
   known = known_on c.loop-known.path.context c.take_turn.new.path.context c.loop-known.work.budget c.take_turn.new.work.budget c.take_turn.new.known c.take_turn.ensures.path.context c.take_turn.ensures.gives.counted.budget c.take_turn.ensures.known;
 }
 

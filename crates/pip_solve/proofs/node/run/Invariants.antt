@@ -1,6 +1,6 @@
 use Rattle.std.proofs.Common.{◌+◌, ◌*◌}
 use Rattle.pip_model.specs.Run.{left}
-use Rattle.pip_solve.specs.Frames.{dues}
+use Rattle.pip_solve.specs.Frames.{HasRoom, dues}
 use Rattle.pip_solve.specs.Known.{AreKnown}
 use Rattle.pip_solve.proofs.Handing.{GoesOn}
 use Rattle.pip_solve.proofs.node.run.Given as goal
@@ -8,6 +8,7 @@ use Rattle.pip_solve.proofs.node.run.Given as goal
 abbrev pub invariant-loop-known : goal.invariant-loop-known
 invariant-loop-known l = record {
   on : GoesOn l.fn.rows l.fn.path l.fn.pending l.fn.work l.rows l.path l.pending l.work;
+  room : HasRoom l.pending.most l.path;
   known : AreKnown l.path.context.forms l.path.context.width l.work.budget l.known;
 }
 

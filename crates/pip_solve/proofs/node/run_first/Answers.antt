@@ -6,7 +6,7 @@ use Rattle.pip_problem.specs.Faults.{run_fault}
 use Rattle.pip_solve.specs.Waiting.{Waiting}
 use Rattle.pip_solve.specs.Turns.{tree_in}
 use Rattle.pip_solve.specs.Frames.{turned_run}
-use Rattle.pip_solve.proofs.Handing.{follows, smaller_again, goes_on_again, leaves, leaves_params, leaves_budget, ends}
+use Rattle.pip_solve.proofs.Handing.{follows, smaller_again, goes_on_again, kept_kept, leaves, leaves_params, leaves_budget, ends}
 use Rattle.pip_solve.proofs.Knowing.{known_none, known_on}
 use Rattle.pip_solve.proofs.node.run_first.Goals as goal
 
@@ -50,21 +50,25 @@ returns-in-Closed-clause-width c =
 pub run_below-requires-clause-turned : goal.run_below-requires-clause-turned
 run_below-requires-clause-turned c =
     let none : Waiting = record { frames = []; most = c.args.levels } in
-    follows c.args.rows.now c.args.path.now none c.args.work.now c.loop-known.rows c.loop-known.path none c.loop-known.work c.loop-known.invariant.on c.take_turn.new.rows c.take_turn.new.path c.in_ok-turn.turn c.take_turn.new.work c.in_ok-turn.ensures.gives.agrees c.in_ok-turn.ensures.turn c.take_turn.ensures.path c.take_turn.ensures.gives.counted.budget
+    let kept = kept_kept c.loop-known.path c.take_turn.new.path c.make_room.new.path c.take_turn.ensures.path c.in_ok-make_room-in_default.ensures.kept in
+    follows c.args.rows.now c.args.path.now none c.args.work.now c.loop-known.rows c.loop-known.path none c.loop-known.work c.loop-known.invariant.on c.take_turn.new.rows c.make_room.new.path c.in_ok-turn.turn c.take_turn.new.work c.in_ok-turn.ensures.gives.agrees c.in_ok-turn.ensures.turn kept c.take_turn.ensures.gives.counted.budget
 
 pub run_below-requires-clause-budget : goal.run_below-requires-clause-budget
 run_below-requires-clause-budget c =
     let none : Waiting = record { frames = []; most = c.args.levels } in
-    leaves_budget c.args.rows.now c.args.path.now none c.args.work.now c.loop-known.rows c.loop-known.path none c.loop-known.work c.loop-known.invariant.on c.take_turn.new.rows c.take_turn.new.path c.in_ok-turn.turn c.take_turn.new.work c.in_ok-turn.ensures.gives.agrees c.in_ok-turn.ensures.turn c.take_turn.ensures.path c.take_turn.ensures.gives.counted.budget
+    let kept = kept_kept c.loop-known.path c.take_turn.new.path c.make_room.new.path c.take_turn.ensures.path c.in_ok-make_room-in_default.ensures.kept in
+    leaves_budget c.args.rows.now c.args.path.now none c.args.work.now c.loop-known.rows c.loop-known.path none c.loop-known.work c.loop-known.invariant.on c.take_turn.new.rows c.make_room.new.path c.in_ok-turn.turn c.take_turn.new.work c.in_ok-turn.ensures.gives.agrees c.in_ok-turn.ensures.turn kept c.take_turn.ensures.gives.counted.budget
 
 pub returns-in_default-clause-gives : goal.returns-in_default-clause-gives
 returns-in_default-clause-gives c =
     let none : Waiting = record { frames = []; most = c.args.levels } in
-    let left = leaves c.args.rows.now c.args.path.now none c.args.work.now c.loop-known.rows c.loop-known.path none c.loop-known.work c.loop-known.invariant.on c.take_turn.new.rows c.take_turn.new.path c.in_ok-turn.turn c.take_turn.new.work c.in_ok-turn.ensures.gives.agrees c.in_ok-turn.ensures.turn c.take_turn.ensures.path c.take_turn.ensures.gives.counted.budget in
+    let kept = kept_kept c.loop-known.path c.take_turn.new.path c.make_room.new.path c.take_turn.ensures.path c.in_ok-make_room-in_default.ensures.kept in
+    let left = leaves c.args.rows.now c.args.path.now none c.args.work.now c.loop-known.rows c.loop-known.path none c.loop-known.work c.loop-known.invariant.on c.take_turn.new.rows c.make_room.new.path c.in_ok-turn.turn c.take_turn.new.work c.in_ok-turn.ensures.gives.agrees c.in_ok-turn.ensures.turn kept c.take_turn.ensures.gives.counted.budget in
     subst (λ o. AgreesCounted tree_in run_fault c.run_below.result c.run_below.new.work o) (sym left) c.run_below.ensures.gives
 
 pub returns-in_default-clause-width : goal.returns-in_default-clause-width
 returns-in_default-clause-width c =
     let none : Waiting = record { frames = []; most = c.args.levels } in
-    let params = leaves_params c.args.rows.now c.args.path.now none c.args.work.now c.loop-known.rows c.loop-known.path none c.loop-known.work c.loop-known.invariant.on c.take_turn.new.rows c.take_turn.new.path c.in_ok-turn.turn c.take_turn.new.work c.in_ok-turn.ensures.gives.agrees c.in_ok-turn.ensures.turn c.take_turn.ensures.path c.take_turn.ensures.gives.counted.budget in
+    let kept = kept_kept c.loop-known.path c.take_turn.new.path c.make_room.new.path c.take_turn.ensures.path c.in_ok-make_room-in_default.ensures.kept in
+    let params = leaves_params c.args.rows.now c.args.path.now none c.args.work.now c.loop-known.rows c.loop-known.path none c.loop-known.work c.loop-known.invariant.on c.take_turn.new.rows c.make_room.new.path c.in_ok-turn.turn c.take_turn.new.work c.in_ok-turn.ensures.gives.agrees c.in_ok-turn.ensures.turn kept c.take_turn.ensures.gives.counted.budget in
     subst (λ n. IfOk c.run_below.result (λ tree. tree.width ≡ n)) params c.run_below.ensures.width
