@@ -107,8 +107,7 @@ fn start_rows(alloc: Global, problem: &Problem, rows: &mut Tableau) -> Result<()
     }
 }
 
-// The tree of a problem whose context has a point, from the path to its first node. What joins the context takes memory
-// as the run goes down.
+// The tree of a problem whose context has a point, from the path to its first node.
 fn tree(
     alloc: Global,
     problem: &Problem,
