@@ -7,8 +7,10 @@ use Rattle.pip_model.specs.Contexts.{IsContext}
 use Rattle.pip_model.specs.Listed.{all_fit}
 use Rattle.pip_model.specs.Rows.{Row, row_at, form_row, eliminated, eliminated_listed}
 use Rattle.pip_model.specs.Run.{Work, Outcome, Done, Refused, Overflow, ◌>>◌, go_on, give, listed, count_pivot, run_from, point_setting}
+use Rattle.pip_model.specs.Refuting.{refute_from}
 use Rattle.context.specs.Turns.{node_of}
-use Rattle.context.specs.Remembered.{turned, replayed, IsTurned, IsRemembered, IsKnown}
+use Rattle.context.specs.Remembered.{turned, replayed, RetracesTo, IsTurned, IsRemembered, IsKnown}
+use Rattle.context.specs.Traces.{exchanges}
 use Rattle.context.specs.declared.remembered.Remembered.{Remembered}
 use Rattle.context.proofs.FurtherRows.{append-assoc, all_fit-append}
 use Rattle.context.proofs.Replaying.{Reaches}
@@ -81,6 +83,20 @@ reaches_further n first ps cs E R now run is F w =
     each : (o : Outcome (List Row)) → go_on (go_on o (λ more. give (now ++ more))) (λ rows. run_from (point_setting n) (node_of (E ++ rows)))
         ≡ go_on o (λ rows. run_from (point_setting n) (node_of ((E ++ now) ++ rows)))
     each (Done more v) = ap (λ (rows : List Row). run_from (point_setting n) (node_of rows) v) (sym (append-assoc E now more))
+    each (Refused f v) = refl
+
+-- the same of a run with a trace
+pub retraces_further : (n : ℕ) (first : List Row) (ps : List Row) (rs cs : List ℕ) (E R now : List Row) → RetracesTo n first ps rs cs E → IsTurned ps cs R now
+    → RetracesTo n (first ++ R) ps rs cs (E ++ now)
+retraces_further n first ps rs cs E R now run is T F w =
+    ap (λ (rows : List Row). refute_from n T (node_of rows) w) (append-assoc first R F)
+    ∙ run T (R ++ F) w
+    ∙ ap (λ o. go_on o (λ rows. refute_from n (exchanges rs cs T) (node_of (E ++ rows)))) (is.turns F w)
+    ∙ each (replayed ps cs F w)
+  where
+    each : (o : Outcome (List Row)) → go_on (go_on o (λ more. give (now ++ more))) (λ rows. refute_from n (exchanges rs cs T) (node_of (E ++ rows)))
+        ≡ go_on o (λ rows. refute_from n (exchanges rs cs T) (node_of ((E ++ now) ++ rows)))
+    each (Done more v) = ap (λ (rows : List Row). refute_from n (exchanges rs cs T) (node_of rows) v) (sym (append-assoc E now more))
     each (Refused f v) = refl
 
 -- ---- a context's run, known of its first forms and then of all

@@ -102,6 +102,11 @@ pub record IsRemembered (n : ℕ) (K : List (List ℤ)) (m : Remembered) : Type 
   pub stopped : IsStopped m
   pub replay : IsReplay (first_rows n K) m.run
 
+-- narrow forms, and their run where it is known
+pub record IsKnownWhole (n : ℕ) (K : List (List ℤ)) (is_known : Bool) (run : Remembered) : Type 0 where
+  pub context : IsContext n K
+  pub remembered : IsTrue is_known → IsRemembered n K run
+
 -- narrow forms, and the run of the first so many of them where one is known
 pub record IsKnown (n : ℕ) (K : List (List ℤ)) (is_known : Bool) (known : ℕ) (run : Remembered) : Type 0 where
   pub context : IsContext n K

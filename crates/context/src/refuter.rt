@@ -43,14 +43,14 @@ pub struct Refuter {
 }
 
 impl Model for Refuter {
-    ghost use Rattle.context.specs.Remembered.{IsKnown};
+    ghost use Rattle.context.specs.Remembered.{IsKnownWhole};
     ghost use Rattle.context.specs.Scoped.{KeptForms};
 
     ghost Value = { KeptForms };
 
     ghost view = { λ k. record { width = k.width; forms = k.forms.items } };
 
-    ghost invariant = { λ k. IsKnown k.width k.forms.items k.is_known k.run };
+    ghost invariant = { λ k. IsKnownWhole k.width k.forms.items k.is_known k.run };
 }
 
 impl Refuter {

@@ -1,9 +1,11 @@
-use Rattle.std.proofs.Common.{rules, ◌≡◌, subst, List, [], ◌∷◌, length}
+use Rattle.std.proofs.Common.{rules, arith, ◌≡◌, ◌∙◌, refl, ap, subst, List, [], ◌∷◌, ◌++◌, length, length-append}
 use Rattle.pip_model.specs.Forms.{widen_to}
-use Rattle.pip_model.specs.Rows.{Row, form_row}
+use Rattle.pip_model.specs.Rows.{Row, row_at, form_row}
+use Rattle.tableau.specs.Tableaus.{TableauRows}
 use Rattle.context.specs.Remembered.{IsTurned}
 use Rattle.context.proofs.Ending.{only}
-use Rattle.context.proofs.GoingFurther.{reaches_further}
+use Rattle.context.proofs.GoingFurther.{reaches_further, retraces_further}
+use Rattle.context.proofs.Retracing.{retraces-made}
 use Rattle.context.proofs.further.push_further.Goals as goal
 
 pub returns-clause-replay : goal.returns-clause-replay
@@ -15,7 +17,15 @@ returns-clause-replay c first is =
     let number : length c.turn_by_all.new.rows.rows ≡ 1 = search rules in
     let turned : IsTurned c.args.m.now.pivots.rows c.args.m.now.columns.items c.push_short.new.rows.rows c.turn_by_all.new.rows.rows = c.turn_by_all.ensures.turned (search rules) in
     let of_row = subst (λ (l : List Row). IsTurned c.args.m.now.pivots.rows c.args.m.now.columns.items l c.turn_by_all.new.rows.rows) row turned in
+    let R : List Row = form_row n (widen_to n c.args.form.now) ∷ [] in
     record {
+      places = is.places;
+      within = λ i h. omega (arith, is.within i h, length-append first R);
+      number = rw (c.in_ok-push_copy.ensures.ok) (length-append m.end.rows (row_at now 0 ∷ []) ∙ omega (arith, is.number, length-append first R));
       run = rw (c.in_ok-push_copy.ensures.ok, only c.turn_by_all.new.rows.rows number)
           (reaches_further n first m.pivots.rows m.columns.items m.end.rows (form_row n (widen_to n c.args.form.now) ∷ []) now is.run of_row);
+      traced = retraces-made n c.push_copy.new.self.unknowns (first ++ R) m.pivots.rows m.pivots.rows m.rows.items m.rows.items m.columns.items m.columns.items (m.end.rows ++ now) c.push_copy.new.self.rows
+          (retraces_further n first m.pivots.rows m.rows.items m.columns.items m.end.rows R now is.traced of_row)
+          (ap (λ (t : TableauRows). t.unknowns) c.in_ok-push_copy.ensures.ok) refl refl refl
+          (ap (λ (t : TableauRows). t.rows) c.in_ok-push_copy.ensures.ok ∙ ap (λ (rows : List Row). m.end.rows ++ rows) (only now number));
     }
