@@ -1,6 +1,7 @@
 -- One refutation: by its known forms, and as the definition makes it.
-use Rattle.std.proofs.Common.{◌≡◌, refl, ap, ap₂, sym, ◌∙◌, ℕ, ◌+◌, ℤ, Bool, true, false, pos, List, [], ◌++◌, length, map, length-append, arith}
+use Rattle.std.proofs.Common.{◌≡◌, refl, ap, ap₂, sym, ◌∙◌, ℕ, ◌+◌, ◌<◌, ◌≤◌, ℤ, All, Bool, true, false, pos, List, [], ◌++◌, length, map, length-append, arith}
 use Rattle.std.specs.Prelude.{Option, Some, None, IfSome, IsTrue}
+use Rattle.std.proofs.lemmas.List.Elements.{All-weaker}
 use Rattle.pip_model.specs.Listed.{all_fit}
 use Rattle.pip_model.specs.Problem.{Problem}
 use Rattle.pip_model.specs.Tree.{Component}
@@ -16,6 +17,10 @@ use Rattle.solve_certified.specs.declared.refutation.Scope.{Scope}
 use Rattle.solve_certified.proofs.QuotientLists.{length-indices, steps_same}
 
 -- ---- by the known forms
+
+-- forms over k places, of which there are no fewer than w
+pub all-longer : (k w : ℕ) → w ≤ k → (known : List (List ℤ)) → All (λ c. length c ≡ k + 1) known → All (λ c. w < length c) known
+all-longer k w h known all = All-weaker (λ c. length c ≡ k + 1) (λ c. w < length c) (λ c e. omega (arith, h, e)) known all
 
 module _ (s : Scope) (n : ℕ) (known : List (List ℤ)) where
   abbrev pub ks : List PathQuotient

@@ -23,7 +23,7 @@ use crate::walk::Walk;
 use affine_forms::Overflow;
 use certificate_check::void_forms;
 use certificate_parts::{Certificate, LeafProofs};
-use context::{Point, Work};
+use context::{Point, Refuter, Work};
 use pip_problem::{Limits, Problem, Refusal};
 use pip_solve::{answer_from, context_point};
 use quast::{Answer, Quast};
@@ -95,13 +95,15 @@ fn certificate_of_void(
 {
     let known = void_forms(alloc, problem)?;
     let scope = Scope {
+        alloc,
         params: problem.params(),
         front: known.len(),
         own: known.len(),
         quotients: &[],
     };
+    let mut refuter = Refuter::new(alloc);
     let mut proofs = LeafProofs::new(alloc);
-    proofs.push(scope.refute(alloc, &known, 0, work)?)?;
+    proofs.push(scope.refute(&mut refuter, &known, 0, work)?)?;
     let mut made = Certificate::try_new(alloc, None)?;
     made.push(proofs)?;
     Ok(made)

@@ -9,9 +9,8 @@ ghost use Rattle.solve_certified.specs.Goals.{unknowns_at};
 use crate::refutation::Scope;
 use certificate_check::{Known, Leaf, refutation_count};
 use certificate_parts::{LeafProofs, Refutation};
-use context::Work;
+use context::{Refuter, Work};
 use pip_problem::Refusal;
-use std::alloc::Global;
 
 // The refutations of a leaf are made of its known forms, over what is in scope.
 #[derive(Drop)]
@@ -40,10 +39,26 @@ impl LeafMaking<'_> {
         }
     }
 
+    // How many of the forms that refutation r, from 0, starts from are the next one's too; so many are known in front of
+    // its own.
+    fn kept(&self, known: usize, r: usize) -> usize
+        requires { IsTrue (is_whole_list self.now.leaf.problem.now.unknowns (option_copied self.now.leaf.list)) }
+    {
+        if self.leaf.list.is_none() {
+            return 0;
+        }
+        let n = self.unknowns(r);
+        if n == 0 {
+            return known;
+        }
+        let rows = self.leaf.problem.rows().len();
+        known.saturating_add(n).saturating_add(rows)
+    }
+
     // Refutation r, from 0, behind the leaf's known forms, which are as they were where it is made.
     fn refute_goal(
         &self,
-        alloc: Global,
+        refuter: &mut Refuter,
         known: &mut Known,
         r: usize,
         work: &mut Work,
@@ -60,14 +75,15 @@ impl LeafMaking<'_> {
         ensures known { OnOk result (known.new ≡ known.old) }
     {
         let before = known.len();
-        self.leaf.push_goal(alloc, known, r)?;
-        let steps = self.scope.refute(alloc, known, self.unknowns(r), work)?;
+        self.leaf.push_goal(self.scope.alloc, known, r)?;
+        refuter.keep(self.kept(before, r));
+        let steps = self.scope.refute(refuter, known, self.unknowns(r), work)?;
         known.truncate(before);
         Ok(steps)
     }
 
     // The refutations of the leaf, in the order of the check.
-    pub(crate) fn refute_all(&self, alloc: Global, work: &mut Work) -> Result<LeafProofs, Refusal>
+    pub(crate) fn refute_all(&self, work: &mut Work) -> Result<LeafProofs, Refusal>
         requires leaf { IsLeaf self.now.leaf.problem.now (case_of self.now.leaf) }
         requires whole { IsTrue (is_whole_list self.now.leaf.problem.now.unknowns
             (option_copied self.now.leaf.list)) }
@@ -75,10 +91,11 @@ impl LeafMaking<'_> {
         ensures { AgreesCounted (λ proofs. proofs) run_fault result work.new (made_proofs self.now.leaf.problem.now
             (case_of self.now.leaf) self.now.scope.quotients.now work.old) }
     {
-        let mut known = self.leaf.start(alloc)?;
-        let mut proofs = LeafProofs::new(alloc);
+        let mut refuter = Refuter::new(self.scope.alloc);
+        let mut known = self.leaf.start(self.scope.alloc)?;
+        let mut proofs = LeafProofs::new(self.scope.alloc);
         for r in 0..refutation_count(self.leaf.problem, self.leaf.list) {
-            let steps = self.refute_goal(alloc, &mut known, r, work)?;
+            let steps = self.refute_goal(&mut refuter, &mut known, r, work)?;
             proofs.push(steps)?;
         }
         Ok(proofs)

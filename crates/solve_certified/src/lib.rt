@@ -4,7 +4,6 @@
 mod certified;
 mod indices;
 mod leaf;
-mod narrowed;
 mod quotients;
 mod refutation;
 mod trail;

@@ -7,12 +7,11 @@ ghost use Rattle.pip_problem.specs.Faults.{run_fault};
 ghost use Rattle.solve_certified.specs.Refutations.{refuted_by, places_of, IsScope};
 
 use crate::indices::push_indices;
-use crate::narrowed::context_of;
 use crate::quotients::{PathQuotient, quotient_steps};
 use affine_forms::WantOfMemory;
 use certificate_check::Known;
 use certificate_parts::{Refutation, Step, Terms};
-use context::Work;
+use context::{Refuter, Work};
 use pip_problem::Refusal;
 use std::alloc::Global;
 
@@ -20,6 +19,7 @@ use std::alloc::Global;
 // index `front`, and those that a refutation has of its own at `own`.
 #[derive(Drop)]
 pub(crate) struct Scope<'a> {
+    pub(crate) alloc: Global,
     pub(crate) params: usize,
     pub(crate) front: usize,
     pub(crate) own: usize,
@@ -105,7 +105,7 @@ impl Scope<'_> {
     // and then those of the point's run.
     pub(crate) fn refute(
         &self,
-        alloc: Global,
+        refuter: &mut Refuter,
         known: &Known,
         n: usize,
         work: &mut Work,
@@ -119,12 +119,11 @@ impl Scope<'_> {
         let Some(first) = count.checked_add(self.quotients.len()) else {
             return Err(Refusal::WantOfMemory);
         };
-        let places = self.places(alloc, count, n)?;
-        let context = context_of(alloc, known, places.len())?;
+        let places = self.places(self.alloc, count, n)?;
         let first = index_behind(first);
-        let found = context.refute(alloc, &places, first, work)?;
-        let steps = quotient_steps(alloc, self.front, self.params, &places, self.quotients)?;
-        let made = with_found(alloc, steps, found)?;
+        let found = refuter.refute(known.as_slice(), &places, first, work)?;
+        let steps = quotient_steps(self.alloc, self.front, self.params, &places, self.quotients)?;
+        let made = with_found(self.alloc, steps, found)?;
         Ok(made)
     }
 }

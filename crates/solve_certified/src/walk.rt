@@ -51,13 +51,14 @@ impl Walk<'_> {
                 list,
             },
             scope: Scope {
+                alloc: self.alloc,
                 params,
                 front,
                 own,
                 quotients: trail.quotients(),
             },
         };
-        let proofs = making.refute_all(self.alloc, work)?;
+        let proofs = making.refute_all(work)?;
         made.push(proofs)?;
         Ok(())
     }

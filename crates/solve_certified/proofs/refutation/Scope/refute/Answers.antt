@@ -1,18 +1,20 @@
-use Rattle.std.proofs.Common.{rules, arith, ◌≡◌, ◌∙◌, ap, ◌+◌, pos, length, ℕ, to_z, of_z}
+use Rattle.std.proofs.Common.{rules, arith, ◌≡◌, ◌∙◌, refl, ap, ◌+◌, pos, length, map, List, ℤ, ℕ, to_z, of_z}
 use Rattle.std.specs.Int.{w128}
 use Rattle.std.proofs.lemmas.Result.{err_from_is_err_and}
+use Rattle.pip_model.specs.Made.{narrow_to}
 use Rattle.pip_problem.specs.Faults.{run_fault}
 use Rattle.solve_certified.specs.Refutations.{places_of}
-use Rattle.solve_certified.proofs.Refuting.{length-places, refuted_done, refuted_fault}
+use Rattle.solve_certified.proofs.Refuting.{length-places, all-longer, refuted_done, refuted_fault}
 use Rattle.solve_certified.proofs.refutation.Scope.refute.Goals as goal
 
-pub context_of-requires : goal.context_of-requires
-context_of-requires c =
+pub refute-requires-clause-wide : goal.refute-requires-clause-wide
+refute-requires-clause-wide c =
     let s = c.args.self.now in
     let known = c.args.known.now.forms in
-    let at : c.in_ok-places.places.items ≡ places_of s (length known) c.args.n = c.in_ok-places.ensures.value ∙ ap (λ (k : ℕ). places_of s k c.args.n) c.len-count.ensures in
-    let count : c.len.result ≡ length c.in_ok-places.places.items = search rules in
-    omega (arith, ap length at, length-places s c.args.n known, c.requires.width, count)
+    let items : c.in_ok-places.places.items ≡ places_of s (length known) c.args.n = c.in_ok-places.ensures.value ∙ ap (λ (k : ℕ). places_of s k c.args.n) c.len-count.ensures in
+    let at : c.deref.result.now ≡ places_of s (length known) c.args.n = c.deref.ensures.value ∙ items in
+    rw c.as_slice.ensures.value
+    (all-longer c.args.known.now.width (length c.deref.result.now) (omega (arith, ap length at, length-places s c.args.n known, c.requires.width)) known c.as_slice.ensures.wide)
 
 pub returns-in_err-found : goal.returns-in_err-found
 returns-in_err-found c =
@@ -21,11 +23,11 @@ returns-in_err-found c =
     let p = err_from_is_err_and c.from_residual-in_err-found.result c.from_residual-in_err-found.ensures.1 in
     let items : c.in_ok-places.places.items ≡ places_of s (length known) c.args.n = c.in_ok-places.ensures.value ∙ ap (λ (k : ℕ). places_of s k c.args.n) c.len-count.ensures in
     let at : c.deref.result.now ≡ places_of s (length known) c.args.n = c.deref.ensures.value ∙ items in
-    let wide : c.len.result ≡ length c.deref.result.now = search rules in
     let cast : to_z w128 (of_z w128 c.index_behind-first.result) ≡ c.index_behind-first.result = search rules in
     let sum : c.in-Some.first ≡ length known + length s.quotients.now = search rules in
+    let w = length c.deref.result.now in
     rw (p.1, p.2)
-    (refuted_fault s c.args.n known c.in_ok-context.context.width c.len.result c.in_ok-context.context.forms c.deref.result.now (to_z w128 (of_z w128 c.index_behind-first.result)) c.in_ok-context.ensures.width wide c.in_ok-context.ensures.forms at (cast ∙ c.index_behind-first.ensures.value ∙ ap pos sum)
+    (refuted_fault s c.args.n known w w (map (narrow_to w) c.as_slice.result.now) c.deref.result.now (to_z w128 (of_z w128 c.index_behind-first.result)) refl refl (ap (λ (K : List (List ℤ)). map (narrow_to w) K) c.as_slice.ensures.value) at (cast ∙ c.index_behind-first.ensures.value ∙ ap pos sum)
     (run_fault c.in_err-found.field-0.0) c.args.work.now c.refute.new.work c.in_err-found.ensures.gives.agrees)
 
 pub quotient_steps-requires-clause-number : goal.quotient_steps-requires-clause-number
@@ -42,9 +44,9 @@ returns c =
     let known = c.args.known.now.forms in
     let items : c.in_ok-places.places.items ≡ places_of s (length known) c.args.n = c.in_ok-places.ensures.value ∙ ap (λ (k : ℕ). places_of s k c.args.n) c.len-count.ensures in
     let at : c.deref.result.now ≡ places_of s (length known) c.args.n = c.deref.ensures.value ∙ items in
-    let wide : c.len.result ≡ length c.deref.result.now = search rules in
     let cast : to_z w128 (of_z w128 c.index_behind-first.result) ≡ c.index_behind-first.result = search rules in
     let sum : c.in-Some.first ≡ length known + length s.quotients.now = search rules in
     let again : c.deref-2.result.now ≡ c.deref.result.now = search rules in
-    refuted_done s c.args.n known c.in_ok-context.context.width c.len.result c.in_ok-context.context.forms c.deref.result.now (to_z w128 (of_z w128 c.index_behind-first.result)) c.in_ok-context.ensures.width wide c.in_ok-context.ensures.forms at (cast ∙ c.index_behind-first.ensures.value ∙ ap pos sum)
+    let w = length c.deref.result.now in
+    refuted_done s c.args.n known w w (map (narrow_to w) c.as_slice.result.now) c.deref.result.now (to_z w128 (of_z w128 c.index_behind-first.result)) refl refl (ap (λ (K : List (List ℤ)). map (narrow_to w) K) c.as_slice.ensures.value) at (cast ∙ c.index_behind-first.ensures.value ∙ ap pos sum)
     c.in_ok-found.found c.in_ok-steps.steps c.in_ok-made.made c.args.work.now c.refute.new.work c.in_ok-found.ensures.gives.agrees (rw again at c.in_ok-steps.ensures) c.in_ok-made.ensures
