@@ -1,5 +1,5 @@
 -- A command that the words give may be asked for.
-use Rattle.std.proofs.Common.{◌≡◌, refl, arith, ℕ, ℤ, ◌-◌, ◌^◌, ◌≤◌, List, Option, Some, None, Bool, true, false, ◌&&◌, ◌==◌, not, nat_le, length}
+use Rattle.std.proofs.Common.{◌≡◌, refl, arith, ℕ, ℤ, ◌-◌, ◌^◌, ◌≤◌, List, [], ◌∷◌, Option, Some, None, Bool, true, false, ◌&&◌, ◌==◌, not, nat_le, length}
 use Rattle.std.proofs.lemmas.Bool.{leb-true}
 use Rattle.std.specs.Prelude.{IfSome, MatchBool, if◌then◌else◌, codes}
 use Rattle.std.specs.List.{list_all}
@@ -12,9 +12,8 @@ use Rattle.pip_model.specs.Run.{Budget, IsBudget, standard_budget}
 use Rattle.program_model.specs.Commands.{Command, Eval, Simplify, Pieces, Restrict, Same, Least}
 use Rattle.program_model.specs.Output.{MayBeAsked}
 use Rattle.pip_items.specs.Outputs.{IsWithin}
-use Rattle.pip_words.specs.Arguments.{pip_app}
 use Rattle.pip_words.specs.Numbers.{number_of, most_drawn}
-use Rattle.pip_words.specs.Words.{command_of, command_in, solve_of, solve_with, flag_of, budget_of, budget_by, walk_of, limit_of, number_or, needed_of, trial_of, is_accepted, parameters_of, texts_of, ◌>>=◌}
+use Rattle.pip_words.specs.Words.{pip_app, Spelling, spellings, named_in, counted_of, walked_of, command_of, command_in, solve_of, solve_with, flag_of, budget_of, budget_by, walk_of, limit_of, number_or, needed_of, trial_of, is_accepted, parameters_of, texts_of, ◌>>=◌}
 
 -- over each input within its limit
 abbrev pub IsAsked : Command → Type 0
@@ -85,18 +84,17 @@ needed_within : (most : ℕ) (text : Option Text) → IfSome (text >>= number_of
 needed_within most None = tt
 needed_within most (Some text) = number_within most text
 
-simplify_asked : (m : Option ℕ) → IfSome m (λ n. n ≤ most_params) → IfSome (option_map Simplify m) IsAsked
-simplify_asked None h = tt
-simplify_asked (Some m) h = λ bytes within. h
+counted_asked : (command : ℕ → Command) → ((m : ℕ) → m ≤ most_params → IsAsked (command m)) → (rows : List Row) → IfSome (counted_of command rows) IsAsked
+counted_asked command f rows = go (needed_of (codes "parameters") most_params rows) (needed_within most_params (first_of (codes "parameters") rows))
+  where
+    go : (m : Option ℕ) → IfSome m (λ n. n ≤ most_params) → IfSome (option_map command m) IsAsked
+    go None h = tt
+    go (Some m) h = f m h
 
 trial_asked : (rows : List Row) → IfSome (trial_of rows) IsAsked
 trial_asked rows =
     then_asked (λ x. Unit {0}) (needed_of (codes "seed") (2 ^ 64 - 1) rows) _ (any _) (λ seed u.
     then_asked (λ x. Unit {0}) (needed_of (codes "count") most_drawn rows) _ (any _) (λ count v bytes within. tt))
-
-pieces_asked : (m : Option ℕ) → IfSome m (λ n. n ≤ most_params) → IfSome (option_map Pieces m) IsAsked
-pieces_asked None h = tt
-pieces_asked (Some m) h = λ bytes within. h
 
 -- a walk of few parameters, with a budget of nesting within its limit
 abbrev IsWalk : ℕ × Budget → Type 0
@@ -112,31 +110,60 @@ walk_within rows = go (needed_of (codes "parameters") most_params rows) (budget_
     go (Some n) None h k = tt
     go (Some n) (Some x) h k = (h, k.nesting)
 
-restrict_asked : (w : Option (ℕ × Budget)) → IfSome w IsWalk → IfSome (option_map (λ x. Restrict x.0 x.1) w) IsAsked
-restrict_asked None h = tt
-restrict_asked (Some w) h = λ bytes within. h.0
+walked_asked : (command : ℕ → Budget → Command) → ((m : ℕ) (b : Budget) → IsWalk (m, b) → IsAsked (command m b)) → (rows : List Row) → IfSome (walked_of command rows) IsAsked
+walked_asked command f rows = go (walk_of rows) (walk_within rows)
+  where
+    go : (w : Option (ℕ × Budget)) → IfSome w IsWalk → IfSome (option_map (λ x. command x.0 x.1) w) IsAsked
+    go None h = tt
+    go (Some w) h = f w.0 w.1 h
 
-same_asked : (w : Option (ℕ × Budget)) → IfSome w IsWalk → IfSome (option_map (λ x. Same x.0 x.1) w) IsAsked
-same_asked None h = tt
-same_asked (Some w) h = λ bytes within. h.0
+-- ---- of each command
 
-least_asked : (w : Option (ℕ × Budget)) → IfSome w IsWalk → IfSome (option_map (λ x. Least x.0 x.1) w) IsAsked
-least_asked None h = tt
-least_asked (Some w) h = λ bytes within. h
+-- what such words give may be asked for
+abbrev AreAsked : List Spelling → Type 0
+AreAsked [] = Unit {0}
+AreAsked (s ∷ ss) = ((rows : List Row) → IfSome (s.given rows) IsAsked) × AreAsked ss
+
+spellings_asked : AreAsked spellings
+spellings_asked = (
+  solve_asked,
+  (
+    (λ rows. eval_asked (parameters_of (texts_of (all_of (codes "parameter") rows)))),
+    (
+      counted_asked Simplify (λ m h bytes within. h),
+      (
+        (λ rows bytes within. tt),
+        (
+          (λ rows bytes within. within tt),
+          (
+            trial_asked,
+            (
+              counted_asked Pieces (λ m h bytes within. h),
+              (
+                walked_asked Restrict (λ m b h bytes within. h.0),
+                (
+                  walked_asked Same (λ m b h bytes within. h.0),
+                  (
+                    walked_asked Least (λ m b h bytes within. h),
+                    tt,
+                  ),
+                ),
+              ),
+            ),
+          ),
+        ),
+      ),
+    ),
+  ),
+)
+
+named_asked : (name : Text) (rows : List Row) (ss : List Spelling) → AreAsked ss → IfSome (named_in name rows ss) IsAsked
+named_asked name rows [] h = tt
+named_asked name rows (s ∷ ss) h = chosen (bytes_eq name s.name) _ _ (h.0 rows) (named_asked name rows ss h.1)
 
 in_asked : (found : Option (Text × List Row)) → IfSome (command_in found) IsAsked
 in_asked None = tt
-in_asked (Some found) =
-    chosen (bytes_eq found.0 (codes "solve")) _ _ (solve_asked found.1)
-    (chosen (bytes_eq found.0 (codes "eval")) _ _ (eval_asked (parameters_of (texts_of (all_of (codes "parameter") found.1))))
-    (chosen (bytes_eq found.0 (codes "simplify")) _ _ (simplify_asked (needed_of (codes "parameters") most_params found.1) (needed_within most_params (first_of (codes "parameters") found.1)))
-    (chosen (bytes_eq found.0 (codes "check")) _ _ (λ bytes within. tt)
-    (chosen (bytes_eq found.0 (codes "share")) _ _ (λ bytes within. within tt)
-    (chosen (bytes_eq found.0 (codes "trial")) _ _ (trial_asked found.1)
-    (chosen (bytes_eq found.0 (codes "pieces")) _ _ (pieces_asked (needed_of (codes "parameters") most_params found.1) (needed_within most_params (first_of (codes "parameters") found.1)))
-    (chosen (bytes_eq found.0 (codes "restrict")) _ _ (restrict_asked (walk_of found.1) (walk_within found.1))
-    (chosen (bytes_eq found.0 (codes "same")) _ _ (same_asked (walk_of found.1) (walk_within found.1))
-    (chosen (bytes_eq found.0 (codes "least")) _ _ (least_asked (walk_of found.1) (walk_within found.1)) tt)))))))))
+in_asked (Some found) = named_asked found.0 found.1 spellings spellings_asked
 
 pub command-asked : (words : List Text) → IfSome (command_of words) IsAsked
 command-asked words = chosen (is_accepted (fault_of pip_app words)) _ _ (in_asked (subcommand_of pip_app words)) tt

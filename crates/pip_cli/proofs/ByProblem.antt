@@ -6,7 +6,7 @@ use Rattle.std.specs.Io.KnownBytes.{Appends}
 use Rattle.pip_model.specs.Limits.{most_input_bytes}
 use Rattle.program_model.specs.Endings.{Ending, finished}
 use Rattle.program_model.specs.Items.{IsItself}
-use Rattle.program_model.specs.Commands.{Command, SolveOptions, Solve, Trial, item_text}
+use Rattle.program_model.specs.Commands.{Command, SolveOptions, Solve, way, item_text}
 use Rattle.program_model.specs.Output.{IsOutput, IsFirstOutput, MayBeAsked}
 use Rattle.headline.proofs.FirstItems.{first_items-first}
 use Rattle.headline.proofs.OutputRight.{output-right, first_output-right}
@@ -17,6 +17,7 @@ use Rattle.pip_endings.specs.declared.ending.Ending.TheVariants as ending
 use Rattle.pip_items.specs.Items.{Gained, GainedFront}
 use Rattle.pip_items.specs.Outputs.{IsWithin, IsRead, WritesOutput, bytes_read}
 use Rattle.pip_items.specs.ByProblem.{AreEnded, AreBefore, AreAll, ReadsWhole, WritesTillEnd, WritesByProblem, WritesOf}
+use Rattle.pip_items.proofs.Outputs.{all_read}
 use Rattle.pip_cli.specs.Ends.{AreFirst, AreFirstEnded, AreFirstBefore, EndsByProblem, HasEndedByProblem, EndsAs, AnswersRight, Completes, IsShort, IsAfterInput}
 use Rattle.pip_cli.specs.Runs.{IsWordsEnding, WhereTold}
 use Rattle.pip_cli.proofs.Asked.{IsAsked}
@@ -170,11 +171,10 @@ complete-of c asked bytes n a b s r k p q h = completes-by c bytes a b s r k p q
 
 -- a command that reads its input whole
 long-whole : (c : Command) → ReadsWhole c → (bytes : List ℕ) (n : ℕ) (a b : Option (List ℕ)) → IfSome (bytes_read c (Some bytes)) (λ xs. WritesOf c xs n a b (Err ending.InputTooLong)) → most_input_bytes < length bytes
-long-whole (Solve o) whole bytes n a b h =
-    let k = subst (λ t. MatchBool (not t) (WritesByProblem (Solve o) bytes n a b (Err ending.InputTooLong)) (WritesOutput (Solve o) bytes a b (Err ending.InputTooLong))) whole h in
-    k.0.1
-long-whole (Trial seed count) whole bytes n a b h = absurd whole
-long-whole c whole bytes n a b h = h.0.1
+long-whole c whole bytes n a b h =
+    let k = subst (λ o. IfSome o (λ xs. WritesOf c xs n a b (Err ending.InputTooLong))) (all_read (way c).takes_input whole.0 (Some bytes)) h in
+    let w = subst (λ t. MatchBool t (WritesByProblem c bytes n a b (Err ending.InputTooLong)) (WritesOutput c bytes a b (Err ending.InputTooLong))) whole.1 k in
+    w.0.1
 
 module _ (n : ℕ) (a b : Option (List ℕ)) where
   too_long : (o : Option Command) (left : Option (List ℕ)) → IsShort left → (o ≡ None → IsWordsEnding (Err ending.InputTooLong)) → IfSome o ReadsWhole → WhereTold o left (λ c bytes. WritesOf c bytes n a b (Err ending.InputTooLong)) → ⊥

@@ -37,8 +37,7 @@ use Rattle.pip_endings.specs.declared.ending.Ending.{Ending as Refused}
 use Rattle.pip_endings.specs.declared.ending.Ending.TheVariants as ending
 use Rattle.pip_items.specs.Items.{Gained, GainedFront}
 use Rattle.pip_outside.specs.Faults.{HasRisen}
-use Rattle.pip_items.specs.Outputs.{TakesInputAtMost, EndsByFaults, WritesOver, WritesOutput}
-use Rattle.pip_items.proofs.Outputs.{output-taken}
+use Rattle.pip_items.specs.Outputs.{TakesInputAtMost, EndsByFaults, WritesOutput}
 use Rattle.pip_items.specs.Answered.{Answers, IsUnread, IsUnanswered, AnswersNext}
 use Rattle.pip_items.specs.ByProblem.{AreEnded, AreBefore, AreAll, WritesTillEnd, WritesByProblem, WritesOf}
 use Rattle.pip_items.proofs.Written.{LeadTo, nothing, one_more, front_of_one}
@@ -332,12 +331,6 @@ none-taken input i = taken-few input i i 0 (if-told _ input (omega arith)) (omeg
 module _ (o : SolveOptions) (left : Option (List ℕ)) (n : ℕ) (a b : Option (List ℕ)) (r : Result (Unit {0}) Refused) where
   as_of : (t : Bool) → o.polylib ≡ t → IfSome left (λ bytes. MatchBool (not t) (WritesByProblem (Solve o) bytes n a b r) (WritesOutput (Solve o) bytes a b r)) → IfSome left (λ bytes. WritesOf (Solve o) bytes n a b r)
   as_of t e h = subst (λ s. IfSome left (λ bytes. MatchBool (not s) (WritesByProblem (Solve o) bytes n a b r) (WritesOutput (Solve o) bytes a b r))) (sym e) h
-
-  pub output-matrices : o.polylib ≡ true → IfSome left (λ bytes. WritesOver (λ xs place. text_of_item (text_of (Solve o)) (matrix_item xs place)) bytes a b r) → IfSome left (λ bytes. WritesOf (Solve o) bytes n a b r)
-  output-matrices e h =
-      let k : IfSome left (λ bytes. WritesOver (item_text (Solve o)) bytes a b r)
-      = subst (λ t. IfSome left (λ bytes. WritesOver (λ xs place. text_of_item (text_of (Solve o)) (if t then matrix_item xs place else problem_item xs place)) bytes a b r)) (sym e) h in
-      as_of true e (output-taken (Solve o) tt left a b r k)
 
   pub output-problems : o.polylib ≡ false → IfSome left (λ bytes. WritesByProblem (Solve o) bytes n a b r) → IfSome left (λ bytes. WritesOf (Solve o) bytes n a b r)
   output-problems e h = as_of false e h

@@ -1,53 +1,81 @@
 -- What is written of the items of an input that was read is its output.
-use Rattle.std.proofs.Common.{◌≡◌, refl, subst, inl, inr, ℕ, ◌≤◌, List, [], length, Option, Some, None}
-use Rattle.std.specs.Prelude.{Result, Ok, Err, IfSome, IfErr, Vec}
+use Rattle.std.proofs.Common.{◌≡◌, refl, sym, subst, inl, inr, ℕ, ◌≤◌, Bool, true, false, List, [], length, Option, Some, None}
+use Rattle.std.specs.Prelude.{Result, Ok, Err, IfSome, IfErr, MatchBool, Vec, ⊤, if◌then◌else◌}
 use Rattle.std.specs.declared.alloc.Global.{Global}
 use Rattle.std.specs.Io.KnownBytes.{Keeps}
 use Rattle.pip_model.specs.Limits.{most_input_bytes}
-use Rattle.program_model.specs.Commands.{Command, Trial, item_text}
-use Rattle.program_model.specs.Items.{ItemAt}
+use Rattle.program_model.specs.Commands.{Command, Trial, way, item_text}
 use Rattle.pip_endings.specs.Endings.{IsOfItem}
 use Rattle.pip_endings.specs.declared.ending.Ending.{Ending}
 use Rattle.pip_endings.specs.declared.ending.Ending.TheVariants as ending
 use Rattle.pip_items.specs.Inputs.{ReadsInput, IsOfInput}
 use Rattle.pip_items.specs.Items.{WritesItems}
-use Rattle.pip_items.specs.Outputs.{WritesOver, WritesOutput, TakesInput}
+use Rattle.pip_items.specs.Outputs.{WritesOutput, TakesInput, bytes_read}
+use Rattle.pip_items.specs.ByProblem.{reads_by_problem, WritesOf}
 
 -- an item's refusal, or a failed write
 abbrev pub IsOwn : Result (Unit {0}) Ending → Type 0
 IsOwn r = IfErr r (λ e. ¬ (e ≡ ending.WriteFault) → IsOfItem e)
 
-written_over : (text : List ℕ → ℕ → ItemAt (List ℕ)) (bytes : List ℕ) (a b : Option (List ℕ)) (r : Result (Unit {0}) Ending) → length bytes ≤ most_input_bytes → IsOwn r → WritesItems (text bytes) a b r → WritesOver text bytes a b r
-written_over text bytes a b (Ok u) h own k = (h, k)
-written_over text bytes a b (Err ending.Usage) h own k = absurd (own (λ p. cc))
-written_over text bytes a b (Err ending.ReadFault) h own k = absurd (own (λ p. cc))
-written_over text bytes a b (Err ending.WriteFault) h own k = (h, k)
-written_over text bytes a b (Err ending.WantOfMemory) h own k = inr (h, k)
-written_over text bytes a b (Err ending.InputTooLong) h own k = absurd (own (λ p. cc))
-written_over text bytes a b (Err e) h own k = (h, k)
+kept : (a : Option (List ℕ)) → Keeps a a
+kept None = tt
+kept (Some xs) = refl
 
-pub items-written : (text : List ℕ → ℕ → ItemAt (List ℕ)) (left : Option (List ℕ)) (input : Vec ℕ Global) (a b : Option (List ℕ)) (r : Result (Unit {0}) Ending) → IfSome left (ReadsInput (Ok input)) → IsOwn r → WritesItems (text input.items) a b r
-    → IfSome left (λ bytes. WritesOver text bytes a b r)
-items-written text None input a b r h own k = tt
-items-written text (Some bytes) input a b r h own k =
-    written_over text bytes a b r h.1 own (subst (λ (xs : List ℕ). WritesItems (text xs) a b r) h.0 k)
+-- ---- of a command that reads its whole input first
 
--- what is written over an input is a command's output, if the command takes one
-over_taken : (c : Command) → TakesInput c → (bytes : List ℕ) (a b : Option (List ℕ)) (r : Result (Unit {0}) Ending) → WritesOver (item_text c) bytes a b r → WritesOutput c bytes a b r
-over_taken c taken bytes a b (Ok u) h = (λ _. h.0, h.1)
-over_taken c taken bytes a b (Err ending.Usage) h = h
-over_taken c taken bytes a b (Err ending.ReadFault) h = h
-over_taken c taken bytes a b (Err ending.WriteFault) h = (λ _. h.0, h.1)
-over_taken c taken bytes a b (Err ending.WantOfMemory) (inl h) = inl h
-over_taken c taken bytes a b (Err ending.WantOfMemory) (inr h) = inr (λ _. h.0, h.1)
-over_taken c taken bytes a b (Err ending.InputTooLong) h = ((taken, h.0), h.1)
-over_taken c taken bytes a b (Err e) h = (λ _. h.0, h.1)
+-- what it reads is the input
+pub all_read : (b : Bool) → MatchBool b ⊤ ⊥ → (left : Option (List ℕ)) → (if b then left else Some []) ≡ left
+all_read true takes left = refl
+all_read false takes left = absurd takes
 
-pub output-taken : (c : Command) → TakesInput c → (left : Option (List ℕ)) (a b : Option (List ℕ)) (r : Result (Unit {0}) Ending) → IfSome left (λ bytes. WritesOver (item_text c) bytes a b r) → IfSome left (λ bytes. WritesOutput c bytes a b r)
-output-taken c taken None a b r h = tt
-output-taken c taken (Some bytes) a b r h = over_taken c taken bytes a b r h
+where_false : (b : Bool) (P Q : Type 0) → b ≡ false → Q → MatchBool b P Q
+where_false true P Q e q = absurd cc
+where_false false P Q e q = q
 
--- the trial reads no bytes
+module _ (c : Command) (takes : TakesInput c) (whole : reads_by_problem c ≡ false) (n : ℕ) where
+  as_read : (left a b : Option (List ℕ)) (r : Result (Unit {0}) Ending)
+      → IfSome left (λ bytes. WritesOf c bytes n a b r) → IfSome (bytes_read c left) (λ bytes. WritesOf c bytes n a b r)
+  as_read left a b r h = subst (λ o. IfSome o (λ bytes. WritesOf c bytes n a b r)) (sym (all_read (way c).takes_input takes left)) h
+
+  written : (bytes : List ℕ) (a b : Option (List ℕ)) (r : Result (Unit {0}) Ending) → length bytes ≤ most_input_bytes
+      → IsOwn r → WritesItems (item_text c bytes) a b r → WritesOutput c bytes a b r
+  written bytes a b (Ok u) h own k = (λ _. h, k)
+  written bytes a b (Err ending.Usage) h own k = absurd (own (λ p. cc))
+  written bytes a b (Err ending.ReadFault) h own k = absurd (own (λ p. cc))
+  written bytes a b (Err ending.WriteFault) h own k = (λ _. h, k)
+  written bytes a b (Err ending.WantOfMemory) h own k = inr (λ _. h, k)
+  written bytes a b (Err ending.InputTooLong) h own k = absurd (own (λ p. cc))
+  written bytes a b (Err e) h own k = (λ _. h, k)
+
+  pub output-read : (left : Option (List ℕ)) (input : Vec ℕ Global) (a b : Option (List ℕ)) (r : Result (Unit {0}) Ending)
+      → IfSome left (ReadsInput (Ok input)) → IsOwn r → WritesItems (item_text c input.items) a b r
+      → IfSome (bytes_read c left) (λ bytes. WritesOf c bytes n a b r)
+  output-read left input a b r h own k = as_read left a b r (go left h)
+    where
+      go : (o : Option (List ℕ)) → IfSome o (ReadsInput (Ok input)) → IfSome o (λ bytes. WritesOf c bytes n a b r)
+      go None h = tt
+      go (Some bytes) h =
+          where_false (reads_by_problem c) _ _ whole
+          (written bytes a b r h.1 own (subst (λ (xs : List ℕ). WritesItems (item_text c xs) a b r) h.0 k))
+
+  -- nothing is written where the input is not read
+  unread : (bytes : List ℕ) (a : Option (List ℕ)) (e : Ending) → IsOfInput (Err e) → ReadsInput (Err e) bytes
+      → WritesOutput c bytes a a (Err e)
+  unread bytes a ending.ReadFault own h = kept a
+  unread bytes a ending.InputTooLong own h = ((takes, h), kept a)
+  unread bytes a ending.WantOfMemory own h = inl (kept a)
+  unread bytes a e own h = absurd own
+
+  pub output-unread : (left a : Option (List ℕ)) (e : Ending) → IsOfInput (Err e) → IfSome left (ReadsInput (Err e))
+      → IfSome (bytes_read c left) (λ bytes. WritesOf c bytes n a a (Err e))
+  output-unread left a e own h = as_read left a a (Err e) (go left h)
+    where
+      go : (o : Option (List ℕ)) → IfSome o (ReadsInput (Err e)) → IfSome o (λ bytes. WritesOf c bytes n a a (Err e))
+      go None h = tt
+      go (Some bytes) h = where_false (reads_by_problem c) _ _ whole (unread bytes a e own h)
+
+-- ---- of the trial, which reads no bytes
+
 pub output-trial : (seed count : ℕ) (a b : Option (List ℕ)) (r : Result (Unit {0}) Ending) → IsOwn r
     → WritesItems (item_text (Trial seed count) []) a b r → WritesOutput (Trial seed count) [] a b r
 output-trial seed count a b (Ok u) own k = (λ taken. absurd taken, k)
@@ -57,15 +85,3 @@ output-trial seed count a b (Err ending.WriteFault) own k = (λ taken. absurd ta
 output-trial seed count a b (Err ending.WantOfMemory) own k = inr (λ taken. absurd taken, k)
 output-trial seed count a b (Err ending.InputTooLong) own k = absurd (own (λ p. cc))
 output-trial seed count a b (Err e) own k = (λ taken. absurd taken, k)
-
-kept : (a : Option (List ℕ)) → Keeps a a
-kept None = tt
-kept (Some xs) = refl
-
--- nothing is written where the input is not read
-pub items-unread : (text : List ℕ → ℕ → ItemAt (List ℕ)) (left : Option (List ℕ)) (a : Option (List ℕ)) (e : Ending) → IsOfInput (Err e) → IfSome left (ReadsInput (Err e)) → IfSome left (λ bytes. WritesOver text bytes a a (Err e))
-items-unread text None a e own h = tt
-items-unread text (Some bytes) a ending.ReadFault own h = kept a
-items-unread text (Some bytes) a ending.InputTooLong own h = (h, kept a)
-items-unread text (Some bytes) a ending.WantOfMemory own h = inl (kept a)
-items-unread text (Some bytes) a e own h = absurd own

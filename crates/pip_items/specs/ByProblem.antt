@@ -1,8 +1,8 @@
 -- What `solve` writes of native problems, which it reads one by one.
-use Rattle.std.specs.Prelude.{◌≡◌, ℕ, ◌+◌, ◌<◌, ◌≤◌, Bool, true, false, not, ⊤, MatchBool, List, length, take, drop, Option, Some, None, Result, Ok, Err}
+use Rattle.std.specs.Prelude.{◌≡◌, ℕ, ◌+◌, ◌<◌, ◌≤◌, Bool, true, false, MatchBool, List, length, take, drop, Option, Some, None, Result, Ok, Err}
 use Rattle.pip_outside.specs.Calls.{CallsWithin}
 use Rattle.pip_model.specs.Limits.{most_input_bytes}
-use Rattle.program_model.specs.Commands.{Command, Solve, Trial, item_text}
+use Rattle.program_model.specs.Commands.{Command, way, item_text}
 use Rattle.program_model.specs.Endings as model
 use Rattle.program_model.specs.Items.{FirstItemsTo, IsItself}
 use Rattle.program_model.specs.Output.{IsOutput, IsFirstOutput}
@@ -11,18 +11,15 @@ use Rattle.pip_endings.specs.Endings.{told}
 use Rattle.pip_endings.specs.declared.ending.Ending.{Ending}
 use Rattle.pip_endings.specs.declared.ending.Ending.TheVariants as ending
 use Rattle.pip_items.specs.Items.{Gained, GainedFront}
-use Rattle.pip_items.specs.Outputs.{WritesOutput}
+use Rattle.pip_items.specs.Outputs.{TakesInput, WritesOutput}
 
 -- whether a command reads problem by problem: each other one that takes an input reads it whole first
 abbrev pub reads_by_problem : Command → Bool
-reads_by_problem (Solve o) = not o.polylib
-reads_by_problem c = false
+reads_by_problem c = (way c).by_problem
 
 -- the command reads its whole input before it answers an item of it
 abbrev pub ReadsWhole : Command → Type 0
-ReadsWhole (Solve o) = o.polylib ≡ true
-ReadsWhole (Trial seed count) = ⊥
-ReadsWhole c = ⊤
+ReadsWhole c = TakesInput c × (reads_by_problem c ≡ false)
 
 module _ (c : Command) (bytes : List ℕ) (n : ℕ) where
   -- The texts are those of the problems whose groups end within the first n bytes.

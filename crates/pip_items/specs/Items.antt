@@ -9,6 +9,11 @@ use Rattle.pip_endings.specs.Endings.{told}
 use Rattle.pip_endings.specs.declared.ending.Ending.{Ending}
 use Rattle.pip_endings.specs.declared.ending.Ending.TheVariants as ending
 
+-- what is found, as the definitions see it, with the place after it, or none
+abbrev pub found_by : {A B : Type 0} → (A → B) → Option (A × ℕ) → Option (B × ℕ)
+found_by seen None = None
+found_by seen (Some x) = Some (seen x.0, x.1)
+
 -- this text is the one that is wanted, or the refusal is its end; nothing is said of want of memory
 abbrev pub IsTextOfItem : Result (List ℕ) model.Ending → Result (Unit {0}) Ending → List ℕ → Type 0
 IsTextOfItem wanted (Ok u) t = wanted ≡ Ok t

@@ -1,36 +1,21 @@
 -- What a command writes of an input that is told, by how it ends.
-use Rattle.std.specs.Prelude.{◌≡◌, ◌⊎◌, ℕ, ◌+◌, ◌<◌, ◌≤◌, List, [], length, Option, Some, IfSome, Result, Err, IsErrOf, ⊤}
+use Rattle.std.specs.Prelude.{◌≡◌, ◌⊎◌, ℕ, ◌+◌, ◌<◌, ◌≤◌, List, [], length, Option, Some, IfSome, Result, Err, IsErrOf, ⊤, MatchBool, if◌then◌else◌}
 use Rattle.std.specs.Io.KnownBytes.{Keeps}
 use Rattle.pip_outside.specs.Faults.{HasRisen}
 use Rattle.pip_model.specs.Limits.{most_input_bytes}
-use Rattle.program_model.specs.Commands.{Command, Trial}
+use Rattle.program_model.specs.Commands.{Command, way}
 use Rattle.program_model.specs.Output.{IsOutput, IsFirstOutput}
-use Rattle.program_model.specs.Items.{ItemAt}
 use Rattle.pip_endings.specs.declared.ending.Ending.{Ending}
 use Rattle.pip_endings.specs.declared.ending.Ending.TheVariants as ending
-use Rattle.pip_items.specs.Items.{Writes, WritesItems}
+use Rattle.pip_items.specs.Items.{Writes}
 
--- what is written of the items of an input that is read whole, or nothing where it is not read
-module _ (text : List ℕ → ℕ → ItemAt (List ℕ)) (bytes : List ℕ) (before after : Option (List ℕ)) where
-  abbrev pub WritesRead : Result (Unit {0}) Ending → Type 0
-  WritesRead r = (length bytes ≤ most_input_bytes) × WritesItems (text bytes) before after r
-
-  abbrev pub WritesOver : Result (Unit {0}) Ending → Type 0
-  WritesOver (Err ending.Usage) = ⊥
-  WritesOver (Err ending.ReadFault) = Keeps before after
-  WritesOver (Err ending.InputTooLong) = (most_input_bytes < length bytes) × Keeps before after
-  WritesOver (Err ending.WantOfMemory) = Keeps before after ⊎ WritesRead (Err ending.WantOfMemory)
-  WritesOver r = WritesRead r
-
--- every command but the trial takes an input
+-- the command takes an input: every one but the trial
 abbrev pub TakesInput : Command → Type 0
-TakesInput (Trial seed count) = ⊥
-TakesInput c = ⊤
+TakesInput c = MatchBool (way c).takes_input ⊤ ⊥
 
 -- the bytes that a command reads, where they are told: the trial reads none
 abbrev pub bytes_read : Command → Option (List ℕ) → Option (List ℕ)
-bytes_read (Trial seed count) left = Some []
-bytes_read c left = left
+bytes_read c left = if (way c).takes_input then left else Some []
 
 abbrev pub IsWithin : Command → List ℕ → Type 0
 IsWithin c bytes = TakesInput c → length bytes ≤ most_input_bytes

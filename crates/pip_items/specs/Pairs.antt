@@ -1,5 +1,5 @@
 -- A context and an answer.
-use Rattle.std.specs.Prelude.{◌≡◌, ℕ, Option, Some, None}
+use Rattle.std.specs.Prelude.{◌≡◌, ℕ}
 use Rattle.program_model.specs.ItemKinds as kinds
 use Rattle.quast.specs.Answers.{IsOver}
 use Rattle.quast_text.specs.Spoken.{spoken_of}
@@ -7,11 +7,6 @@ use Rattle.pip_items.specs.declared.commands.pair.Pair.{Pair}
 
 abbrev pub pair_of : Pair → kinds.Pair
 pair_of p = record { rows = p.rows.forms; first = spoken_of p.first }
-
--- with the place behind it, or none
-abbrev pub pair_found : Option (Pair × ℕ) → Option (kinds.Pair × ℕ)
-pair_found None = None
-pair_found (Some x) = Some (pair_of x.0, x.1)
 
 -- both are over m parameters
 pub record IsPair (m : ℕ) (p : Pair) : Type 0 where

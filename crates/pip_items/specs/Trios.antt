@@ -1,5 +1,5 @@
 -- A context and two answers.
-use Rattle.std.specs.Prelude.{◌≡◌, ℕ, Option, Some, None}
+use Rattle.std.specs.Prelude.{◌≡◌, ℕ}
 use Rattle.program_model.specs.ItemKinds as kinds
 use Rattle.quast.specs.Answers.{IsOver}
 use Rattle.quast_text.specs.Spoken.{spoken_of}
@@ -7,11 +7,6 @@ use Rattle.pip_items.specs.declared.commands.trio.Trio.{Trio}
 
 abbrev pub trio_of : Trio → kinds.Trio
 trio_of t = record { rows = t.rows.forms; first = spoken_of t.first; second = spoken_of t.second }
-
--- with the place behind it, or none
-abbrev pub trio_found : Option (Trio × ℕ) → Option (kinds.Trio × ℕ)
-trio_found None = None
-trio_found (Some x) = Some (trio_of x.0, x.1)
 
 -- all are over m parameters
 pub record IsTrio (m : ℕ) (t : Trio) : Type 0 where

@@ -1,5 +1,5 @@
 -- A problem, an answer and a certificate, and what the check finds of them.
-use Rattle.std.specs.Prelude.{◌≡◌, ℕ, true, Option, Some, None, IfSome, Result, Ok, Err}
+use Rattle.std.specs.Prelude.{◌≡◌, true, IfSome, Result, Ok, Err}
 use Rattle.pip_model.specs.Check.{Checks}
 use Rattle.program_model.specs.Endings as model
 use Rattle.program_model.specs.ItemKinds as kinds
@@ -10,11 +10,6 @@ use Rattle.pip_items.specs.declared.commands.triple.Triple.{Triple}
 
 abbrev pub triple_of : Triple → kinds.Triple
 triple_of t = record { problem = t.problem; answer = answer_of t.answer; certificate = t.certificate }
-
--- with the place behind it, or none
-abbrev pub triple_found : Option (Triple × ℕ) → Option (kinds.Triple × ℕ)
-triple_found None = None
-triple_found (Some x) = Some (triple_of x.0, x.1)
 
 -- whole points are asked for, and the answer is over the problem's parameters
 pub record IsTriple (t : Triple) : Type 0 where

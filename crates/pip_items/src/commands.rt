@@ -1,4 +1,5 @@
 // One file a command: how it reads an item, and the text that it makes of it.
+mod answer;
 mod certified;
 pub(crate) mod check;
 mod eval;

@@ -1,10 +1,9 @@
-ghost use Rattle.std.specs.Prelude.{◌≡◌, ◌-◌, Ok, IfSome, IsErrOf};
+ghost use Rattle.std.specs.Prelude.{◌≡◌, ◌-◌, false, Ok, IfSome, IsErrOf};
 ghost use Rattle.std.specs.Io.KnownBytes.{IsAtEnd};
 ghost use Rattle.pip_outside.specs.Calls.{AsksOn};
 ghost use Rattle.pip_words.specs.Words.{meaning_of};
-ghost use Rattle.pip_items.specs.Items.{WritesItems};
-ghost use Rattle.pip_items.specs.Outputs.{WritesOver, TakesInput, TakesInputAtMost, IsRead, EndsByFaults, bytes_read};
-ghost use Rattle.pip_items.specs.ByProblem.{WritesOf, ReadsWhole, StopsAtRefused};
+ghost use Rattle.pip_items.specs.Outputs.{TakesInput, TakesInputAtMost, IsRead, EndsByFaults, bytes_read};
+ghost use Rattle.pip_items.specs.ByProblem.{reads_by_problem, WritesOf, ReadsWhole, StopsAtRefused};
 
 use crate::commands::check::Check;
 use crate::commands::least::Least;
@@ -13,7 +12,7 @@ use crate::commands::same::Same;
 use crate::commands::share::Share;
 use crate::commands::solve::Matrices;
 use crate::input::read_input;
-use crate::items::{ItemTexts, write_items};
+use crate::items::{Items, write_items};
 use crate::problems::write_problems;
 use pip_endings::Ending;
 use pip_outside::{Sink, Source};
@@ -21,16 +20,21 @@ use pip_words::Command;
 use std::alloc::Global;
 
 // Reads the whole input, and then writes the text of each item.
-fn write_over_input<C: ItemTexts, S: Source, K: Sink>(
+fn write_over_input<C: Items, S: Source, K: Sink>(
     alloc: Global,
     command: &C,
     source: &mut S,
     sink: &mut K,
 ) -> Result<(), Ending>
-    ensures output { IfSome (S.left source.old) (λ bytes.
-        WritesOver (C.text_at command.now) bytes (K.written sink.old) (K.written sink.new) result) }
+    requires takes { TakesInput (C.meaning command.now) }
+    requires whole { reads_by_problem (C.meaning command.now) ≡ false }
+    ensures output { IfSome (bytes_read (C.meaning command.now) (S.left source.old)) (λ bytes.
+        WritesOf (C.meaning command.now) bytes (S.taken source.new - S.taken source.old)
+        (K.written sink.old) (K.written sink.new) result) }
     ensures words { ¬ IsErrOf result Ending.Usage }
     ensures end { IsRead result → IsAtEnd (S.left source.new) }
+    ensures asked { IfSome (bytes_read (C.meaning command.now) (S.left source.old))
+        (StopsAtRefused S.calls S.taken source.old source.new (C.meaning command.now)) }
     ensures turns { IfSome (S.left source.old) (λ _. AsksOn S.calls S.taken source.old source.new) }
     ensures taken { TakesInputAtMost (S.left source.old) (S.taken source.old) (S.taken source.new) }
     ensures faults { EndsByFaults (S.faults source.old) (S.faults source.new) (K.faults sink.old) (K.faults sink.new)
@@ -67,7 +71,7 @@ pub fn write_output<S: Source, K: Sink>(
     match command {
         Command::Solve(options) => {
             if options.polylib {
-                write_over_input(alloc, &Matrices(options), source, sink)
+                write_over_input(alloc, &Matrices { options }, source, sink)
             } else {
                 write_problems(alloc, options, source, sink)
             }

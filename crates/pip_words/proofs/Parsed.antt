@@ -6,8 +6,7 @@ use Rattle.clap.specs.declared.Error.{Error}
 use Rattle.clap.specs.declared.error.ErrorKind.{ErrorKind}
 use Rattle.clap.specs.declared.error.ErrorKind.TheVariants as kind
 use Rattle.program_model.specs.Commands.{Command}
-use Rattle.pip_words.specs.Arguments.{pip_app}
-use Rattle.pip_words.specs.Words.{command_of, command_in, is_accepted}
+use Rattle.pip_words.specs.Words.{pip_app, command_of, command_in, is_accepted}
 
 is_free : is_simple_and_free pip_app ≡ true
 is_free = refl

@@ -1,14 +1,14 @@
 -- The command that the words of the command line give, over clap's definition of a simple command.
-use Rattle.std.specs.Prelude.{◌≡◌, ℕ, ◌-◌, ◌^◌, ℤ, Bool, true, false, List, [], ◌∷◌, map, Option, Some, None, option_map}
+use Rattle.std.specs.Prelude.{◌≡◌, ℕ, ◌-◌, ◌^◌, ℤ, Bool, true, false, List, [], ◌∷◌, map, fold, Option, Some, None, option_map}
 use Rattle.std.specs.Prelude.{Result, Ok, Err, Vec, String, string_bytes, codes, if◌then◌else◌, ◌&&◌, nat_le, length, ⊤}
 use Rattle.std.specs.declared.alloc.Global.{Global}
 use Rattle.std.specs.Option.{option_map_or}
 use Rattle.std.specs.Str.{bytes_eq}
-use Rattle.clap.specs.Words.{Row, Text, Kinds, fault_of, subcommand_of, first_of, all_of}
+use Rattle.clap.specs.Words.{App, Row, Rule, Text, Kinds, with_subcommand, fault_of, subcommand_of, first_of, all_of}
 use Rattle.pip_model.specs.Limits.{most_params, most_pivots, most_cuts, most_splits, most_nesting}
 use Rattle.pip_model.specs.Run.{Budget, standard_budget}
 use Rattle.program_model.specs.Commands.{SolveOptions, Command, Solve, Eval, Simplify, CheckAll, ShareAll, Trial, Pieces, Restrict, Same, Least}
-use Rattle.pip_words.specs.Arguments.{pip_app}
+use Rattle.pip_words.specs.Arguments.{flag_rule, setting_rule, needed_rule, values_rule, command_with, bare_app}
 use Rattle.pip_words.specs.Numbers.{number_of, parameter_of, most_drawn}
 use Rattle.pip_words.specs.declared.command.Command.{Command as Given}
 use Rattle.pip_words.specs.declared.command.SolveOptions.{SolveOptions as GivenOptions}
@@ -105,9 +105,9 @@ needed_of name most rows = do
   text ← first_of name rows
   number_of most text
 
--- simplify M
-abbrev pub simplify_of : List Row → Option Command
-simplify_of rows = option_map Simplify (needed_of (codes "parameters") most_params rows)
+-- M, of a command over so many parameters
+abbrev pub counted_of : (ℕ → Command) → List Row → Option Command
+counted_of command rows = option_map command (needed_of (codes "parameters") most_params rows)
 
 -- trial SEED COUNT
 abbrev pub trial_of : List Row → Option Command
@@ -116,10 +116,6 @@ trial_of rows = do
   count ← needed_of (codes "count") most_drawn rows
   Some (Trial seed count)
 
--- pieces M
-abbrev pub pieces_of : List Row → Option Command
-pieces_of rows = option_map Pieces (needed_of (codes "parameters") most_params rows)
-
 -- a number of parameters and a budget
 abbrev pub walk_of : List Row → Option (ℕ × Budget)
 walk_of rows = do
@@ -127,32 +123,87 @@ walk_of rows = do
   b ← budget_of rows
   Some (m, b)
 
--- restrict M, and a budget
-abbrev pub restrict_of : List Row → Option Command
-restrict_of rows = option_map (λ w. Restrict w.0 w.1) (walk_of rows)
+-- M and a budget, of a command that walks answers over so many parameters
+abbrev pub walked_of : (ℕ → Budget → Command) → List Row → Option Command
+walked_of command rows = option_map (λ w. command w.0 w.1) (walk_of rows)
 
--- same M, and a budget
-abbrev pub same_of : List Row → Option Command
-same_of rows = option_map (λ w. Same w.0 w.1) (walk_of rows)
+-- ---- the commands
 
--- least M, and a budget
-abbrev pub least_of : List Row → Option Command
-least_of rows = option_map (λ w. Least w.0 w.1) (walk_of rows)
+-- A command as words spell it: its name, its arguments, and what their values give.
+pub record Spelling : Type 0 where
+  pub name : Text
+  pub rules : List Rule
+  pub given : List Row → Option Command
+
+abbrev pub spellings : List Spelling
+spellings =
+    record {
+      name = codes "solve";
+      rules = flag_rule (codes "polylib") ∷ flag_rule (codes "simplify") ∷ flag_rule (codes "certificate")
+          ∷ setting_rule (codes "pivots") ∷ setting_rule (codes "cuts") ∷ setting_rule (codes "splits")
+          ∷ setting_rule (codes "nesting") ∷ [];
+      given = solve_of;
+    }
+    ∷ record {
+      name = codes "eval";
+      rules = values_rule (codes "parameter") ∷ [];
+      given = eval_of;
+    }
+    ∷ record {
+      name = codes "simplify";
+      rules = needed_rule (codes "parameters") ∷ [];
+      given = counted_of Simplify;
+    }
+    ∷ record {
+      name = codes "check";
+      rules = [];
+      given = λ rows. Some CheckAll;
+    }
+    ∷ record {
+      name = codes "share";
+      rules = [];
+      given = λ rows. Some ShareAll;
+    }
+    ∷ record {
+      name = codes "trial";
+      rules = needed_rule (codes "seed") ∷ needed_rule (codes "count") ∷ [];
+      given = trial_of;
+    }
+    ∷ record {
+      name = codes "pieces";
+      rules = needed_rule (codes "parameters") ∷ [];
+      given = counted_of Pieces;
+    }
+    ∷ record {
+      name = codes "restrict";
+      rules = needed_rule (codes "parameters") ∷ setting_rule (codes "pivots") ∷ setting_rule (codes "cuts") ∷ [];
+      given = walked_of Restrict;
+    }
+    ∷ record {
+      name = codes "same";
+      rules = needed_rule (codes "parameters") ∷ setting_rule (codes "pivots") ∷ setting_rule (codes "cuts")
+          ∷ setting_rule (codes "splits") ∷ [];
+      given = walked_of Same;
+    }
+    ∷ record {
+      name = codes "least";
+      rules = needed_rule (codes "parameters") ∷ setting_rule (codes "pivots") ∷ setting_rule (codes "cuts")
+          ∷ setting_rule (codes "splits") ∷ setting_rule (codes "nesting") ∷ [];
+      given = walked_of Least;
+    }
+    ∷ []
+
+-- the program with these commands
+abbrev pub pip_app : App
+pip_app = fold with_subcommand bare_app (map (λ s. command_with s.name s.rules) spellings)
+
+abbrev pub named_in : Text → List Row → List Spelling → Option Command
+named_in name rows [] = None
+named_in name rows (s ∷ ss) = if bytes_eq name s.name then s.given rows else named_in name rows ss
 
 -- the command of this name
 abbrev pub command_named : Text → List Row → Option Command
-command_named name rows =
-    if bytes_eq name (codes "solve") then solve_of rows
-    else (if bytes_eq name (codes "eval") then eval_of rows
-    else (if bytes_eq name (codes "simplify") then simplify_of rows
-    else (if bytes_eq name (codes "check") then Some CheckAll
-    else (if bytes_eq name (codes "share") then Some ShareAll
-    else (if bytes_eq name (codes "trial") then trial_of rows
-    else (if bytes_eq name (codes "pieces") then pieces_of rows
-    else (if bytes_eq name (codes "restrict") then restrict_of rows
-    else (if bytes_eq name (codes "same") then same_of rows
-    else (if bytes_eq name (codes "least") then least_of rows
-    else None)))))))))
+command_named name rows = named_in name rows spellings
 
 abbrev pub command_in : Option (Text × List Row) → Option Command
 command_in None = None

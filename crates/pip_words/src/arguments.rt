@@ -1,9 +1,8 @@
 ghost use Rattle.std.specs.Prelude.{◌≡◌, ◌≤◌, IfOk, fold, length, false};
 ghost use Rattle.clap.specs.Words.{app_of, shape_of, rule_of};
 ghost use Rattle.clap.specs.declared.builder.Command.TheViews.{out-Command};
-ghost use Rattle.pip_words.specs.Arguments.{rule_given, shape_given, with_argument, with_entry, pip_app};
+ghost use Rattle.pip_words.specs.Arguments.{rule_given, shape_given, with_argument, with_entry};
 
-use crate::names;
 use clap::{Arg, ArgAction, Command};
 use std::alloc::{AllocError, Global};
 
@@ -53,7 +52,7 @@ fn made_command<'a>(alloc: Global, entry: Entry<'a>) -> Result<Command<'a>, Allo
 }
 
 // The program with these commands besides its own.
-fn with_commands<'a>(
+pub(crate) fn with_commands<'a>(
     alloc: Global,
     program: Command<'a>,
     entries: &[Entry<'a>],
@@ -65,83 +64,4 @@ fn with_commands<'a>(
         program = program.subcommand(made_command(alloc, *entry)?)?;
     }
     Ok(program)
-}
-
-// The program's commands with their arguments, for `clap`.
-pub(crate) fn pip<'a>(alloc: Global) -> Result<Command<'a>, AllocError>
-    ensures { IfOk result (λ command. app_of command ≡ pip_app) }
-{
-    let program = Command::new(alloc, "pip").subcommand_required(true);
-    with_commands(
-        alloc,
-        program,
-        &[
-            Entry {
-                name: names::SOLVE,
-                arguments: &[
-                    Argument::Flag(names::POLYLIB),
-                    Argument::Flag(names::SIMPLIFY),
-                    Argument::Flag(names::CERTIFICATE),
-                    Argument::Setting(names::PIVOTS),
-                    Argument::Setting(names::CUTS),
-                    Argument::Setting(names::SPLITS),
-                    Argument::Setting(names::NESTING),
-                ],
-            },
-            Entry {
-                name: names::EVAL,
-                arguments: &[Argument::Values(names::PARAMETER)],
-            },
-            Entry {
-                name: names::SIMPLIFY,
-                arguments: &[Argument::Needed(names::PARAMETERS)],
-            },
-            Entry {
-                name: names::CHECK,
-                arguments: &[],
-            },
-            Entry {
-                name: names::SHARE,
-                arguments: &[],
-            },
-            Entry {
-                name: names::TRIAL,
-                arguments: &[
-                    Argument::Needed(names::SEED),
-                    Argument::Needed(names::COUNT),
-                ],
-            },
-            Entry {
-                name: names::PIECES,
-                arguments: &[Argument::Needed(names::PARAMETERS)],
-            },
-            Entry {
-                name: names::RESTRICT,
-                arguments: &[
-                    Argument::Needed(names::PARAMETERS),
-                    Argument::Setting(names::PIVOTS),
-                    Argument::Setting(names::CUTS),
-                ],
-            },
-            Entry {
-                name: names::SAME,
-                arguments: &[
-                    Argument::Needed(names::PARAMETERS),
-                    Argument::Setting(names::PIVOTS),
-                    Argument::Setting(names::CUTS),
-                    Argument::Setting(names::SPLITS),
-                ],
-            },
-            Entry {
-                name: names::LEAST,
-                arguments: &[
-                    Argument::Needed(names::PARAMETERS),
-                    Argument::Setting(names::PIVOTS),
-                    Argument::Setting(names::CUTS),
-                    Argument::Setting(names::SPLITS),
-                    Argument::Setting(names::NESTING),
-                ],
-            },
-        ],
-    )
 }

@@ -3,11 +3,13 @@
 
 mod arguments;
 mod command;
+mod commands;
 mod names;
 mod number;
 mod parameter_vector;
 mod reading;
 mod refusal;
+mod values;
 
 pub use command::{
     Command, PiecesOptions, SimplifyOptions, SolveOptions, TrialOptions, WalkOptions,

@@ -1,24 +1,6 @@
-// The names of the commands and of their arguments, by which these are built and read.
-
-pub(crate) const SOLVE: &str = "solve";
-
-pub(crate) const EVAL: &str = "eval";
+// The names of arguments, by which these are built and read.
 
 pub(crate) const SIMPLIFY: &str = "simplify";
-
-pub(crate) const CHECK: &str = "check";
-
-pub(crate) const SHARE: &str = "share";
-
-pub(crate) const TRIAL: &str = "trial";
-
-pub(crate) const PIECES: &str = "pieces";
-
-pub(crate) const RESTRICT: &str = "restrict";
-
-pub(crate) const SAME: &str = "same";
-
-pub(crate) const LEAST: &str = "least";
 
 pub(crate) const POLYLIB: &str = "polylib";
 

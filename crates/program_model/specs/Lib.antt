@@ -5,6 +5,6 @@ pub mod Items
 pub mod ItemKinds
 pub mod ItemTexts
 pub mod Trial
-pub mod Commands
 pub mod RightTexts
+pub mod Commands
 pub mod Output

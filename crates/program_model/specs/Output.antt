@@ -1,11 +1,8 @@
 -- What the program writes for an input, how it ends, and what is right of that.
-use Rattle.std.specs.Prelude.{◌≡◌, ℕ, ◌≤◌, List, length, Ok, Err, ⊤, MatchBool}
-use Rattle.pip_model.specs.Limits.{most_nesting, most_params, most_input_bytes}
-use Rattle.pip_model.specs.Run.{IsBudget}
+use Rattle.std.specs.Prelude.{◌≡◌, ℕ, List, Ok, Err}
 use Rattle.program_model.specs.Endings.{Ending}
 use Rattle.program_model.specs.Items.{FirstItems, Items, IsItself, NoEnd}
-use Rattle.program_model.specs.Commands.{Command, Solve, Eval, Simplify, CheckAll, ShareAll, Trial, Restrict, Same, Least, Pieces, Item, item_at, text_of, item_text}
-use Rattle.program_model.specs.RightTexts.{IsSolvedText, IsCertified, IsValueText, IsValueEnd, IsSimplifiedText, IsRightVerdict, IsRightSharing, IsRestrictedText, IsRestrictEnd, IsSameText, IsSameEnd, IsLeastText, IsLeastEnd, IsPiecesText, IsPiecesEnd}
+use Rattle.program_model.specs.Commands.{Command, way, Item, item_at, text_of, item_text}
 
 -- the texts of the items of an input up to the first end, and that end
 abbrev pub IsOutput : Command → List ℕ → List (List ℕ) → Ending → Type 0
@@ -20,25 +17,11 @@ IsFirstOutput c bytes ts = FirstItems (item_text c bytes) IsItself 0 ts
 
 -- what is promised of the text of an item: of `trial` no more than that it is the command's
 abbrev pub IsRightText : (c : Command) → Item c → List ℕ → Type 0
-IsRightText (Solve o) P t = MatchBool o.certificate (IsCertified P t) (IsSolvedText P t)
-IsRightText (Eval u) s t = IsValueText u s t
-IsRightText (Simplify m) s t = IsSimplifiedText m s t
-IsRightText CheckAll x t = IsRightVerdict x t
-IsRightText ShareAll x t = IsRightSharing x t
-IsRightText (Trial seed count) u t = ⊤
-IsRightText (Restrict m b) p t = IsRestrictedText m p t
-IsRightText (Same m b) x t = IsSameText m x t
-IsRightText (Least m b) x t = IsLeastText m x t
-IsRightText (Pieces m) s t = IsPiecesText m s t
+IsRightText c = (way c).IsRightText
 
 -- what is promised of the end at a refused item
 abbrev pub IsRightEnd : (c : Command) → Item c → Ending → Type 0
-IsRightEnd (Eval u) s e = IsValueEnd u s e
-IsRightEnd (Restrict m b) p e = IsRestrictEnd m p e
-IsRightEnd (Same m b) x e = IsSameEnd m x e
-IsRightEnd (Least m b) x e = IsLeastEnd m x e
-IsRightEnd (Pieces m) s e = IsPiecesEnd s e
-IsRightEnd c x e = ⊤
+IsRightEnd c = (way c).IsRightEnd
 
 -- the text is the command's, and right
 abbrev pub WritesRight : (c : Command) → Item c → List ℕ → Type 0
@@ -57,11 +40,4 @@ IsRightFirstOutput c bytes ts = FirstItems (item_at c bytes) (WritesRight c) 0 t
 -- what may be asked for: the budgets and the numbers of parameters that the words allow, and for `share` an input
 -- within its limit
 abbrev pub MayBeAsked : Command → List ℕ → Type 0
-MayBeAsked (Solve o) bytes = MatchBool o.certificate (IsBudget o.budget) (o.budget.nesting ≤ most_nesting)
-MayBeAsked (Simplify m) bytes = m ≤ most_params
-MayBeAsked ShareAll bytes = length bytes ≤ most_input_bytes
-MayBeAsked (Restrict m b) bytes = m ≤ most_params
-MayBeAsked (Same m b) bytes = m ≤ most_params
-MayBeAsked (Least m b) bytes = (m ≤ most_params) × (b.nesting ≤ most_nesting)
-MayBeAsked (Pieces m) bytes = m ≤ most_params
-MayBeAsked c bytes = ⊤
+MayBeAsked c = (way c).MayBeAsked

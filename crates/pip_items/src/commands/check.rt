@@ -1,48 +1,38 @@
-ghost use Rattle.std.specs.Prelude.{◌≡◌, [], length, IfErr};
-ghost use Rattle.program_model.specs.Commands.{CheckAll, item_text};
-ghost use Rattle.program_model.specs.ItemTexts.{checked_text};
-ghost use Rattle.pip_endings.specs.Endings.{IsOfItem};
-ghost use Rattle.pip_items.specs.Items.{IsTextOfItem};
+ghost use Rattle.std.specs.Prelude.{length};
+ghost use Rattle.program_model.specs.Commands.{CheckAll};
 ghost use Rattle.pip_items.specs.Triples.{IsTriple, triple_of};
 
 use super::triple::{Triple, accept, triple_at};
-use crate::items::ItemTexts;
+use crate::items::Items;
 use pip_endings::Ending;
 use std::alloc::Global;
 
 // Says of each triple that its certificate is accepted.
 pub(crate) struct Check;
 
-// Puts the verdict into `text` where the certificate is accepted.
-fn write_verdict(alloc: Global, triple: &Triple, text: &mut Vec<u8>) -> Result<(), Ending>
-    requires triple { IsTriple triple.now }
-    requires empty { text.old.items ≡ [] }
-    ensures own { IfErr result IsOfItem }
-    ensures text { IsTextOfItem (checked_text (triple_of triple.now)) result text.new.items }
-{
-    accept(alloc, triple)?;
-    text.extend_from_slice(b"accepted\n")?;
-    Ok(())
-}
+impl Items for Check {
+    type Read = Triple;
 
-impl ItemTexts for Check {
-    ghost text_at = { λ _ bytes place. item_text CheckAll bytes place };
+    ghost meaning = { λ _. CheckAll };
+
+    ghost seen = { λ _ t. triple_of t };
+
+    ghost is_item = { λ _ t. IsTriple t };
 
     ghost last_place = { λ _ bytes. length bytes };
 
-    fn write_text(
+    fn read(
         &self,
         alloc: Global,
         bytes: &[u8],
         at: usize,
-        text: &mut Vec<u8>,
-    ) -> Result<Option<usize>, Ending> {
-        match triple_at(alloc, bytes, at)? {
-            Some((triple, after)) => {
-                write_verdict(alloc, &triple, text)?;
-                Ok(Some(after))
-            }
-            None => Ok(None),
-        }
+    ) -> Result<Option<(Triple, usize)>, Ending> {
+        triple_at(alloc, bytes, at)
+    }
+
+    fn put(&self, alloc: Global, triple: Triple, text: &mut Vec<u8>) -> Result<(), Ending> {
+        accept(alloc, &triple)?;
+        text.extend_from_slice(b"accepted\n")?;
+        Ok(())
     }
 }

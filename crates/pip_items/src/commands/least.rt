@@ -1,14 +1,10 @@
-ghost use Rattle.std.specs.Prelude.{◌≡◌, [], length, IfErr};
-ghost use Rattle.program_model.specs.Commands.{Least as model_least, item_text};
-ghost use Rattle.program_model.specs.ItemTexts.{least_text};
-ghost use Rattle.pip_endings.specs.Endings.{IsOfItem};
-ghost use Rattle.pip_items.specs.Items.{IsTextOfItem};
+ghost use Rattle.std.specs.Prelude.{length};
+ghost use Rattle.program_model.specs.Commands.{Least as model_least};
 ghost use Rattle.pip_items.specs.Trios.{IsTrio, trio_of};
 
 use super::trio::{Trio, trio_at};
-use crate::items::ItemTexts;
+use crate::items::Items;
 use pip_endings::Ending;
-use pip_problem::Limits;
 use pip_words::WalkOptions;
 use quast_text::print_answer;
 use quast_tools::least;
@@ -18,48 +14,30 @@ use std::alloc::Global;
 #[derive(Drop)]
 pub(crate) struct Least<'a>(pub(crate) &'a WalkOptions);
 
-// Puts the text of the lesser answer into `text`.
-fn write_least(
-    alloc: Global,
-    limits: &Limits,
-    trio: &Trio,
-    text: &mut Vec<u8>,
-) -> Result<(), Ending>
-    requires trio { IsTrio trio.now.rows.width trio.now }
-    requires empty { text.old.items ≡ [] }
-    ensures own { IfErr result IsOfItem }
-    ensures text { IsTextOfItem (least_text limits.now trio.now.rows.width (trio_of trio.now)) result text.new.items }
-{
-    let answer = least(
-        alloc,
-        &trio.rows,
-        &trio.first.answer,
-        &trio.second.answer,
-        limits,
-    )?;
-    print_answer(&trio.first.comment, &answer, text)?;
-    Ok(())
-}
+impl Items for Least<'_> {
+    type Read = Trio;
 
-impl ItemTexts for Least<'_> {
-    ghost text_at = { λ r bytes place. item_text (model_least r.0.now.params r.0.now.limits) bytes place };
+    ghost meaning = { λ l. model_least l.0.now.params l.0.now.limits };
+
+    ghost seen = { λ _ t. trio_of t };
+
+    ghost is_item = { λ l t. IsTrio l.0.now.params t };
 
     ghost last_place = { λ _ bytes. length bytes };
 
-    fn write_text(
-        &self,
-        alloc: Global,
-        bytes: &[u8],
-        at: usize,
-        text: &mut Vec<u8>,
-    ) -> Result<Option<usize>, Ending> {
-        let options = self.0;
-        match trio_at(alloc, bytes, at, options.params)? {
-            Some((trio, after)) => {
-                write_least(alloc, &options.limits, &trio, text)?;
-                Ok(Some(after))
-            }
-            None => Ok(None),
-        }
+    fn read(&self, alloc: Global, bytes: &[u8], at: usize) -> Result<Option<(Trio, usize)>, Ending> {
+        trio_at(alloc, bytes, at, self.0.params)
+    }
+
+    fn put(&self, alloc: Global, trio: Trio, text: &mut Vec<u8>) -> Result<(), Ending> {
+        let answer = least(
+            alloc,
+            &trio.rows,
+            &trio.first.answer,
+            &trio.second.answer,
+            &self.0.limits,
+        )?;
+        print_answer(&trio.first.comment, &answer, text)?;
+        Ok(())
     }
 }

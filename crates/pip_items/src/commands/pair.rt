@@ -3,8 +3,8 @@ ghost use Rattle.pip_model.specs.Agreement.{Agrees};
 ghost use Rattle.pip_model.specs.Limits.{most_params};
 ghost use Rattle.program_model.specs.ItemKinds as kinds;
 ghost use Rattle.pip_endings.specs.Endings.{told, IsOfItem};
-ghost use Rattle.pip_items.specs.Items.{IsBehind};
-ghost use Rattle.pip_items.specs.Pairs.{IsPair, pair_found};
+ghost use Rattle.pip_items.specs.Items.{found_by, IsBehind};
+ghost use Rattle.pip_items.specs.Pairs.{IsPair, pair_of};
 
 use super::needed::needed_answer;
 use affine_forms::Forms;
@@ -15,7 +15,7 @@ use std::alloc::Global;
 
 /// A context and an answer over as many parameters.
 #[derive(Drop)]
-pub(super) struct Pair {
+pub(crate) struct Pair {
     pub(super) rows: Forms,
     pub(super) first: Spoken,
 }
@@ -30,7 +30,7 @@ pub(super) fn pair_at(
 ) -> Result<Option<(Pair, usize)>, Ending>
     requires place { at ≤ length bytes.now }
     requires few { params ≤ most_params }
-    ensures agrees { Agrees pair_found told result (kinds.pair bytes.now params at) }
+    ensures agrees { Agrees (found_by pair_of) told result (kinds.pair bytes.now params at) }
     ensures own { IfErr result IsOfItem }
     ensures pair { IfOk result (λ found. IfSome found (λ x. IsPair params x.0)) }
     ensures after { IfOk result (λ found. IfSome found (λ x. IsBehind at (length bytes.now) x.1)) }

@@ -1,16 +1,13 @@
-ghost use Rattle.std.specs.Prelude.{◌≡◌, [], length, IfErr};
-ghost use Rattle.program_model.specs.Commands.{Same as model_same, item_text};
-ghost use Rattle.program_model.specs.ItemTexts.{same_text, sameness_text};
+ghost use Rattle.std.specs.Prelude.{length};
+ghost use Rattle.program_model.specs.Commands.{Same as model_same};
+ghost use Rattle.program_model.specs.ItemTexts.{sameness_text};
 ghost use Rattle.quast_tools.specs.Samenesses.{sameness_of};
 ghost use Rattle.text_parts.specs.Printing.{Appends};
-ghost use Rattle.pip_endings.specs.Endings.{IsOfItem};
-ghost use Rattle.pip_items.specs.Items.{IsTextOfItem};
 ghost use Rattle.pip_items.specs.Trios.{IsTrio, trio_of};
 
 use super::trio::{Trio, trio_at};
-use crate::items::ItemTexts;
+use crate::items::Items;
 use pip_endings::Ending;
-use pip_problem::Limits;
 use pip_words::WalkOptions;
 use quast_tools::{Sameness, same};
 use std::alloc::{AllocError, Global};
@@ -34,43 +31,30 @@ fn put_sameness(sameness: &Sameness, text: &mut Vec<u8>) -> Result<(), AllocErro
     }
 }
 
-// Puts the line of the comparison into `text`.
-fn write_same(alloc: Global, limits: &Limits, trio: &Trio, text: &mut Vec<u8>) -> Result<(), Ending>
-    requires trio { IsTrio trio.now.rows.width trio.now }
-    requires empty { text.old.items ≡ [] }
-    ensures own { IfErr result IsOfItem }
-    ensures text { IsTextOfItem (same_text limits.now trio.now.rows.width (trio_of trio.now)) result text.new.items }
-{
-    let sameness = same(
-        alloc,
-        &trio.rows,
-        &trio.first.answer,
-        &trio.second.answer,
-        limits,
-    )?;
-    put_sameness(&sameness, text)?;
-    Ok(())
-}
+impl Items for Same<'_> {
+    type Read = Trio;
 
-impl ItemTexts for Same<'_> {
-    ghost text_at = { λ s bytes place. item_text (model_same s.0.now.params s.0.now.limits) bytes place };
+    ghost meaning = { λ s. model_same s.0.now.params s.0.now.limits };
+
+    ghost seen = { λ _ t. trio_of t };
+
+    ghost is_item = { λ s t. IsTrio s.0.now.params t };
 
     ghost last_place = { λ _ bytes. length bytes };
 
-    fn write_text(
-        &self,
-        alloc: Global,
-        bytes: &[u8],
-        at: usize,
-        text: &mut Vec<u8>,
-    ) -> Result<Option<usize>, Ending> {
-        let options = self.0;
-        match trio_at(alloc, bytes, at, options.params)? {
-            Some((trio, after)) => {
-                write_same(alloc, &options.limits, &trio, text)?;
-                Ok(Some(after))
-            }
-            None => Ok(None),
-        }
+    fn read(&self, alloc: Global, bytes: &[u8], at: usize) -> Result<Option<(Trio, usize)>, Ending> {
+        trio_at(alloc, bytes, at, self.0.params)
+    }
+
+    fn put(&self, alloc: Global, trio: Trio, text: &mut Vec<u8>) -> Result<(), Ending> {
+        let sameness = same(
+            alloc,
+            &trio.rows,
+            &trio.first.answer,
+            &trio.second.answer,
+            &self.0.limits,
+        )?;
+        put_sameness(&sameness, text)?;
+        Ok(())
     }
 }

@@ -1,44 +1,39 @@
-ghost use Rattle.std.specs.Prelude.{◌≡◌, [], length};
-ghost use Rattle.program_model.specs.Commands.{Simplify, item_text};
-ghost use Rattle.program_model.specs.ItemTexts.{simplified_text};
+ghost use Rattle.std.specs.Prelude.{length};
+ghost use Rattle.program_model.specs.Commands.{Simplify};
+ghost use Rattle.quast.specs.Answers.{IsOver};
 ghost use Rattle.quast_text.specs.Spoken.{spoken_of};
-ghost use Rattle.pip_items.specs.Items.{IsTextOfItem};
 
-use crate::items::ItemTexts;
+use super::answer::answer_at;
+use crate::items::Items;
 use pip_endings::Ending;
 use pip_words::SimplifyOptions;
 use quast_simplify::simplify_answer;
-use quast_text::{Spoken, print_answer, read_answer};
+use quast_text::{Spoken, print_answer};
 use std::alloc::Global;
 
-// Puts the text of a simplified answer into `text`.
-fn write_simplified(spoken: Spoken, text: &mut Vec<u8>) -> Result<(), Ending>
-    requires { text.old.items ≡ [] }
-    ensures { IsTextOfItem (simplified_text (spoken_of spoken)) result text.new.items }
-{
-    let Spoken { comment, answer } = spoken;
-    print_answer(&comment, &simplify_answer(answer), text)?;
-    Ok(())
-}
+impl Items for SimplifyOptions {
+    type Read = Spoken;
 
-impl ItemTexts for SimplifyOptions {
-    ghost text_at = { λ o bytes place. item_text (Simplify o.params) bytes place };
+    ghost meaning = { λ o. Simplify o.params };
 
-    ghost last_place = { λ o bytes. length bytes };
+    ghost seen = { λ _ s. spoken_of s };
 
-    fn write_text(
+    ghost is_item = { λ o s. IsOver o.params s.answer };
+
+    ghost last_place = { λ _ bytes. length bytes };
+
+    fn read(
         &self,
         alloc: Global,
         bytes: &[u8],
         at: usize,
-        text: &mut Vec<u8>,
-    ) -> Result<Option<usize>, Ending> {
-        match read_answer(alloc, bytes, at, self.params)? {
-            Some((spoken, after)) => {
-                write_simplified(spoken, text)?;
-                Ok(Some(after))
-            }
-            None => Ok(None),
-        }
+    ) -> Result<Option<(Spoken, usize)>, Ending> {
+        answer_at(alloc, bytes, at, self.params)
+    }
+
+    fn put(&self, _alloc: Global, spoken: Spoken, text: &mut Vec<u8>) -> Result<(), Ending> {
+        let Spoken { comment, answer } = spoken;
+        print_answer(&comment, &simplify_answer(answer), text)?;
+        Ok(())
     }
 }

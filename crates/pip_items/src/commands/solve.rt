@@ -1,20 +1,17 @@
-ghost use Rattle.std.specs.Prelude.{◌≡◌, ◌<◌, ◌≤◌, [], length, IfOk, IfErr, IfSome, if◌then◌else◌};
-ghost use Rattle.pip_model.specs.Agreement.{Agrees};
+ghost use Rattle.std.specs.Prelude.{◌≡◌, true, [], IfErr, ⊤, if◌then◌else◌};
 ghost use Rattle.program_model.specs.Commands.{Solve, text_of};
-ghost use Rattle.program_model.specs.Items.{text_of_item};
-ghost use Rattle.program_model.specs.ItemKinds.{matrix_item};
 ghost use Rattle.program_model.specs.ItemTexts.{solved_text};
 ghost use Rattle.pip_model.specs.Simplified.{simplified};
 ghost use Rattle.pip_model.specs.Values.{simplified_by};
 ghost use Rattle.quast.specs.Answers.{answer_of};
 ghost use Rattle.pip_words.specs.Words.{options_of};
-ghost use Rattle.pip_endings.specs.Endings.{read_ending, IsOfItem};
+ghost use Rattle.pip_endings.specs.Endings.{IsOfItem};
 ghost use Rattle.pip_items.specs.Items.{IsTextOfItem};
 
 use super::certified::write_certified;
-use crate::items::ItemTexts;
+use crate::items::Items;
 use pip_endings::Ending;
-use pip_problem::{Problem, ReadRefusal};
+use pip_problem::Problem;
 use pip_solve::solve;
 use pip_words::SolveOptions;
 use polylib_reader::read_matrices;
@@ -70,44 +67,38 @@ pub(crate) fn write_solution(
     }
 }
 
-// The one problem of the matrices, at place 0.
-fn matrices_at(
-    alloc: Global,
-    bytes: &[u8],
-    at: usize,
-) -> Result<Option<(Problem, usize)>, ReadRefusal>
-    ensures agrees { Agrees (λ x. x) read_ending result (matrix_item bytes.now at) }
-    ensures after { IfOk result (λ found. IfSome found (λ x. (at < x.1) × (x.1 ≤ 1))) }
-{
-    if at > 0 {
-        return Ok(None);
-    }
-    let problem = read_matrices(alloc, bytes)?;
-    Ok(Some((problem, 1)))
-}
-
 // `solve` of the one PolyLib problem of an input.
 #[derive(Drop)]
-pub(crate) struct Matrices<'a>(pub &'a SolveOptions);
+pub(crate) struct Matrices<'a> {
+    pub(crate) options: &'a SolveOptions,
+    ghost polylib: { options.now.polylib ≡ true },
+}
 
-impl ItemTexts for Matrices<'_> {
-    ghost text_at = { λ m bytes place. text_of_item (text_of (Solve (options_of m.0.now))) (matrix_item bytes place) };
+impl Items for Matrices<'_> {
+    type Read = Problem;
 
-    ghost last_place = { λ _ bytes. 1 };
+    ghost meaning = { λ m. Solve (options_of m.options.now) };
 
-    fn write_text(
+    ghost seen = { λ _ p. p };
+
+    ghost is_item = { λ _ _. ⊤ };
+
+    ghost last_place = { λ _ _. 1 };
+
+    fn read(
         &self,
         alloc: Global,
         bytes: &[u8],
         at: usize,
-        text: &mut Vec<u8>,
-    ) -> Result<Option<usize>, Ending> {
-        match matrices_at(alloc, bytes, at)? {
-            Some((problem, after)) => {
-                write_solution(alloc, self.0, &problem, text)?;
-                Ok(Some(after))
-            }
-            None => Ok(None),
+    ) -> Result<Option<(Problem, usize)>, Ending> {
+        if at > 0 {
+            return Ok(None);
         }
+        let problem = read_matrices(alloc, bytes)?;
+        Ok(Some((problem, 1)))
+    }
+
+    fn put(&self, alloc: Global, problem: Problem, text: &mut Vec<u8>) -> Result<(), Ending> {
+        write_solution(alloc, self.options, &problem, text)
     }
 }

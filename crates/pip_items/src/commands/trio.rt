@@ -3,8 +3,8 @@ ghost use Rattle.pip_model.specs.Agreement.{Agrees};
 ghost use Rattle.pip_model.specs.Limits.{most_params};
 ghost use Rattle.program_model.specs.ItemKinds as kinds;
 ghost use Rattle.pip_endings.specs.Endings.{told, IsOfItem};
-ghost use Rattle.pip_items.specs.Items.{IsBehind};
-ghost use Rattle.pip_items.specs.Trios.{IsTrio, trio_of, trio_found};
+ghost use Rattle.pip_items.specs.Items.{found_by, IsBehind};
+ghost use Rattle.pip_items.specs.Trios.{IsTrio, trio_of};
 
 use super::needed::needed_answer;
 use affine_forms::Forms;
@@ -15,7 +15,7 @@ use std::alloc::Global;
 
 /// A context and two answers over as many parameters.
 #[derive(Drop)]
-pub(super) struct Trio {
+pub(crate) struct Trio {
     pub(super) rows: Forms,
     pub(super) first: Spoken,
     pub(super) second: Spoken,
@@ -58,7 +58,7 @@ pub(super) fn trio_at(
 ) -> Result<Option<(Trio, usize)>, Ending>
     requires place { at ≤ length bytes.now }
     requires few { params ≤ most_params }
-    ensures agrees { Agrees trio_found told result (kinds.trio bytes.now params at) }
+    ensures agrees { Agrees (found_by trio_of) told result (kinds.trio bytes.now params at) }
     ensures own { IfErr result IsOfItem }
     ensures trio { IfOk result (λ found. IfSome found (λ x. IsTrio params x.0)) }
     ensures after { IfOk result (λ found. IfSome found (λ x. IsBehind at (length bytes.now) x.1)) }

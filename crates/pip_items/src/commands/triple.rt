@@ -4,8 +4,8 @@ ghost use Rattle.pip_model.specs.Check as model;
 ghost use Rattle.program_model.specs.ItemKinds as kinds;
 ghost use Rattle.quast.specs.Answers.{answer_of};
 ghost use Rattle.pip_endings.specs.Endings.{told, IsOfItem};
-ghost use Rattle.pip_items.specs.Items.{IsBehind};
-ghost use Rattle.pip_items.specs.Triples.{IsTriple, triple_of, triple_found, IsFound};
+ghost use Rattle.pip_items.specs.Items.{found_by, IsBehind};
+ghost use Rattle.pip_items.specs.Triples.{IsTriple, triple_of, IsFound};
 
 use super::needed::{needed_answer, needed_certificate};
 use certificate_check::{CheckRefusal, Verdict, check};
@@ -18,7 +18,7 @@ use std::alloc::Global;
 
 /// An integer problem, an answer over its parameters, and a certificate.
 #[derive(Drop)]
-pub(super) struct Triple {
+pub(crate) struct Triple {
     pub(super) problem: Problem,
     pub(super) answer: Answer,
     pub(super) certificate: Certificate,
@@ -59,7 +59,7 @@ pub(super) fn triple_at(
     at: usize,
 ) -> Result<Option<(Triple, usize)>, Ending>
     requires { at ≤ length bytes.now }
-    ensures agrees { Agrees triple_found told result (kinds.triple bytes.now at) }
+    ensures agrees { Agrees (found_by triple_of) told result (kinds.triple bytes.now at) }
     ensures own { IfErr result IsOfItem }
     ensures triple { IfOk result (λ found. IfSome found (λ x. IsTriple x.0)) }
     ensures place { IfOk result (λ found. IfSome found (λ x. IsBehind at (length bytes.now) x.1)) }

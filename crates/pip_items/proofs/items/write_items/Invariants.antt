@@ -1,14 +1,15 @@
 use Rattle.std.proofs.Common.{◌≡◌, ◌-◌, ◌≤◌, []}
+use Rattle.program_model.specs.Commands.{item_text}
 use Rattle.pip_items.specs.Items.{Gained}
 use Rattle.pip_items.proofs.Written.{LeadTo}
 use Rattle.pip_items.proofs.items.write_items.Given as goal
 
 abbrev pub invariant-loop-text : goal.invariant-loop-text
 invariant-loop-text g l =
-    (l.at ≤ g.C.ItemTexts.last_place l.command l.bytes)
+    (l.at ≤ g.C.Items.last_place l.command l.bytes)
     × (l.text.items ≡ [])
-    × Gained (LeadTo (g.C.ItemTexts.text_at l.command l.bytes) l.at) (g.K.Sink.written l.fn.sink) (g.K.Sink.written l.sink)
+    × Gained (LeadTo (item_text (g.C.Items.meaning l.command) l.bytes) l.at) (g.K.Sink.written l.fn.sink) (g.K.Sink.written l.sink)
     × (g.K.Sink.faults l.sink ≡ g.K.Sink.faults l.fn.sink)
 
 abbrev pub decreases-loop-text : goal.decreases-loop-text
-decreases-loop-text g l = g.C.ItemTexts.last_place l.command l.bytes - l.at
+decreases-loop-text g l = g.C.Items.last_place l.command l.bytes - l.at

@@ -4,7 +4,7 @@ use Rattle.pip_model.specs.Limits.{most_params}
 use Rattle.pip_model.specs.Listed.{all_fit}
 use Rattle.pip_model.specs.Numbers.{is_nonneg}
 use Rattle.pip_words.specs.Words.{all_parameters}
-use Rattle.pip_words.proofs.reading.parameters.Given as goal
+use Rattle.pip_words.proofs.values.parameters.Given as goal
 
 abbrev pub invariant-loop-text : goal.invariant-loop-text
 invariant-loop-text l = record {

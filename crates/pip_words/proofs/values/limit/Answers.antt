@@ -2,7 +2,7 @@ use Rattle.std.proofs.Common.{rules, subst, ◌≡◌, ◌∙◌, ℕ, List, Opt
 use Rattle.clap.proofs.WalkLemmas.{first_value-rows}
 use Rattle.clap.specs.Words.{found_of}
 use Rattle.pip_words.specs.Words.{number_or}
-use Rattle.pip_words.proofs.reading.limit.Goals as goal
+use Rattle.pip_words.proofs.values.limit.Goals as goal
 
 pub returns-in-Some-clause-value : goal.returns-in-Some-clause-value
 returns-in-Some-clause-value c = subst (λ (o : Option (List ℕ)). c.short_number.result ≡ number_or c.args.most c.args.default o)

@@ -4,7 +4,7 @@ use Rattle.clap.specs.Words.{found_of}
 use Rattle.program_model.specs.Commands.{Command, Eval}
 use Rattle.pip_words.specs.Words.{meaning_of, parameters_of, texts_of}
 use Rattle.pip_words.proofs.Giving.{refused_mapped}
-use Rattle.pip_words.proofs.reading.eval.Goals as goal
+use Rattle.pip_words.proofs.commands.eval.Goals as goal
 
 abbrev evaluation : Option (List (List ℕ)) → Option Command
 evaluation o = option_map Eval (parameters_of (texts_of o))

@@ -5,7 +5,7 @@ use Rattle.pip_model.specs.Limits.{most_params}
 use Rattle.pip_words.specs.Numbers.{parameter_of}
 use Rattle.pip_words.specs.Words.{all_parameters}
 use Rattle.pip_words.proofs.Parameters.{refused, more, none_either}
-use Rattle.pip_words.proofs.reading.parameters.Goals as goal
+use Rattle.pip_words.proofs.values.parameters.Goals as goal
 
 pub returns-in-None : goal.returns-in-None
 returns-in-None c = none_either (nat_le (length (map (λ text. text.now) c.args.texts.now)) most_params)

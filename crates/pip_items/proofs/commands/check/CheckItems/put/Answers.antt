@@ -1,6 +1,6 @@
 use Rattle.std.proofs.lemmas.Result.{err_from_is_err_and}
 use Rattle.pip_items.proofs.Triples.{check_refused}
-use Rattle.pip_items.proofs.commands.check.write_verdict.Goals as goal
+use Rattle.pip_items.proofs.commands.check.CheckItems.put.Goals as goal
 
 pub returns-in_err-accept-clause-text : goal.returns-in_err-accept-clause-text
 returns-in_err-accept-clause-text c =

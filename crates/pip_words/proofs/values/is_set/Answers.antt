@@ -2,7 +2,7 @@ use Rattle.std.proofs.Common.{rules, subst, ◌≡◌, ◌∙◌, codes, ℕ, Li
 use Rattle.std.specs.Option.{option_map_or}
 use Rattle.clap.proofs.WalkLemmas.{first_value-rows}
 use Rattle.clap.specs.Words.{found_of}
-use Rattle.pip_words.proofs.reading.is_set.Goals as goal
+use Rattle.pip_words.proofs.values.is_set.Goals as goal
 
 pub returns-in-Some : goal.returns-in-Some
 returns-in-Some c = subst (λ (o : Option (List ℕ)). c.eq.result ≡ option_map_or (λ t. bytes_eq t (codes "true")) o false)

@@ -1,6 +1,6 @@
 use Rattle.std.proofs.lemmas.Result.{err_from_is_err_and}
 use Rattle.pip_items.proofs.Triples.{share_refused}
-use Rattle.pip_items.proofs.commands.share.write_shared.Goals as goal
+use Rattle.pip_items.proofs.commands.share.ShareItems.put.Goals as goal
 
 pub returns-in_err-accept-clause-text : goal.returns-in_err-accept-clause-text
 returns-in_err-accept-clause-text c =

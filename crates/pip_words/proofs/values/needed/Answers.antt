@@ -3,7 +3,7 @@ use Rattle.clap.proofs.WalkLemmas.{first_value-rows}
 use Rattle.clap.specs.Words.{found_of}
 use Rattle.pip_words.specs.Numbers.{number_of}
 use Rattle.pip_words.specs.Words.{◌>>=◌}
-use Rattle.pip_words.proofs.reading.needed.Goals as goal
+use Rattle.pip_words.proofs.values.needed.Goals as goal
 
 pub returns-in-Some-clause-value : goal.returns-in-Some-clause-value
 returns-in-Some-clause-value c = subst (λ (o : Option (List ℕ)). c.short_number.result ≡ (o >>= number_of c.args.most))

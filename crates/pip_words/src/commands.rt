@@ -1,0 +1,216 @@
+ghost use Rattle.std.specs.Prelude.{◌≡◌, IfOk};
+ghost use Rattle.clap.specs.Words.{app_of, rows_of, found_of};
+ghost use Rattle.program_model.specs.Commands.{Simplify as model_simplify, Pieces as model_pieces};
+ghost use Rattle.program_model.specs.Commands.{Restrict as model_restrict, Same as model_same, Least as model_least};
+ghost use Rattle.pip_words.specs.Words.{Gives, meaning_of, pip_app, command_named, solve_of, eval_of, trial_of};
+ghost use Rattle.pip_words.specs.Words.{counted_of, walked_of};
+
+use crate::arguments::{Argument, Entry, with_commands};
+use crate::command::{Command, PiecesOptions, SimplifyOptions, SolveOptions, TrialOptions};
+use crate::names;
+use crate::parameter_vector::ParameterVector;
+use crate::refusal::WordsRefusal;
+use crate::values::{is_set, limits, needed, parameter_count, parameters, walk};
+use clap::ArgMatches;
+use std::alloc::{AllocError, Global};
+
+const MOST_DRAWN: u64 = 10_000;
+
+// The program's commands with their arguments, for `clap`.
+pub(crate) fn pip<'a>(alloc: Global) -> Result<clap::Command<'a>, AllocError>
+    ensures { IfOk result (λ command. app_of command ≡ pip_app) }
+{
+    let program = clap::Command::new(alloc, "pip").subcommand_required(true);
+    with_commands(
+        alloc,
+        program,
+        &[
+            Entry {
+                name: "solve",
+                arguments: &[
+                    Argument::Flag(names::POLYLIB),
+                    Argument::Flag(names::SIMPLIFY),
+                    Argument::Flag(names::CERTIFICATE),
+                    Argument::Setting(names::PIVOTS),
+                    Argument::Setting(names::CUTS),
+                    Argument::Setting(names::SPLITS),
+                    Argument::Setting(names::NESTING),
+                ],
+            },
+            Entry {
+                name: "eval",
+                arguments: &[Argument::Values(names::PARAMETER)],
+            },
+            Entry {
+                name: "simplify",
+                arguments: &[Argument::Needed(names::PARAMETERS)],
+            },
+            Entry {
+                name: "check",
+                arguments: &[],
+            },
+            Entry {
+                name: "share",
+                arguments: &[],
+            },
+            Entry {
+                name: "trial",
+                arguments: &[
+                    Argument::Needed(names::SEED),
+                    Argument::Needed(names::COUNT),
+                ],
+            },
+            Entry {
+                name: "pieces",
+                arguments: &[Argument::Needed(names::PARAMETERS)],
+            },
+            Entry {
+                name: "restrict",
+                arguments: &[
+                    Argument::Needed(names::PARAMETERS),
+                    Argument::Setting(names::PIVOTS),
+                    Argument::Setting(names::CUTS),
+                ],
+            },
+            Entry {
+                name: "same",
+                arguments: &[
+                    Argument::Needed(names::PARAMETERS),
+                    Argument::Setting(names::PIVOTS),
+                    Argument::Setting(names::CUTS),
+                    Argument::Setting(names::SPLITS),
+                ],
+            },
+            Entry {
+                name: "least",
+                arguments: &[
+                    Argument::Needed(names::PARAMETERS),
+                    Argument::Setting(names::PIVOTS),
+                    Argument::Setting(names::CUTS),
+                    Argument::Setting(names::SPLITS),
+                    Argument::Setting(names::NESTING),
+                ],
+            },
+        ],
+    )
+}
+
+// The command of a name.
+pub(crate) fn named(alloc: Global, name: &str, matches: &ArgMatches<'_>) -> Result<Command, WordsRefusal>
+    ensures { Gives meaning_of (command_named name.now (rows_of (found_of matches.now))) result }
+{
+    if name == "solve" {
+        solve(matches)
+    } else if name == "eval" {
+        eval(alloc, matches)
+    } else if name == "simplify" {
+        simplify(matches)
+    } else if name == "check" {
+        Ok(Command::Check)
+    } else if name == "share" {
+        Ok(Command::Share)
+    } else if name == "trial" {
+        trial(matches)
+    } else if name == "pieces" {
+        pieces(matches)
+    } else if name == "restrict" {
+        restrict(matches)
+    } else if name == "same" {
+        same(matches)
+    } else if name == "least" {
+        least(matches)
+    } else {
+        Err(WordsRefusal::Usage)
+    }
+}
+
+fn solve(matches: &ArgMatches<'_>) -> Result<Command, WordsRefusal>
+    ensures { Gives meaning_of (solve_of (rows_of (found_of matches.now))) result }
+{
+    let polylib = is_set(matches, names::POLYLIB);
+    let simplify = is_set(matches, names::SIMPLIFY);
+    let certificate = is_set(matches, names::CERTIFICATE);
+    if simplify && certificate {
+        return Err(WordsRefusal::Usage);
+    }
+    match limits(matches) {
+        Some(limits) => Ok(Command::Solve(SolveOptions {
+            polylib,
+            simplify,
+            certificate,
+            limits,
+        })),
+        None => Err(WordsRefusal::Usage),
+    }
+}
+
+fn eval(alloc: Global, matches: &ArgMatches<'_>) -> Result<Command, WordsRefusal>
+    ensures { Gives meaning_of (eval_of (rows_of (found_of matches.now))) result }
+{
+    match matches.get_strs(names::PARAMETER) {
+        Some(texts) => match parameters(alloc, texts) {
+            Ok(vector) => Ok(Command::Eval(vector)),
+            Err(refusal) => Err(refusal),
+        },
+        None => Ok(Command::Eval(ParameterVector::new(alloc))),
+    }
+}
+
+fn simplify(matches: &ArgMatches<'_>) -> Result<Command, WordsRefusal>
+    ensures { Gives meaning_of (counted_of model_simplify (rows_of (found_of matches.now))) result }
+{
+    match parameter_count(matches) {
+        Some(params) => Ok(Command::Simplify(SimplifyOptions { params })),
+        None => Err(WordsRefusal::Usage),
+    }
+}
+
+fn trial(matches: &ArgMatches<'_>) -> Result<Command, WordsRefusal>
+    ensures { Gives meaning_of (trial_of (rows_of (found_of matches.now))) result }
+{
+    let seed = needed(matches, names::SEED, u64::MAX);
+    let count = needed(matches, names::COUNT, MOST_DRAWN);
+    match (seed, count) {
+        (Some(seed), Some(count)) => Ok(Command::Trial(TrialOptions {
+            seed,
+            count: count as u16,
+        })),
+        _ => Err(WordsRefusal::Usage),
+    }
+}
+
+fn pieces(matches: &ArgMatches<'_>) -> Result<Command, WordsRefusal>
+    ensures { Gives meaning_of (counted_of model_pieces (rows_of (found_of matches.now))) result }
+{
+    match parameter_count(matches) {
+        Some(params) => Ok(Command::Pieces(PiecesOptions { params })),
+        None => Err(WordsRefusal::Usage),
+    }
+}
+
+fn restrict(matches: &ArgMatches<'_>) -> Result<Command, WordsRefusal>
+    ensures { Gives meaning_of (walked_of model_restrict (rows_of (found_of matches.now))) result }
+{
+    match walk(matches) {
+        Some(options) => Ok(Command::Restrict(options)),
+        None => Err(WordsRefusal::Usage),
+    }
+}
+
+fn same(matches: &ArgMatches<'_>) -> Result<Command, WordsRefusal>
+    ensures { Gives meaning_of (walked_of model_same (rows_of (found_of matches.now))) result }
+{
+    match walk(matches) {
+        Some(options) => Ok(Command::Same(options)),
+        None => Err(WordsRefusal::Usage),
+    }
+}
+
+fn least(matches: &ArgMatches<'_>) -> Result<Command, WordsRefusal>
+    ensures { Gives meaning_of (walked_of model_least (rows_of (found_of matches.now))) result }
+{
+    match walk(matches) {
+        Some(options) => Ok(Command::Least(options)),
+        None => Err(WordsRefusal::Usage),
+    }
+}

@@ -1,0 +1,109 @@
+ghost use Rattle.std.specs.Prelude.{◌≡◌, ◌≤◌, IfSome, codes, map, option_map};
+ghost use Rattle.pip_model.specs.Limits.{most_params};
+ghost use Rattle.clap.specs.Words.{rows_of, found_of};
+ghost use Rattle.pip_words.specs.Words.{Gives, parameters_of, walk_of, budget_of, flag_of, limit_of, needed_of};
+
+use crate::command::WalkOptions;
+use crate::names;
+use crate::number::{parameter, short_number};
+use crate::parameter_vector::ParameterVector;
+use crate::refusal::WordsRefusal;
+use clap::ArgMatches;
+use pip_problem::{Limits, MOST_PARAMETERS};
+use std::alloc::Global;
+
+const MOST_PIVOTS: u64 = 1_000_000_000;
+
+const MOST_CUTS: u64 = 1_000_000;
+
+const MOST_SPLITS: u64 = 1_000_000;
+
+const MOST_NESTING: u64 = 200;
+
+// The vector of these texts.
+pub(crate) fn parameters(alloc: Global, texts: &[&str]) -> Result<ParameterVector, WordsRefusal>
+    ensures { Gives (λ vector. vector) (parameters_of (map (λ text. text.now) texts.now)) result }
+{
+    if texts.len() > MOST_PARAMETERS {
+        return Err(WordsRefusal::Usage);
+    }
+    let mut entries = Vec::new(alloc);
+    for text in texts {
+        match parameter(text.as_bytes()) {
+            Some(value) => entries.push(value)?,
+            None => return Err(WordsRefusal::Usage),
+        }
+    }
+    Ok(ParameterVector::from_entries(entries))
+}
+
+// The required number of parameters.
+pub(crate) fn parameter_count(matches: &ArgMatches<'_>) -> Option<usize>
+    ensures value { result ≡ needed_of (codes "parameters") most_params (rows_of (found_of matches.now)) }
+    ensures few { IfSome result (λ n. n ≤ most_params) }
+{
+    match needed(matches, names::PARAMETERS, MOST_PARAMETERS as u64) {
+        Some(count) => Some(count as usize),
+        None => None,
+    }
+}
+
+// The number of parameters and the budgets of a walk.
+pub(crate) fn walk(matches: &ArgMatches<'_>) -> Option<WalkOptions>
+    ensures { option_map (λ o. (o.params, o.limits)) result ≡ walk_of (rows_of (found_of matches.now)) }
+{
+    match (parameter_count(matches), limits(matches)) {
+        (Some(params), Some(limits)) => Some(WalkOptions { params, limits }),
+        _ => None,
+    }
+}
+
+// The budgets of the options, each its standard where it is not given.
+pub(crate) fn limits(matches: &ArgMatches<'_>) -> Option<Limits>
+    ensures { result ≡ budget_of (rows_of (found_of matches.now)) }
+{
+    let standard = Limits::standard();
+    let pivots = limit(matches, names::PIVOTS, MOST_PIVOTS, standard.pivots());
+    let cuts = limit(matches, names::CUTS, MOST_CUTS, standard.cuts());
+    let splits = limit(matches, names::SPLITS, MOST_SPLITS, standard.splits());
+    let nesting = limit(matches, names::NESTING, MOST_NESTING, standard.nesting());
+    match (pivots, cuts, splits, nesting) {
+        (Some(pivots), Some(cuts), Some(splits), Some(nesting)) => {
+            Some(Limits::new(pivots, cuts, splits, nesting))
+        }
+        _ => None,
+    }
+}
+
+// The number of a required argument.
+pub(crate) fn needed(matches: &ArgMatches<'_>, name: &str, most: u64) -> Option<u64>
+    ensures value { result ≡ needed_of name.now most (rows_of (found_of matches.now)) }
+    ensures within { IfSome result (λ n. n ≤ most) }
+{
+    match matches.get_str(name) {
+        Some(text) => short_number(text.as_bytes(), most),
+        None => None,
+    }
+}
+
+// The flag is given.
+pub(crate) fn is_set(matches: &ArgMatches<'_>, name: &str) -> bool
+    ensures { result ≡ flag_of name.now (rows_of (found_of matches.now)) }
+{
+    match matches.get_str(name) {
+        Some(text) => text == "true",
+        None => false,
+    }
+}
+
+// The number of an option, or its default.
+fn limit(matches: &ArgMatches<'_>, name: &str, most: u64, default: u64) -> Option<u64>
+    requires { default ≤ most }
+    ensures value { result ≡ limit_of name.now most default (rows_of (found_of matches.now)) }
+    ensures within { IfSome result (λ n. n ≤ most) }
+{
+    match matches.get_str(name) {
+        Some(text) => short_number(text.as_bytes(), most),
+        None => Some(default),
+    }
+}
