@@ -96,7 +96,11 @@ pub(crate) fn pip<'a>(alloc: Global) -> Result<clap::Command<'a>, AllocError>
 }
 
 // The command of a name.
-pub(crate) fn named(alloc: Global, name: &str, matches: &ArgMatches<'_>) -> Result<Command, WordsRefusal>
+pub(crate) fn named(
+    alloc: Global,
+    name: &str,
+    matches: &ArgMatches<'_>,
+) -> Result<Command, WordsRefusal>
     ensures { Gives meaning_of (command_named name.now (rows_of (found_of matches.now))) result }
 {
     if name == "solve" {

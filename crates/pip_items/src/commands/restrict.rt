@@ -25,7 +25,12 @@ impl Items for Restrict<'_> {
 
     ghost last_place = { λ _ bytes. length bytes };
 
-    fn read(&self, alloc: Global, bytes: &[u8], at: usize) -> Result<Option<(Pair, usize)>, Ending> {
+    fn read(
+        &self,
+        alloc: Global,
+        bytes: &[u8],
+        at: usize,
+    ) -> Result<Option<(Pair, usize)>, Ending> {
         pair_at(alloc, bytes, at, self.0.params)
     }
 

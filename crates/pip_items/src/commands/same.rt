@@ -42,7 +42,12 @@ impl Items for Same<'_> {
 
     ghost last_place = { λ _ bytes. length bytes };
 
-    fn read(&self, alloc: Global, bytes: &[u8], at: usize) -> Result<Option<(Trio, usize)>, Ending> {
+    fn read(
+        &self,
+        alloc: Global,
+        bytes: &[u8],
+        at: usize,
+    ) -> Result<Option<(Trio, usize)>, Ending> {
         trio_at(alloc, bytes, at, self.0.params)
     }
 

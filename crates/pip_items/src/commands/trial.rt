@@ -18,7 +18,12 @@ impl Items for TrialOptions {
 
     ghost last_place = { λ _ _. 1 };
 
-    fn read(&self, _alloc: Global, _bytes: &[u8], at: usize) -> Result<Option<((), usize)>, Ending> {
+    fn read(
+        &self,
+        _alloc: Global,
+        _bytes: &[u8],
+        at: usize,
+    ) -> Result<Option<((), usize)>, Ending> {
         if at > 0 {
             return Ok(None);
         }
