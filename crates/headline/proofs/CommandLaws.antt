@@ -1,6 +1,6 @@
 -- The law of each command: what it reads ends further on, and what it makes of that is right.
 use Rattle.std.proofs.Common.{◌≡◌, ℕ, ◌≤◌, Bool, true, false, List, length}
-use Rattle.std.specs.Prelude.{Result, Ok, Err, IfOk, IfSome, ⊤, if◌then◌else◌}
+use Rattle.std.specs.Prelude.{Ok, Err, IfOk, IfSome, ⊤, if◌then◌else◌}
 use Rattle.std.specs.Bool.{MatchBool}
 use Rattle.pip_model.specs.Limits.{most_nesting}
 use Rattle.pip_model.specs.Problem.{Problem}

@@ -13,7 +13,7 @@ use Rattle.pip_model.specs.Rows.{Row}
 use Rattle.pip_model.specs.Values.{value_tree, tree_value_listed, answer_at, answer_at_listed}
 use Rattle.pip_model.specs.Printed.{IsSpokenAnswer, IsPrintableAnswer, component_fits, tree_fits}
 use Rattle.pip_model.proofs.Fitting.{fit_head, fit_parts, fits-floor}
-use Rattle.pip_model.proofs.Polynomials.{var, num, ◌⊕◌, ◌⊗◌, ring}
+use Rattle.pip_model.proofs.Polynomials.{var, num, ◌⊕◌, ring}
 use Rattle.pip_model.proofs.Tests.{both, three, both_true, all_three, all_passed, one_at_least, one_le, same_number_yes}
 use Rattle.run_laws.proofs.Components.{component-is}
 

@@ -1,6 +1,5 @@
-use Rattle.std.proofs.Common.{◌-◌}
 use Rattle.pip_items.proofs.Asked.{stops-whole}
-use Rattle.pip_items.proofs.Outputs.{output-read, output-unread}
+use Rattle.pip_items.proofs.Outputs.{output-read}
 use Rattle.pip_items.specs.Outputs.{bytes_read}
 use Rattle.pip_items.proofs.output.write_over_input.Goals as goal
 
