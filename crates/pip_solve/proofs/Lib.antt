@@ -1,4 +1,5 @@
 pub mod Running
+pub mod Begun
 pub mod Going
 pub mod Handing
 pub mod Popping

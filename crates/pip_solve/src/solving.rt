@@ -52,12 +52,13 @@ fn empty_path(alloc: Global, problem: &Problem) -> Result<Path, WantOfMemory>
     })
 }
 
-// Makes of such a path the one to the problem's first node.
-fn start_path(alloc: Global, problem: &Problem, path: &mut Path) -> Result<(), WantOfMemory>
-    requires { IsFirstPath (record problem.now { context = [] }) path.old }
-    ensures { OnOk result (IsFirstPath problem.now path.new) }
+// The path to a problem's first node.
+fn first_path(alloc: Global, problem: &Problem) -> Result<Path, WantOfMemory>
+    ensures { IfOk result (IsFirstPath problem.now) }
 {
-    add_forms(alloc, problem, &mut path.context)
+    let mut path = empty_path(alloc, problem)?;
+    add_forms(alloc, problem, &mut path.context)?;
+    Ok(path)
 }
 
 // Tightened copies of the rows.
@@ -159,8 +160,7 @@ pub fn answer_from(
     match point {
         None => Ok(Answer::Void),
         Some(_) => {
-            let mut path = empty_path(alloc, problem)?;
-            start_path(alloc, problem, &mut path)?;
+            let mut path = first_path(alloc, problem)?;
             let tree = tree(alloc, problem, &mut path, levels, work)?;
             Ok(Answer::Tree(tree))
         }
@@ -179,8 +179,7 @@ fn answer(
     ensures scope { IfOk result (IsOver problem.now.params) }
 {
     let levels = limits.nesting() as usize;
-    let mut path = empty_path(alloc, problem)?;
-    start_path(alloc, problem, &mut path)?;
+    let mut path = first_path(alloc, problem)?;
     if !path.context.has_point(alloc, work)? {
         return Ok(Answer::Void);
     }
