@@ -8,7 +8,7 @@ use Rattle.pip_model.specs.Forms.{constant, coefficients, width, scale, add, wid
 use Rattle.pip_model.specs.Listed.{all_fit, opposite_listed}
 use Rattle.pip_model.specs.Problem.{Problem}
 use Rattle.pip_model.specs.Printed.{component_fits, step_fits, vector_fits, certificate_fits, tree_fits, leaf_fits}
-use Rattle.pip_model.specs.Tree.{Tree, Bottom, Leaf, If, NewParm, Component, Answer, Void, Solved, is_scoped, nesting}
+use Rattle.pip_model.specs.Tree.{Tree, Leaf, Component, Answer, Void, Solved, is_scoped, nesting}
 use Rattle.pip_model.specs.Right.{IsRight}
 use Rattle.pip_model.specs.WellFormed.{IsProblem}
 use Rattle.pip_model.specs.Certificate.{Refutation, LeafProofs, Certificate}
@@ -24,16 +24,16 @@ use Rattle.run_laws.proofs.Lengths.{length_map}
 use Rattle.run_laws.proofs.FitRows.{start_fits}
 use Rattle.run_laws.proofs.FitRun.{ClassFits, TreeFits, AnswerFits, run_from_fits, solve-fits, fitting_rows}
 use Rattle.run_laws.proofs.Budgets.{solve-nested}
-use Rattle.run_laws.proofs.SolveRight.{solve_good}
+use Rattle.run_laws.proofs.SolveRight.{solve_good, narrow_rows}
 use Rattle.run_laws.proofs.PointRight.{IsPointOf, point_right}
 use Rattle.certificate_laws.proofs.TreeShape.{Shaped}
 use Rattle.certificate_laws.proofs.LeafFacts.{AllPairs, pairs-kept, AllQuotients, LeafFacts, SizedList, leaf_facts}
 use Rattle.pip_model.specs.RefutedPoint.{IsRefutedPoint}
+use Rattle.refutation_laws.proofs.Traces.{IfSteps}
 use Rattle.refutation_laws.proofs.SameRun.{refute-same}
 use Rattle.certificate_laws.proofs.MadeRefutation.{IsPremises, narrow_context, known_long}
 use Rattle.certificate_laws.proofs.MadeLeaves.{Ready, leaf_ready}
-use Rattle.certificate_laws.proofs.FitSteps.{most_index, UpTo, AllUpTo, fits_up_to, up_to_indices, term_fits, positive_fits, StepsFit, steps_fit_append, IfFits, AllFit, refute_fits, fit_widened}
-use Rattle.certificate_laws.proofs.NoPoint.{narrow_rows}
+use Rattle.certificate_laws.proofs.FitSteps.{most_index, UpTo, AllUpTo, fits_up_to, up_to_indices, term_fits, positive_fits, StepsFit, steps_fit_append, AllFit, refute_fits, fit_widened}
 use Rattle.certificate_laws.proofs.Accepted.{void_whole, void_none, void_known, tree_shaped, answer_of, done_by, fitting_done, certified_by, certified-answer}
 use Rattle.certificate_laws.proofs.FitForms.{places_fit, narrowed_fit, row_forms_fit, opposite_fits, put_in_fits, smaller_fit, ListFits, QuotientsFit, MaybeListFits, FitFacts, fit_facts}
 use Rattle.check_laws.proofs.ShareReadable.{length-places}
@@ -121,21 +121,19 @@ module _ (P : Problem) (L : LeafCase) (ks : List PathQuotient) (n W limit most :
         (every-append (UpTo k) (indices 0 P.params) (indices count (length ks)) (up_to_indices k 0 P.params (omega (arith, long))) (up_to_indices k count (length ks) (omega arith)))
         (up_to_indices k (front + length L.path) n (omega (arith, long)))
 
-    with_first : (o : Option Refutation) → IfFits o → StepsFit (first ++ steps_or_none o)
+    with_first : (o : Option Refutation) → IfSteps StepsFit o → StepsFit (first ++ steps_or_none o)
     with_first None h = steps_fit_append first [] first_fits refl
     with_first (Some ss) h = steps_fit_append first ss first_fits h
 
     -- what is left does not rise
-    falls : (o : Outcome (Option (List ℤ))) (r : Outcome (Option Refutation)) (k : ℕ) → IsRefutedPoint o r → AtMost k o → OnDone IfFits r → k ≤ limit → OnWithin limit IfFits r
+    falls : (o : Outcome (Option (List ℤ))) (r : Outcome (Option Refutation)) (k : ℕ) → IsRefutedPoint o r → AtMost k o → OnDone (IfSteps StepsFit) r → k ≤ limit → OnWithin limit (IfSteps StepsFit) r
     falls (Done (Some p) x) (Done None y) k same a f l = (f, (let e = ap left same in omega (arith, e)))
-    falls (Done (Some p) x) (Done (Some ss) y) k same a f l = absurd same
-    falls (Done None x) (Done None y) k same a f l = absurd same
     falls (Done None x) (Done (Some ss) y) k same a f l = (f, (let e = ap left same in omega (arith, e)))
     falls (Done o x) (Refused g y) k same a f l = tt
-    falls (Refused e x) (Done o y) k same a f l = absurd same
     falls (Refused e x) (Refused g y) k same a f l = tt
+    falls _ _ k same a f l = absurd same
 
-    refuted_fits : all_fit s.listed ≡ true → Within limit IfFits (refute w (map (narrow_to w) s.known) places (pos (count + length ks)))
+    refuted_fits : all_fit s.listed ≡ true → Within limit (IfSteps StepsFit) (refute w (map (narrow_to w) s.known) places (pos (count + length ks)))
     refuted_fits e =
         let K = map (narrow_to w) s.known in
         let k = count + length ks in
@@ -149,7 +147,7 @@ module _ (P : Problem) (L : LeafCase) (ks : List PathQuotient) (n W limit most :
     pub refutation_fits : Within limit StepsFit (made_refutation P L ks n s)
     refutation_fits =
         within-listed limit StepsFit s.listed (refute w (map (narrow_to w) s.known) places (pos (count + length ks)) >>= λ found. give (first ++ steps_or_none found))
-        (λ e. within-bind limit IfFits StepsFit (refute w (map (narrow_to w) s.known) places (pos (count + length ks))) (λ found. give (first ++ steps_or_none found)) (refuted_fits e)
+        (λ e. within-bind limit (IfSteps StepsFit) StepsFit (refute w (map (narrow_to w) s.known) places (pos (count + length ks))) (λ found. give (first ++ steps_or_none found)) (refuted_fits e)
         (λ found h. within-give limit StepsFit (first ++ steps_or_none found) (with_first found h)))
 
   abbrev pub AllStepsFit : List Refutation → Type 0
@@ -221,14 +219,13 @@ module _ (P : Problem) (formed : IsProblem P) (t : Tree) (shallow : nesting t �
 
   module _ (cs : List Component) (sized : SizedList sc (Some cs)) (numbers : ListFits cs) (count : length cs ≡ nu) where
     some_put : (sum row : List ℤ) (ds : List Component) → 1 ≤ length sum → SizedList sc (Some ds) → 1 ≤ length (put_in sum row ds)
-    some_put sum [] ds h z = h
-    some_put sum (a ∷ row) [] h z = h
     some_put sum (a ∷ row) (d ∷ ds) h z = some_put (plus_term sum a d.form) row ds (some_sum sum (scale a d.form) h (omega (arith, z.0, length_map (λ x. a *ℤ x) d.form))) z.1
       where
         some_sum : (xs ys : List ℤ) → 1 ≤ length xs → 1 ≤ length ys → 1 ≤ length (add xs ys)
         some_sum [] ys h k = absurd (omega arith)
         some_sum (x ∷ xs) [] h k = absurd (omega arith)
         some_sum (x ∷ xs) (y ∷ ys) h k = omega arith
+    some_put sum _ _ h z = h
 
     some_widened : (w : ℕ) (c : List ℤ) → 1 ≤ length (widen_to w c)
     some_widened w c = omega (arith, length-append (coefficients c ++ replicate (w - width c) (pos 0)) (constant c ∷ []))
@@ -254,9 +251,8 @@ module _ (P : Problem) (formed : IsProblem P) (t : Tree) (shallow : nesting t �
     )
 
     smaller_long : (place : ℕ) (ds : List Component) → length (smaller_from W place ds) ≡ length ds
-    smaller_long place [] = refl
-    smaller_long place (d ∷ []) = refl
     smaller_long place (d ∷ e ∷ ds) = ap suc (smaller_long (place + 1) (e ∷ ds))
+    smaller_long place _ = refl
 
     least_fit : (front ds : List Component) → cs ≡ front ++ ds → AllByRecursion (KnownFits most_known) (map whole_of (map (least_premises P L) (fronts_from front ds)))
     least_fit front [] e = tt
@@ -314,12 +310,11 @@ LeavesFit ps = list_all (leaf_fits false) ps ≡ true
 module _ (P : Problem) (formed : IsProblem P) (integer : P.integer ≡ true) (t : Tree) (right : IsRight P (Solved t)) (shallow : nesting t ≤ most_nesting) (limit : ℕ) (room : most_known + most_nesting + suc limit ≤ most_index) where
   leaves_fit : (Ls : List LeafCase) (kss : List (List PathQuotient)) → AllPairs (LeafFacts P.unknowns P.params P.params [] [] t) Ls kss → AllPairs (FitFacts (2 * nesting t) (nesting t)) Ls kss → Within limit LeavesFit (made_leaves P Ls kss)
   leaves_fit [] [] h k = within-give limit LeavesFit [] refl
-  leaves_fit [] (ks ∷ kss) h k = absurd h
-  leaves_fit (L ∷ Ls) [] h k = absurd h
   leaves_fit (L ∷ Ls) (ks ∷ kss) h k =
       within-bind limit AllRefutationsFit LeavesFit (made_leaf P L ks L.list) (λ p. made_leaves P Ls kss >>= λ ps. give (unshared p ∷ ps)) (leaf_numbers P formed t shallow L ks h.0 k.0 integer right limit room L.list refl)
       (λ p g. within-bind limit LeavesFit LeavesFit (made_leaves P Ls kss) (λ ps. give (unshared p ∷ ps)) (leaves_fit Ls kss h.1 k.1)
       (λ ps e. within-give limit LeavesFit (unshared p ∷ ps) (both_true (leaf_fits false (unshared p)) (list_all (leaf_fits false) ps) g e)))
+  leaves_fit _ _ h k = absurd h
 
 -- ---- the vector
 
@@ -335,10 +330,8 @@ module _ (w : ℕ) (K : List (List ℤ)) (fit : AllFit K) where
   VectorFits p = vector_fits p ≡ true
 
   numbers_fit : (t : Tree) → TreeFits t → VectorFits (numbers_of t)
-  numbers_fit Bottom h = refl
   numbers_fit (Leaf cs) h = constants_fit cs h
-  numbers_fit (If v a b) h = refl
-  numbers_fit (NewParm v d a) h = refl
+  numbers_fit _ h = refl
 
   class_fits : (b : Bool) → ClassFits (if b then Plus else Minus)
   class_fits true = tt

@@ -9,7 +9,7 @@ use Rattle.pip_model.specs.Problem.{Problem}
 use Rattle.pip_model.specs.Certificate.{Refutation}
 use Rattle.pip_model.specs.Check.{LeafCase, places_from, Premises}
 use Rattle.pip_model.specs.Conditions.{named, known_at_end}
-use Rattle.pip_model.specs.Contexts.{IsContext, IsPointRefusal}
+use Rattle.pip_model.specs.Contexts.{IsPointRefusal}
 use Rattle.pip_model.specs.Listed.{all_fit}
 use Rattle.pip_model.specs.Run.{Work, Refusal, Overflow, Outcome, Done, Refused, ◌>>=◌, give, listed, point}
 use Rattle.pip_model.specs.Refuting.{indices, refute}
@@ -25,7 +25,7 @@ use Rattle.run_laws.proofs.Lengths.{length_map}
 use Rattle.certificate_laws.proofs.Deriving.{Names, GoodSteps, Refutes, refutes-append, front_at_end}
 use Rattle.certificate_laws.proofs.Totals.{AllWide, AllNamed, entries_at, entries-more, entries-append, all_named_more}
 use Rattle.certificate_laws.proofs.Tracing.{one_at}
-use Rattle.certificate_laws.proofs.RefuteRun.{IfRefuted}
+use Rattle.refutation_laws.proofs.Traces.{IfSteps}
 use Rattle.certificate_laws.proofs.FirstTrace.{units_from, units-append, AllWithin, length_narrow, indices_named, Starts, refute_right}
 use Rattle.pip_model.specs.RefutedPoint.{IsRefutedPoint}
 use Rattle.refutation_laws.proofs.SameRun.{refute-same}
@@ -193,19 +193,16 @@ module _ (P : Problem) (L : LeafCase) (ks : List PathQuotient) (n W : ℕ) (s : 
 
   -- no vector satisfies the context
   module _ (none : (u : List ℤ) → InScope w K u → ⊥) where
-    made_of : (o : Outcome (Option (List ℤ))) (r : Outcome (Option Refutation)) → IsRefutedPoint o r → OnDone (IsPointOf w K) o → ((e : Refusal) (v : Work) → o ≡ Refused e v → IsPointRefusal e) → OnDone (IfRefuted w W now) r → OnMade IsMade r
+    made_of : (o : Outcome (Option (List ℤ))) (r : Outcome (Option Refutation)) → IsRefutedPoint o r → OnDone (IsPointOf w K) o → ((e : Refusal) (v : Work) → o ≡ Refused e v → IsPointRefusal e) → OnDone (IfSteps (Refutes W now)) r → OnMade IsMade r
     made_of (Done (Some p) x) (Done None y) same h g k = absurd (none p h)
-    made_of (Done (Some p) x) (Done (Some ss) y) same h g k = absurd same
-    made_of (Done None x) (Done None y) same h g k = absurd same
     made_of (Done None x) (Done (Some ss) y) same h g k = k
-    made_of (Done o x) (Refused f y) same h g k = absurd same
-    made_of (Refused e x) (Done o y) same h g k = absurd same
     made_of (Refused e x) (Refused f y) same h g k = subst IsPointRefusal same.0 (g e x refl)
+    made_of _ _ same h g k = absurd same
 
     refuted : Makes IsMade (refute w K places (pos (count + length ks)))
     refuted =
         let narrow = narrow_context w W known from.narrow from.within in
-        let right : Ensures (IfRefuted w W now) (refute w K places (pos (count + length ks))) = subst (λ (i : ℕ). Ensures (IfRefuted w W now) (refute w K places (pos i))) now_long (refute_right w W now known places starts) in
+        let right : Ensures (IfSteps (Refutes W now)) (refute w K places (pos (count + length ks))) = subst (λ (i : ℕ). Ensures (IfSteps (Refutes W now)) (refute w K places (pos i))) now_long (refute_right w W now known places starts) in
         record {
           makes = λ v. made_of (point w K v) (refute w K places (pos (count + length ks)) v) (refute-same w K places (pos (count + length ks)) v narrow) ((point_right w K narrow).ensures v)
               (λ e u is. point-refusal w K e v u (context_of w K narrow) is) (right.ensures v);

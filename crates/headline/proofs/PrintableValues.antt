@@ -20,12 +20,11 @@ use Rattle.run_laws.proofs.Components.{component-is}
 -- ---- the last partial sum of a value is the value
 
 last-fits : (sum : ℤ) (c w : List ℤ) → fits sum ≡ true → all_fit (dot_listed sum c w) ≡ true → fits (sum +ℤ dot c w) ≡ true
-last-fits sum [] w h k = subst (λ z. fits z ≡ true) (ring (sum ∷ []) (var 0) (var 0 ⊕ num (pos 0)) refl) h
-last-fits sum (c ∷ cs) [] h k = subst (λ z. fits z ≡ true) (ring (sum ∷ []) (var 0) (var 0 ⊕ num (pos 0)) refl) h
 last-fits sum (c ∷ cs) (x ∷ w) h k =
     let now = sum +ℤ c *ℤ x in
     let behind = fit_head now (dot_listed now cs w) (fit_head (c *ℤ x) (now ∷ dot_listed now cs w) k).1 in
     subst (λ z. fits z ≡ true) (ring (sum ∷ (c *ℤ x) ∷ dot cs w ∷ []) (var 0 ⊕ var 1 ⊕ var 2) (var 0 ⊕ (var 1 ⊕ var 2)) refl) (last-fits now cs w behind.0 behind.1)
+last-fits sum _ _ h k = subst (λ z. fits z ≡ true) (ring (sum ∷ []) (var 0) (var 0 ⊕ num (pos 0)) refl) h
 
 value-fits : (c u : List ℤ) → all_fit (value_listed c u) ≡ true → fits (value c u) ≡ true
 value-fits c u h = subst (λ z. fits z ≡ true) (ring (value c u ∷ []) (num (pos 0) ⊕ var 0) (var 0) refl) (last-fits (pos 0) c (u ++ pos 1 ∷ []) refl h)

@@ -1,5 +1,5 @@
 -- Quotients by key and by place.
-use Rattle.std.proofs.Common.{◌≡◌, ℕ, zero, suc, ◌+◌, ◌-◌, ◌<◌, ◌≤◌, ℤ, pos, Bool, true, false, Option, Some, None, List, [], ◌∷◌, ◌++◌, length, take, get_or, replicate, refl, ap, sym, ◌∙◌, arith, cond, subst, length-append, ltb-false}
+use Rattle.std.proofs.Common.{◌≡◌, ℕ, zero, suc, ◌+◌, ◌-◌, ◌<◌, ◌≤◌, ℤ, pos, Bool, true, false, Option, Some, None, List, [], ◌∷◌, ◌++◌, length, take, get_or, refl, ap, sym, ◌∙◌, arith, cond, subst, length-append, ltb-false}
 use Rattle.std.specs.Prelude.{nat_lt, position, slice_get, unwrap_or}
 use Rattle.std.specs.List.{position_or_len, list_any}
 use Rattle.std.proofs.lemmas.List.Quantifiers.{position-Some}
@@ -9,7 +9,7 @@ use Rattle.pip_model.specs.Forms.{width, coefficients, entry}
 use Rattle.pip_model.specs.Cuts.{Quotient, same_quotient, find_from}
 use Rattle.new_parameters.specs.Keys.{trimmed, is_same_key}
 use Rattle.new_parameters.specs.Scopes.{IsQuotient, AreQuotients}
-use Rattle.new_parameters.proofs.Trimming.{padded, trimmed_is}
+use Rattle.new_parameters.proofs.Trimming.{trimmed_is}
 use Rattle.new_parameters.proofs.SameKeys.{same_quotient_is_key, same_key}
 use Rattle.pip_model.proofs.Forms.{length-coefficients, entry-padded}
 
@@ -20,9 +20,8 @@ AreQuotients-append i [] k h is = (subst (λ (n : ℕ). IsQuotient n k) (omega a
 AreQuotients-append i (l ∷ ks) k h is = (h.0, AreQuotients-append (i + 1) ks k h.1 (subst (λ (n : ℕ). IsQuotient n k) (omega arith) is))
 
 pub AreQuotients-take : (n i : ℕ) (ks : List Quotient) → AreQuotients i ks → AreQuotients i (take n ks)
-AreQuotients-take zero i ks h = tt
-AreQuotients-take (suc n) i [] h = tt
 AreQuotients-take (suc n) i (l ∷ ks) h = (h.0, AreQuotients-take n (i + 1) ks h.1)
+AreQuotients-take _ i _ h = tt
 
 pub quotient_got : (n i : ℕ) (ks : List Quotient) (k : Quotient) → n ≤ i → slice_get ks (i - n) ≡ Some k → AreQuotients n ks → IsQuotient i k
 quotient_got n i ks k le = by (i - n) n i ks (omega arith)

@@ -2,12 +2,11 @@
 use Rattle.std.proofs.Common.{◌≡◌, ℕ, ◌+◌, ◌-◌, ◌≤◌, ℤ, pos, negsuc, Bool, true, ◌&&◌, List, [], ◌∷◌, ◌++◌, length, drop, get_or, replicate, refl, ap, sym, ◌∙◌, arith, append_assoc, length-append, eqb, max}
 use Rattle.std.specs.Prelude.{unsigned_abs}
 use Rattle.std.specs.Bool.{Decides, one_answer}
-use Rattle.std.specs.Cmp.{first_so, second_so}
 use Rattle.std.specs.Cmp.Rules.{signed_items}
 use Rattle.std.specs.Cmp.Lexicographic.{pointwise}
 use Rattle.std.specs.Ordering.{int_eq}
-use Rattle.std.proofs.lemmas.Bool.Decides.{Decides-int_eq, Decides-eqb}
-use Rattle.std.proofs.lemmas.List.{length-take, length-replicate, replicate-append-replicate}
+use Rattle.std.proofs.lemmas.Bool.Decides.{Decides-int_eq, Decides-eqb, Decides-and}
+use Rattle.std.proofs.lemmas.List.{length-replicate, replicate-append-replicate, same_from_push}
 use Rattle.pip_model.specs.Numbers.{same_number}
 use Rattle.pip_model.specs.Forms.{width, coefficients, constant, same_form, widen_to}
 use Rattle.pip_model.specs.Cuts.{Quotient, same_quotient}
@@ -17,17 +16,13 @@ use Rattle.pip_model.proofs.Forms.{length-coefficients}
 
 -- ---- tests that decide
 
-decides_both : {P Q : Type 0} (a b : Bool) → Decides a P → Decides b Q → Decides (a && b) (P × Q)
-decides_both a b p q = (λ e. (p.0 (first_so a b e), q.0 (second_so a b e)), λ h. rw (p.1 h.0, q.1 h.1) refl)
-
 decides_other : {P Q : Type 0} (a : Bool) → Decides a P → (P → Q) → (Q → P) → Decides a Q
 decides_other a p f g = (λ e. f (p.0 e), λ h. p.1 (g h))
 
 decides_number : (x y : ℤ) → Decides (same_number x y) (x ≡ y)
 decides_number (pos a) (pos b) = decides_other (eqb a b) (Decides-eqb a b) (λ e. ap pos e) (λ e. ap unsigned_abs e)
-decides_number (pos a) (negsuc b) = (λ e. absurd cc, λ e. absurd cc)
-decides_number (negsuc a) (pos b) = (λ e. absurd cc, λ e. absurd cc)
 decides_number (negsuc a) (negsuc b) = decides_other (eqb a b) (Decides-eqb a b) (λ e. ap negsuc e) (λ e. omega (arith, ap unsigned_abs e))
+decides_number _ _ = (λ e. absurd cc, λ e. absurd cc)
 
 first_is : (x y : ℤ) (xs ys : List ℤ) → x ∷ xs ≡ y ∷ ys → x ≡ y
 first_is x y xs ys e = ap (λ (zs : List ℤ). get_or zs 0 x) e
@@ -37,11 +32,10 @@ rest_is x y xs ys e = ap (λ (zs : List ℤ). drop 1 zs) e
 
 decides_form : (xs ys : List ℤ) → Decides (same_form xs ys) (xs ≡ ys)
 decides_form [] [] = (λ e. refl, λ e. refl)
-decides_form [] (y ∷ ys) = (λ e. absurd cc, λ e. absurd cc)
-decides_form (x ∷ xs) [] = (λ e. absurd cc, λ e. absurd cc)
 decides_form (x ∷ xs) (y ∷ ys) =
-    decides_other (same_number x y && same_form xs ys) (decides_both (same_number x y) (same_form xs ys) (decides_number x y) (decides_form xs ys))
+    decides_other (same_number x y && same_form xs ys) (Decides-and (same_number x y) (same_form xs ys) (decides_number x y) (decides_form xs ys))
     (λ (h : (x ≡ y) × (xs ≡ ys)). (λ i. h.0 i ∷ h.1 i)) (λ e. (first_is x y xs ys e, rest_is x y xs ys e))
+decides_form _ _ = (λ e. absurd cc, λ e. absurd cc)
 
 -- ---- forms over a wider scope
 
@@ -61,14 +55,6 @@ coefficients_spread w c le =
     let is = trimmed_is (coefficients c) in
     ap (λ (n : ℕ). padded (w - n) (coefficients c)) (sym long) ∙ spread w (coefficients c) (trimmed (coefficients c)) is.0 is.1 (omega (arith, long, le))
 
-last_parts : (xs ys : List ℤ) (a b : ℤ) → xs ++ a ∷ [] ≡ ys ++ b ∷ [] → (xs ≡ ys) × (a ≡ b)
-last_parts [] [] a b e = (refl, first_is a b [] [] e)
-last_parts [] (y ∷ ys) a b e = absurd (omega (arith, ap length e, length-append ys (b ∷ [])))
-last_parts (x ∷ xs) [] a b e = absurd (omega (arith, ap length e, length-append xs (a ∷ [])))
-last_parts (x ∷ xs) (y ∷ ys) a b e =
-    let rest = last_parts xs ys a b (rest_is x y (xs ++ a ∷ []) (ys ++ b ∷ []) e) in
-    (λ i. first_is x y (xs ++ a ∷ []) (ys ++ b ∷ []) e i ∷ rest.0 i, rest.1)
-
 -- the forms are equal over w places exactly where their trimmed coefficients and constants are
 wide_forms : (w : ℕ) (c d : List ℤ) → width c ≤ w → width d ≤ w
     → Decides (same_form (widen_to w c) (widen_to w d)) ((trimmed (coefficients c) ≡ trimmed (coefficients d)) × (constant c ≡ constant d))
@@ -76,7 +62,7 @@ wide_forms w c d p q = decides_other (same_form (widen_to w c) (widen_to w d)) (
   where
     apart : widen_to w c ≡ widen_to w d → (trimmed (coefficients c) ≡ trimmed (coefficients d)) × (constant c ≡ constant d)
     apart e =
-        let parts = last_parts (padded (w - width c) (coefficients c)) (padded (w - width d) (coefficients d)) (constant c) (constant d) e in
+        let parts = same_from_push (padded (w - width c) (coefficients c)) (padded (w - width d) (coefficients d)) (constant c) (constant d) e in
         (sym (trimmed-padded (w - width c) (coefficients c)) ∙ ap trimmed parts.0 ∙ trimmed-padded (w - width d) (coefficients d), parts.1)
 
     together : (trimmed (coefficients c) ≡ trimmed (coefficients d)) × (constant c ≡ constant d) → widen_to w c ≡ widen_to w d
@@ -92,15 +78,15 @@ SameKey k l = (trimmed (coefficients k.form) ≡ trimmed (coefficients l.form)) 
 
 decides_key : (k l : Quotient) → Decides (is_same_key k l) (SameKey k l)
 decides_key k l =
-    decides_both (pointwise int_eq (trimmed (coefficients k.form)) (trimmed (coefficients l.form))) (int_eq (constant k.form) (constant l.form) && int_eq k.den l.den)
+    Decides-and (pointwise int_eq (trimmed (coefficients k.form)) (trimmed (coefficients l.form))) (int_eq (constant k.form) (constant l.form) && int_eq k.den l.den)
     (signed_items (trimmed (coefficients k.form)) (trimmed (coefficients l.form)))
-    (decides_both (int_eq (constant k.form) (constant l.form)) (int_eq k.den l.den) (Decides-int_eq (constant k.form) (constant l.form)) (Decides-int_eq k.den l.den))
+    (Decides-and (int_eq (constant k.form) (constant l.form)) (int_eq k.den l.den) (Decides-int_eq (constant k.form) (constant l.form)) (Decides-int_eq k.den l.den))
 
 decides_quotient : (k l : Quotient) → Decides (same_quotient l k) (SameKey k l)
 decides_quotient k l =
     let w = max (width l.form) (width k.form) in
     decides_other (same_quotient l k)
-    (decides_both (same_number l.den k.den) (same_form (widen_to w l.form) (widen_to w k.form)) (decides_number l.den k.den) (wide_forms w l.form k.form (omega arith) (omega arith)))
+    (Decides-and (same_number l.den k.den) (same_form (widen_to w l.form) (widen_to w k.form)) (decides_number l.den k.den) (wide_forms w l.form k.form (omega arith) (omega arith)))
     (λ (h : (l.den ≡ k.den) × ((trimmed (coefficients l.form) ≡ trimmed (coefficients k.form)) × (constant l.form ≡ constant k.form))). (sym h.1.0, (sym h.1.1, sym h.0)))
     (λ (h : SameKey k l). (sym h.1.1, (sym h.0, sym h.1.0)))
 

@@ -1,3 +1,4 @@
 pub mod Signs
+pub mod Traces
 pub mod SameRun
 pub mod RefuteSteps

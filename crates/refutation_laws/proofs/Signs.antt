@@ -1,5 +1,5 @@
 -- The signs that the scan of rows without parameters gives, and rows put behind one another.
-use Rattle.std.proofs.Common.{◌≡◌, ℕ, suc, ◌+◌, ◌<◌, arith, List, [], ◌∷◌, ◌++◌, length, true}
+use Rattle.std.proofs.Common.{◌≡◌, ℕ, suc, ◌+◌, ◌<◌, arith, List, [], ◌∷◌, length, true}
 use Rattle.std.specs.Prelude.{if◌then◌else◌}
 use Rattle.pip_model.specs.Numbers.{is_nonneg}
 use Rattle.pip_model.specs.Forms.{constant}
@@ -7,7 +7,6 @@ use Rattle.pip_model.specs.Rows.{Row, row_at}
 use Rattle.pip_model.specs.Run.{Node, scope, Class, Plus, Minus, Unknown, Signs, AllPlus, MinusAt, UnknownBy, scan, scan_on, constant_class, point_setting}
 use Rattle.pip_model.proofs.Tests.{true_or_not}
 use Rattle.run_laws.proofs.Ensured.{Ensures, ensures-bind, ensures-give, ensures-weaken}
-use Rattle.run_laws.proofs.RowsAt.{FormsWide}
 
 -- the rows from place i on have been scanned: the first below 0, or none is
 abbrev pub IsSigns : List Row → ℕ → Signs → Type 0
@@ -36,7 +35,3 @@ scan_signs w N i (r ∷ rows) =
     go rest Plus h = ensures-weaken (IsSigns rows (i + 1)) (IsSigns (r ∷ rows) i) (scan (point_setting w) N (i + 1) AllPlus rows) (later_signs r rows i) rest
     go rest Minus h = ensures-give (IsSigns (r ∷ rows) i) (MinusAt i) (0, omega arith, omega arith, h)
     go rest (Unknown c) h = absurd h
-
-pub flat_append : (rows more : List Row) → FormsWide 1 rows → FormsWide 1 more → FormsWide 1 (rows ++ more)
-flat_append [] more h k = k
-flat_append (r ∷ rows) more h k = (h.0, flat_append rows more h.1 k)

@@ -142,8 +142,7 @@ module _ (S : Setting) (class_repeats : (K : List (List ℤ)) (w : ℕ) (t : Lis
 
   repeats-known_cut : (N : Node) (i : ℕ) (R : Row) (q : ℕ) (c : Class) → Repeats (known_cut N i R q c)
   repeats-known_cut N i R q Plus = repeats-then (listed (rounded_listed R q)) _ (repeats-listed (rounded_listed R q)) (repeats-give _)
-  repeats-known_cut N i R q Minus = repeats-give _
-  repeats-known_cut N i R q (Unknown c) = repeats-give _
+  repeats-known_cut N i R q _ = repeats-give _
 
   repeats-quotient_cut : (N : Node) (i : ℕ) (R : Row) (o : Option ℕ) → Repeats (quotient_cut S N i R o)
   repeats-quotient_cut N i R (Some q) = repeats-bind (S.class N.context (scope S N) (rounding (scope S N) q (residue_of R))) (known_cut N i R q)
@@ -171,9 +170,6 @@ module _ (S : Setting) (class_repeats : (K : List (List ℤ)) (w : ℕ) (t : Lis
 
   repeats-run : (fuel : ℕ) (t : Turn) → Repeats (run S fuel t)
   repeats-run fuel (Closed t) = repeats-give t
-  repeats-run zero (Again N) = repeats-give Bottom
-  repeats-run zero (Below k N) = repeats-give Bottom
-  repeats-run zero (Split c N M) = repeats-give Bottom
   repeats-run (suc fuel) (Again N) = repeats-bind (turn S N) (λ next. run S fuel next) (repeats-turn N) (λ next. repeats-run fuel next)
   repeats-run (suc fuel) (Below k N) = repeats-bind (turn S N) (λ next. run S fuel next >>= λ t. give (NewParm k.form k.den t)) (repeats-turn N)
       (λ next. repeats-bind (run S fuel next) (λ t. give (NewParm k.form k.den t)) (repeats-run fuel next) (λ t. repeats-give (NewParm k.form k.den t)))
@@ -181,6 +177,7 @@ module _ (S : Setting) (class_repeats : (K : List (List ℤ)) (w : ℕ) (t : Lis
       (λ first. repeats-bind (run S fuel first) (λ a. turn S M >>= λ second. run S fuel second >>= λ t. give (If c a t)) (repeats-run fuel first)
       (λ a. repeats-bind (turn S M) (λ second. run S fuel second >>= λ t. give (If c a t)) (repeats-turn M)
       (λ second. repeats-bind (run S fuel second) (λ t. give (If c a t)) (repeats-run fuel second) (λ t. repeats-give (If c a t)))))
+  repeats-run zero _ = repeats-give Bottom
 
   -- the fuel of both runs together is enough for each
   repeats-run_from : ((K : List (List ℤ)) (w : ℕ) (t : List ℤ) → Falls (S.class K w t)) → (N : Node) → Repeats (run_from S N)

@@ -2,16 +2,14 @@
 use Rattle.std.proofs.Common.{◌≡◌, sym, subst, refl, ◌⊎◌, inl, inr, ℕ, ◌<◌, ◌≤◌, arith, List, ℤ}
 use Rattle.pip_model.specs.Problem.{Problem}
 use Rattle.pip_model.specs.Tree.{Tree}
-use Rattle.pip_model.specs.Run.{Work, Done, go_on, left, Setting, Node, Turn, Closed, Again, Below, Split, turn, run, run_from, setting, point_setting}
+use Rattle.pip_model.specs.Run.{Work, Done, go_on, left, Setting, Node, Turn, Closed, turn, run, run_from, setting, point_setting}
 use Rattle.pip_model.proofs.Fuel.{Falls, Progress, turned, enough_fuel, falls-class, falls-constant_class}
 
 -- ---- turns
 
 closed_or_less : (n : ℕ) (t : Turn) (v : Work) → Progress n (Done t v) → ((u : Tree) × (t ≡ Closed u)) ⊎ (left v < n)
 closed_or_less n (Closed u) v h = inl (u, refl)
-closed_or_less n (Again N) v h = inr h
-closed_or_less n (Below k N) v h = inr h
-closed_or_less n (Split c L M) v h = inr h
+closed_or_less n _ v h = inr h
 
 turn-less : (S : Setting) → ((K : List (List ℤ)) (w : ℕ) (t : List ℤ) → Falls (S.class K w t)) → (N : Node) (t : Turn) (w v : Work) → turn S N w ≡ Done t v
     → ((u : Tree) × (t ≡ Closed u)) ⊎ (left v < left w)

@@ -1,5 +1,6 @@
 -- What is read of a certificate has no more steps in a refutation than the text has bytes.
 use Rattle.std.proofs.Common.{arith, ◌≡◌, refl, ap₂, ℕ, zero, suc, ◌≤◌, List, length, Bool, true, inl, inr, le-leb}
+use Rattle.std.proofs.lemmas.Bool.{cases_Bool}
 use Rattle.std.specs.Prelude.{◌&&◌, drop, Result, Option, Some, None, Ok, Err, IfOk, IfSome, codes}
 use Rattle.std.specs.List.{list_all}
 use Rattle.pip_model.specs.declared.Kind.{Kind}
@@ -11,13 +12,12 @@ use Rattle.pip_model.specs.Certificate.{LeafProofs, step, list_of, shared_steps,
 use Rattle.pip_model.specs.Printed.{has_few, few_steps}
 use Rattle.text_laws.proofs.Binds.{then-ok}
 use Rattle.text_laws.proofs.ReadPlaces.{found, failed, look, weaker}
-use Rattle.text_laws.proofs.ReadTrees.{yes_no}
 
 module _ {A : Type 0} (bytes : List ℕ) (close : Kind) (read : ℕ → Reads A) (fit : A → Bool) (each : (p : ℕ) → IfOk (read p) (λ x. fit x.0 ≡ true)) where
   up_to-few : (left place : ℕ) → IfOk (up_to bytes close read left place) (λ xs. (list_all fit xs.0 ≡ true) × (length xs.0 ≤ left))
   up_to-few zero place = tt
   up_to-few (suc left) place =
-      elim (yes_no (same_bracket (token bytes place).kind close)) [
+      elim (cases_Bool (same_bracket (token bytes place).kind close)) [
         | inl closed ↦ rw closed (refl, omega arith)
         | inr more ↦ rw more (
             then-ok _ _ (λ x. fit x.0 ≡ true) _ (each place) (λ x p.
