@@ -5,7 +5,7 @@ use Rattle.pip_model.specs.declared.Kind.TheVariants.{LeftParen}
 use Rattle.pip_model.specs.Reading.{Fault, expect}
 use Rattle.pip_model.specs.TreeText.{expect_word}
 use Rattle.pip_model.specs.Certificate.{Certificate, version, vector, certificate_at}
-use Rattle.text_steps.proofs.Binds.{refused_by}
+use Rattle.text_reading.proofs.Binds.{refused_by}
 use Rattle.leaf_certificate.specs.Sequences.{leaves_to_end}
 
 module _ (bytes : List ℕ) (place first word behind : ℕ) (shares : Bool) (opened : expect bytes LeftParen place ≡ Ok first) (named : expect_word bytes (codes "certificate") first ≡ Ok word) (formed : version bytes word ≡ Ok (shares, behind)) where

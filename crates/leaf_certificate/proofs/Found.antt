@@ -13,6 +13,5 @@ found_none (Ok (Some x)) model closed law e = (λ same. cc, λ h. let none = law
 found_none (Err f) model closed law e = tt
 
 pub found_certificate : (r : Result (Option (Certificate × ℕ)) CertificateRefusal) (model : Result (Option (Certificate × ℕ)) Fault) (P : Certificate × ℕ → Type 0) (Q : Certificate → Type 0) → ((x : Certificate × ℕ) → P x → Q x.0) → IfOk model (λ o. IfSome o P) → Agrees (λ o. o) certificate_fault r model → IfOk r (λ o. IfSome o (λ x. Q x.0))
-found_certificate (Ok None) model P Q each law e = tt
 found_certificate (Ok (Some x)) model P Q each law e = each x (rw e at law)
-found_certificate (Err f) model P Q each law e = tt
+found_certificate _ model P Q each law e = tt

@@ -4,18 +4,14 @@ use Rattle.std.specs.Prelude.{Option, IfSome}
 use Rattle.pip_model.specs.declared.Kind.{Kind}
 use Rattle.pip_model.specs.Tokens.{token}
 use Rattle.pip_model.specs.Reading.{Fault, Reads, same_bracket, up_to}
-use Rattle.text_steps.specs.Fronts.{with_front}
-use Rattle.text_steps.proofs.Fronts.{one_more, step_more, refused_more}
+use Rattle.text_reading.specs.Fronts.{with_front}
+use Rattle.text_reading.proofs.Fronts.{one_more, step_more, refused_more}
 
 -- These values are read from a place on, and the next one stands at `at`.
 pub record Reaches {A : Type 0} (bytes : List ℕ) (close : Kind) (read : ℕ → Reads A) (place : ℕ) (front : List A) (at : ℕ) : Type 0 where
   pub so_far : with_front front (up_to bytes close read (length bytes - length front) at) ≡ up_to bytes close read (length bytes) place
   pub count : length front + place ≤ at
   pub high : at ≤ length bytes
-
-front_none : {A : Type 0} (read : Reads (List A)) → with_front [] read ≡ read
-front_none (Ok x) = refl
-front_none (Err e) = refl
 
 module _ {A : Type 0} (bytes : List ℕ) (close : Kind) (read : ℕ → Reads A) (place : ℕ) where
   up_to_more : (left p : ℕ) → 0 < left → same_bracket (token bytes p).kind close ≡ false → up_to bytes close read left p ≡ one_more (read p) (λ at. up_to bytes close read (left - 1) at)
@@ -25,15 +21,6 @@ module _ {A : Type 0} (bytes : List ℕ) (close : Kind) (read : ℕ → Reads A)
   up_to_end : (left p : ℕ) → 0 < left → same_bracket (token bytes p).kind close ≡ true → up_to bytes close read left p ≡ Ok ([], (token bytes p).after)
   up_to_end zero p h closed = absurd (omega arith)
   up_to_end (suc left) p h closed = rw closed refl
-
-  pub reaches_start : place ≤ length bytes → Reaches bytes close read place [] place
-  reaches_start h =
-      let all : length bytes - 0 ≡ length bytes = omega arith in
-      record {
-        so_far = rw all (front_none (up_to bytes close read (length bytes) place));
-        count = omega arith;
-        high = h;
-      }
 
   pub reaches_next : (front : List A) (x : A) (at after : ℕ) → 0 < place → Reaches bytes close read place front at → same_bracket (token bytes at).kind close ≡ false → read at ≡ Ok (x, after) → at < after → after ≤ length bytes → Reaches bytes close read place (front ++ x ∷ []) after
   reaches_next front x at after some r open_at one low high =

@@ -2,13 +2,13 @@ ghost use Rattle.std.specs.Prelude.{◌≡◌, ◌++◌, codes, IsTrue, OnErr};
 ghost use Rattle.std.specs.Fmt.{signed_decimal};
 ghost use Rattle.pip_model.specs.Certificate.{groups, spell_terms, spell_steps, spell_refutations, spell_leaves, spell_vector, spell_certificate};
 ghost use Rattle.pip_model.specs.Printed.{certificate_fits};
-ghost use Rattle.text_parts.specs.Printing.{Appends, Begins};
+ghost use Rattle.text_printing.specs.Printing.{Appends, Begins};
 ghost use Rattle.leaf_certificate.specs.Printing.{IsReadBack, spell_term, spell_step, spell_refutation, spell_leaf, spell_head};
 
 use affine_forms::WantOfMemory;
 use certificate_parts::{Certificate, LeafProofs, Refutation, Step, Terms};
 use std::alloc::AllocError;
-use text_parts::{put, put_entry, put_number, put_row};
+use text_printing::{put, put_entry, put_number, put_row};
 
 /// Appends the text of a certificate, or leaves `out` as it was. The text is read back as this certificate, whatever
 /// stands behind it.

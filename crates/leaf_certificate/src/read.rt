@@ -5,7 +5,7 @@ ghost use Rattle.pip_model.specs.Certificate as model;
 ghost use Rattle.pip_model.specs.Printed.{certificate_fits};
 ghost use Rattle.pip_model.specs.Agreement.{Agrees};
 ghost use Rattle.affine_forms.specs.Checks.{Fits};
-ghost use Rattle.text_steps.specs.Steps.{fault_of, AreRead, IsRead};
+ghost use Rattle.text_reading.specs.Steps.{fault_of, AreRead, IsRead};
 ghost use Rattle.leaf_certificate.specs.Faults.{certificate_fault};
 ghost use Rattle.leaf_certificate.specs.Sequences.{numbers_to_end};
 ghost use Rattle.certificate_parts.specs.Vectors.{numbers_of};
@@ -14,7 +14,7 @@ use crate::read_leaf::read_leaves;
 use crate::refusal::CertificateRefusal;
 use certificate_parts::Certificate;
 use std::alloc::Global;
-use text_steps::{Reads, TextFault, expect, expect_word, number, same_bracket, spells};
+use text_reading::{Reads, TextFault, expect, expect_word, number, same_bracket, spells};
 use text_tokens::{Kind, next_open, token};
 
 // The format, which is 1 or 2, and the place behind it.

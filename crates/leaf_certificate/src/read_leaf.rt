@@ -1,12 +1,12 @@
 ghost use Rattle.std.specs.Prelude.{◌≡◌, ◌≤◌, ◌<◌, [], false, length, IfOk};
 ghost use Rattle.pip_model.specs.Certificate as model;
-ghost use Rattle.text_steps.specs.Steps.{fault_of, AreRead, IsRead};
+ghost use Rattle.text_reading.specs.Steps.{fault_of, AreRead, IsRead};
 ghost use Rattle.leaf_certificate.specs.Sequences.{refutations_to_end, leaves_to_end};
 
 use crate::read_step::read_refutation;
 use certificate_parts::{Certificate, LeafProofs, Refutation};
 use std::alloc::Global;
-use text_steps::{Reads, TextFault, expect, same_bracket};
+use text_reading::{Reads, TextFault, expect, same_bracket};
 use text_tokens::{Kind, token};
 
 // The shared steps, which format 2 alone spells, and the place behind them.

@@ -1,12 +1,12 @@
 ghost use Rattle.std.specs.Prelude.{◌≡◌, ◌≤◌, ◌<◌, length, All, IfOk};
 ghost use Rattle.pip_model.specs.Certificate as model;
 ghost use Rattle.affine_forms.specs.Checks.{Fits};
-ghost use Rattle.text_steps.specs.Steps.{fault_of, AreRead, IsRead};
+ghost use Rattle.text_reading.specs.Steps.{fault_of, AreRead, IsRead};
 ghost use Rattle.leaf_certificate.specs.Sequences.{terms_to_end, steps_to_end};
 
 use certificate_parts::{Refutation, Step, Terms};
 use std::alloc::Global;
-use text_steps::{Reads, TextFault, expect, number, same_bracket};
+use text_reading::{Reads, TextFault, expect, number, same_bracket};
 use text_tokens::{Kind, token};
 
 // An index and its multiplier, and the place behind them.

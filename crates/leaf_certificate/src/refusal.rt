@@ -1,6 +1,6 @@
 ghost use Rattle.std.specs.Prelude.{◌≡◌};
 
-use text_steps::TextFault;
+use text_reading::TextFault;
 use thiserror::Error;
 
 /// Why a certificate's text is not read: the place of the token that differs, or of a number that is too wide; the
@@ -18,7 +18,7 @@ pub enum CertificateRefusal {
 }
 
 impl From<TextFault> for CertificateRefusal {
-    ghost use Rattle.text_steps.specs.Steps.{fault_of};
+    ghost use Rattle.text_reading.specs.Steps.{fault_of};
     ghost use Rattle.leaf_certificate.specs.Faults.{certificate_fault};
 
     ghost from_gives = { λ fault e. certificate_fault e ≡ fault_of fault };

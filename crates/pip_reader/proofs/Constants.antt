@@ -5,7 +5,7 @@ use Rattle.std.proofs.lemmas.List.Elements.{All-append, All-take, All-drop, All-
 use Rattle.affine_forms.specs.Checks.{Fits}
 use Rattle.pip_model.specs.Reading.{Reads, ◌>>=◌, row, rows}
 use Rattle.pip_model.specs.NativeText.{form_of_row}
-use Rattle.text_steps.proofs.Fronts.{one_more, read_as}
+use Rattle.text_reading.proofs.Fronts.{one_more, read_as}
 use Rattle.pip_reader.specs.Rows.{form_row, form_rows}
 
 pub form_of_row_length : (n : ℕ) (row : List ℤ) → n < length row → length (form_of_row n row) ≡ length row

@@ -100,13 +100,8 @@ native_plain bytes start = item_plain bytes (next_open start (drop start bytes))
 -- ---- what a call that agrees with the definition answers
 
 pub agreed_no_option : {X : Type 0} (r : Result X ReadRefusal) (model : Result X Fault) → NoOption model → Agrees (λ x. x) read_fault r model → IfErr r IsNoOption
-agreed_no_option (Ok x) model h agrees = tt
-agreed_no_option (Err (refusal.Syntax place)) model h agrees = tt
-agreed_no_option (Err (refusal.Wide place)) model h agrees = tt
-agreed_no_option (Err (refusal.Limit kind z)) model h agrees = tt
-agreed_no_option (Err (refusal.BigParameter z)) model h agrees = tt
 agreed_no_option (Err (refusal.OptionWord word)) model h agrees = let k : NoOption (Err (OptionWord word)) = subst NoOption agrees h in k.fact
-agreed_no_option (Err refusal.WantOfMemory) model h agrees = tt
+agreed_no_option _ model h agrees = tt
 
 pub agreed_none : {X : Type 0} (r : Result (Option X) ReadRefusal) (model : Result (Option X) Fault) (closed : Bool) → ((model ≡ Ok None) ↔ (closed ≡ true))
     → Agrees (λ x. x) read_fault r model → IfOk r (λ o. (o ≡ None) ↔ IsTrue closed)

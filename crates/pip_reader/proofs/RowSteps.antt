@@ -7,7 +7,7 @@ use Rattle.pip_model.specs.Limits.{most_context_rows}
 use Rattle.pip_model.specs.Tokens.{token}
 use Rattle.pip_model.specs.Reading.{Limit, ◌>>=◌, same_bracket, expect, row}
 use Rattle.pip_model.specs.ContextText.{context_rows}
-use Rattle.text_steps.proofs.Ends.{behind, list_by, full_by}
+use Rattle.text_reading.proofs.Ends.{behind, list_by, full_by}
 use Rattle.pip_reader.specs.Contexts.{next_row}
 
 some_left : (n : ℕ) → (suc n == 0) ≡ false

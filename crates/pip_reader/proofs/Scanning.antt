@@ -1,6 +1,6 @@
 -- The end of the first group of a text, piece by piece.
-use Rattle.std.proofs.Common.{◌≡◌, ◌≢◌, ◌∙◌, refl, sym, ap, ℕ, zero, suc, ◌+◌, ◌-◌, ◌<◌, ◌≤◌, Bool, true, false, ◌⊎◌, inl, inr, List, [], ◌∷◌, ◌++◌, length, drop, append_assoc, add-one, zero-add, drop-cons, take, arith}
-use Rattle.std.proofs.lemmas.Bool.{ne_eqb}
+use Rattle.std.proofs.Common.{◌≡◌, ◌≢◌, ◌∙◌, refl, sym, ap, ℕ, zero, suc, ◌+◌, ◌-◌, ◌<◌, ◌≤◌, false, ◌⊎◌, inl, inr, List, [], ◌∷◌, ◌++◌, length, drop, append_assoc, add-one, zero-add, drop-cons, take, arith}
+use Rattle.std.proofs.lemmas.Bool.{ne_eqb, cases_Bool}
 use Rattle.std.proofs.lemmas.List.{length_push, take_more, length-take-le, length-drop, drop-drop, take-append-drop}
 use Rattle.std.proofs.Math.Seq.{take-add}
 use Rattle.std.proofs.lemmas.List.Sums.{fold-append}
@@ -8,17 +8,13 @@ use Rattle.std.specs.Prelude.{Option, Some, None, IfNone, fold, slice_index, ◌
 use Rattle.pip_model.specs.Reading.{open_after, closing, next_open}
 use Rattle.pip_reader.specs.Groups.{NoBracket, group_behind, first_group_end, group_end_from, IsScanned, place_behind}
 
-yes_no : (b : Bool) → (b ≡ true) ⊎ (b ≡ false)
-yes_no true = inl refl
-yes_no false = inr refl
-
 from_closing : (now place : ℕ) (bs : List ℕ) → (now == 0) ≡ false → group_end_from now place bs ≡ closing now place bs
 from_closing zero place bs e = cc
 from_closing (suc d) place [] e = refl
 from_closing (suc d) place (b ∷ bs) e = refl
 
 not_open : (b : ℕ) → (b == 40) ≡ false → open_after 0 b ≡ 0
-not_open b e = rw e (elim (yes_no (b == 41)) [ inl closed ↦ rw closed refl | inr other ↦ rw other refl ])
+not_open b e = rw e (elim (cases_Bool (b == 41)) [ inl closed ↦ rw closed refl | inr other ↦ rw other refl ])
 
 -- a byte ends the search, or leaves it to the bytes behind
 abbrev Step : ℕ → ℕ → ℕ → Type 0
@@ -26,36 +22,29 @@ Step depth place b = ((bs : List ℕ) → group_end_from depth place (b ∷ bs) 
 
 step : (depth place b : ℕ) → Step depth place b
 step zero place b =
-    elim (yes_no (b == 40)) [
+    elim (cases_Bool (b == 40)) [
       | inl open_one ↦ inr (λ bs. rw open_one (sym (from_closing 1 (suc place) bs refl)))
       | inr other ↦ inr (λ bs. rw (not_open b other, other) refl)
     ]
 step (suc d) place b =
-    elim (yes_no (open_after (suc d) b == 0)) [
+    elim (cases_Bool (open_after (suc d) b == 0)) [
       | inl ended ↦ inl (λ bs. rw ended refl)
       | inr more ↦ inr (λ bs. rw more (sym (from_closing (open_after (suc d) b) (suc place) bs more)))
     ]
 
 -- the same at a byte of a list, by what is open behind it
 step_on : (depth place b : ℕ) (bs : List ℕ) → (depth ≡ 0) ⊎ (open_after depth b ≢ 0) → group_end_from depth place (b ∷ bs) ≡ group_end_from (open_after depth b) (suc place) bs
-step_on zero place b bs h = elim (yes_no (b == 40)) [ inl open_one ↦ rw open_one (sym (from_closing 1 (suc place) bs refl)) | inr other ↦ rw (not_open b other, other) refl ]
+step_on zero place b bs h = elim (cases_Bool (b == 40)) [ inl open_one ↦ rw open_one (sym (from_closing 1 (suc place) bs refl)) | inr other ↦ rw (not_open b other, other) refl ]
 step_on (suc d) place b bs h =
     elim h [
       | inl none ↦ absurd (omega (arith, none))
       | inr some ↦ let e = ne_eqb (open_after (suc d) b) 0 some in rw e (sym (from_closing (open_after (suc d) b) (suc place) bs e))
     ]
 
-step_end : (depth place b : ℕ) (bs : List ℕ) → depth ≢ 0 → open_after depth b ≡ 0 → group_end_from depth place (b ∷ bs) ≡ Some (suc place)
-step_end zero place b bs some e = absurd (some refl)
-step_end (suc d) place b bs some e = rw e refl
-
 pub end_more : (depth now i : ℕ) (xs : List ℕ) → i < length xs → now ≡ open_after depth (slice_index xs i) → (depth ≡ 0) ⊎ (now ≢ 0) → group_end_from depth i (drop i xs) ≡ group_end_from now (i + 1) (drop (i + 1) xs)
 end_more depth now i xs h e goes_on =
     let some : (depth ≡ 0) ⊎ (open_after depth (slice_index xs i) ≢ 0) = elim goes_on [ inl none ↦ inl none | inr more ↦ inr (λ ended. more (e ∙ ended)) ] in
     rw (drop-cons xs i 0 h, add-one) (step_on depth i (slice_index xs i) (drop (suc i) xs) some ∙ ap (λ k. group_end_from k (suc i) (drop (suc i) xs)) (sym e))
-
-pub end_here : (depth now i : ℕ) (xs : List ℕ) → i < length xs → now ≡ open_after depth (slice_index xs i) → depth ≢ 0 → now ≡ 0 → group_end_from depth i (drop i xs) ≡ Some (i + 1)
-end_here depth now i xs h e some ended = rw (drop-cons xs i 0 h, add-one) (step_end depth i (slice_index xs i) (drop (suc i) xs) some (sym e ∙ ended))
 
 pub fold_more : (start now i : ℕ) (xs : List ℕ) → i < length xs → now ≡ open_after (fold open_after start (take i xs)) (slice_index xs i) → now ≡ fold open_after start (take (i + 1) xs)
 fold_more start now i xs h e = rw (take_more xs i 0 h, fold-append open_after start (take i xs) (slice_index xs i ∷ [])) e
@@ -83,7 +72,7 @@ closing-moved : (n depth place : ℕ) (bs : List ℕ) → closing depth (n + pla
 closing-moved n depth place [] = refl
 closing-moved n depth place (b ∷ bs) =
     let e : suc (n + place) ≡ n + suc place = omega arith in
-    elim (yes_no (open_after depth b == 0)) [
+    elim (cases_Bool (open_after depth b == 0)) [
       | inl ended ↦ rw ended (ap (λ p. Some p) e)
       | inr more ↦ rw (more, e) (closing-moved n (open_after depth b) (suc place) bs)
     ]
@@ -92,7 +81,7 @@ end-moved : (n depth place : ℕ) (bs : List ℕ) → group_end_from depth (n + 
 end-moved n depth place [] = refl
 end-moved n zero place (b ∷ bs) =
     let e : suc (n + place) ≡ n + suc place = omega arith in
-    elim (yes_no (b == 40)) [
+    elim (cases_Bool (b == 40)) [
       | inl open_one ↦ rw (open_one, e) (closing-moved n 1 (suc place) bs)
       | inr other ↦ rw (other, e) (end-moved n zero (suc place) bs)
     ]
@@ -105,7 +94,7 @@ drop-behind (x ∷ front) b xs = drop-behind front b xs
 end-first : (front xs : List ℕ) → group_end_from 0 (length front) xs ≡ group_behind (front ++ xs) (next_open (length front) xs)
 end-first front [] = refl
 end-first front (b ∷ xs) =
-    elim (yes_no (b == 40)) [
+    elim (cases_Bool (b == 40)) [
       | inl open_one ↦ rw open_one (ap (closing 1 (suc (length front))) (sym (drop-behind front b xs)))
       | inr other ↦
           let len : length (front ++ b ∷ []) ≡ suc (length front) = omega (arith, length_push front b) in

@@ -6,7 +6,7 @@ use Rattle.pip_model.specs.NativeText.{problem_at}
 use Rattle.pip_model.specs.WellFormed.{IsProblem}
 use Rattle.pip_model.specs.Printed.{IsGroup}
 use Rattle.text_laws.proofs.ReadProblems.{problem_at-reads}
-use Rattle.text_steps.proofs.Binds.{bind_assoc}
+use Rattle.text_reading.proofs.Binds.{bind_assoc}
 use Rattle.pip_reader.specs.Problems.{problem_by_steps}
 
 pub problem_is_by_steps : (bytes : List ℕ) (place : ℕ) → problem_at bytes place ≡ problem_by_steps bytes place

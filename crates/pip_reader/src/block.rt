@@ -1,5 +1,5 @@
 ghost use Rattle.std.specs.Prelude.{◌≤◌, ◌<◌, length};
-ghost use Rattle.text_steps.specs.Steps.{AreRead, IsRead};
+ghost use Rattle.text_reading.specs.Steps.{AreRead, IsRead};
 ghost use Rattle.pip_problem.specs.Faults.{read_fault};
 ghost use Rattle.pip_reader.specs.Rows as model;
 
@@ -7,7 +7,7 @@ use crate::row::form_row;
 use affine_forms::Form;
 use pip_problem::ReadRefusal;
 use std::alloc::Global;
-use text_steps::{Reads, expect};
+use text_reading::{Reads, expect};
 use text_tokens::Kind;
 
 // So many rows of `width` numbers as forms, and the place behind them.

@@ -4,14 +4,14 @@ ghost use Rattle.pip_model.specs.Limits.{most_params, most_context_rows};
 ghost use Rattle.pip_model.specs.Moved.{is_closed};
 ghost use Rattle.pip_model.specs.Agreement.{Agrees};
 ghost use Rattle.pip_model.specs.ContextText as model;
-ghost use Rattle.text_steps.specs.Steps.{AreRead, IsRead};
+ghost use Rattle.text_reading.specs.Steps.{AreRead, IsRead};
 ghost use Rattle.pip_problem.specs.Faults.{read_fault};
 ghost use Rattle.pip_reader.specs.Contexts.{next_row as next_row_of, context_found};
 
 use affine_forms::{Form, Forms, MOST_CONTEXT_ROWS};
 use pip_problem::{LimitKind, ReadRefusal};
 use std::alloc::Global;
-use text_steps::{Reads, expect, row, same_bracket};
+use text_reading::{Reads, expect, row, same_bracket};
 use text_tokens::{Kind, next_open, token};
 
 // The next row over so many parameters of a context in which so many may follow, and the place behind it; none at its

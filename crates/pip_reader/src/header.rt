@@ -1,12 +1,12 @@
 ghost use Rattle.std.specs.Prelude.{◌≤◌, length, IfOk};
 ghost use Rattle.pip_model.specs.Limits.{most_unknowns, most_params};
-ghost use Rattle.text_steps.specs.Steps.{IsRead};
+ghost use Rattle.text_reading.specs.Steps.{IsRead};
 ghost use Rattle.pip_problem.specs.Faults.{read_fault};
 ghost use Rattle.pip_reader.specs.Header as model;
 
 use affine_forms::{MOST_CONTEXT_ROWS, MOST_PARAMETERS, MOST_ROWS, MOST_UNKNOWNS};
 use pip_problem::{LimitKind, ReadRefusal};
-use text_steps::{Reads, no_big_parameter, number, within};
+use text_reading::{Reads, no_big_parameter, number, within};
 
 // How many unknowns, parameters, tableau rows and context rows a problem has.
 #[derive(Clone, Copy)]

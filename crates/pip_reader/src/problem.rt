@@ -3,10 +3,11 @@ ghost use Rattle.std.specs.List.{list_all};
 ghost use Rattle.pip_model.specs.Moved.{is_closed};
 ghost use Rattle.pip_model.specs.NativeText.{problem_at as problem_at_of, read_native};
 ghost use Rattle.pip_model.specs.Printed.{IsGroup};
+ghost use Rattle.pip_model.specs.Limits.{most_unknowns, most_params};
 ghost use Rattle.pip_model.specs.Agreement.{Agrees};
-ghost use Rattle.text_steps.specs.Steps.{IsRead};
+ghost use Rattle.text_reading.specs.Steps.{IsRead};
 ghost use Rattle.pip_problem.specs.Faults.{read_fault};
-ghost use Rattle.pip_reader.specs.Problems.{problem_of, problem_by_steps};
+ghost use Rattle.pip_reader.specs.Problems.{problem_of, head_of, blocks_of, blocks_by_sizes, problem_by_steps};
 ghost use Rattle.pip_reader.specs.Refusals.{IsNoOption};
 
 use crate::block::form_block;
@@ -14,17 +15,60 @@ use crate::header::{Sizes, read_mode, read_sizes};
 use affine_forms::Form;
 use pip_problem::{Bytes, Problem, ReadRefusal};
 use std::alloc::Global;
-use text_steps::{Reads, block, expect, group};
+use text_reading::{Reads, block, expect, group};
 use text_tokens::{Kind, next_open};
+
+// What stands before a problem's rows.
+#[derive(Drop)]
+struct Head {
+    comment: Bytes,
+    sizes: Sizes,
+    integer: bool,
+}
+
+// A problem's rows and those of its context.
+#[derive(Drop)]
+struct Blocks {
+    rows: Vec<Form>,
+    context: Vec<Form>,
+}
 
 // What a problem is made of.
 #[derive(Drop)]
 struct Parts {
-    sizes: Sizes,
-    rows: Vec<Form>,
-    context: Vec<Form>,
-    integer: bool,
-    comment: Bytes,
+    head: Head,
+    blocks: Blocks,
+}
+
+// The comment, the sizes and the mode, and the place behind them.
+fn head_at(alloc: Global, bytes: &[u8], place: usize) -> Reads<Head, ReadRefusal>
+    requires { place ≤ length bytes.now }
+    ensures reads { IsRead (λ h. h) read_fault bytes.now place result (head_of bytes.now place) }
+    ensures unknowns { IfOk result (λ x. x.0.sizes.unknowns ≤ most_unknowns) }
+    ensures params { IfOk result (λ x. x.0.sizes.params ≤ most_params) }
+{
+    let (comment, at) = group(alloc, bytes, place)?;
+    let (sizes, at) = read_sizes(bytes, at)?;
+    let (integer, at) = read_mode(bytes, at)?;
+    let head = Head {
+        comment,
+        sizes,
+        integer,
+    };
+    Ok((head, at))
+}
+
+// The rows of these sizes, and the place behind them.
+fn blocks_at(alloc: Global, bytes: &[u8], sizes: Sizes, place: usize) -> Reads<Blocks, ReadRefusal>
+    requires place { place ≤ length bytes.now }
+    requires unknowns { sizes.unknowns ≤ most_unknowns }
+    requires params { sizes.params ≤ most_params }
+    ensures { IsRead blocks_of read_fault bytes.now place result (blocks_by_sizes bytes.now sizes place) }
+{
+    let width = sizes.unknowns + 1 + sizes.params;
+    let (rows, at) = form_block(alloc, bytes, sizes.rows, width, sizes.unknowns, place)?;
+    let (context, at) = block(alloc, bytes, sizes.context_rows, sizes.params + 1, at)?;
+    Ok((Blocks { rows, context }, at))
 }
 
 // The parts of a problem, and the place behind its last `)`.
@@ -33,21 +77,10 @@ fn parts_at(alloc: Global, bytes: &[u8], place: usize) -> Reads<Parts, ReadRefus
     ensures { IsRead problem_of read_fault bytes.now place result (problem_by_steps bytes.now place) }
 {
     let first = expect(bytes, Kind::LeftParen, place)?;
-    let (comment, at) = group(alloc, bytes, first)?;
-    let (sizes, at) = read_sizes(bytes, at)?;
-    let (integer, at) = read_mode(bytes, at)?;
-    let width = sizes.unknowns + 1 + sizes.params;
-    let (rows, at) = form_block(alloc, bytes, sizes.rows, width, sizes.unknowns, at)?;
-    let (context, at) = block(alloc, bytes, sizes.context_rows, sizes.params + 1, at)?;
+    let (head, at) = head_at(alloc, bytes, first)?;
+    let (blocks, at) = blocks_at(alloc, bytes, head.sizes, at)?;
     let after = expect(bytes, Kind::RightParen, at)?;
-    let parts = Parts {
-        sizes,
-        rows,
-        context,
-        integer,
-        comment,
-    };
-    Ok((parts, after))
+    Ok((Parts { head, blocks }, after))
 }
 
 // The problem that begins at a place, and the place behind its last `)`.
@@ -58,13 +91,14 @@ fn problem_at(alloc: Global, bytes: &[u8], place: usize) -> Reads<Problem, ReadR
     ensures group { IfOk result (λ x. IsGroup x.0.comment) }
 {
     let (parts, after) = parts_at(alloc, bytes, place)?;
+    let Parts { head, blocks } = parts;
     let problem = Problem::from_parts(
-        parts.sizes.unknowns,
-        parts.sizes.params,
-        parts.rows,
-        parts.context,
-        parts.integer,
-        parts.comment,
+        head.sizes.unknowns,
+        head.sizes.params,
+        blocks.rows,
+        blocks.context,
+        head.integer,
+        head.comment,
     );
     Ok((problem, after))
 }

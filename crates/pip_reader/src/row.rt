@@ -1,14 +1,14 @@
 ghost use Rattle.std.specs.Prelude.{◌≡◌, ◌≤◌, ◌<◌, length, All};
 ghost use Rattle.pip_model.specs.NativeText.{form_of_row};
 ghost use Rattle.affine_forms.specs.Checks.{Fits};
-ghost use Rattle.text_steps.specs.Steps.{IsRead};
+ghost use Rattle.text_reading.specs.Steps.{IsRead};
 ghost use Rattle.pip_problem.specs.Faults.{read_fault};
 ghost use Rattle.pip_reader.specs.Rows as model;
 
 use affine_forms::Form;
 use pip_problem::ReadRefusal;
 use std::alloc::Global;
-use text_steps::{Reads, row};
+use text_reading::{Reads, row};
 
 // Moves the constant, which stands behind the first coefficients, to the end.
 fn constant_last(row: &mut [i128], coefficients: usize)

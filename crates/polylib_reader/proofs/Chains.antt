@@ -4,7 +4,7 @@ use Rattle.std.specs.Prelude.{Ok}
 use Rattle.pip_model.specs.declared.LimitKind.{LimitKind}
 use Rattle.pip_model.specs.Reading.{◌>>=◌}
 use Rattle.pip_model.specs.MatrixText.{matrix_numbers, inequalities, matrix_rows}
-use Rattle.text_steps.proofs.Binds.{bind_assoc}
+use Rattle.text_reading.proofs.Binds.{bind_assoc}
 use Rattle.polylib_reader.specs.Matrices.{row_head}
 
 -- a row and then the others

@@ -3,8 +3,8 @@ use Rattle.std.proofs.Common.{◌≡◌, ◌∙◌, ℕ, suc, ◌+◌, ◌-◌, 
 use Rattle.pip_model.specs.declared.LimitKind.{LimitKind}
 use Rattle.pip_model.specs.Reading.{Fault, Reads, ◌>>=◌}
 use Rattle.pip_model.specs.MatrixText.{matrix_number, matrix_numbers, inequalities, matrix_rows}
-use Rattle.text_steps.specs.Fronts.{with_front}
-use Rattle.text_steps.proofs.Fronts.{one_more, front_front}
+use Rattle.text_reading.specs.Fronts.{with_front}
+use Rattle.text_reading.proofs.Fronts.{one_more, front_front}
 use Rattle.polylib_reader.specs.Matrices.{row_head}
 use Rattle.polylib_reader.proofs.Chains.{matrix_rows-more}
 

@@ -9,7 +9,7 @@ use Rattle.pip_model.specs.MatrixText.{options, read_matrices}
 use Rattle.text_laws.proofs.ReadProblems.{Whole}
 use Rattle.text_laws.proofs.ReadMatrices.{read_matrices-reads}
 use Rattle.polylib_reader.specs.Matrices.{context_matrix, big_parameter, constraint_matrix}
-use Rattle.text_steps.proofs.Binds.{bind_assoc}
+use Rattle.text_reading.proofs.Binds.{bind_assoc}
 
 -- a matrix that was read: its size and its forms, and the place behind it
 abbrev pub Read : Type 0

@@ -2,7 +2,7 @@ ghost use Rattle.std.specs.Prelude.{◌≤◌, ◌<◌, length, IfOk};
 ghost use Rattle.pip_model.specs.Limits.{most_params, most_rows};
 ghost use Rattle.pip_model.specs.MatrixText.{matrix_rows as matrix_rows_of};
 ghost use Rattle.pip_model.specs.Agreement.{Agrees};
-ghost use Rattle.text_steps.specs.Steps.{AreRead};
+ghost use Rattle.text_reading.specs.Steps.{AreRead};
 ghost use Rattle.pip_problem.specs.Faults.{read_fault};
 ghost use Rattle.polylib_reader.specs.Matrices.{context_matrix as context_matrix_of, constraint_matrix as constraint_matrix_of};
 
@@ -11,7 +11,7 @@ use crate::row::{push_inequalities, row_head};
 use affine_forms::{Form, MOST_CONTEXT_ROWS, MOST_PARAMETERS, MOST_ROWS, MOST_UNKNOWNS};
 use pip_problem::{LimitKind, ReadRefusal};
 use std::alloc::Global;
-use text_steps::Reads;
+use text_reading::Reads;
 
 // A matrix that was read.
 #[derive(Drop)]

@@ -2,7 +2,7 @@ ghost use Rattle.std.specs.Prelude.{◌≡◌, ◌≤◌, ◌<◌, length, All, 
 ghost use Rattle.pip_model.specs.MatrixText.{number_word as number_word_of, matrix_number, matrix_numbers};
 ghost use Rattle.pip_model.specs.Agreement.{Agrees};
 ghost use Rattle.affine_forms.specs.Checks.{Fits};
-ghost use Rattle.text_steps.specs.Steps.{AreRead, IsRead};
+ghost use Rattle.text_reading.specs.Steps.{AreRead, IsRead};
 ghost use Rattle.pip_problem.specs.Faults.{read_fault};
 ghost use Rattle.polylib_reader.specs.Words.{word_of};
 ghost use Rattle.polylib_reader.specs.Matrices.{limited as limited_of};
@@ -10,7 +10,7 @@ ghost use Rattle.polylib_reader.specs.Matrices.{limited as limited_of};
 use crate::word::{Word, next_word};
 use pip_problem::{LimitKind, ReadRefusal};
 use std::alloc::Global;
-use text_steps::{Reads, within};
+use text_reading::{Reads, within};
 use text_tokens::{digits, integer, unsigned_part};
 
 // The number that a word spells, and the place behind it.

@@ -6,7 +6,7 @@ ghost use Rattle.polylib_reader.specs.Words.{word_of};
 
 use crate::word::{Word, next_word};
 use pip_problem::{Option_, ReadRefusal};
-use text_steps::same_bytes;
+use text_reading::same_bytes;
 
 // The place behind the one option that is taken, `Rational`.
 fn accepted_option(word: &Word<'_>) -> Result<usize, ReadRefusal>

@@ -10,7 +10,7 @@ use crate::number::number;
 use crate::option::options;
 use pip_problem::{Bytes, Problem, ReadRefusal};
 use std::alloc::Global;
-use text_steps::no_big_parameter;
+use text_reading::no_big_parameter;
 
 // The place behind the big parameter's column, which is to be -1: none.
 fn big_parameter(bytes: &[u8], place: usize) -> Result<usize, ReadRefusal>

@@ -12,7 +12,7 @@ use crate::word::next_word;
 use affine_forms::{Form, WantOfMemory, negate_all};
 use pip_problem::{LimitKind, ReadRefusal};
 use std::alloc::Global;
-use text_steps::Reads;
+use text_reading::Reads;
 
 // What a row's first entry says.
 #[derive(Clone, Copy)]

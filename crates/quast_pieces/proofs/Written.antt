@@ -9,7 +9,7 @@ use Rattle.quast.specs.Trees.{ScopedTree, IsQuast}
 use Rattle.quast.specs.Answers.{answer_of}
 use Rattle.quast.specs.declared.answer.Answer.{Answer}
 use Rattle.quast.specs.declared.answer.Answer.TheVariants as answer
-use Rattle.text_parts.specs.Printing.{Appends}
+use Rattle.text_printing.specs.Printing.{Appends}
 use Rattle.quast_pieces.specs.Pieces.{IsParted}
 
 -- from the root, where the path is empty

@@ -6,7 +6,7 @@ ghost use Rattle.pip_model.specs.PieceText.{Where, answer_listed, pieces_listed,
 ghost use Rattle.walk_laws.proofs.PieceSteps.{spell_leaf, spell_under};
 ghost use Rattle.quast.specs.Answers.{answer_of};
 ghost use Rattle.quast.specs.Trees.{tree_of};
-ghost use Rattle.text_parts.specs.Printing.{Appends, Begins};
+ghost use Rattle.text_printing.specs.Printing.{Appends, Begins};
 ghost use Rattle.quast_pieces.specs.Pieces.{IsParted, is_pieces_overflow};
 
 use crate::refusal::PiecesRefusal;
@@ -14,7 +14,7 @@ use affine_forms::{Bytes, Form};
 use quast::{Answer, Node};
 use quast_text::{put_comment, put_definition, put_form, put_node};
 use std::alloc::{AllocError, Global};
-use text_parts::put;
+use text_printing::put;
 
 /// Appends the text of an answer's pieces with its comment, or leaves `out` as it was.
 ///

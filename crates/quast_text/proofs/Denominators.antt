@@ -1,6 +1,6 @@
 -- The common denominator, fraction by fraction, and the numerators over it.
 use Rattle.std.proofs.Common.{◌≡◌, ◌∙◌, refl, ap, sym, ℕ, ◌+◌, ◌<◌, ◌≤◌, ℤ, pos, Bool, true, false, ◌&&◌, IsTrue, IsFalse, List, [], ◌∷◌, ◌++◌, length, take, drop, get_or, map}
-use Rattle.std.proofs.lemmas.List.{drop_more, drop_all, take_more, take_all, map-append}
+use Rattle.std.proofs.lemmas.List.{drop_more, take_more, take_all, map-append}
 use Rattle.std.specs.Prelude.{All, Err}
 use Rattle.affine_forms.specs.Checks.{Fits}
 use Rattle.quast.proofs.Conditions.{all_fit_from}
@@ -23,20 +23,10 @@ fit_step d e fs i f whole so_far h is made fit =
     let seen : (fits e && all_fit (common_denominators e (drop (i + 1) fs))) ≡ whole = rw made next in
     rw fit at seen
 
-pub fit_refused : (d : ℤ) (fs : List (ℤ × ℤ)) (i : ℕ) (f : ℤ × ℤ) (whole : Bool) → i < length fs → f ≡ get_or fs i f → IsFalse (fits (lcm d f.1)) → all_fit (common_denominators d (drop i fs)) ≡ whole → whole ≡ false
-fit_refused d fs i f whole h is wide so_far =
-    sym so_far ∙ ap all_fit (common_step d fs i f h is) ∙ ap (λ b. b && all_fit (common_denominators (lcm d f.1) (drop (i + 1) fs))) wide
-
 pub last_step : (d e : ℤ) (fs : List (ℤ × ℤ)) (i : ℕ) (f : ℤ × ℤ) (whole : ℤ) → last_of d (common_denominators d (drop i fs)) ≡ whole → i < length fs → f ≡ get_or fs i f → e ≡ lcm d f.1 → last_of e (common_denominators e (drop (i + 1) fs)) ≡ whole
 last_step d e fs i f whole so_far h is made =
     let next : last_of (lcm d f.1) (common_denominators (lcm d f.1) (drop (i + 1) fs)) ≡ whole = sym (ap (last_of d) (common_step d fs i f h is)) ∙ so_far in
     rw made next
-
-pub fit_end : (d : ℤ) (fs : List (ℤ × ℤ)) (i : ℕ) (whole : Bool) → length fs ≤ i → all_fit (common_denominators d (drop i fs)) ≡ whole → whole ≡ true
-fit_end d fs i whole h so_far = sym so_far ∙ ap (λ (gs : List (ℤ × ℤ)). all_fit (common_denominators d gs)) (drop_all i fs h)
-
-pub last_end : (d : ℤ) (fs : List (ℤ × ℤ)) (i : ℕ) (whole : ℤ) → length fs ≤ i → last_of d (common_denominators d (drop i fs)) ≡ whole → d ≡ whole
-last_end d fs i whole h so_far = sym (ap (λ (gs : List (ℤ × ℤ)). last_of d (common_denominators d gs)) (drop_all i fs h)) ∙ so_far
 
 -- ---- numerators
 

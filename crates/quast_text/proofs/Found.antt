@@ -15,6 +15,5 @@ found_none (Ok (Some x)) model closed law e = (λ same. cc, λ h. let none = law
 found_none (Err f) model closed law e = tt
 
 pub found_spoken : (r : Result (Option (Spoken × ℕ)) TextRefusal) (model : Result (Option (text.Spoken × ℕ)) Fault) (P : text.Spoken × ℕ → Type 0) (Q : text.Spoken → Type 0) → ((x : text.Spoken × ℕ) → P x → Q x.0) → IfOk model (λ o. IfSome o P) → Agrees found_of text_fault r model → IfOk r (λ o. IfSome o (λ x. Q (spoken_of x.0)))
-found_spoken (Ok None) model P Q each law e = tt
 found_spoken (Ok (Some x)) model P Q each law e = each (spoken_of x.0, x.1) (rw e at law)
-found_spoken (Err f) model P Q each law e = tt
+found_spoken _ model P Q each law e = tt

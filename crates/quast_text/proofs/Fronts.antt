@@ -1,7 +1,7 @@
 -- Fractions that are being read.
 use Rattle.std.proofs.Common.{◌≡◌, ℕ, suc, ◌+◌, ◌-◌, ◌<◌, List, refl, arith}
 use Rattle.pip_model.specs.TreeText.{fractions}
-use Rattle.text_steps.proofs.Fronts.{one_more}
+use Rattle.text_reading.proofs.Fronts.{one_more}
 use Rattle.quast_text.specs.Fractions.{next_fraction}
 
 pub fractions_more : (bytes : List ℕ) (count i place : ℕ) → i < count → fractions bytes (count - i) place ≡ one_more (next_fraction bytes place) (λ at. fractions bytes (count - (i + 1)) at)

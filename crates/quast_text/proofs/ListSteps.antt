@@ -6,7 +6,7 @@ use Rattle.pip_model.specs.Limits.{most_components}
 use Rattle.pip_model.specs.Tokens.{token}
 use Rattle.pip_model.specs.Reading.{Components, ◌>>=◌, same_bracket, expect}
 use Rattle.pip_model.specs.TreeText.{component, components}
-use Rattle.text_steps.proofs.Ends.{behind, list_by, full_by}
+use Rattle.text_reading.proofs.Ends.{behind, list_by, full_by}
 use Rattle.quast_text.specs.Trees.{next_component}
 
 some_left : (n : ℕ) → (suc n == 0) ≡ false

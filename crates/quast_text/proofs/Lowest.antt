@@ -2,11 +2,10 @@
 use Rattle.std.proofs.Common.{◌≡◌, ◌∙◌, refl, ap, sym, length, ℕ, zero, suc, ◌<◌, ◌≤◌, ℤ, pos, negsuc, ◌≤ℤ◌, ◌*ℤ◌, unsigned_abs, arith, List}
 use Rattle.std.proofs.lemmas.Int.{ints}
 use Rattle.std.proofs.Math.Nat.{le_of_dvd}
-use Rattle.pip_model.specs.Numbers.{floor_div, gcd, gcd_of, lcm}
+use Rattle.pip_model.specs.Numbers.{floor_div, gcd, gcd_of, lcm, same_number}
 use Rattle.pip_model.proofs.Order.{mul_pp}
 use Rattle.quast_text.proofs.Spellings.{gcd_positive}
 use Rattle.std.specs.Prelude.{Ok, int_le}
-use Rattle.pip_model.specs.Numbers.{same_number}
 use Rattle.pip_model.specs.Tree.{Component, reduced, is_form}
 use Rattle.pip_model.specs.TreeText.{component}
 use Rattle.pip_model.proofs.Tests.{three, same_number_is}

@@ -5,12 +5,11 @@ use Rattle.std.proofs.lemmas.List.{append-nil}
 use Rattle.std.specs.Fmt.{signed_decimal}
 use Rattle.std.proofs.Math.Nat.{pos_of_dvd_of_pos}
 use Rattle.std.specs.Prelude.{Result, Ok, Err, OnOk, is_err}
-use Rattle.pip_model.specs.Numbers.{floor_div, gcd, same_number}
+use Rattle.pip_model.specs.Numbers.{floor_div, gcd, same_number, euclid}
 use Rattle.pip_model.specs.Tree.{Component}
 use Rattle.pip_model.specs.TreeText.{spell_fraction, spell_fractions, spell_components}
-use Rattle.text_parts.specs.Printing.{Begins}
+use Rattle.text_printing.specs.Printing.{Begins}
 use Rattle.quast_text.specs.Printing.{spell_denominator, spell_term, spell_component}
-use Rattle.pip_model.specs.Numbers.{euclid}
 use Rattle.pip_model.proofs.Gcd.{common-IsGcd, div_one}
 
 pub fractions_flat : (d : ℤ) (cs : List ℤ) → flat_map (spell_term d) cs ≡ spell_fractions d cs

@@ -6,8 +6,8 @@ use Rattle.pip_model.specs.Tree.{Tree, Bottom, Leaf, Component}
 use Rattle.pip_model.specs.Limits.{most_components}
 use Rattle.pip_model.specs.Reading.{Fault, TooNested, Reads, ◌>>=◌, expect}
 use Rattle.pip_model.specs.TreeText.{Head, Ends, Lists, Chooses, Defines, head, room_for, behind_head, tree_by, tree, component, components}
-use Rattle.text_steps.specs.Fronts.{with_front}
-use Rattle.text_steps.proofs.Binds.{bind_assoc}
+use Rattle.text_reading.specs.Fronts.{with_front}
+use Rattle.text_reading.proofs.Binds.{bind_assoc}
 use Rattle.quast_text.specs.Trees.{opening, components_behind, list_at, choice_at, define_at}
 
 -- the tree by its opening

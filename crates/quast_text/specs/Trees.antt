@@ -7,7 +7,7 @@ use Rattle.pip_model.specs.Tree.{Tree, Leaf, If, NewParm, Component}
 use Rattle.pip_model.specs.Reading.{Fault, Components, Reads, ◌>>=◌, same_bracket, expect}
 use Rattle.pip_model.specs.TreeText.{component, components, read_form, definition, tree}
 use Rattle.pip_model.specs.TreeText as model
-use Rattle.text_steps.specs.Fronts.{with_front}
+use Rattle.text_reading.specs.Fronts.{with_front}
 use Rattle.quast_text.specs.declared.tree.Head.{Head}
 use Rattle.quast_text.specs.declared.tree.Head.TheVariants as head
 

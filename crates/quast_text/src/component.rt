@@ -4,7 +4,7 @@ ghost use Rattle.pip_model.specs.TreeText.{component_of, component as component_
 ghost use Rattle.pip_model.specs.Agreement.{Agrees};
 ghost use Rattle.affine_forms.specs.Checks.{Fits};
 ghost use Rattle.quast.specs.Components.{IsComponent};
-ghost use Rattle.text_steps.specs.Steps.{IsRead};
+ghost use Rattle.text_reading.specs.Steps.{IsRead};
 ghost use Rattle.quast_text.specs.Faults.{text_fault};
 ghost use Rattle.quast_text.specs.Components.{component_of_parts};
 
@@ -13,7 +13,7 @@ use crate::refusal::TextRefusal;
 use affine_forms::{Form, FormRefusal};
 use quast::Component;
 use std::alloc::Global;
-use text_steps::{Reads, expect};
+use text_reading::{Reads, expect};
 use text_tokens::{Kind, token};
 
 // The fractions over their common denominator; Wide, at the place of the component, where that or a numerator does not

@@ -2,14 +2,14 @@ ghost use Rattle.std.specs.Prelude.{◌≡◌, ◌≤◌, ◌<◌, ◌+◌, ◌�
 ghost use Rattle.pip_model.specs.Limits.{most_params, most_nesting};
 ghost use Rattle.pip_model.specs.TreeText as model;
 ghost use Rattle.affine_forms.specs.Checks.{Fits};
-ghost use Rattle.text_steps.specs.Steps.{IsPassed, IsRead};
+ghost use Rattle.text_reading.specs.Steps.{IsPassed, IsRead};
 ghost use Rattle.quast_text.specs.Faults.{text_fault};
 
 use crate::refusal::TextRefusal;
 use crate::row::read_form;
 use affine_forms::Form;
 use std::alloc::Global;
-use text_steps::{Reads, expect, expect_word, number};
+use text_reading::{Reads, expect, expect_word, number};
 use text_tokens::{Kind, token};
 
 // A form over a divisor, whose floor a new parameter is.

@@ -4,7 +4,7 @@ ghost use Rattle.pip_model.specs.Listed.{all_fit};
 ghost use Rattle.pip_model.specs.TreeText.{lowest_terms as lowest_terms_of, fractions as fractions_of, common_denominators, last_of};
 ghost use Rattle.pip_model.specs.Agreement.{Agrees, IsChecked};
 ghost use Rattle.affine_forms.specs.Checks.{Fits, IsFitted, is_overflow, is_form_overflow};
-ghost use Rattle.text_steps.specs.Steps.{AreRead, IsRead};
+ghost use Rattle.text_reading.specs.Steps.{AreRead, IsRead};
 ghost use Rattle.quast_text.specs.Faults.{text_fault};
 ghost use Rattle.quast_text.specs.Fractions.{IsFraction, next_fraction, numerator_of};
 
@@ -12,7 +12,7 @@ use crate::refusal::TextRefusal;
 use affine_forms::{FormRefusal, Overflow, floor_div, gcd, times};
 use std::alloc::Global;
 use std::marker::Model;
-use text_steps::Reads;
+use text_reading::Reads;
 use text_tokens::{Kind, token};
 
 // A fraction in lowest terms, its denominator at least 1.

@@ -3,7 +3,7 @@ ghost use Rattle.pip_model.specs.Limits.{most_params, most_components, most_nest
 ghost use Rattle.pip_model.specs.Tree.{nesting};
 ghost use Rattle.pip_model.specs.Agreement.{Agrees};
 ghost use Rattle.quast.specs.Components.{IsComponent};
-ghost use Rattle.text_steps.specs.Steps.{AreRead, IsRead};
+ghost use Rattle.text_reading.specs.Steps.{AreRead, IsRead};
 ghost use Rattle.quast_text.specs.Faults.{text_fault};
 ghost use Rattle.quast_text.specs.Trees.{next_component as next_component_of, components_behind, list_at};
 
@@ -12,7 +12,7 @@ use crate::refusal::TextRefusal;
 use affine_forms::MOST_COMPONENTS;
 use quast::{Component, Quast};
 use std::alloc::Global;
-use text_steps::{Reads, expect, same_bracket};
+use text_reading::{Reads, expect, same_bracket};
 use text_tokens::{Kind, token};
 
 // The next component of a list of which so many may follow, and the place behind it; none at its `)`.

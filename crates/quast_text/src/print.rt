@@ -7,14 +7,17 @@ ghost use Rattle.pip_model.specs.Limits.{most_params};
 ghost use Rattle.affine_forms.specs.Checks.{Fits};
 ghost use Rattle.quast.specs.Trees.{tree_of, IsQuast};
 ghost use Rattle.quast.specs.Answers.{answer_of, IsOver};
-ghost use Rattle.text_parts.specs.Printing.{Appends, Begins};
+ghost use Rattle.text_printing.specs.Printing.{Appends, Begins};
 ghost use Rattle.quast_text.specs.Printing.{spell_denominator, spell_term, spell_component, IsReadBack};
 
 use affine_forms::{Bytes, Form, WantOfMemory, floor_div, gcd};
 use itoa::Buffer;
 use quast::{Answer, Component, Node, Quast};
 use std::alloc::AllocError;
-use text_parts::{put, put_entry, put_number, put_row};
+use text_printing::{put, put_entry, put_number, put_row};
+
+// The room that an answer's text takes at first: most texts need no more.
+const FIRST_ROOM: usize = 256;
 
 /// Appends the text of a tree, or leaves `out` as it was.
 pub fn print_tree(tree: &Quast, out: &mut Vec<u8>) -> Result<(), WantOfMemory>
@@ -39,6 +42,8 @@ pub fn print_answer(comment: &Bytes, answer: &Answer, out: &mut Vec<u8>) -> Resu
         (record { comment = comment.now; answer = answer_of answer.now })) }
 {
     let start = out.len();
+    // Where this is refused, the parts ask for what they need.
+    let _ = out.reserve(FIRST_ROOM);
     if put_spoken(out, comment, answer).is_err() {
         out.truncate(start);
         return Err(WantOfMemory);
@@ -186,6 +191,8 @@ fn put_fractions(out: &mut Vec<u8>, component: &Component) -> Result<(), AllocEr
     Ok(())
 }
 
+// Appends a blank and c over d in lowest terms, the denominator only where it is not 1.
+#[tactic(auto, using(crate::proofs::Spellings::whole_fraction))]
 fn put_term(out: &mut Vec<u8>, c: i128, d: i128) -> Result<(), AllocError>
     requires positive { pos 1 ≤ℤ d }
     requires c_fits { Fits c }
@@ -193,27 +200,26 @@ fn put_term(out: &mut Vec<u8>, c: i128, d: i128) -> Result<(), AllocError>
     ensures ok { Appends (spell_term d c) out.old.items out.new.items result }
     ensures kept { Begins out.old.items out.new.items }
 {
-    put(out, b" ")?;
-    put_fraction(out, c, d)
-}
-
-// c over d in lowest terms, the denominator only where it is not 1.
-#[tactic(auto, using(crate::proofs::Spellings::whole_fraction))]
-fn put_fraction(out: &mut Vec<u8>, c: i128, d: i128) -> Result<(), AllocError>
-    requires positive { pos 1 ≤ℤ d }
-    requires c_fits { Fits c }
-    requires d_fits { Fits d }
-    ensures ok { Appends (spell_fraction c d) out.old.items out.new.items result }
-    ensures kept { Begins out.old.items out.new.items }
-{
     if d == 1 {
-        put_number(out, c)
+        put_entry(out, c)
     } else {
-        put_lowest(out, c, d)
+        put_fraction(out, c, d)
     }
 }
 
 // The same, by the greatest common divisor.
+fn put_fraction(out: &mut Vec<u8>, c: i128, d: i128) -> Result<(), AllocError>
+    requires positive { pos 1 ≤ℤ d }
+    requires c_fits { Fits c }
+    requires d_fits { Fits d }
+    ensures ok { Appends (spell_term d c) out.old.items out.new.items result }
+    ensures kept { Begins out.old.items out.new.items }
+{
+    put(out, b" ")?;
+    put_lowest(out, c, d)
+}
+
+// Appends c over d in lowest terms.
 #[tactic(auto, using(crate::proofs::Spellings::gcd_positive, crate::proofs::Spellings::fraction_parts))]
 fn put_lowest(out: &mut Vec<u8>, c: i128, d: i128) -> Result<(), AllocError>
     requires positive { pos 1 ≤ℤ d }

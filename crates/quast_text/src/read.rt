@@ -6,7 +6,7 @@ ghost use Rattle.pip_model.specs.TreeText.{tree_or_void as tree_or_void_of, spok
 ghost use Rattle.pip_model.specs.Printed.{IsSpoken};
 ghost use Rattle.pip_model.specs.Agreement.{Agrees};
 ghost use Rattle.quast.specs.Answers.{answer_of, IsOver};
-ghost use Rattle.text_steps.specs.Steps.{IsRead};
+ghost use Rattle.text_reading.specs.Steps.{IsRead};
 ghost use Rattle.quast_text.specs.Faults.{text_fault};
 ghost use Rattle.quast_text.specs.Spoken.{spoken_of, found_of};
 
@@ -15,7 +15,7 @@ use crate::tree::read_tree;
 use affine_forms::{Bytes, MOST_NESTING};
 use quast::Answer;
 use std::alloc::Global;
-use text_steps::{Reads, expect, group, spells};
+use text_reading::{Reads, expect, group, spells};
 use text_tokens::{Kind, next_open, token};
 
 /// An answer with its comment, a group with its brackets.

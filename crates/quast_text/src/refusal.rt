@@ -3,7 +3,7 @@ ghost use Rattle.quast_text.specs.declared.refusal.TextRefusal.TheVariants as re
 
 use affine_forms::WantOfMemory;
 use std::alloc::{AllocError, AllocFailed};
-use text_steps::TextFault;
+use text_reading::TextFault;
 use thiserror::Error;
 
 /// Why an answer's text is not read: the place of the token that differs, or of one whose numbers do not fit; more
@@ -47,7 +47,7 @@ impl<T: Drop> From<AllocFailed<T>> for TextRefusal {
 }
 
 impl From<TextFault> for TextRefusal {
-    ghost use Rattle.text_steps.specs.Steps.{fault_of};
+    ghost use Rattle.text_reading.specs.Steps.{fault_of};
     ghost use Rattle.quast_text.specs.Faults.{text_fault};
 
     ghost from_gives = { λ fault e. text_fault e ≡ fault_of fault };

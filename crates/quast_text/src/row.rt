@@ -1,13 +1,13 @@
 ghost use Rattle.std.specs.Prelude.{◌≡◌, ◌≤◌, ◌<◌, ◌+◌, length, IfOk};
 ghost use Rattle.pip_model.specs.Limits.{most_params, most_nesting};
 ghost use Rattle.pip_model.specs.TreeText as model;
-ghost use Rattle.text_steps.specs.Steps.{IsRead};
+ghost use Rattle.text_reading.specs.Steps.{IsRead};
 ghost use Rattle.quast_text.specs.Faults.{text_fault};
 
 use crate::refusal::TextRefusal;
 use affine_forms::Form;
 use std::alloc::Global;
-use text_steps::{Reads, row};
+use text_reading::{Reads, row};
 
 // A form over so many places between row brackets, and the place behind it.
 pub(crate) fn read_form(

@@ -3,7 +3,7 @@ ghost use Rattle.pip_model.specs.Limits.{most_params, most_nesting};
 ghost use Rattle.pip_model.specs.Tree.{If, NewParm, nesting};
 ghost use Rattle.pip_model.specs.TreeText.{head as head_at, tree as tree_at};
 ghost use Rattle.affine_forms.specs.Checks.{Fits};
-ghost use Rattle.text_steps.specs.Steps.{IsRead};
+ghost use Rattle.text_reading.specs.Steps.{IsRead};
 ghost use Rattle.quast_text.specs.Faults.{text_fault};
 ghost use Rattle.quast_text.specs.Trees.{head_of, opening as opening_of, choice_at, define_at};
 
@@ -13,7 +13,7 @@ use crate::refusal::TextRefusal;
 use crate::row::read_form;
 use quast::Quast;
 use std::alloc::Global;
-use text_steps::{Reads, expect, same_bracket, spells};
+use text_reading::{Reads, expect, same_bracket, spells};
 use text_tokens::{Kind, token};
 
 // Which tree begins behind a `(`.

@@ -4,7 +4,7 @@ use Rattle.pip_model.specs.declared.Kind.TheVariants.{LeftParen}
 use Rattle.pip_model.specs.Reading.{expect}
 use Rattle.pip_model.specs.TreeText.{expect_word}
 use Rattle.pip_model.specs.Certificate.{version, vector}
-use Rattle.text_steps.specs.Steps.{fault_of}
+use Rattle.text_reading.specs.Steps.{fault_of}
 use Rattle.leaf_certificate.specs.Sequences.{leaves_to_end}
 use Rattle.certificate_parts.specs.Vectors.{numbers_of}
 use Rattle.leaf_certificate.proofs.Certificates.{vector_refused, certificate_made}

@@ -5,7 +5,7 @@ use Rattle.pip_model.specs.declared.Kind.TheVariants.{RightRow}
 use Rattle.pip_model.specs.Tokens.{token}
 use Rattle.pip_model.specs.Reading.{same_bracket, number}
 use Rattle.affine_forms.specs.Checks.{Fits}
-use Rattle.text_steps.specs.Steps.{fault_of}
+use Rattle.text_reading.specs.Steps.{fault_of}
 use Rattle.leaf_certificate.proofs.Sequences.{reaches_next, reaches_end, reaches_refused}
 use Rattle.leaf_certificate.proofs.read.read_numbers.Goals as goal
 

@@ -4,7 +4,7 @@ use Rattle.pip_model.specs.declared.Kind.TheVariants.{RightParen}
 use Rattle.pip_model.specs.Tokens.{token}
 use Rattle.pip_model.specs.Reading.{same_bracket}
 use Rattle.pip_model.specs.Certificate.{step}
-use Rattle.text_steps.specs.Steps.{fault_of}
+use Rattle.text_reading.specs.Steps.{fault_of}
 use Rattle.leaf_certificate.proofs.Sequences.{reaches_next, reaches_end, reaches_refused}
 use Rattle.leaf_certificate.proofs.read_step.read_steps.Goals as goal
 

@@ -2,7 +2,7 @@ use Rattle.std.proofs.Common.{◌≡◌, ◌∙◌, ◌+◌, ◌<◌, ◌++◌, 
 use Rattle.std.proofs.lemmas.Result.{err_from_is_err_and}
 use Rattle.affine_forms.specs.Forms.{FormsOfWidth}
 use Rattle.pip_problem.specs.Faults.{read_fault}
-use Rattle.text_steps.proofs.Ends.{list_end, list_more, list_refused}
+use Rattle.text_reading.proofs.Ends.{list_end, list_more, list_refused}
 use Rattle.pip_reader.specs.Contexts.{next_row}
 use Rattle.pip_reader.proofs.RowSteps.{rows_by}
 use Rattle.pip_reader.proofs.context.context_rows.Goals as goal

@@ -4,7 +4,7 @@ use Rattle.std.proofs.lemmas.List.Elements.{All-push}
 use Rattle.affine_forms.specs.Checks.{Fits}
 use Rattle.pip_model.specs.MatrixText.{matrix_number, matrix_numbers}
 use Rattle.pip_problem.specs.Faults.{read_fault}
-use Rattle.text_steps.proofs.Fronts.{step_more, refused_more}
+use Rattle.text_reading.proofs.Fronts.{step_more, refused_more}
 use Rattle.polylib_reader.proofs.Fronts.{numbers_more}
 use Rattle.polylib_reader.proofs.number.numbers.Goals as goal
 

@@ -3,7 +3,7 @@ use Rattle.std.proofs.lemmas.Result.{err_from_is_err_and}
 use Rattle.pip_model.specs.TreeText.{fractions}
 use Rattle.quast_text.specs.Faults.{text_fault}
 use Rattle.quast_text.specs.Fractions.{next_fraction}
-use Rattle.text_steps.proofs.Fronts.{step_more, refused_more}
+use Rattle.text_reading.proofs.Fronts.{step_more, refused_more}
 use Rattle.quast_text.proofs.Fronts.{fractions_more}
 use Rattle.quast_text.proofs.fraction.read_fractions.Goals as goal
 

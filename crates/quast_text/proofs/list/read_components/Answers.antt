@@ -4,7 +4,7 @@ use Rattle.std.proofs.lemmas.List.Elements.{All-push, All-cons, All-nil}
 use Rattle.quast.specs.Components.{IsComponent}
 use Rattle.quast_text.specs.Faults.{text_fault}
 use Rattle.quast_text.specs.Trees.{next_component, components_behind}
-use Rattle.text_steps.proofs.Ends.{list_end, list_more, list_refused}
+use Rattle.text_reading.proofs.Ends.{list_end, list_more, list_refused}
 use Rattle.quast_text.proofs.ListSteps.{components_by}
 use Rattle.quast_text.proofs.list.read_components.Goals as goal
 

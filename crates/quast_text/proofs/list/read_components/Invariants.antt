@@ -3,7 +3,7 @@ use Rattle.std.specs.Prelude.{All}
 use Rattle.pip_model.specs.Limits.{most_components}
 use Rattle.pip_model.specs.TreeText.{components}
 use Rattle.quast.specs.Components.{IsComponent}
-use Rattle.text_steps.specs.Fronts.{with_front}
+use Rattle.text_reading.specs.Fronts.{with_front}
 use Rattle.quast_text.specs.Trees.{components_behind}
 use Rattle.quast_text.proofs.list.read_components.Given as goal
 

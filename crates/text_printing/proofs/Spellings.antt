@@ -1,8 +1,10 @@
 -- Texts of lists.
-use Rattle.std.proofs.Common.{◌≡◌, ◌∙◌, sym, ◌+◌, ◌<◌, ◌≤◌, refl, ap, length, take, get_or, ℕ, ℤ, List, [], ◌∷◌, ◌++◌, flat_map}
+use Rattle.std.proofs.Common.{◌≡◌, ◌∙◌, sym, ◌+◌, ◌<◌, ◌≤◌, refl, ap, length, take, get_or, ℕ, ℤ, pos, neg_ℤ, zero, suc, List, [], ◌∷◌, ◌++◌, flat_map, arith}
+use Rattle.std.specs.Prelude.{codes}
+use Rattle.std.specs.Fmt.{decimal}
 use Rattle.std.proofs.lemmas.List.{take_all, take_more, flat_map_more, append_assoc}
 use Rattle.pip_model.specs.TreeText.{spell_numbers}
-use Rattle.text_parts.specs.Printing.{Begins, spell_entry}
+use Rattle.text_printing.specs.Printing.{Begins, spell_entry}
 
 pub numbers_flat : (cs : List ℤ) → flat_map spell_entry cs ≡ spell_numbers cs
 numbers_flat [] = refl
@@ -25,3 +27,11 @@ begins_more old mid new text behind begun = record {
   rest = text ++ begun.rest;
   is = begun.is ∙ ap (λ t. t ++ begun.rest) behind ∙ append_assoc old text begun.rest;
 }
+
+-- the text of a natural number, and of the opposite of one
+pub entry_digit : (z : ℤ) (n : ℕ) → z ≡ pos n → spell_entry z ≡ codes " " ++ decimal n
+entry_digit z n e = rw e refl
+
+pub entry_opposite : (z : ℤ) (n : ℕ) → z ≡ neg_ℤ (pos n) → 0 < n → spell_entry z ≡ codes " -" ++ decimal n
+entry_opposite z zero e h = absurd (omega (arith, h))
+entry_opposite z (suc n) e h = rw e refl

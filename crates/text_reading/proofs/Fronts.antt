@@ -2,7 +2,7 @@
 use Rattle.std.proofs.Common.{◌≡◌, ◌∙◌, ℕ, suc, ◌+◌, ◌-◌, ◌<◌, List, [], ◌∷◌, ◌++◌, Ok, Err, refl, sym, ap, append_assoc, arith}
 use Rattle.std.specs.Prelude.{Option, Some, None, IfSome}
 use Rattle.pip_model.specs.Reading.{Fault, Reads, ◌>>=◌, number, numbers, row, rows}
-use Rattle.text_steps.specs.Fronts.{with_front}
+use Rattle.text_reading.specs.Fronts.{with_front}
 
 -- one value and then the others
 abbrev pub one_more : {A : Type 0} → Reads A → (ℕ → Reads (List A)) → Reads (List A)

@@ -1,8 +1,8 @@
 use Rattle.std.proofs.Common.{rules, to_z, of_z, append-nil, sym, ◌≡◌, ◌++◌, ◌∙◌, ap, arith, get_or, pos}
 use Rattle.std.specs.Int.{w128}
-use Rattle.text_parts.proofs.Spellings.{written, numbers_flat, spelt_more, begins_more}
-use Rattle.text_parts.specs.Printing.{spell_entry}
-use Rattle.text_parts.proofs.parts.put_numbers.Goals as goal
+use Rattle.text_printing.proofs.Spellings.{written, numbers_flat, spelt_more, begins_more}
+use Rattle.text_printing.specs.Printing.{spell_entry}
+use Rattle.text_printing.proofs.parts.put_numbers.Goals as goal
 
 pub loop-number-init : goal.loop-number-init
 loop-number-init c = sym (append-nil c.args.out.now.items)

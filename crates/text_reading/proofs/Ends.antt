@@ -2,8 +2,8 @@
 use Rattle.std.proofs.Common.{◌≡◌, ◌∙◌, refl, sym, ap, ℕ, Bool, true, false, if◌then◌else◌, Ok, Err, Result, List, [], ◌∷◌, ◌++◌, append-nil}
 use Rattle.std.specs.Prelude.{Option, Some, None, IfSome}
 use Rattle.pip_model.specs.Reading.{Fault, Reads, ◌>>=◌}
-use Rattle.text_steps.specs.Fronts.{with_front}
-use Rattle.text_steps.proofs.Fronts.{one_more, front_push}
+use Rattle.text_reading.specs.Fronts.{with_front}
+use Rattle.text_reading.proofs.Fronts.{one_more, front_push}
 
 -- the values behind the next one; none is left at the bracket before `after`
 abbrev pub behind : {A : Type 0} → (ℕ → Reads (List A)) → ℕ → Option (A × ℕ) → Reads (List A)

@@ -3,7 +3,7 @@ ghost use Rattle.pip_model.specs.Reading as model;
 ghost use Rattle.pip_model.specs.Tokens as tokens;
 ghost use Rattle.pip_model.specs.TreeText as words;
 ghost use Rattle.affine_forms.specs.Checks.{Fits};
-ghost use Rattle.text_steps.specs.Steps.{fault_of, IsPassed, IsRead};
+ghost use Rattle.text_reading.specs.Steps.{fault_of, IsPassed, IsRead};
 
 use crate::fault::{Reads, TextFault};
 use text_tokens::{Kind, Lexeme, plain_number, token};

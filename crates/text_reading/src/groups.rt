@@ -1,6 +1,6 @@
 ghost use Rattle.std.specs.Prelude.{◌≤◌, length};
 ghost use Rattle.pip_model.specs.Reading as model;
-ghost use Rattle.text_steps.specs.Steps.{fault_of, IsRead};
+ghost use Rattle.text_reading.specs.Steps.{fault_of, IsRead};
 
 use crate::fault::{Reads, TextFault};
 use crate::steps::expect;

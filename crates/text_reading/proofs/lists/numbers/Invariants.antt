@@ -2,8 +2,8 @@ use Rattle.std.proofs.Common.{◌≡◌, ◌-◌, ◌≤◌, length, vec_capacit
 use Rattle.std.specs.Prelude.{All}
 use Rattle.affine_forms.specs.Checks.{Fits}
 use Rattle.pip_model.specs.Reading.{numbers}
-use Rattle.text_steps.specs.Fronts.{with_front}
-use Rattle.text_steps.proofs.lists.numbers.Given as goal
+use Rattle.text_reading.specs.Fronts.{with_front}
+use Rattle.text_reading.proofs.lists.numbers.Given as goal
 
 abbrev pub invariant-loop : goal.invariant-loop
 invariant-loop l =

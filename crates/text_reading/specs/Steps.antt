@@ -2,8 +2,8 @@
 -- refusal is the definition's fault.
 use Rattle.std.specs.Prelude.{◌≡◌, ◌<◌, ◌≤◌, ℕ, List, length, Option, Some, None, IfSome, Result, Ok, Err}
 use Rattle.pip_model.specs.Reading.{Fault, Syntax, Wide, Reads}
-use Rattle.text_steps.specs.declared.fault.TextFault.{TextFault}
-use Rattle.text_steps.specs.declared.fault.TextFault.TheVariants as fault
+use Rattle.text_reading.specs.declared.fault.TextFault.{TextFault}
+use Rattle.text_reading.specs.declared.fault.TextFault.TheVariants as fault
 
 -- the definitions' word for a fault; want of memory has none
 abbrev pub fault_of : TextFault → Option Fault

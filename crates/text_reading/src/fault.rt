@@ -1,5 +1,5 @@
 ghost use Rattle.std.specs.Prelude.{◌≡◌};
-ghost use Rattle.text_steps.specs.declared.fault.TextFault.TheVariants as fault;
+ghost use Rattle.text_reading.specs.declared.fault.TextFault.TheVariants as fault;
 
 use affine_forms::WantOfMemory;
 use pip_problem::ReadRefusal;
@@ -42,7 +42,7 @@ impl<T: Drop> From<AllocFailed<T>> for TextFault {
 }
 
 impl From<TextFault> for ReadRefusal {
-    ghost use Rattle.text_steps.specs.Steps.{fault_of};
+    ghost use Rattle.text_reading.specs.Steps.{fault_of};
     ghost use Rattle.pip_problem.specs.Faults.{read_fault};
 
     ghost from_gives = { λ fault e. read_fault e ≡ fault_of fault };

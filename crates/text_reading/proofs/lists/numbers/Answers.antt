@@ -3,9 +3,9 @@ use Rattle.std.proofs.lemmas.Result.{err_from_is_err_and}
 use Rattle.std.proofs.lemmas.List.Elements.{All-push}
 use Rattle.affine_forms.specs.Checks.{Fits}
 use Rattle.pip_model.specs.Reading.{number, numbers}
-use Rattle.text_steps.specs.Steps.{fault_of}
-use Rattle.text_steps.proofs.Fronts.{step_more, refused_more, numbers_more}
-use Rattle.text_steps.proofs.lists.numbers.Goals as goal
+use Rattle.text_reading.specs.Steps.{fault_of}
+use Rattle.text_reading.proofs.Fronts.{step_more, refused_more, numbers_more}
+use Rattle.text_reading.proofs.lists.numbers.Goals as goal
 
 pub returns-in_err-entry-clause-reads : goal.returns-in_err-entry-clause-reads
 returns-in_err-entry-clause-reads c =

@@ -1,7 +1,7 @@
 ghost use Rattle.std.specs.Prelude.{◌≡◌, ◌≤◌, ◌<◌, length, All, IfOk};
 ghost use Rattle.pip_model.specs.Reading as model;
 ghost use Rattle.affine_forms.specs.Checks.{Fits};
-ghost use Rattle.text_steps.specs.Steps.{fault_of, AreRead, IsRead};
+ghost use Rattle.text_reading.specs.Steps.{fault_of, AreRead, IsRead};
 
 use crate::fault::{Reads, TextFault};
 use crate::steps::{expect, number};

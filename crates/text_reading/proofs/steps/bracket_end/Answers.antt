@@ -4,7 +4,7 @@ use Rattle.pip_model.specs.declared.Kind.{Kind}
 use Rattle.pip_model.specs.Reading as model
 use Rattle.pip_model.specs.Tokens.{token_in}
 use Rattle.text_tokens.proofs.Blanks.{behind_blank}
-use Rattle.text_steps.proofs.steps.bracket_end.Goals as goal
+use Rattle.text_reading.proofs.steps.bracket_end.Goals as goal
 
 behind : (c : goal.In-Some) (place : ℕ)
     → ((token_in place c.args.bytes.now).kind ≡ c.args.wanted) × ((token_in place c.args.bytes.now).after ≡ place + (c.in-Some.len + 1))
