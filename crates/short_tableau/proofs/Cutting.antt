@@ -1,28 +1,23 @@
 -- The cut by a short row.
-use Rattle.std.proofs.Common.{◌≡◌, refl, ap, sym, ◌∙◌, subst, ℕ, ◌+◌, ◌-◌, ◌*◌, ◌<◌, ◌≤◌, ℤ, neg_ℤ, List, [], ◌∷◌, ◌++◌, length, map, take, drop, arith, append-nil, length-drop}
+use Rattle.std.proofs.Common.{◌≡◌, refl, ap, sym, ◌∙◌, subst, ℕ, ◌+◌, ◌-◌, ◌*◌, ◌<◌, ◌≤◌, ℤ, neg_ℤ, List, [], ◌∷◌, length, map, take, drop, arith, append-nil}
 use Rattle.std.specs.Prelude.{slice_range}
-use Rattle.std.proofs.lemmas.List.{take_all, drop_all, take-append-drop, length-map, length-take-le}
+use Rattle.std.proofs.lemmas.List.{take_all, drop_all, take-append-drop, length-map}
 use Rattle.std.proofs.lemmas.Simd.{map-map}
 use Rattle.pip_model.specs.Cuts.{constant_cut, fractional_parts, residue_of}
 use Rattle.pip_model.specs.Forms.{negate, residue}
 use Rattle.pip_model.specs.Numbers.{floor_mod}
-use Rattle.pip_model.specs.Rows.{Row, row_at, divided}
+use Rattle.pip_model.specs.Rows.{Row, row_at}
 use Rattle.affine_forms.proofs.Mapped.{mapped}
 use Rattle.tableau.specs.Flat.{row_of_numbers, numbers_of}
 use Rattle.tableau.specs.Short.{IsShortRow}
 use Rattle.tableau.specs.Tableaus.{row_from}
 use Rattle.tableau.proofs.Contents.{content-divided}
 use Rattle.short_tableau.specs.Dense.{row_size, rows_in, IsShortReduced, IsDense}
-use Rattle.short_tableau.proofs.Places.{AreParts, row_read, row_short, halves_twice}
+use Rattle.short_tableau.proofs.Places.{IsSplit, split_twice, split_read, split_row}
 use Rattle.short_tableau.proofs.ShortParts.{short_row, divided_positive}
 
 pub ceiled : (d : ℤ) (xs : List ℤ) (i : ℕ) → length xs ≤ i → mapped (λ x. neg_ℤ (floor_mod (neg_ℤ x) d)) i xs ≡ negate (residue d xs)
 ceiled d xs i h = rw (take_all i xs h, drop_all i xs h) (append-nil (map (λ x. neg_ℤ (floor_mod (neg_ℤ x) d)) xs) ∙ sym (map-map neg_ℤ (λ x. floor_mod (neg_ℤ x) d) xs))
-
--- a row whose parts are made one by one, and then divided
-pub cut_made : (r made : Row) (d : ℤ) (coefs constant : List ℤ) → d ≡ r.den → coefs ≡ fractional_parts r → constant ≡ negate (residue_of r).form → made ≡ divided (row_from d coefs constant)
-    → made ≡ constant_cut r
-cut_made r made d coefs constant e f g h = h ∙ rw (e, f, g) refl
 
 -- the cut by a short row, where its numbers are short, is a short row
 pub cut_row : (n : ℕ) (r made : Row) → IsShortReduced n r → made ≡ constant_cut r → IsShortRow made → IsShortReduced n made
@@ -44,17 +39,9 @@ module _ (n k i : ℕ) (zs : List ℤ) (dense : IsDense n k zs) (h : i < k) (pla
   mid : List ℤ
   mid = take (row_size n) (drop place zs)
 
-  parts : AreParts n k i (take place zs) mid (drop (row_size n) (drop place zs))
+  parts : IsSplit n k i zs (take place zs) mid (drop (row_size n) (drop place zs))
   unfolding mid
-  parts = record {
-    front_size = length-take-le place zs (omega (arith, within)) ∙ at;
-    mid_size = length-take-le (row_size n) (drop place zs) (omega (arith, within, length-drop place zs));
-    within = h;
-  }
-
-  whole : zs ≡ take place zs ++ (mid ++ drop (row_size n) (drop place zs))
-  unfolding mid
-  whole = halves_twice place (row_size n) zs (take place zs) (drop place zs) mid (drop (row_size n) (drop place zs)) refl refl refl refl
+  parts = split_twice n k i place zs (take place zs) (drop place zs) mid (drop (row_size n) (drop place zs)) dense h at within refl refl refl refl
 
   range_is : slice_range zs place (place + row_size n) ≡ mid
   unfolding mid
@@ -63,13 +50,13 @@ module _ (n k i : ℕ) (zs : List ℤ) (dense : IsDense n k zs) (h : i < k) (pla
   -- the numbers of row i as they stand
   module _ (copied : List ℤ) (copy : copied ≡ slice_range zs place (place + row_size n)) where
     pub copied_size : length copied ≡ row_size n
-    copied_size = ap length (copy ∙ range_is) ∙ parts.mid_size
+    copied_size = ap length (copy ∙ range_is) ∙ parts.parts.mid_size
 
     pub copied_row : row_of_numbers n copied ≡ row_at (rows_in n k zs) i
-    copied_row = ap (row_of_numbers n) (copy ∙ range_is) ∙ sym (row_read n k i zs (take place zs) mid mid (drop (row_size n) (drop place zs)) whole parts parts.mid_size)
+    copied_row = ap (row_of_numbers n) (copy ∙ range_is) ∙ sym (split_read n k i zs (take place zs) mid (drop (row_size n) (drop place zs)) parts)
 
     pub copied_short : IsShortReduced n (row_of_numbers n copied)
-    copied_short = subst (λ (ys : List ℤ). IsShortReduced n (row_of_numbers n ys)) (sym (copy ∙ range_is)) (row_short n k i zs (take place zs) mid (drop (row_size n) (drop place zs)) whole parts dense)
+    copied_short = subst (λ (ys : List ℤ). IsShortReduced n (row_of_numbers n ys)) (sym (copy ∙ range_is)) (split_row n k i zs (take place zs) mid (drop (row_size n) (drop place zs)) parts)
 
     -- the row that is made of them
     module _ (now : List ℤ) (size : length now ≡ length copied) (cut : row_of_numbers n now ≡ constant_cut (row_of_numbers n copied)) where

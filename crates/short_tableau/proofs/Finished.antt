@@ -1,12 +1,12 @@
 -- A row that is made in two steps, and what shows that it is not short.
-use Rattle.std.proofs.Common.{◌≡◌, refl, ap, sym, ◌∙◌, ℕ, zero, suc, ◌+◌, ◌<◌, ◌≤◌, ℤ, pos, negsuc, ◌≤ℤ◌, ◌*ℤ◌, ◌-ℤ◌, Bool, true, false, ◌&&◌, List, [], ◌∷◌, ◌++◌, length, take, drop, get_or, set, arith, append-nil, append_assoc, length-append, length-drop, length-set}
+use Rattle.std.proofs.Common.{rules, ◌≡◌, refl, ap, sym, ◌∙◌, ℕ, zero, suc, ◌+◌, ◌<◌, ◌≤◌, ℤ, pos, negsuc, ◌≤ℤ◌, ◌*ℤ◌, ◌-ℤ◌, Bool, true, false, ◌&&◌, List, [], ◌∷◌, ◌++◌, length, take, drop, get_or, set, arith, append-nil, append_assoc, length-append, length-drop, length-set}
 use Rattle.std.proofs.lemmas.Int.{ints}
 use Rattle.std.proofs.Math.IntN.{*ℤ_comm}
 use Rattle.std.proofs.Math.Bool.{and-false}
 use Rattle.std.proofs.lemmas.Bool.{lt-ltb}
 use Rattle.std.proofs.lemmas.List.{take_at, drop_at, take_all, drop_all, take-append-drop, length-take, length-map, drop_more, take_more, set_at, get_or_at, map-set, map-append, get_or-map, get_or-set_same}
 use Rattle.std.proofs.lemmas.List.Folds.{list_all-append, list_all_at}
-use Rattle.std.specs.Prelude.{slice_set}
+use Rattle.std.specs.Prelude.{slice_set, None}
 use Rattle.std.specs.List.{list_all}
 use Rattle.pip_model.proofs.Forms.{length-combine, entry-combine}
 use Rattle.pip_model.specs.Numbers.{gcd, gcd_of, floor_div}
@@ -20,8 +20,10 @@ use Rattle.tableau_row.proofs.RowLaws.{divided_row}
 use Rattle.tableau.proofs.Combining.{combined}
 use Rattle.tableau.specs.Short.{is_short}
 use Rattle.tableau.specs.Tableaus.{row_from}
-use Rattle.short_tableau.specs.Begun.{finished, begun_row, is_short_row}
+use Rattle.short_tableau.specs.Begun.{finished, begun_coefs, begun_constant, begun_row, begun_divisor, IsBegun, AreEnds}
+use Rattle.short_tableau.specs.Turned.{is_short_row, IsDenominatorOf}
 use Rattle.short_tableau.specs.declared.begun.Begun.{Begun}
+use Rattle.short_tableau.specs.declared.begun.Ends.{Ends}
 
 -- ---- the entries of a*r - b*s
 
@@ -53,10 +55,10 @@ module _ (a b : ℤ) (r s : List ℤ) (k : ℕ) where
       simp (length-append, length-take, made, length-drop) (omega arith)
 
 -- the row that is begun is the row itself where all entries are made
-pub begun_all : (w : Begun) (p : Row) (c : ℕ) (coefs constant : List ℤ) (d e : ℤ) → d ≡ w.den → e ≡ w.entry → length coefs ≤ w.coefs → length constant ≤ w.constant
-    → row_from d (slice_set coefs c e) constant ≡ begun_row w p c coefs constant
-begun_all w p c coefs constant d e f g h k =
-    rw (f, g, finished_all w.by.of_row w.by.of_pivot coefs p.coefs w.coefs h, finished_all w.by.of_row w.by.of_pivot constant p.constant w.constant k) refl
+pub begun_all : (w : Begun) (p : Row) (coefs constant : List ℤ) (x : Ends) → AreEnds w (length coefs) (length constant) x → (d e : ℤ) → d ≡ x.den → e ≡ x.entry
+    → row_from d (slice_set coefs w.column e) constant ≡ begun_row w p coefs constant
+begun_all w p coefs constant x h d e f g =
+    rw (f ∙ h.den, g ∙ h.entry, finished_all w.by.of_row w.by.of_pivot coefs p.coefs w.coefs h.coefs_made, finished_all w.by.of_row w.by.of_pivot constant p.constant w.constant h.constant_made) refl
 
 gcd_of_append : (xs ys : List ℤ) → gcd_of (xs ++ ys) ≡ gcd (gcd_of xs) (gcd_of ys)
 gcd_of_append [] ys = sym (gcd_zero ys)
@@ -129,6 +131,33 @@ module _ (den e g : ℤ) (F G : List ℤ) (c : ℕ) (is : g ≡ gcd (gcd (gcd de
   pub long_constant : list_all is_short (floor_divided g G) ≡ false → is_short_row (divided (row_from den (slice_set F c e) G)) ≡ false
   long_constant long =
       ap is_short_row parts ∙ rw (long, and-false (list_all is_short (slice_set (floor_divided g F) c (floor_div e g)))) (and-false (is_short (floor_div den g)))
+
+-- ---- the row that is begun, once it is divided
+
+pub no_denominator : (r : Row) (coefs constant : List ℤ) → is_short_row r ≡ false → IsDenominatorOf r coefs constant None
+no_denominator r coefs constant long = record { value = search rules; short = search rules; long = long }
+
+module _ (w : Begun) (p : Row) (coefs constant : List ℤ) (h : IsBegun w p coefs constant) (g : ℤ) (is : g ≡ begun_divisor w p coefs constant) where
+  here : w.column < length (begun_coefs w p coefs)
+  here = let size = finished_length w.by.of_row w.by.of_pivot coefs p.coefs w.coefs h.coefs_terms.lengths h.coefs_made in omega (arith, size, h.column)
+
+  pub begun_divided : (d e : ℤ) (coefs_now constant_now : List ℤ) → d ≡ floor_div w.den g → e ≡ floor_div w.entry g → coefs_now ≡ floor_divided g (begun_coefs w p coefs) → constant_now ≡ floor_divided g (begun_constant w p constant)
+      → row_from d (slice_set coefs_now w.column e) constant_now ≡ divided (begun_row w p coefs constant)
+  begun_divided d e coefs_now constant_now a b q r =
+      made_row w.den w.entry g (begun_coefs w p coefs) (begun_constant w p constant) w.column is here h.zero d (slice_set coefs_now w.column e) constant_now a
+      (ap (λ xs. slice_set xs w.column e) q ∙ ap (slice_set (floor_divided g (begun_coefs w p coefs)) w.column) b) r
+
+  pub no_den : is_short (floor_div w.den g) ≡ false → is_short_row (divided (begun_row w p coefs constant)) ≡ false
+  no_den = long_den w.den w.entry g (begun_coefs w p coefs) (begun_constant w p constant) w.column is here h.zero
+
+  pub no_entry : is_short (floor_div w.entry g) ≡ false → is_short_row (divided (begun_row w p coefs constant)) ≡ false
+  no_entry = long_entry w.den w.entry g (begun_coefs w p coefs) (begun_constant w p constant) w.column is here h.zero
+
+  pub no_coefs : pos 1 ≤ℤ g → list_all is_short (floor_divided g (begun_coefs w p coefs)) ≡ false → is_short_row (divided (begun_row w p coefs constant)) ≡ false
+  no_coefs = long_coefs w.den w.entry g (begun_coefs w p coefs) (begun_constant w p constant) w.column is here h.zero
+
+  pub no_constant : list_all is_short (floor_divided g (begun_constant w p constant)) ≡ false → is_short_row (divided (begun_row w p coefs constant)) ≡ false
+  no_constant = long_constant w.den w.entry g (begun_coefs w p coefs) (begun_constant w p constant) w.column is here h.zero
 
 -- ---- divisors, entry by entry
 

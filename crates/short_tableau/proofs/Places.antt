@@ -1,19 +1,20 @@
 -- Rows in their places.
-use Rattle.std.proofs.Common.{◌≡◌, refl, ap, sym, ◌∙◌, subst, ℕ, zero, suc, ◌+◌, ◌-◌, ◌*◌, ◌<◌, ◌≤◌, ℤ, Bool, true, false, ◌&&◌, List, [], ◌∷◌, ◌++◌, length, map, take, drop, arith, append-nil, length-append, length-drop}
-use Rattle.std.specs.Prelude.{slice_set}
-use Rattle.std.proofs.lemmas.List.{take_at, drop_at, take-append-le, drop-append-le, get_or_at, set_at, length-map, map-append, take_all, drop_all, take-append-drop, get_or-map}
+use Rattle.std.proofs.Common.{◌≡◌, refl, ap, sym, ◌∙◌, subst, ℕ, zero, suc, ◌+◌, ◌-◌, ◌*◌, ◌<◌, ◌≤◌, ℤ, Bool, true, false, List, [], ◌∷◌, ◌++◌, length, map, take, drop, arith, append-nil, length-append, length-drop}
+use Rattle.std.specs.Prelude.{slice_set, IsTrue}
+use Rattle.std.proofs.lemmas.List.{take_at, drop_at, take-append-le, drop-append-le, get_or_at, set_at, length-map, map-append, take_all, drop_all, take-append-drop, length-take-le, get_or-map}
 use Rattle.std.proofs.lemmas.List.Folds.{list_all-append, list_all_at}
 use Rattle.std.proofs.Math.Bool.{and-false}
 use Rattle.std.specs.List.{list_all}
-use Rattle.std.proofs.lemmas.List.Elements.{All-same, All-set, All-take, All-drop, All-push, All-append, All-cons, All-nil}
-use Rattle.std.proofs.Math.Nat.{suc-mul, mul-le-mul_right, add-mul}
+use Rattle.std.proofs.lemmas.List.Elements.{All-same, All-set, All-take, All-drop, All-push, All-append, All-cons}
+use Rattle.std.proofs.Math.Nat.{suc-mul, add-mul}
 use Rattle.pip_model.specs.Rows.{Row, row_at, form_row, unit_row, eliminated, pivot}
+use Rattle.dual_pivot.specs.Choices.{IsCandidate}
 use Rattle.tableau.specs.Flat.{row_of_numbers, numbers_of}
 use Rattle.tableau.proofs.Numbers.{row_again}
 use Rattle.affine_forms.proofs.Mapped.{mapped}
 use Rattle.tableau.specs.Tableaus.{TableauRows, with_row}
-use Rattle.short_tableau.specs.Begun.{is_short_row}
-use Rattle.short_tableau.specs.Dense.{row_size, rows_in, IsShortReduced, IsDense}
+use Rattle.short_tableau.specs.Dense.{row_size, rows_in, IsShortReduced, IsPivot, IsDense}
+use Rattle.short_tableau.specs.Turned.{is_short_row, AreTurned}
 
 one_more : (i l : ℕ) → suc i * l ≡ l + i * l
 one_more i l = suc-mul i l ∙ omega arith
@@ -46,49 +47,12 @@ rows_parts n k i front mid back h =
     ∙ rows_append n i (suc (k - (i + 1))) front (mid ++ back) h.front_size
     ∙ ap (λ (rs : List Row). rows_in n i front ++ rs) (rw (take_at mid back (row_size n) h.mid_size, drop_at mid back (row_size n) h.mid_size) refl)
 
-pub row_here : (n k i : ℕ) (front mid back : List ℤ) → AreParts n k i front mid back → row_at (rows_in n k (front ++ (mid ++ back))) i ≡ row_of_numbers n mid
-row_here n k i front mid back h =
-    ap (λ (rs : List Row). row_at rs i) (rows_parts n k i front mid back h)
-    ∙ get_or_at (rows_in n i front) (row_of_numbers n mid) (rows_in n (k - (i + 1)) back) (form_row 0 []) i (length_rows n i front)
-
-pub row_set : (n k i : ℕ) (front mid made back : List ℤ) → AreParts n k i front mid back → length made ≡ row_size n
-    → rows_in n k (front ++ (made ++ back)) ≡ slice_set (rows_in n k (front ++ (mid ++ back))) i (row_of_numbers n made)
-row_set n k i front mid made back h e =
-    let now : AreParts n k i front made back = record { front_size = h.front_size; mid_size = e; within = h.within } in
-    rows_parts n k i front made back now
-    ∙ sym (ap (λ (rs : List Row). slice_set rs i (row_of_numbers n made)) (rows_parts n k i front mid back h)
-    ∙ set_at (rows_in n i front) (row_of_numbers n mid) (rows_in n (k - (i + 1)) back) (row_of_numbers n made) i (length_rows n i front))
-
 -- ---- the numbers of a row
-
-pub place_within : (i k l : ℕ) → i < k → i * l + l ≤ k * l
-place_within i k l h =
-    let whole = one_more i l in
-    let less : suc i * l ≤ k * l = mul-le-mul_right l (omega arith) in
-    omega (arith, whole, less)
 
 -- ---- short rows
 
 pub dense_row : (n k i : ℕ) (zs : List ℤ) → IsDense n k zs → i < k → IsShortReduced n (row_at (rows_in n k zs) i)
 dense_row n k i zs h lt = h.rows i (form_row 0 []) (rw (length_rows n k zs) lt)
-
-pub dense_set : (n k i : ℕ) (zs now : List ℤ) (made : Row) → IsDense n k zs → length now ≡ length zs → rows_in n k now ≡ slice_set (rows_in n k zs) i made
-    → IsShortReduced n made → IsDense n k now
-dense_set n k i zs now made h same is row = record {
-  size = same ∙ h.size;
-  rows = All-same (IsShortReduced n) _ _ is (All-set (IsShortReduced n) (rows_in n k zs) i made row h.rows);
-}
-
-front_of : (A B : List Row) (i : ℕ) → length A ≡ i → take i (A ++ B) ≡ A
-front_of A B i e = take_at A B i e
-
-pub dense_front : (n k i : ℕ) (front mid back : List ℤ) → AreParts n k i front mid back → IsDense n k (front ++ (mid ++ back)) → IsDense n i front
-dense_front n k i front mid back h dense = record {
-  size = h.front_size;
-  rows = All-same (IsShortReduced n) _ _
-      (sym (ap (take i) (rows_parts n k i front mid back h) ∙ take_at (rows_in n i front) (row_of_numbers n mid ∷ rows_in n (k - (i + 1)) back) i (length_rows n i front)))
-      (All-take (IsShortReduced n) i (rows_in n k (front ++ (mid ++ back))) dense.rows);
-}
 
 back_of : (A B : List Row) (r : Row) (i : ℕ) → length A ≡ i → drop (i + 1) (A ++ r ∷ B) ≡ B
 back_of [] B r zero e = refl
@@ -102,38 +66,73 @@ back_size l f m b i k all e g h =
     let parts : k * l ≡ suc i * l + (k - (i + 1)) * l = ap (λ j. j * l) whole ∙ add-mul (suc i) (k - (i + 1)) l in
     omega (arith, all, e, g, parts, one_more i l)
 
-pub dense_back : (n k i : ℕ) (front mid back : List ℤ) → AreParts n k i front mid back → IsDense n k (front ++ (mid ++ back)) → IsDense n (k - (i + 1)) back
-dense_back n k i front mid back h dense = record {
-  size = back_size (row_size n) (length front) (length mid) (length back) i k (sym (length-append front (mid ++ back) ∙ ap (λ j. length front + j) (length-append mid back)) ∙ dense.size) h.front_size h.mid_size h.within;
-  rows = All-same (IsShortReduced n) _ _
-      (sym (ap (drop (i + 1)) (rows_parts n k i front mid back h) ∙ back_of (rows_in n i front) (rows_in n (k - (i + 1)) back) (row_of_numbers n mid) i (length_rows n i front)))
-      (All-drop (IsShortReduced n) (i + 1) (rows_in n k (front ++ (mid ++ back))) dense.rows);
+-- ---- rows in three parts
+
+-- the numbers of k rows are those in front of row i, the row's, and those behind it
+pub record IsSplit (n k i : ℕ) (zs front mid back : List ℤ) : Type 0 where
+  pub whole : zs ≡ front ++ (mid ++ back)
+  pub parts : AreParts n k i front mid back
+  pub dense : IsDense n k zs
+
+pub split_twice : (n k i place : ℕ) (zs front rest mid back : List ℤ) → IsDense n k zs → i < k → place ≡ i * row_size n → place + row_size n ≤ length zs
+    → front ≡ take place zs → rest ≡ drop place zs → mid ≡ take (row_size n) rest → back ≡ drop (row_size n) rest → IsSplit n k i zs front mid back
+split_twice n k i place zs front rest mid back dense h at within e f g b = record {
+  whole = rw (e, g, b, f) (sym (ap (λ (ys : List ℤ). take place zs ++ ys) (take-append-drop (row_size n) (drop place zs)) ∙ take-append-drop place zs));
+  parts = record {
+    front_size = ap length e ∙ length-take-le place zs (omega (arith, within)) ∙ at;
+    mid_size = ap length g ∙ length-take-le (row_size n) rest (let long = ap length f ∙ length-drop place zs in omega (arith, within, long));
+    within = h;
+  };
+  dense = dense;
 }
 
--- ---- one row turned
+module _ (n k i : ℕ) (zs front mid back : List ℤ) (s : IsSplit n k i zs front mid back) where
+  rows_split : rows_in n k zs ≡ rows_in n i front ++ row_of_numbers n mid ∷ rows_in n (k - (i + 1)) back
+  rows_split = ap (rows_in n k) s.whole ∙ rows_parts n k i front mid back s.parts
 
-module _ (n k i : ℕ) (zs front mid made back : List ℤ) (whole : zs ≡ front ++ (mid ++ back)) (h : AreParts n k i front mid back) (size : length made ≡ row_size n) where
-  pub row_read : row_at (rows_in n k zs) i ≡ row_of_numbers n mid
-  row_read = ap (λ (xs : List ℤ). row_at (rows_in n k xs) i) whole ∙ row_here n k i front mid back h
+  pub split_read : row_at (rows_in n k zs) i ≡ row_of_numbers n mid
+  split_read =
+      ap (λ (rs : List Row). row_at rs i) rows_split
+      ∙ get_or_at (rows_in n i front) (row_of_numbers n mid) (rows_in n (k - (i + 1)) back) (form_row 0 []) i (length_rows n i front)
 
-  row_written : rows_in n k (front ++ (made ++ back)) ≡ slice_set (rows_in n k zs) i (row_of_numbers n made)
-  row_written = row_set n k i front mid made back h size ∙ ap (λ (xs : List ℤ). slice_set (rows_in n k xs) i (row_of_numbers n made)) (sym whole)
+  pub split_row : IsShortReduced n (row_of_numbers n mid)
+  split_row = subst (IsShortReduced n) split_read (dense_row n k i zs s.dense s.parts.within)
 
-  pub turned_rows : (p : Row) (c : ℕ) → row_of_numbers n made ≡ eliminated p c (row_of_numbers n mid)
-      → rows_in n k (front ++ (made ++ back)) ≡ slice_set (rows_in n k zs) i (eliminated p c (row_at (rows_in n k zs) i))
-  turned_rows p c e = row_written ∙ ap (λ (r : Row). slice_set (rows_in n k zs) i r) (e ∙ ap (eliminated p c) (sym row_read))
+  pub split_front : IsDense n i front
+  split_front = record {
+    size = s.parts.front_size;
+    rows = All-same (IsShortReduced n) _ _
+        (sym (ap (take i) rows_split ∙ take_at (rows_in n i front) (row_of_numbers n mid ∷ rows_in n (k - (i + 1)) back) i (length_rows n i front)))
+        (All-take (IsShortReduced n) i (rows_in n k zs) s.dense.rows);
+  }
 
-  same_size : length (front ++ (made ++ back)) ≡ length zs
-  same_size =
-      length-append front (made ++ back) ∙ ap (λ j. length front + j) (length-append made back ∙ ap (λ j. j + length back) (size ∙ sym h.mid_size))
-      ∙ sym (ap length whole ∙ length-append front (mid ++ back) ∙ ap (λ j. length front + j) (length-append mid back))
+  lengths : length front + (length mid + length back) ≡ length zs
+  lengths = sym (ap length s.whole ∙ length-append front (mid ++ back) ∙ ap (λ j. length front + j) (length-append mid back))
 
-  pub turned_dense : IsDense n k zs → IsShortReduced n (row_of_numbers n made) → IsDense n k (front ++ (made ++ back))
-  turned_dense dense row = dense_set n k i zs (front ++ (made ++ back)) (row_of_numbers n made) dense same_size row_written row
+  pub split_back : IsDense n (k - (i + 1)) back
+  split_back = record {
+    size = back_size (row_size n) (length front) (length mid) (length back) i k (lengths ∙ s.dense.size) s.parts.front_size s.parts.mid_size s.parts.within;
+    rows = All-same (IsShortReduced n) _ _
+        (sym (ap (drop (i + 1)) rows_split ∙ back_of (rows_in n i front) (rows_in n (k - (i + 1)) back) (row_of_numbers n mid) i (length_rows n i front)))
+        (All-drop (IsShortReduced n) (i + 1) (rows_in n k zs) s.dense.rows);
+  }
 
-pub row_short : (n k i : ℕ) (zs front mid back : List ℤ) → zs ≡ front ++ (mid ++ back) → AreParts n k i front mid back → IsDense n k zs → IsShortReduced n (row_of_numbers n mid)
-row_short n k i zs front mid back whole h dense =
-    subst (IsShortReduced n) (row_here n k i front mid back h) (dense_row n k i (front ++ (mid ++ back)) (subst (IsDense n k) whole dense) h.within)
+  -- the row is written anew
+  module _ (made : List ℤ) (size : length made ≡ length mid) where
+    pub split_set : rows_in n k (front ++ (made ++ back)) ≡ slice_set (rows_in n k zs) i (row_of_numbers n made)
+    split_set =
+        rows_parts n k i front made back (record { front_size = s.parts.front_size; mid_size = size ∙ s.parts.mid_size; within = s.parts.within })
+        ∙ sym (ap (λ (rs : List Row). slice_set rs i (row_of_numbers n made)) rows_split
+        ∙ set_at (rows_in n i front) (row_of_numbers n mid) (rows_in n (k - (i + 1)) back) (row_of_numbers n made) i (length_rows n i front))
+
+    pub split_turned : (f : Row → Row) → row_of_numbers n made ≡ f (row_of_numbers n mid) → rows_in n k (front ++ (made ++ back)) ≡ slice_set (rows_in n k zs) i (f (row_at (rows_in n k zs) i))
+    split_turned f e = split_set ∙ ap (slice_set (rows_in n k zs) i) (e ∙ ap f (sym split_read))
+
+    pub split_dense : IsShortReduced n (row_of_numbers n made) → IsDense n k (front ++ (made ++ back))
+    split_dense row = record {
+      size = length-append front (made ++ back) ∙ ap (λ j. length front + j) (length-append made back ∙ ap (λ j. j + length back) size) ∙ lengths ∙ s.dense.size;
+      rows = All-same (IsShortReduced n) _ _ split_set (All-set (IsShortReduced n) (rows_in n k zs) i (row_of_numbers n made) row s.dense.rows);
+    }
 
 pub mapped_all : (f : Row → Row) (old : List Row) (i : ℕ) → length old ≤ i → mapped f i old ≡ map f old
 mapped_all f old i h = rw (take_all i old h, drop_all i old h) (append-nil (map f old))
@@ -154,38 +153,60 @@ pivot_sides A B p r c n e f g =
     rw (at, map-append (eliminated p c) A (p ∷ B), none, f)
     (set_at (map (eliminated p c) A) (eliminated p c p) (map (eliminated p c) B) (unit_row n 0 c) r (simp length-map e))
 
--- the numbers that a pivot makes in front of row r, of it and behind it
-pub pivot_made : (n k r c : ℕ) (front mid back front_now made back_now : List ℤ) → AreParts n k r front mid back → IsDense n k (front ++ (mid ++ back))
-    → length front_now ≡ length front → length made ≡ row_size n
-    → rows_in n r front_now ≡ map (eliminated (row_of_numbers n mid) c) (rows_in n r front)
-    → row_of_numbers n made ≡ unit_row n 0 c
-    → rows_in n (k - (r + 1)) back_now ≡ map (eliminated (row_of_numbers n mid) c) (rows_in n (k - (r + 1)) back)
-    → rows_in n k (front_now ++ (made ++ back_now)) ≡ pivot (rows_in n k (front ++ (mid ++ back))) r c
-pivot_made n k r c front mid back front_now made back_now h dense same size e f g =
-    let now : AreParts n k r front_now made back_now = record { front_size = same ∙ h.front_size; mid_size = size; within = h.within } in
-    let p = subst (IsShortReduced n) (row_here n k r front mid back h) (dense_row n k r (front ++ (mid ++ back)) dense h.within) in
-    rows_parts n k r front_now made back_now now
-    ∙ rw (e, f, g) refl
-    ∙ sym (ap (λ (rs : List Row). pivot rs r c) (rows_parts n k r front mid back h)
-    ∙ pivot_sides (rows_in n r front) (rows_in n (k - (r + 1)) back) (row_of_numbers n mid) r c n (length_rows n r front) p.row.coefs p.row.constant)
+made_size : (l f m b i k : ℕ) → f ≡ i * l → m ≡ l → b ≡ (k - (i + 1)) * l → i < k → f + (m + b) ≡ k * l
+made_size l f m b i k e g h lt =
+    let whole : k ≡ suc i + (k - (i + 1)) = omega (arith, lt) in
+    let parts : k * l ≡ suc i * l + (k - (i + 1)) * l = ap (λ j. j * l) whole ∙ add-mul (suc i) (k - (i + 1)) l in
+    omega (arith, e, g, h, parts, one_more i l)
 
--- a number that is not short, in a row that a pivot makes in front of row r or behind it
-pub pivot_long : (n k r c : ℕ) (front mid back : List ℤ) → AreParts n k r front mid back → IsDense n k (front ++ (mid ++ back))
-    → (list_all is_short_row (map (eliminated (row_of_numbers n mid) c) (rows_in n r front)) && list_all is_short_row (map (eliminated (row_of_numbers n mid) c) (rows_in n (k - (r + 1)) back))) ≡ false
-    → list_all is_short_row (pivot (rows_in n k (front ++ (mid ++ back))) r c) ≡ false
-pivot_long n k r c front mid back h dense long =
-    let p = subst (IsShortReduced n) (row_here n k r front mid back h) (dense_row n k r (front ++ (mid ++ back)) dense h.within) in
-    let before = map (eliminated (row_of_numbers n mid) c) (rows_in n r front) in
-    let behind = map (eliminated (row_of_numbers n mid) c) (rows_in n (k - (r + 1)) back) in
-    ap (list_all is_short_row)
-    (ap (λ (rs : List Row). pivot rs r c) (rows_parts n k r front mid back h)
-    ∙ pivot_sides (rows_in n r front) (rows_in n (k - (r + 1)) back) (row_of_numbers n mid) r c n (length_rows n r front) p.row.coefs p.row.constant)
-    ∙ list_all-append is_short_row before (unit_row n 0 c ∷ behind)
-    ∙ sides (list_all is_short_row before) (is_short_row (unit_row n 0 c)) (list_all is_short_row behind) long
-  where
-    sides : (x y z : Bool) → (x && z) ≡ false → (x && (y && z)) ≡ false
-    sides false y z e = refl
-    sides true y z e = rw e (and-false y)
+pub dense_made : (n k i : ℕ) (front mid back : List ℤ) → AreParts n k i front mid back → IsDense n i front → IsShortReduced n (row_of_numbers n mid) → IsDense n (k - (i + 1)) back → IsDense n k (front ++ (mid ++ back))
+dense_made n k i front mid back h one row two = record {
+  size = length-append front (mid ++ back) ∙ ap (λ j. length front + j) (length-append mid back) ∙ made_size (row_size n) (length front) (length mid) (length back) i k h.front_size h.mid_size two.size h.within;
+  rows = All-same (IsShortReduced n) _ _ (rows_parts n k i front mid back h)
+      (All-append (IsShortReduced n) (rows_in n i front) (row_of_numbers n mid ∷ rows_in n (k - (i + 1)) back) one.rows (All-cons (IsShortReduced n) (row_of_numbers n mid) (rows_in n (k - (i + 1)) back) row two.rows));
+}
+
+pub not_turned : (n k : ℕ) (rs : List Row) (zs : List ℤ) → list_all is_short_row rs ≡ false → AreTurned n k rs false zs
+not_turned n k rs zs long = record { dense = λ all. cc; rows = λ all. cc; long = λ none. long }
+
+-- the numbers that a pivot makes in front of row r, of it and behind it
+module _ (n k r c : ℕ) (zs front mid back : List ℤ) (s : IsSplit n k r zs front mid back) where
+  pub split_pivot : IsCandidate n (row_at (rows_in n k zs) r) c → IsPivot n (row_of_numbers n mid) c
+  split_pivot h = record { row = split_row n k r zs front mid back s; candidate = subst (λ (q : Row). IsCandidate n q c) (split_read n k r zs front mid back s) h }
+
+  abbrev before : List Row
+  before = map (eliminated (row_of_numbers n mid) c) (rows_in n r front)
+
+  abbrev behind : List Row
+  behind = map (eliminated (row_of_numbers n mid) c) (rows_in n (k - (r + 1)) back)
+
+  pivot_is : pivot (rows_in n k zs) r c ≡ before ++ unit_row n 0 c ∷ behind
+  pivot_is =
+      let row = split_row n k r zs front mid back s in
+      ap (λ (rs : List Row). pivot rs r c) (rows_split n k r zs front mid back s)
+      ∙ pivot_sides (rows_in n r front) (rows_in n (k - (r + 1)) back) (row_of_numbers n mid) r c n (length_rows n r front) row.row.coefs row.row.constant
+
+  pub pivot_made : (front_now made back_now : List ℤ) (x y : Bool) → length made ≡ length mid → IsShortReduced n (unit_row n 0 c) → row_of_numbers n made ≡ unit_row n 0 c
+      → AreTurned n r before x front_now → IsTrue x → AreTurned n (k - (r + 1)) behind y back_now → IsTrue y → AreTurned n k (pivot (rows_in n k zs) r c) true (front_now ++ (made ++ back_now))
+  pivot_made front_now made back_now x y size unit is_unit one all_one two all_two =
+      let first = one.dense all_one in
+      let second = two.dense all_two in
+      let parts : AreParts n k r front_now made back_now = record { front_size = first.size; mid_size = size ∙ s.parts.mid_size; within = s.parts.within } in
+      record {
+        dense = λ all. dense_made n k r front_now made back_now parts first (subst (IsShortReduced n) (sym is_unit) unit) second;
+        rows = λ all. rows_parts n k r front_now made back_now parts ∙ rw (one.rows all_one, is_unit, two.rows all_two) (sym pivot_is);
+        long = λ none. cc;
+      }
+
+  -- a number is not short in a row in front of row r or behind it
+  pub long_before : (now : List ℤ) → list_all is_short_row before ≡ false → AreTurned n k (pivot (rows_in n k zs) r c) false now
+  long_before now long = not_turned n k (pivot (rows_in n k zs) r c) now (ap (list_all is_short_row) pivot_is ∙ list_all-append is_short_row before (unit_row n 0 c ∷ behind) ∙ rw long refl)
+
+  pub long_behind : (now : List ℤ) → list_all is_short_row behind ≡ false → AreTurned n k (pivot (rows_in n k zs) r c) false now
+  long_behind now long =
+      not_turned n k (pivot (rows_in n k zs) r c) now
+      (ap (list_all is_short_row) pivot_is ∙ list_all-append is_short_row before (unit_row n 0 c ∷ behind)
+      ∙ rw (long, and-false (is_short_row (unit_row n 0 c))) (and-false (list_all is_short_row before)))
 
 -- ---- one row more
 
@@ -204,33 +225,6 @@ dense_push n k zs now r e dense h = rw e (record {
   size = length-append zs (numbers_of r) ∙ let whole = add-mul k 1 (row_size n) in omega (arith, dense.size, push_size n r h, whole);
   rows = All-same (IsShortReduced n) _ _ (pushed_rows n k zs r dense.size h) (All-push (IsShortReduced n) _ _ dense.rows h);
 })
-
--- ---- lists in two parts
-
-pub halves : (i : ℕ) (xs front back : List ℤ) → front ≡ take i xs → back ≡ drop i xs → xs ≡ front ++ back
-halves i xs front back e f = rw (e, f) (sym (take-append-drop i xs))
-
-pub halves_twice : (i j : ℕ) (xs front rest mid back : List ℤ) → front ≡ take i xs → rest ≡ drop i xs → mid ≡ take j rest → back ≡ drop j rest → xs ≡ front ++ (mid ++ back)
-halves_twice i j xs front rest mid back e f g h = halves i xs front rest e f ∙ ap (λ (zs : List ℤ). front ++ zs) (halves j rest mid back g h)
-
--- ---- parts that were made
-
-made_size : (l f m b i k : ℕ) → f ≡ i * l → m ≡ l → b ≡ (k - (i + 1)) * l → i < k → f + (m + b) ≡ k * l
-made_size l f m b i k e g h lt =
-    let whole : k ≡ suc i + (k - (i + 1)) = omega (arith, lt) in
-    let parts : k * l ≡ suc i * l + (k - (i + 1)) * l = ap (λ j. j * l) whole ∙ add-mul (suc i) (k - (i + 1)) l in
-    omega (arith, e, g, h, parts, one_more i l)
-
-pub dense_made : (n k i : ℕ) (front mid back : List ℤ) → AreParts n k i front mid back → IsDense n i front → IsShortReduced n (row_of_numbers n mid) → IsDense n (k - (i + 1)) back → IsDense n k (front ++ (mid ++ back))
-dense_made n k i front mid back h one row two = record {
-  size = length-append front (mid ++ back) ∙ ap (λ j. length front + j) (length-append mid back) ∙ made_size (row_size n) (length front) (length mid) (length back) i k h.front_size h.mid_size two.size h.within;
-  rows = All-same (IsShortReduced n) _ _ (rows_parts n k i front mid back h)
-      (All-append (IsShortReduced n) (rows_in n i front) (row_of_numbers n mid ∷ rows_in n (k - (i + 1)) back) one.rows (All-cons (IsShortReduced n) (row_of_numbers n mid) (rows_in n (k - (i + 1)) back) row two.rows));
-}
-
--- no rows
-pub dense_none : (n : ℕ) → IsDense n 0 []
-dense_none n = record { size = omega arith; rows = All-nil (IsShortReduced n) }
 
 -- ---- a tableau with one row more
 

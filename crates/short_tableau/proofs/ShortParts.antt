@@ -1,7 +1,7 @@
 -- A short row with another put in.
-use Rattle.std.proofs.Common.{◌≡◌, refl, sym, ◌∙◌, subst, ℕ, zero, suc, ◌+◌, ◌<◌, ◌^◌, ℤ, pos, ◌≤ℤ◌, List, [], ◌∷◌, ◌++◌, length, replicate, unsigned_abs, arith, length-set, ◌*ℤ◌, negsuc}
+use Rattle.std.proofs.Common.{◌≡◌, true, false, refl, ap, sym, ◌∙◌, subst, ℕ, zero, suc, ◌+◌, ◌<◌, ◌^◌, ℤ, pos, ◌≤ℤ◌, List, [], ◌∷◌, ◌++◌, length, replicate, unsigned_abs, arith, length-set, ◌*ℤ◌, negsuc}
 use Rattle.std.proofs.lemmas.Int.{ints}
-use Rattle.std.specs.Prelude.{slice_set, slice_index_or}
+use Rattle.std.specs.Prelude.{slice_set, slice_index_or, Some, None}
 use Rattle.std.proofs.lemmas.Bool.{lt-ltb}
 use Rattle.std.proofs.lemmas.List.{take_at, drop_at, length-map}
 use Rattle.std.proofs.lemmas.List.Elements.{All-set, All-replicate}
@@ -18,7 +18,8 @@ use Rattle.tableau.proofs.ShortRows.{fits_short}
 use Rattle.tableau.proofs.Contents.{content-one}
 use Rattle.tableau.proofs.Flat.{unit_fits}
 use Rattle.tableau.proofs.Substituting.{eliminated_none, eliminated_reduced}
-use Rattle.short_tableau.specs.Dense.{IsShortReduced}
+use Rattle.short_tableau.specs.Dense.{IsShortReduced, IsPivot}
+use Rattle.short_tableau.specs.Turned.{is_short_row, IsDenominatorOf, IsTurned}
 
 short_fit : (z : ℤ) → IsShort z → Fits z
 short_fit z h = lt-ltb (unsigned_abs z) (2 ^ 127) (omega (arith, h))
@@ -70,12 +71,12 @@ eliminated_constant w c p r hp hr =
     length-map (substituted p c r).constant _
     ∙ length-combine (entry p.coefs c) r.constant (entry r.coefs c) p.constant (hr ∙ sym hp) ∙ hr
 
-pub turned_row : (n c : ℕ) (p r made : Row) → IsShortReduced n p → IsShortReduced n r → pos 1 ≤ℤ entry p.coefs c → made ≡ eliminated p c r → IsShortRow made → IsShortReduced n made
-turned_row n c p r made hp hr h e short =
-    let positive = divided_positive (substituted p c r) (product_positive r.den (entry p.coefs c) hr.row.positive h) in
+turned_row : (n c : ℕ) (p r made : Row) → IsPivot n p c → IsShortReduced n r → made ≡ eliminated p c r → IsShortRow made → IsShortReduced n made
+turned_row n c p r made hp hr e short =
+    let positive = divided_positive (substituted p c r) (product_positive r.den (entry p.coefs c) hr.row.positive hp.candidate.positive) in
     subst (IsShortReduced n) (sym e) (record {
-      row = short_row n 0 (eliminated p c r) positive (eliminated_coefs n c p r hp.row.coefs hr.row.coefs) (eliminated_constant 1 c p r hp.row.constant hr.row.constant) (subst IsShortRow e short);
-      reduced = eliminated_reduced n 0 c p r hr.row h;
+      row = short_row n 0 (eliminated p c r) positive (eliminated_coefs n c p r hp.row.row.coefs hr.row.coefs) (eliminated_constant 1 c p r hp.row.row.constant hr.row.constant) (subst IsShortRow e short);
+      reduced = eliminated_reduced n 0 c p r hr.row hp.candidate.positive;
       short = subst IsShortRow e short;
     })
 
@@ -86,8 +87,49 @@ pub substituted_made : (p : Row) (c : ℕ) (r : Row) (den z : ℤ) (coefs consta
 substituted_made p c r den z coefs constant e f g h = rw (e, f, g, h) refl
 
 -- a row that is 0 in the column stays
-pub stays : (n c : ℕ) (p r : Row) → IsShortReduced n p → IsShortReduced n r → pos 1 ≤ℤ entry p.coefs c → entry r.coefs c ≡ pos 0 → r ≡ eliminated p c r
-stays n c p r hp hr h zero_at = eliminated_none n 0 p c r hp.row hr.row h zero_at hr.reduced
+pub stays : (n c : ℕ) (p r : Row) → IsPivot n p c → IsShortReduced n r → entry r.coefs c ≡ pos 0 → r ≡ eliminated p c r
+stays n c p r hp hr zero_at = eliminated_none n 0 p c r hp.row.row hr.row hp.candidate.positive zero_at hr.reduced
+
+-- a row by its denominator, coefficients and constant form
+module _ (n c : ℕ) (p : Row) (old front rest coefs constant : List ℤ) (hp : IsPivot n p c) (hr : IsShortReduced n (row_of_numbers n old))
+    (e : old ≡ front ++ rest) (f : rest ≡ coefs ++ constant) (one : length front ≡ 1) (long : length coefs ≡ n) where
+  split : row_of_numbers n old ≡ row_from (slice_index_or front 0 (pos 0)) coefs constant
+  split = row_split n old front rest coefs constant e f one long
+
+  pub parts_row : IsShortReduced (length coefs) (row_from (slice_index_or front 0 (pos 0)) coefs constant)
+  parts_row = subst (λ (k : ℕ). IsShortReduced k (row_from (slice_index_or front 0 (pos 0)) coefs constant)) (sym long) (subst (IsShortReduced n) split hr)
+
+  pub parts_pivot : IsPivot (length coefs) p c
+  parts_pivot = subst (λ (k : ℕ). IsPivot k p c) (sym long) hp
+
+  pub parts_stay : entry coefs c ≡ pos 0 → IsTurned n (eliminated p c (row_of_numbers n old)) true (front ++ (coefs ++ constant))
+  parts_stay zero_at =
+      let same : front ++ (coefs ++ constant) ≡ old = sym (e ∙ ap (λ (zs : List ℤ). front ++ zs) f) in
+      record {
+        value = λ all. ap (row_of_numbers n) same ∙ stays n c p (row_of_numbers n old) hp hr (ap (λ (r : Row). entry r.coefs c) split ∙ zero_at);
+        row = λ all. subst (λ (zs : List ℤ). IsShortReduced n (row_of_numbers n zs)) (sym same) hr;
+        long = λ none. cc;
+      }
+
+  pub parts_turned : (d : ℤ) (coefs_now constant_now : List ℤ) → length coefs_now ≡ length coefs
+      → IsDenominatorOf (eliminated p c (row_from (slice_index_or front 0 (pos 0)) coefs constant)) coefs_now constant_now (Some d)
+      → IsTurned n (eliminated p c (row_of_numbers n old)) true (slice_set front 0 d ++ (coefs_now ++ constant_now))
+  parts_turned d coefs_now constant_now size h =
+      let join = row_join n front coefs_now constant_now d one (size ∙ long) in
+      let value = join ∙ h.value ∙ ap (eliminated p c) (sym split) in
+      record {
+        value = λ all. value;
+        row = λ all. turned_row n c p (row_of_numbers n old) _ hp hr value (subst IsShortRow (sym join) h.short);
+        long = λ none. cc;
+      }
+
+  pub parts_long : (coefs_now constant_now zs : List ℤ) → IsDenominatorOf (eliminated p c (row_from (slice_index_or front 0 (pos 0)) coefs constant)) coefs_now constant_now None
+      → IsTurned n (eliminated p c (row_of_numbers n old)) false zs
+  parts_long coefs_now constant_now zs h = record {
+    value = λ all. cc;
+    row = λ all. cc;
+    long = λ none. ap (λ (r : Row). is_short_row (eliminated p c r)) split ∙ h.long;
+  }
 
 -- ---- the row of a column
 

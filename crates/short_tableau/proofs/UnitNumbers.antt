@@ -35,9 +35,6 @@ unit_numbers n c zs e h =
 
 -- ---- one number more
 
-pub appended_step : (old now xs : List ℤ) (i : ℕ) (y d : ℤ) → i < length xs → now ≡ old ++ take i xs → y ≡ get_or xs i d → now ++ y ∷ [] ≡ old ++ take (i + 1) xs
-appended_step old now xs i y d h e g = rw (e, g, take_more xs i d h) (append_assoc old (take i xs) (get_or xs i d ∷ []))
-
 pub short_step : (xs : List ℤ) (i : ℕ) (y d : ℤ) → i < length xs → All IsShort (take i xs) → y ≡ get_or xs i d → IsShort y → All IsShort (take (i + 1) xs)
 short_step xs i y d h all e short = rw (take_more xs i d h) (All-push IsShort (take i xs) (get_or xs i d) all (subst IsShort e short))
 
@@ -54,17 +51,6 @@ module _ (n : ℕ) (c : List ℤ) (some : 1 ≤ length c) (narrow : length c ≤
   form_numbers =
       ap (λ (zs : List ℤ). pos 1 ∷ zs) (take-append-drop n (widen_to n c))
       ∙ rw (is_front, is_last, last_part c some) refl
-
-  pub form_pushed : (old one two three four : List ℤ) (size : ℕ) → one ≡ old ++ pos 1 ∷ [] → two ≡ one ++ front → size ≡ length old + (n + 1)
-      → three ≡ take size two ++ replicate (size - length two) (pos 0) → four ≡ three ++ last → four ≡ old ++ numbers_of (form_row n (widen_to n c))
-  form_pushed old one two three four size e f s g h =
-      let wide : length front ≡ width c = ap length is_front ∙ length-take-le (length c - 1) c (omega arith) in
-      let long : length two ≡ length old + 1 + width c = ap length f ∙ length-append one front ∙ omega (arith, wide, ap length e ∙ length-append old (pos 1 ∷ [])) in
-      let rest : size - length two ≡ n - width c = omega (arith, s, long, some, narrow) in
-      let all : take size two ≡ two = take_all size two (omega (arith, s, long, some, narrow)) in
-      rw (form_numbers, h, g, rest, all, f, e)
-      (ap (λ (zs : List ℤ). zs ++ last) (append_assoc (old ++ pos 1 ∷ []) front zeros ∙ append_assoc old (pos 1 ∷ []) (front ++ zeros))
-      ∙ append_assoc old (pos 1 ∷ (front ++ zeros)) last)
 
   pub form_short : All IsShort front → All IsShort last → IsShortRow (form_row n (widen_to n c))
   form_short a b =
@@ -99,9 +85,6 @@ written_step xs old now i y h e is g =
     ∙ set_at front (get_or old i (pos 0)) (drop (i + 1) old) y i long
     ∙ sym (append_assoc front (y ∷ []) (drop (i + 1) old))
     ∙ ap (λ (zs : List ℤ). zs ++ drop (i + 1) old) (sym (take_more xs i (pos 0) h ∙ ap (λ (z : ℤ). front ++ z ∷ []) (sym g)))
-
-pub written_all : (xs old now : List ℤ) (i : ℕ) → length xs ≤ i → length old ≡ length xs → now ≡ take i xs ++ drop i old → now ≡ xs
-written_all xs old now i h e is = is ∙ rw (take_all i xs h, drop_all i old (omega (arith, h, e))) (append-nil xs)
 
 rest_zeros : (n k : ℕ) (row rest front back : List ℤ) → row ≡ replicate (n + 2) (pos 0) → rest ≡ drop 1 row → front ≡ take n rest → back ≡ drop k front → back ≡ replicate (n - k) (pos 0)
 rest_zeros n k row rest front back e f g h =

@@ -1,37 +1,50 @@
 -- A row that a pivot's row is put into, as far as its numbers are made.
-use Rattle.std.specs.Prelude.{ℕ, ℤ, pos, ◌≤◌, ◌≤ℤ◌, Bool, List, ◌++◌, ◌&&◌, length, take, drop, slice_set, All}
-use Rattle.std.specs.List.{list_all}
-use Rattle.pip_model.specs.Forms.{combine}
+use Rattle.std.specs.Prelude.{◌≡◌, ℕ, ℤ, pos, ◌<◌, ◌≤◌, List, ◌++◌, length, take, drop, slice_set}
+use Rattle.pip_model.specs.Forms.{combine, entry}
+use Rattle.pip_model.specs.Numbers.{gcd, gcd_of}
 use Rattle.pip_model.specs.Rows.{Row}
 use Rattle.affine_forms.specs.Checks.{Fits}
-use Rattle.tableau.specs.Short.{is_short, IsShort}
+use Rattle.tableau.specs.Short.{IsShort}
 use Rattle.tableau.specs.Tableaus.{row_from}
+use Rattle.short_tableau.specs.Terms.{AreTerms, IsDivisor}
 use Rattle.short_tableau.specs.declared.begun.Begun.{Begun}
+use Rattle.short_tableau.specs.declared.begun.Ends.{Ends}
 
 -- the entries of a*r - b*s, of which those in front of place k stand in r already
 abbrev pub finished : ℤ → List ℤ → ℤ → List ℤ → ℕ → List ℤ
 finished a r b s k = take k r ++ combine a (drop k r) b (drop k s)
 
--- the row with p put in that is begun over these numbers, column c being the pivot's
-abbrev pub begun_row : Begun → Row → ℕ → List ℤ → List ℤ → Row
-begun_row w p c coefs constant =
-    row_from w.den
-    (slice_set (finished w.by.of_row coefs w.by.of_pivot p.coefs w.coefs) c w.entry)
-    (finished w.by.of_row constant w.by.of_pivot p.constant w.constant)
+-- the coefficients, but that in the column, and the constant form of a row with p put in that is begun over these numbers
+abbrev pub begun_coefs : Begun → Row → List ℤ → List ℤ
+begun_coefs w p coefs = finished w.by.of_row coefs w.by.of_pivot p.coefs w.coefs
 
--- a row that is begun over these numbers, which are short: as many of them are made as there are at most, and its
--- denominator is at least 1
-pub record IsBegun (w : Begun) (coefs constant : List ℤ) : Type 0 where
-  pub of_row : IsShort w.by.of_row
-  pub of_pivot : IsShort w.by.of_pivot
-  pub positive : pos 1 ≤ℤ w.den
-  pub den_fits : Fits w.den
+abbrev pub begun_constant : Begun → Row → List ℤ → List ℤ
+begun_constant w p constant = finished w.by.of_row constant w.by.of_pivot p.constant w.constant
+
+-- that row
+abbrev pub begun_row : Begun → Row → List ℤ → List ℤ → Row
+begun_row w p coefs constant = row_from w.den (slice_set (begun_coefs w p coefs) w.column w.entry) (begun_constant w p constant)
+
+-- the greatest common divisor of all its numbers
+abbrev pub begun_divisor : Begun → Row → List ℤ → List ℤ → ℤ
+begun_divisor w p coefs constant = gcd (gcd (gcd w.den w.entry) (gcd_of (begun_coefs w p coefs))) (gcd_of (begun_constant w p constant))
+
+-- a row with p put in that is begun over these numbers: as many of them are made as there are at most
+pub record IsBegun (w : Begun) (p : Row) (coefs constant : List ℤ) : Type 0 where
+  pub den : IsDivisor w.den
   pub entry_fits : Fits w.entry
+  pub column : w.column < length coefs
+  pub coefs_terms : AreTerms w.by.of_row coefs w.by.of_pivot p.coefs
+  pub constant_terms : AreTerms w.by.of_row constant w.by.of_pivot p.constant
   pub coefs_made : w.coefs ≤ length coefs
   pub constant_made : w.constant ≤ length constant
-  pub coefs_short : All IsShort coefs
-  pub constant_short : All IsShort constant
+  pub zero : entry (begun_coefs w p coefs) w.column ≡ pos 0
 
--- whether all numbers of a row are short
-abbrev pub is_short_row : Row → Bool
-is_short_row r = is_short r.den && (list_all is_short r.coefs && list_all is_short r.constant)
+-- the denominator and the entry in the column of a row whose numbers, so many, are all made
+pub record AreEnds (w : Begun) (coefs constant : ℕ) (ends : Ends) : Type 0 where
+  pub den : ends.den ≡ w.den
+  pub entry : ends.entry ≡ w.entry
+  pub den_short : IsShort ends.den
+  pub entry_short : IsShort ends.entry
+  pub coefs_made : coefs ≤ w.coefs
+  pub constant_made : constant ≤ w.constant

@@ -1,6 +1,7 @@
 -- Rows number after number, each of as many.
 use Rattle.std.specs.Prelude.{◌≡◌, ℕ, zero, suc, ◌+◌, ◌*◌, ℤ, List, [], ◌∷◌, length, take, drop, All}
 use Rattle.pip_model.specs.Rows.{Row}
+use Rattle.dual_pivot.specs.Choices.{IsCandidate}
 use Rattle.tableau.specs.Flat.{row_of_numbers}
 use Rattle.tableau.specs.Short.{IsShortRow}
 use Rattle.tableau.specs.Tableaus.{IsRow, IsReduced}
@@ -19,6 +20,11 @@ pub record IsShortReduced (n : ℕ) (r : Row) : Type 0 where
   pub row : IsRow n 0 r
   pub reduced : IsReduced r
   pub short : IsShortRow r
+
+-- such a row that is positive in column c
+pub record IsPivot (n : ℕ) (p : Row) (c : ℕ) : Type 0 where
+  pub row : IsShortReduced n p
+  pub candidate : IsCandidate n p c
 
 -- these are the numbers of k such rows
 pub record IsDense (n k : ℕ) (zs : List ℤ) : Type 0 where

@@ -2,3 +2,5 @@ pub mod Begun
 pub mod Below
 pub mod Dense
 pub mod Rows
+pub mod Terms
+pub mod Turned

@@ -1,11 +1,10 @@
-ghost use Rattle.std.specs.Prelude.{◌≡◌, ◌-◌, ◌<◌, ◌≤◌, pos, ◌≤ℤ◌, false, length, IfSome, IfNone};
-ghost use Rattle.pip_model.specs.Forms.{entry};
-ghost use Rattle.pip_model.specs.Numbers.{gcd as gcd_of_two, gcd_of};
+ghost use Rattle.std.specs.Prelude.{◌≡◌, pos, ◌≤ℤ◌, length, IfSome};
 ghost use Rattle.pip_model.specs.Rows as model;
-ghost use Rattle.tableau.specs.Short.{IsShort, IsShortRow};
-ghost use Rattle.tableau.specs.Tableaus.{IsRow, IsOwnRow, row_from};
-ghost use Rattle.short_tableau.specs.Begun.{finished, begun_row, is_short_row, IsBegun};
+ghost use Rattle.tableau.specs.Tableaus.{row_from};
+ghost use Rattle.short_tableau.specs.Begun.{begun_row, begun_divisor, IsBegun, AreEnds};
+ghost use Rattle.short_tableau.specs.Dense.{IsShortReduced, IsPivot};
 ghost use Rattle.short_tableau.specs.Rows.{row_of};
+ghost use Rattle.short_tableau.specs.Turned.{IsDenominatorOf};
 
 use crate::numbers::{combine, narrow, product};
 use crate::row::ShortRow;
@@ -18,6 +17,7 @@ use affine_forms::gcd;
 #[derive(Clone, Copy)]
 pub(crate) struct Begun {
     pub by: Factors,
+    pub column: usize,
     pub den: i128,
     pub entry: i128,
     pub coefs: usize,
@@ -32,19 +32,11 @@ pub(crate) fn begin(
     coefs: &mut [i64],
     constant: &mut [i64],
 ) -> Begun
-    requires p { IsRow (length coefs.old) (length constant.old - 1) (row_of p.now) }
-    requires row { IsOwnRow (row_from den coefs.old constant.old) }
-    requires column { c < length coefs.old }
-    requires positive { pos 1 ≤ℤ entry p.now.coefs.now c }
-    requires p_short { IsShortRow (row_of p.now) }
-    requires row_short { IsShortRow (row_from den coefs.old constant.old) }
-    ensures value { begun_row result (row_of p.now) c coefs.new constant.new
+    requires pivot { IsPivot (length coefs.old) (row_of p.now) c }
+    requires row { IsShortReduced (length coefs.old) (row_from den coefs.old constant.old) }
+    ensures value { begun_row result (row_of p.now) coefs.new constant.new
         ≡ model.substituted (row_of p.now) c (row_from den coefs.old constant.old) }
-    ensures zero { entry (finished result.by.of_row coefs.new result.by.of_pivot p.now.coefs.now result.coefs) c
-        ≡ pos 0 }
-    ensures begun { IsBegun result coefs.new constant.new }
-    ensures coefs { length coefs.new ≡ length coefs.old }
-    ensures constant { length constant.new ≡ length constant.old }
+    ensures begun { IsBegun result (row_of p.now) coefs.new constant.new }
 {
     let by = Factors {
         of_row: p.coefs[c],
@@ -52,6 +44,7 @@ pub(crate) fn begin(
     };
     Begun {
         by,
+        column: c,
         den: product(den, by.of_row),
         entry: product(by.of_pivot, p.den),
         coefs: combine(by.of_row, coefs, by.of_pivot, p.coefs),
@@ -59,31 +52,30 @@ pub(crate) fn begin(
     }
 }
 
+// The denominator of a row, and its entry in a column.
+#[derive(Clone, Copy)]
+pub(crate) struct Ends {
+    pub den: i64,
+    pub entry: i64,
+}
+
 // The denominator and the entry in the column, where they are short and all other numbers are made.
-pub(crate) fn short_ends(begun: &Begun, coefs: usize, constant: usize) -> Option<(i64, i64)>
-    ensures den { IfSome result (λ x. x.0 ≡ begun.now.den) }
-    ensures entry { IfSome result (λ x. x.1 ≡ begun.now.entry) }
-    ensures den_short { IfSome result (λ x. IsShort x.0) }
-    ensures entry_short { IfSome result (λ x. IsShort x.1) }
-    ensures coefs { IfSome result (λ x. coefs ≤ begun.now.coefs) }
-    ensures constant { IfSome result (λ x. constant ≤ begun.now.constant) }
+pub(crate) fn short_ends(begun: &Begun, coefs: usize, constant: usize) -> Option<Ends>
+    ensures { IfSome result (AreEnds begun.now coefs constant) }
 {
     if begun.coefs < coefs || begun.constant < constant {
         return None;
     }
-    Some((narrow(begun.den)?, narrow(begun.entry)?))
+    Some(Ends {
+        den: narrow(begun.den)?,
+        entry: narrow(begun.entry)?,
+    })
 }
 
 // The greatest common divisor of all numbers of the row.
 fn divisor(p: &ShortRow<'_>, begun: &Begun, coefs: &[i64], constant: &[i64]) -> i128
-    requires coefs { length coefs.now ≡ length p.now.coefs.now }
-    requires constant { length constant.now ≡ length p.now.constant.now }
-    requires p_short { IsShortRow (row_of p.now) }
-    requires begun { IsBegun begun.now coefs.now constant.now }
-    ensures value { result ≡ gcd_of_two (gcd_of_two (gcd_of_two begun.now.den begun.now.entry)
-        (gcd_of (finished begun.now.by.of_row coefs.now begun.now.by.of_pivot p.now.coefs.now begun.now.coefs)))
-        (gcd_of (finished begun.now.by.of_row constant.now begun.now.by.of_pivot p.now.constant.now
-        begun.now.constant)) }
+    requires { IsBegun begun.now (row_of p.now) coefs.now constant.now }
+    ensures value { result ≡ begun_divisor begun.now (row_of p.now) coefs.now constant.now }
     ensures positive { pos 1 ≤ℤ result }
 {
     let first = gcd(begun.den, begun.entry);
@@ -95,25 +87,13 @@ fn divisor(p: &ShortRow<'_>, begun: &Begun, coefs: &[i64], constant: &[i64]) -> 
 // a number is not short then.
 pub(crate) fn finish(
     p: &ShortRow<'_>,
-    c: usize,
     begun: &Begun,
     coefs: &mut [i64],
     constant: &mut [i64],
 ) -> Option<i64>
-    requires coefs { length coefs.old ≡ length p.now.coefs.now }
-    requires constant { length constant.old ≡ length p.now.constant.now }
-    requires column { c < length coefs.old }
-    requires zero { entry
-        (finished begun.now.by.of_row coefs.old begun.now.by.of_pivot p.now.coefs.now begun.now.coefs) c ≡ pos 0 }
-    requires p_short { IsShortRow (row_of p.now) }
-    requires begun { IsBegun begun.now coefs.old constant.old }
-    ensures value { IfSome result (λ d. row_from d coefs.new constant.new
-        ≡ model.divided (begun_row begun.now (row_of p.now) c coefs.old constant.old)) }
-    ensures short { IfSome result (λ d. IsShortRow (row_from d coefs.new constant.new)) }
-    ensures long { IfNone result
-        (is_short_row (model.divided (begun_row begun.now (row_of p.now) c coefs.old constant.old)) ≡ false) }
-    ensures coefs { length coefs.new ≡ length coefs.old }
-    ensures constant { length constant.new ≡ length constant.old }
+    requires { IsBegun begun.now (row_of p.now) coefs.old constant.old }
+    ensures { IsDenominatorOf (model.divided (begun_row begun.now (row_of p.now) coefs.old constant.old))
+        coefs.new constant.new result }
 {
     let divisor = divisor(p, begun, coefs, constant);
     let den = narrow_quotient(begun.den, divisor)?;
@@ -124,6 +104,6 @@ pub(crate) fn finish(
     if !divide_finished(begun.by, constant, p.constant, begun.constant, divisor) {
         return None;
     }
-    coefs[c] = entry;
+    coefs[begun.column] = entry;
     Some(den)
 }

@@ -7,6 +7,7 @@ ghost use Rattle.tableau.specs.Flat.{numbers_of, row_of_numbers};
 ghost use Rattle.tableau.specs.Short.{IsShort, IsShortRow};
 ghost use Rattle.tableau.specs.Tableaus.{row_from};
 ghost use Rattle.short_tableau.specs.Dense.{IsDense, IsShortReduced, rows_in, row_size};
+ghost use Rattle.short_tableau.specs.Terms.{IsShortDivisor};
 
 use crate::numbers::floor_mod;
 use crate::row::divide_parts;
@@ -15,8 +16,7 @@ use affine_forms::WantOfMemory;
 
 // What the quotient rounded up leaves, in `-(d - 1) .. 0`.
 fn ceil_mod(a: i64, d: i64) -> i64
-    requires positive { pos 1 ≤ℤ d }
-    requires divisor { IsShort d }
+    requires divisor { IsShortDivisor d }
     requires short { IsShort a }
     ensures value { result ≡ neg_ℤ (floor_mod_of (neg_ℤ a) d) }
     ensures short { IsShort result }
@@ -26,8 +26,7 @@ fn ceil_mod(a: i64, d: i64) -> i64
 
 // Makes of each entry what its quotient rounded down leaves.
 fn floor_mod_all(entries: &mut [i64], d: i64)
-    requires positive { pos 1 ≤ℤ d }
-    requires divisor { IsShort d }
+    requires divisor { IsShortDivisor d }
     requires short { All IsShort entries.old }
     ensures value { entries.new ≡ map (λ x. floor_mod_of x d) entries.old }
     ensures short { All IsShort entries.new }
@@ -39,8 +38,7 @@ fn floor_mod_all(entries: &mut [i64], d: i64)
 
 // Makes of each entry what its quotient rounded up leaves.
 fn ceil_mod_all(entries: &mut [i64], d: i64)
-    requires positive { pos 1 ≤ℤ d }
-    requires divisor { IsShort d }
+    requires divisor { IsShortDivisor d }
     requires short { All IsShort entries.old }
     ensures value { entries.new ≡ negate (residue d entries.old) }
     ensures short { All IsShort entries.new }
@@ -56,8 +54,6 @@ fn cut_parts(den: i64, coefs: &mut [i64], constant: &mut [i64]) -> i64
     requires short { IsShortRow (row_from den coefs.old constant.old) }
     ensures value { row_from result coefs.new constant.new ≡ constant_cut (row_from den coefs.old constant.old) }
     ensures short { IsShortRow (row_from result coefs.new constant.new) }
-    ensures coefs { length coefs.new ≡ length coefs.old }
-    ensures constant { length constant.new ≡ length constant.old }
 {
     floor_mod_all(coefs, den);
     ceil_mod_all(constant, den);
@@ -70,7 +66,6 @@ fn make_cut(row: &mut [i64], unknowns: usize)
     requires row { IsShortReduced unknowns (row_of_numbers unknowns row.old) }
     ensures value { row_of_numbers unknowns row.new ≡ constant_cut (row_of_numbers unknowns row.old) }
     ensures row { IsShortReduced unknowns (row_of_numbers unknowns row.new) }
-    ensures size { length row.new ≡ length row.old }
 {
     let (den, rest) = row.split_at_mut(1);
     let (coefs, constant) = rest.split_at_mut(unknowns);

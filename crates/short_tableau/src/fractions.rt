@@ -1,15 +1,14 @@
-ghost use Rattle.std.specs.Prelude.{◌≡◌, ◌<◌, ◌≤◌, pos, ◌≤ℤ◌, length, All, IfSome};
+ghost use Rattle.std.specs.Prelude.{◌≡◌, ◌<◌, ◌≤◌, length, IfSome};
 ghost use Rattle.pip_model.specs.Rows as model;
-ghost use Rattle.tableau.specs.Short.{IsShort};
 ghost use Rattle.tableau.specs.Tableaus.{IsRow};
+ghost use Rattle.short_tableau.specs.Terms.{IsShortDivisor};
 
 use crate::numbers::floor_mod;
 use crate::short_table::ShortTableau;
 
 // Whether d divides each number.
 fn is_whole(d: i64, numbers: &[i64]) -> bool
-    requires positive { pos 1 ≤ℤ d }
-    requires short { IsShort d }
+    requires { IsShortDivisor d }
     ensures { result ≡ model.is_whole d numbers.now }
 {
     numbers.iter().all(|number| floor_mod(*number, d) == 0)

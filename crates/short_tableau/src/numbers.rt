@@ -1,15 +1,16 @@
-ghost use Rattle.std.specs.Prelude.{◌≡◌, ◌<◌, ◌≤◌, ◌^◌, pos, ◌-ℤ◌, ◌*ℤ◌, ◌≤ℤ◌, unsigned_abs, length, All, IsTrue, IfSome, IfNone, false};
+ghost use Rattle.std.specs.Prelude.{◌≡◌, ◌<◌, ◌≤◌, ◌^◌, pos, ◌-ℤ◌, ◌*ℤ◌, ◌≤ℤ◌, unsigned_abs, length, All, IsTrue};
 ghost use Rattle.pip_model.specs.Numbers.{gcd as gcd_of_two, gcd_of, floor_mod as floor_mod_of};
 ghost use Rattle.pip_model.specs.Forms.{combine as combine_of, floor_divided};
 ghost use Rattle.affine_forms.specs.Checks.{Fits};
-ghost use Rattle.tableau.specs.Short.{is_short, IsShort};
+ghost use Rattle.tableau.specs.Short.{IsShort};
 ghost use Rattle.short_tableau.specs.Begun.{finished};
+ghost use Rattle.short_tableau.specs.Terms.{IsHalf, AreHalf, AreShort, AreTerms, IsShortDivisor, IsNarrowed};
 
 use tableau::{short_floor_div, short_gcd};
 
 // Whether the number lies from -(2^31 - 1) to 2^31 - 1.
 fn is_half(z: i64) -> bool
-    ensures { IsTrue result → unsigned_abs z < 2 ^ 31 }
+    ensures { IsTrue result → IsHalf z }
 {
     -2147483647 <= z && z <= 2147483647
 }
@@ -17,8 +18,8 @@ fn is_half(z: i64) -> bool
 // The product of numbers of 32 bits.
 #[tactic(auto, using(tableau_row::proofs::ShortRows::half_bound))]
 fn exact_half_product(a: i64, b: i64) -> i64
-    requires a { unsigned_abs a < 2 ^ 31 }
-    requires b { unsigned_abs b < 2 ^ 31 }
+    requires a { IsHalf a }
+    requires b { IsHalf b }
     ensures { result ≡ a *ℤ b }
 {
     a * b
@@ -27,8 +28,8 @@ fn exact_half_product(a: i64, b: i64) -> i64
 // The product of numbers of 32 bits, and its bound.
 #[tactic(auto, using(tableau_row::proofs::ShortRows::half_bound))]
 fn half_product(a: i64, b: i64) -> i64
-    requires a { unsigned_abs a < 2 ^ 31 }
-    requires b { unsigned_abs b < 2 ^ 31 }
+    requires a { IsHalf a }
+    requires b { IsHalf b }
     ensures value { result ≡ a *ℤ b }
     ensures bound { unsigned_abs result < 2 ^ 62 }
 {
@@ -69,9 +70,7 @@ pub(crate) fn product(a: i64, b: i64) -> i128
 
 // The number in 64 bits, where it is short.
 pub(crate) fn narrow(z: i128) -> Option<i64>
-    ensures value { IfSome result (λ n. n ≡ z) }
-    ensures short { IfSome result IsShort }
-    ensures long { IfNone result (is_short z ≡ false) }
+    ensures { IsNarrowed z result }
 {
     if -9223372036854775807 <= z && z <= 9223372036854775807 {
         Some(z as i64)
@@ -92,10 +91,7 @@ fn wide_difference(a: i128, b: i128) -> i128
 
 // `a*x - b*y` for short numbers.
 pub(crate) fn wide_entry(a: i64, x: i64, b: i64, y: i64) -> i128
-    requires a { IsShort a }
-    requires x { IsShort x }
-    requires b { IsShort b }
-    requires y { IsShort y }
+    requires { AreShort a x b y }
     ensures value { result ≡ a *ℤ x -ℤ b *ℤ y }
     ensures fits { Fits result }
 {
@@ -104,22 +100,15 @@ pub(crate) fn wide_entry(a: i64, x: i64, b: i64, y: i64) -> i128
 
 // `a*x - b*y` for short numbers, where it is short.
 fn narrow_entry(a: i64, x: i64, b: i64, y: i64) -> Option<i64>
-    requires a { IsShort a }
-    requires x { IsShort x }
-    requires b { IsShort b }
-    requires y { IsShort y }
-    ensures value { IfSome result (λ n. n ≡ a *ℤ x -ℤ b *ℤ y) }
-    ensures short { IfSome result IsShort }
+    requires { AreShort a x b y }
+    ensures { IsNarrowed (a *ℤ x -ℤ b *ℤ y) result }
 {
     narrow(wide_entry(a, x, b, y))
 }
 
 // `a*x - b*y` for numbers of 32 bits.
 fn half_entry(a: i64, x: i64, b: i64, y: i64) -> i64
-    requires a { unsigned_abs a < 2 ^ 31 }
-    requires x { unsigned_abs x < 2 ^ 31 }
-    requires b { unsigned_abs b < 2 ^ 31 }
-    requires y { unsigned_abs y < 2 ^ 31 }
+    requires { AreHalf a x b y }
     ensures value { result ≡ a *ℤ x -ℤ b *ℤ y }
     ensures short { IsShort result }
 {
@@ -128,12 +117,8 @@ fn half_entry(a: i64, x: i64, b: i64, y: i64) -> i64
 
 // `a*x - b*y` for short numbers, where it is short: by 64 bits where they have 32.
 fn entry(a: i64, x: i64, b: i64, y: i64) -> Option<i64>
-    requires a { IsShort a }
-    requires x { IsShort x }
-    requires b { IsShort b }
-    requires y { IsShort y }
-    ensures value { IfSome result (λ n. n ≡ a *ℤ x -ℤ b *ℤ y) }
-    ensures short { IfSome result IsShort }
+    requires { AreShort a x b y }
+    ensures { IsNarrowed (a *ℤ x -ℤ b *ℤ y) result }
 {
     if is_half(a) && is_half(x) && is_half(b) && is_half(y) {
         return Some(half_entry(a, x, b, y));
@@ -143,15 +128,10 @@ fn entry(a: i64, x: i64, b: i64, y: i64) -> Option<i64>
 
 // Makes `a*r - b*s` of r, entry by entry, up to the first that is not short; how many are made.
 pub(crate) fn combine(a: i64, r: &mut [i64], b: i64, s: &[i64]) -> usize
-    requires lengths { length r.old ≡ length s.now }
-    requires a { IsShort a }
-    requires r { All IsShort r.old }
-    requires b { IsShort b }
-    requires s { All IsShort s.now }
+    requires { AreTerms a r.old b s.now }
     ensures count { result ≤ length r.old }
     ensures value { finished a r.new b s.now result ≡ combine_of a r.old b s.now }
     ensures short { All IsShort r.new }
-    ensures length { length r.new ≡ length r.old }
 {
     for i in 0..r.len() {
         let Some(number) = entry(a, r[i], b, s[i]) else {
@@ -164,12 +144,10 @@ pub(crate) fn combine(a: i64, r: &mut [i64], b: i64, s: &[i64]) -> usize
 
 // The greatest common divisor of a number and all entries.
 pub(crate) fn gcd_with(start: i64, entries: &[i64]) -> i64
-    requires start { pos 1 ≤ℤ start }
-    requires start_short { IsShort start }
+    requires start { IsShortDivisor start }
     requires short { All IsShort entries.now }
     ensures value { result ≡ gcd_of_two start (gcd_of entries.now) }
-    ensures positive { pos 1 ≤ℤ result }
-    ensures short { IsShort result }
+    ensures divisor { IsShortDivisor result }
 {
     let mut found = start;
     for number in entries {
@@ -183,8 +161,7 @@ pub(crate) fn gcd_with(start: i64, entries: &[i64]) -> i64
 
 // What the quotient rounded down leaves, in `0 .. d - 1`.
 pub(crate) fn floor_mod(a: i64, d: i64) -> i64
-    requires positive { pos 1 ≤ℤ d }
-    requires short { IsShort d }
+    requires { IsShortDivisor d }
     ensures value { result ≡ floor_mod_of a d }
     ensures short { IsShort result }
 {

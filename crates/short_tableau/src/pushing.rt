@@ -1,12 +1,13 @@
-ghost use Rattle.std.specs.Prelude.{◌≡◌, ◌+◌, ◌<◌, ◌≤◌, pos, ◌++◌, length, take, replicate, All, false, IsTrue, IsFalse, IfOk, OnOk, OnErr, vec_len};
+ghost use Rattle.std.specs.Prelude.{◌≡◌, ◌+◌, ◌<◌, ◌≤◌, pos, ◌++◌, length, take, replicate, false, IsTrue, IsFalse, IfOk, OnOk, OnErr, vec_len};
 ghost use Rattle.std.specs.List.{list_all};
 ghost use Rattle.pip_model.specs.Forms.{widen_to};
 ghost use Rattle.pip_model.specs.Rows.{form_row, unit_row};
 ghost use Rattle.affine_forms.specs.Forms.{IsForm};
 ghost use Rattle.tableau.specs.Flat.{numbers_of};
-ghost use Rattle.tableau.specs.Short.{is_short, IsShort, IsShortRow};
+ghost use Rattle.tableau.specs.Short.{is_short, IsShortRow};
 ghost use Rattle.short_tableau.specs.Dense.{row_size};
 ghost use Rattle.short_tableau.specs.Rows.{row_of};
+ghost use Rattle.short_tableau.specs.Terms.{AreNarrowed};
 
 use crate::numbers::narrow;
 use crate::row::{ShortRow, make_unit};
@@ -58,10 +59,7 @@ pub(crate) fn push_unit_row(
 // Makes the numbers of as many entries, up to the first that is not short; whether all are.
 fn narrow_all(numbers: &mut [i64], entries: &[i128]) -> bool
     requires { length numbers.old ≡ length entries.now }
-    ensures items { IsTrue result → numbers.new ≡ entries.now }
-    ensures short { IsTrue result → All IsShort entries.now }
-    ensures long { IsFalse result → list_all is_short entries.now ≡ false }
-    ensures length { length numbers.new ≡ length numbers.old }
+    ensures { AreNarrowed entries.now result numbers.new }
 {
     for i in 0..entries.len() {
         let Some(short) = narrow(entries[i]) else {

@@ -1,12 +1,11 @@
-ghost use Rattle.std.specs.Prelude.{◌≡◌, ◌+◌, ◌-◌, ◌<◌, pos, ◌≤ℤ◌, false, length, replicate, IsTrue, IsFalse, IfSome, IfNone};
-ghost use Rattle.pip_model.specs.Forms.{entry};
+ghost use Rattle.std.specs.Prelude.{◌≡◌, ◌<◌, pos, ◌≤ℤ◌, length, replicate};
 ghost use Rattle.pip_model.specs.Rows as model;
 ghost use Rattle.tableau.specs.Flat.{row_of_numbers};
-ghost use Rattle.tableau.specs.Short.{IsShort, IsShortRow};
-ghost use Rattle.tableau.specs.Tableaus.{IsRow, IsOwnRow, IsReduced, row_from};
-ghost use Rattle.short_tableau.specs.Begun.{is_short_row};
-ghost use Rattle.short_tableau.specs.Dense.{IsShortReduced, row_size};
+ghost use Rattle.tableau.specs.Short.{IsShortRow};
+ghost use Rattle.tableau.specs.Tableaus.{row_from};
+ghost use Rattle.short_tableau.specs.Dense.{IsShortReduced, IsPivot, row_size};
 ghost use Rattle.short_tableau.specs.Rows.{row_of};
+ghost use Rattle.short_tableau.specs.Turned.{IsDenominatorOf, IsTurned};
 
 use crate::begun::{begin, finish, short_ends};
 use crate::numbers::{divide_all, gcd_with};
@@ -40,8 +39,6 @@ pub(crate) fn divide_parts(den: i64, coefs: &mut [i64], constant: &mut [i64]) ->
     requires short { IsShortRow (row_from den coefs.old constant.old) }
     ensures value { row_from result coefs.new constant.new ≡ model.divided (row_from den coefs.old constant.old) }
     ensures short { IsShortRow (row_from result coefs.new constant.new) }
-    ensures coefs { length coefs.new ≡ length coefs.old }
-    ensures constant { length constant.new ≡ length constant.old }
 {
     if den == 1 {
         return 1;
@@ -64,48 +61,31 @@ fn eliminate_parts(
     coefs: &mut [i64],
     constant: &mut [i64],
 ) -> Option<i64>
-    requires p { IsRow (length coefs.old) (length constant.old - 1) (row_of p.now) }
-    requires row { IsOwnRow (row_from den coefs.old constant.old) }
-    requires column { c < length coefs.old }
-    requires positive { pos 1 ≤ℤ entry p.now.coefs.now c }
-    requires p_short { IsShortRow (row_of p.now) }
-    requires row_short { IsShortRow (row_from den coefs.old constant.old) }
-    ensures value { IfSome result (λ d. row_from d coefs.new constant.new ≡ model.eliminated (row_of p.now) c
-        (row_from den coefs.old constant.old)) }
-    ensures short { IfSome result (λ d. IsShortRow (row_from d coefs.new constant.new)) }
-    ensures long { IfNone result (is_short_row (model.eliminated (row_of p.now) c
-        (row_from den coefs.old constant.old)) ≡ false) }
-    ensures coefs { length coefs.new ≡ length coefs.old }
-    ensures constant { length constant.new ≡ length constant.old }
+    requires pivot { IsPivot (length coefs.old) (row_of p.now) c }
+    requires row { IsShortReduced (length coefs.old) (row_from den coefs.old constant.old) }
+    ensures { IsDenominatorOf (model.eliminated (row_of p.now) c (row_from den coefs.old constant.old))
+        coefs.new constant.new result }
 {
     let begun = begin(p, c, den, coefs, constant);
     match short_ends(&begun, coefs.len(), constant.len()) {
-        Some((den, entry)) => {
-            coefs[c] = entry;
-            Some(divide_parts(den, coefs, constant))
+        Some(ends) => {
+            coefs[begun.column] = ends.entry;
+            Some(divide_parts(ends.den, coefs, constant))
         }
-        None => finish(p, c, &begun, coefs, constant),
+        None => finish(p, &begun, coefs, constant),
     }
 }
 
 // Makes of the numbers of a row those after the pivot on row p and column c; whether they are short. A row that is 0 in
 // the column stays.
-pub(crate) fn eliminate(row: &mut [i64], p: &ShortRow<'_>, c: usize) -> bool
-    requires size { length row.old ≡ row_size (length p.now.coefs.now) }
-    requires p { IsShortReduced (length p.now.coefs.now) (row_of p.now) }
-    requires row { IsShortReduced (length p.now.coefs.now) (row_of_numbers (length p.now.coefs.now) row.old) }
-    requires column { c < length p.now.coefs.now }
-    requires positive { pos 1 ≤ℤ entry p.now.coefs.now c }
-    ensures value { IsTrue result → row_of_numbers (length p.now.coefs.now) row.new
-        ≡ model.eliminated (row_of p.now) c (row_of_numbers (length p.now.coefs.now) row.old) }
-    ensures row { IsTrue result → IsShortReduced (length p.now.coefs.now)
-        (row_of_numbers (length p.now.coefs.now) row.new) }
-    ensures long { IsFalse result → is_short_row
-        (model.eliminated (row_of p.now) c (row_of_numbers (length p.now.coefs.now) row.old)) ≡ false }
-    ensures size { length row.new ≡ length row.old }
+pub(crate) fn eliminate(row: &mut [i64], unknowns: usize, p: &ShortRow<'_>, c: usize) -> bool
+    requires size { length row.old ≡ row_size unknowns }
+    requires row { IsShortReduced unknowns (row_of_numbers unknowns row.old) }
+    requires pivot { IsPivot unknowns (row_of p.now) c }
+    ensures { IsTurned unknowns (model.eliminated (row_of p.now) c (row_of_numbers unknowns row.old)) result row.new }
 {
     let (den, rest) = row.split_at_mut(1);
-    let (coefs, constant) = rest.split_at_mut(p.coefs.len());
+    let (coefs, constant) = rest.split_at_mut(unknowns);
     if coefs[c] == 0 {
         return true;
     }
@@ -131,8 +111,7 @@ fn clear_all(numbers: &mut [i64])
 pub(crate) fn make_unit(row: &mut [i64], unknowns: usize, c: usize)
     requires size { length row.old ≡ row_size unknowns }
     requires column { c < unknowns }
-    ensures value { row_of_numbers unknowns row.new ≡ model.unit_row unknowns 0 c }
-    ensures size { length row.new ≡ length row.old }
+    ensures { row_of_numbers unknowns row.new ≡ model.unit_row unknowns 0 c }
 {
     clear_all(row);
     row[0] = 1;

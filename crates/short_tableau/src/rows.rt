@@ -1,13 +1,13 @@
-ghost use Rattle.std.specs.Prelude.{◌≡◌, ◌+◌, ◌*◌, ◌<◌, ◌≤◌, pos, ◌≤ℤ◌, ◌&&◌, false, length, map, slice_set, IsTrue, IsFalse, IfSome};
-ghost use Rattle.std.specs.List.{list_all};
+ghost use Rattle.std.specs.Prelude.{◌≡◌, ◌+◌, ◌*◌, ◌<◌, ◌≤◌, false, length, map, slice_set, IsTrue, IsFalse, IfSome};
 ghost use Rattle.pip_model.specs.Forms.{constant, entry};
 ghost use Rattle.pip_model.specs.Rows as model;
 ghost use Rattle.tableau.specs.Flat.{row_of_numbers};
 ghost use Rattle.tableau.specs.Short.{IsShort};
-ghost use Rattle.short_tableau.specs.Begun.{is_short_row};
+ghost use Rattle.dual_pivot.specs.Choices.{IsCandidate};
 ghost use Rattle.short_tableau.specs.Below.{negative_from};
-ghost use Rattle.short_tableau.specs.Dense.{IsDense, IsShortReduced, rows_in, row_size};
+ghost use Rattle.short_tableau.specs.Dense.{IsDense, IsPivot, rows_in, row_size};
 ghost use Rattle.short_tableau.specs.Rows.{row_of};
+ghost use Rattle.short_tableau.specs.Turned.{is_short_row, AreTurned};
 
 use crate::row::{ShortRow, eliminate, make_unit, view_of};
 
@@ -77,93 +77,65 @@ pub(crate) fn coef_at(numbers: &[i64], unknowns: usize, rows: usize, i: usize, k
 }
 
 // Makes of row i of so many what it is after the pivot on row p and column c; whether its numbers are short.
-fn turn_at(numbers: &mut [i64], rows: usize, i: usize, p: &ShortRow<'_>, c: usize) -> bool
-    requires dense { IsDense (length p.now.coefs.now) rows numbers.old }
+fn turn_at(
+    numbers: &mut [i64],
+    unknowns: usize,
+    rows: usize,
+    i: usize,
+    p: &ShortRow<'_>,
+    c: usize,
+) -> bool
+    requires dense { IsDense unknowns rows numbers.old }
     requires row { i < rows }
-    requires p { IsShortReduced (length p.now.coefs.now) (row_of p.now) }
-    requires column { c < length p.now.coefs.now }
-    requires positive { pos 1 ≤ℤ entry p.now.coefs.now c }
-    ensures dense { IsTrue result → IsDense (length p.now.coefs.now) rows numbers.new }
-    ensures rows { IsTrue result → rows_in (length p.now.coefs.now) rows numbers.new
-        ≡ slice_set (rows_in (length p.now.coefs.now) rows numbers.old) i
-        (model.eliminated (row_of p.now) c (model.row_at (rows_in (length p.now.coefs.now) rows numbers.old) i)) }
+    requires pivot { IsPivot unknowns (row_of p.now) c }
+    ensures dense { IsTrue result → IsDense unknowns rows numbers.new }
+    ensures rows { IsTrue result → rows_in unknowns rows numbers.new
+        ≡ slice_set (rows_in unknowns rows numbers.old) i
+        (model.eliminated (row_of p.now) c (model.row_at (rows_in unknowns rows numbers.old) i)) }
     ensures long { IsFalse result → is_short_row (model.eliminated (row_of p.now) c
-        (model.row_at (rows_in (length p.now.coefs.now) rows numbers.old) i)) ≡ false }
-    ensures size { length numbers.new ≡ length numbers.old }
+        (model.row_at (rows_in unknowns rows numbers.old) i)) ≡ false }
 {
-    let unknowns = p.coefs.len();
     if coef_at(numbers, unknowns, rows, i, c) == 0 {
         return true;
     }
     let place = place_of(unknowns, rows, i, numbers);
     let (_, behind) = numbers.split_at_mut(place);
     let (row, _) = behind.split_at_mut(unknowns + 2);
-    eliminate(row, p, c)
+    eliminate(row, unknowns, p, c)
 }
 
 // Makes of so many rows what they are after the pivot on row p and column c; whether their numbers are short.
-pub(crate) fn turn_rows(numbers: &mut [i64], rows: usize, p: &ShortRow<'_>, c: usize) -> bool
-    requires dense { IsDense (length p.now.coefs.now) rows numbers.old }
-    requires p { IsShortReduced (length p.now.coefs.now) (row_of p.now) }
-    requires column { c < length p.now.coefs.now }
-    requires positive { pos 1 ≤ℤ entry p.now.coefs.now c }
-    ensures dense { IsTrue result → IsDense (length p.now.coefs.now) rows numbers.new }
-    ensures rows { IsTrue result → rows_in (length p.now.coefs.now) rows numbers.new
-        ≡ map (model.eliminated (row_of p.now) c) (rows_in (length p.now.coefs.now) rows numbers.old) }
-    ensures long { IsFalse result → list_all is_short_row
-        (map (model.eliminated (row_of p.now) c) (rows_in (length p.now.coefs.now) rows numbers.old)) ≡ false }
-    ensures size { length numbers.new ≡ length numbers.old }
+pub(crate) fn turn_rows(
+    numbers: &mut [i64],
+    unknowns: usize,
+    rows: usize,
+    p: &ShortRow<'_>,
+    c: usize,
+) -> bool
+    requires dense { IsDense unknowns rows numbers.old }
+    requires pivot { IsPivot unknowns (row_of p.now) c }
+    ensures { AreTurned unknowns rows
+        (map (model.eliminated (row_of p.now) c) (rows_in unknowns rows numbers.old)) result numbers.new }
 {
     for i in 0..rows {
-        if !turn_at(numbers, rows, i, p, c) {
+        if !turn_at(numbers, unknowns, rows, i, p, c) {
             return false;
         }
     }
     true
 }
 
-// How many rows stand in front of a pivot's row and behind it, and its column.
-#[derive(Clone, Copy)]
-struct Sides {
-    front: usize,
-    back: usize,
-    column: usize,
-}
-
-// Makes of the rows in front of a row and behind it what they are after the pivot on it; whether their numbers are
-// short.
-fn turn_sides(
-    front: &mut [i64],
-    row: &[i64],
-    back: &mut [i64],
-    unknowns: usize,
-    sides: Sides,
-) -> bool
-    requires front { IsDense unknowns sides.front front.old }
-    requires back { IsDense unknowns sides.back back.old }
+// The same on the row of these numbers.
+fn turn_by(numbers: &mut [i64], unknowns: usize, rows: usize, row: &[i64], c: usize) -> bool
+    requires dense { IsDense unknowns rows numbers.old }
     requires size { length row.now ≡ row_size unknowns }
-    requires row { IsShortReduced unknowns (row_of_numbers unknowns row.now) }
-    requires column { sides.column < unknowns }
-    requires positive { pos 1 ≤ℤ entry (row_of_numbers unknowns row.now).coefs sides.column }
-    ensures front { IsTrue result → IsDense unknowns sides.front front.new }
-    ensures back { IsTrue result → IsDense unknowns sides.back back.new }
-    ensures front_rows { IsTrue result → rows_in unknowns sides.front front.new
-        ≡ map (model.eliminated (row_of_numbers unknowns row.now) sides.column)
-        (rows_in unknowns sides.front front.old) }
-    ensures back_rows { IsTrue result → rows_in unknowns sides.back back.new
-        ≡ map (model.eliminated (row_of_numbers unknowns row.now) sides.column)
-        (rows_in unknowns sides.back back.old) }
-    ensures long { IsFalse result → (list_all is_short_row
-        (map (model.eliminated (row_of_numbers unknowns row.now) sides.column) (rows_in unknowns sides.front front.old))
-        && list_all is_short_row
-        (map (model.eliminated (row_of_numbers unknowns row.now) sides.column) (rows_in unknowns sides.back back.old)))
-        ≡ false }
+    requires pivot { IsPivot unknowns (row_of_numbers unknowns row.now) c }
+    ensures { AreTurned unknowns rows
+        (map (model.eliminated (row_of_numbers unknowns row.now) c) (rows_in unknowns rows numbers.old))
+        result numbers.new }
 {
     let p = view_of(row, unknowns);
-    if !turn_rows(front, sides.front, &p, sides.column) {
-        return false;
-    }
-    turn_rows(back, sides.back, &p, sides.column)
+    turn_rows(numbers, unknowns, rows, &p, c)
 }
 
 // Makes of so many rows those after the pivot on row r and column c; whether their numbers are short.
@@ -176,23 +148,16 @@ pub(crate) fn pivot_rows(
 ) -> bool
     requires dense { IsDense unknowns rows numbers.old }
     requires row { r < rows }
-    requires column { c < unknowns }
-    requires positive { pos 1 ≤ℤ entry (model.row_at (rows_in unknowns rows numbers.old) r).coefs c }
-    ensures dense { IsTrue result → IsDense unknowns rows numbers.new }
-    ensures rows { IsTrue result → rows_in unknowns rows numbers.new
-        ≡ model.pivot (rows_in unknowns rows numbers.old) r c }
-    ensures long { IsFalse result
-        → list_all is_short_row (model.pivot (rows_in unknowns rows numbers.old) r c) ≡ false }
+    requires candidate { IsCandidate unknowns (model.row_at (rows_in unknowns rows numbers.old) r) c }
+    ensures { AreTurned unknowns rows (model.pivot (rows_in unknowns rows numbers.old) r c) result numbers.new }
 {
     let place = place_of(unknowns, rows, r, numbers);
-    let sides = Sides {
-        front: r,
-        back: rows - (r + 1),
-        column: c,
-    };
     let (front, behind) = numbers.split_at_mut(place);
     let (row, back) = behind.split_at_mut(unknowns + 2);
-    if !turn_sides(front, row, back, unknowns, sides) {
+    if !turn_by(front, unknowns, r, row, c) {
+        return false;
+    }
+    if !turn_by(back, unknowns, rows - (r + 1), row, c) {
         return false;
     }
     make_unit(row, unknowns, c);

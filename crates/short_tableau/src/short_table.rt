@@ -1,4 +1,4 @@
-ghost use Rattle.std.specs.Prelude.{◌≡◌, ◌+◌, ◌^◌, ◌<◌, ◌≤◌, pos, ◌≤ℤ◌, false, not, [], ◌∷◌, ◌++◌, All, length, map, flat_map, IsTrue, IsFalse, IfOk, OnOk, OnErr, IfSome};
+ghost use Rattle.std.specs.Prelude.{◌≡◌, ◌+◌, ◌^◌, ◌<◌, ◌≤◌, false, not, [], All, length, map, flat_map, IsTrue, IsFalse, IfOk, OnOk, OnErr, IfSome};
 ghost use Rattle.std.specs.List.{list_all};
 ghost use Rattle.pip_model.specs.Cuts.{constant_cut};
 ghost use Rattle.pip_model.specs.Forms.{constant, entry, widen_to};
@@ -9,10 +9,11 @@ ghost use Rattle.affine_forms.specs.Forms.{IsForm};
 ghost use Rattle.tableau.specs.Flat.{row_of_numbers};
 ghost use Rattle.tableau.specs.Short.{is_short, IsShort};
 ghost use Rattle.tableau.specs.Tableaus.{with_row};
-ghost use Rattle.short_tableau.specs.Begun.{is_short_row};
+ghost use Rattle.dual_pivot.specs.Choices.{IsCandidate};
 ghost use Rattle.short_tableau.specs.Below.{negative_from};
 ghost use Rattle.short_tableau.specs.Dense.{IsShortReduced, row_size};
 ghost use Rattle.short_tableau.specs.Rows.{row_of};
+ghost use Rattle.short_tableau.specs.Turned.{is_short_row};
 
 use crate::cuts::push_cut_row;
 use crate::pushing::{append_form, push_row, push_unit_row};
@@ -57,23 +58,6 @@ impl ShortTableau {
             count: 0,
             numbers: Vec::new(alloc),
         }
-    }
-
-    /// No rows over so many columns, and room for so many rows.
-    pub fn with_room(
-        alloc: Global,
-        unknowns: usize,
-        rows: usize,
-    ) -> Result<ShortTableau, WantOfMemory>
-        ensures { IfOk result (λ t. t ≡ record { unknowns = unknowns; width = 0; rows = [] }) }
-    {
-        let size = unknowns.checked_add(2).ok_or(WantOfMemory)?;
-        let room = size.checked_mul(rows).ok_or(WantOfMemory)?;
-        Ok(ShortTableau {
-            unknowns,
-            count: 0,
-            numbers: Vec::with_capacity(alloc, room)?,
-        })
     }
 
     /// Makes room for so many more rows. All stays as it was.
@@ -242,8 +226,7 @@ impl ShortTableau {
     /// no row is left. All listed numbers fit. It takes no memory.
     pub fn pivot(&mut self, r: usize, c: usize) -> bool
         requires row { r < length self.old.rows }
-        requires column { c < self.old.unknowns }
-        requires positive { pos 1 ≤ℤ entry (model.row_at self.old.rows r).coefs c }
+        requires candidate { IsCandidate self.old.unknowns (model.row_at self.old.rows r) c }
         ensures listed { IsTrue (all_fit (model.pivot_listed self.old.rows r c)) }
         ensures short { IsTrue result → self.new ≡ record self.old { rows = model.pivot self.old.rows r c } }
         ensures long { IsFalse result → list_all is_short_row (model.pivot self.old.rows r c) ≡ false }
@@ -263,8 +246,7 @@ impl ShortTableau {
     pub fn eliminate(&mut self, t: &ShortTableau, i: usize, c: usize) -> bool
         requires unknowns { t.now.unknowns ≡ self.old.unknowns }
         requires row { i < length t.now.rows }
-        requires column { c < self.old.unknowns }
-        requires positive { pos 1 ≤ℤ entry (model.row_at t.now.rows i).coefs c }
+        requires candidate { IsCandidate self.old.unknowns (model.row_at t.now.rows i) c }
         ensures listed { IsTrue (all_fit
             (flat_map (model.eliminated_listed (model.row_at t.now.rows i) c) self.old.rows)) }
         ensures short { IsTrue result → self.new
@@ -273,7 +255,7 @@ impl ShortTableau {
             (map (model.eliminated (model.row_at t.now.rows i) c) self.old.rows) ≡ false }
         ensures none { IsFalse result → self.new ≡ record self.old { rows = [] } }
     {
-        if !turn_rows(&mut self.numbers, self.count, &t.row(i), c) {
+        if !turn_rows(&mut self.numbers, self.unknowns, self.count, &t.row(i), c) {
             self.count = 0;
             self.numbers.clear();
             return false;

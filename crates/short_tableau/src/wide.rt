@@ -1,10 +1,10 @@
-ghost use Rattle.std.specs.Prelude.{◌≡◌, ◌≤◌, pos, ◌≤ℤ◌, false, length, All, IsTrue, IsFalse, IfOk, IfSome, IfNone};
-ghost use Rattle.std.specs.List.{list_all};
+ghost use Rattle.std.specs.Prelude.{◌≡◌, ◌≤◌, pos, ◌≤ℤ◌, length, All, IfOk};
 ghost use Rattle.pip_model.specs.Forms.{combine, floor_divided};
 ghost use Rattle.pip_model.specs.Numbers.{gcd as gcd_of_two, gcd_of, floor_div as floor_div_of};
 ghost use Rattle.affine_forms.specs.Checks.{Fits};
-ghost use Rattle.tableau.specs.Short.{is_short, IsShort};
+ghost use Rattle.tableau.specs.Short.{IsShort};
 ghost use Rattle.short_tableau.specs.Begun.{finished};
+ghost use Rattle.short_tableau.specs.Terms.{AreTerms, IsDivisor, IsNarrowed, AreNarrowed};
 
 use crate::numbers::{narrow, wide_entry};
 use affine_forms::{WantOfMemory, floor_div, gcd};
@@ -30,16 +30,10 @@ pub(crate) struct Factors {
 
 // The greatest common divisor of a number and the entries of `a*r - b*s`.
 fn gcd_with_entries(start: i128, by: Factors, r: &[i64], s: &[i64]) -> i128
-    requires lengths { length r.now ≡ length s.now }
-    requires start { pos 1 ≤ℤ start }
-    requires fits { Fits start }
-    requires of_row { IsShort by.of_row }
-    requires r { All IsShort r.now }
-    requires of_pivot { IsShort by.of_pivot }
-    requires s { All IsShort s.now }
+    requires start { IsDivisor start }
+    requires terms { AreTerms by.of_row r.now by.of_pivot s.now }
     ensures value { result ≡ gcd_of_two start (gcd_of (combine by.of_row r.now by.of_pivot s.now)) }
-    ensures positive { pos 1 ≤ℤ result }
-    ensures fits { Fits result }
+    ensures divisor { IsDivisor result }
 {
     let mut found = start;
     for i in 0..r.len() {
@@ -53,12 +47,10 @@ fn gcd_with_entries(start: i128, by: Factors, r: &[i64], s: &[i64]) -> i128
 
 // The greatest common divisor of a number and all entries.
 fn gcd_with_made(start: i128, entries: &[i64]) -> i128
-    requires start { pos 1 ≤ℤ start }
-    requires fits { Fits start }
+    requires start { IsDivisor start }
     requires short { All IsShort entries.now }
     ensures value { result ≡ gcd_of_two start (gcd_of entries.now) }
-    ensures positive { pos 1 ≤ℤ result }
-    ensures fits { Fits result }
+    ensures divisor { IsDivisor result }
 {
     let mut found = start;
     for number in entries {
@@ -72,17 +64,11 @@ fn gcd_with_made(start: i128, entries: &[i64]) -> i128
 
 // The greatest common divisor of a number and the entries of `a*r - b*s`, of which so many are made in r.
 pub(crate) fn gcd_with_finished(start: i128, by: Factors, r: &[i64], s: &[i64], made: usize) -> i128
-    requires lengths { length r.now ≡ length s.now }
+    requires start { IsDivisor start }
+    requires terms { AreTerms by.of_row r.now by.of_pivot s.now }
     requires made { made ≤ length r.now }
-    requires start { pos 1 ≤ℤ start }
-    requires fits { Fits start }
-    requires of_row { IsShort by.of_row }
-    requires r { All IsShort r.now }
-    requires of_pivot { IsShort by.of_pivot }
-    requires s { All IsShort s.now }
     ensures value { result ≡ gcd_of_two start (gcd_of (finished by.of_row r.now by.of_pivot s.now made)) }
-    ensures positive { pos 1 ≤ℤ result }
-    ensures fits { Fits result }
+    ensures divisor { IsDivisor result }
 {
     let (front, rest) = r.split_at(made);
     let (_, pivot_rest) = s.split_at(made);
@@ -93,9 +79,7 @@ pub(crate) fn gcd_with_finished(start: i128, by: Factors, r: &[i64], s: &[i64], 
 pub(crate) fn narrow_quotient(z: i128, d: i128) -> Option<i64>
     requires positive { pos 1 ≤ℤ d }
     requires fits { Fits z }
-    ensures value { IfSome result (λ n. n ≡ floor_div_of z d) }
-    ensures short { IfSome result IsShort }
-    ensures long { IfNone result (is_short (floor_div_of z d) ≡ false) }
+    ensures { IsNarrowed (floor_div_of z d) result }
 {
     narrow(floor_div(z, d))
 }
@@ -103,17 +87,9 @@ pub(crate) fn narrow_quotient(z: i128, d: i128) -> Option<i64>
 // Makes of r the entries of `a*r - b*s`, each divided by d and rounded down, up to the first that is not short; whether
 // all are.
 fn divide_entries(by: Factors, r: &mut [i64], s: &[i64], d: i128) -> bool
-    requires lengths { length r.old ≡ length s.now }
-    requires of_row { IsShort by.of_row }
-    requires r { All IsShort r.old }
-    requires of_pivot { IsShort by.of_pivot }
-    requires s { All IsShort s.now }
+    requires terms { AreTerms by.of_row r.old by.of_pivot s.now }
     requires positive { pos 1 ≤ℤ d }
-    ensures value { IsTrue result → r.new ≡ floor_divided d (combine by.of_row r.old by.of_pivot s.now) }
-    ensures short { IsTrue result → All IsShort r.new }
-    ensures long { IsFalse result
-        → list_all is_short (floor_divided d (combine by.of_row r.old by.of_pivot s.now)) ≡ false }
-    ensures length { length r.new ≡ length r.old }
+    ensures { AreNarrowed (floor_divided d (combine by.of_row r.old by.of_pivot s.now)) result r.new }
 {
     for i in 0..r.len() {
         let number = wide_entry(by.of_row, r[i], by.of_pivot, s[i]);
@@ -151,18 +127,10 @@ fn divide_made(entries: &mut [i64], d: i128)
 // Makes of r the entries of `a*r - b*s`, of which so many are made in it, each divided by d and rounded down; whether
 // they are short.
 pub(crate) fn divide_finished(by: Factors, r: &mut [i64], s: &[i64], made: usize, d: i128) -> bool
-    requires lengths { length r.old ≡ length s.now }
+    requires terms { AreTerms by.of_row r.old by.of_pivot s.now }
     requires made { made ≤ length r.old }
-    requires of_row { IsShort by.of_row }
-    requires r { All IsShort r.old }
-    requires of_pivot { IsShort by.of_pivot }
-    requires s { All IsShort s.now }
     requires positive { pos 1 ≤ℤ d }
-    ensures value { IsTrue result → r.new ≡ floor_divided d (finished by.of_row r.old by.of_pivot s.now made) }
-    ensures short { IsTrue result → All IsShort r.new }
-    ensures long { IsFalse result
-        → list_all is_short (floor_divided d (finished by.of_row r.old by.of_pivot s.now made)) ≡ false }
-    ensures length { length r.new ≡ length r.old }
+    ensures { AreNarrowed (floor_divided d (finished by.of_row r.old by.of_pivot s.now made)) result r.new }
 {
     let (front, rest) = r.split_at_mut(made);
     let (_, pivot_rest) = s.split_at(made);

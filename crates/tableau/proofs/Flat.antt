@@ -12,7 +12,7 @@ use Rattle.tableau_row.specs.Rows.{IsRow, IsReduced}
 use Rattle.tableau_row.specs.Flat.{numbers_of, row_of_numbers, is_unit_row}
 use Rattle.tableau.specs.KeptRows.{flat_numbers}
 use Rattle.tableau_row.specs.Short.{IsShort, IsShortRow}
-use Rattle.tableau.specs.KeptRows.{IsPlace, IsKnown, IsPlain, IsFlat, IsUnsealed, row_length, row_kept, rows_kept}
+use Rattle.tableau.specs.KeptRows.{KeptRows, IsPlace, IsKnown, IsPlain, IsFlat, IsPlainRow, IsUnsealed, row_length, row_kept, rows_kept, with_more}
 use Rattle.tableau.specs.declared.kept.Kept.{Kept}
 use Rattle.tableau.specs.declared.kept.Kept.TheVariants as kept
 use Rattle.tableau.specs.declared.kept.Place.{Place}
@@ -87,23 +87,22 @@ flat_unit rs r e = flat_append rs (r ∷ []) ∙ rw e (append-nil (flat_numbers 
 room_more : (k l : ℕ) → (k + 1) * l ≡ k * l + l
 room_more k l = add-mul k 1 l ∙ omega arith
 
-pub with_plain : (n w : ℕ) (zs more : List ℤ) (ks : List Kept) (last : Place) → IsFlat n w zs ks → last.first ≡ length zs → length more ≡ row_length n w
-    → IsRow n w (row_of_numbers n more) → IsReduced (row_of_numbers n more) → (IsTrue last.short → IsShortRow (row_of_numbers n more))
-    → is_unit_row (row_of_numbers n more) ≡ false → IsFlat n w (zs ++ more) (ks ++ kept.At last ∷ [])
-with_plain n w zs more ks last h f e row reduced short plain =
+pub with_plain : (n w : ℕ) (zs more : List ℤ) (ks : List Kept) (last : Place) → IsFlat n w zs ks → last.first ≡ length zs → IsPlainRow n w more last.short → IsFlat n w (zs ++ more) (ks ++ kept.At last ∷ [])
+with_plain n w zs more ks last h f p =
+    let e = p.length in
     let rows = rows_more n w zs more ks last h.places f e in
     let long : length (zs ++ more) ≡ length zs + row_length n w = length-append zs more ∙ ap (λ k. length zs + k) e in
     record {
       places = All-push (IsPlace n w (length (zs ++ more))) ks (kept.At last)
           (All-weaker (IsPlace n w (length zs)) (IsPlace n w (length (zs ++ more))) (place_more n w (length zs) (length (zs ++ more)) (omega arith)) ks h.places)
           (omega (arith, f, long));
-      rows = All-same (IsRow n w) _ _ rows (All-push (IsRow n w) _ _ h.rows row);
-      reduced = All-same IsReduced _ _ rows (All-push IsReduced _ _ h.reduced reduced);
+      rows = All-same (IsRow n w) _ _ rows (All-push (IsRow n w) _ _ h.rows p.row);
+      reduced = All-same IsReduced _ _ rows (All-push IsReduced _ _ h.reduced p.reduced);
       short = All-push (IsKnown n w (zs ++ more)) ks (kept.At last) (known_append n w zs more ks h.places h.short)
-          (λ s. subst IsShortRow (sym (last_row n w zs more last f e)) (short s));
+          (λ s. subst IsShortRow (sym (last_row n w zs more last f e)) (p.short s));
       plain = All-push (IsPlain n w (zs ++ more)) ks (kept.At last) (plain_append n w zs more ks h.places h.plain)
-          (ap is_unit_row (last_row n w zs more last f e) ∙ plain);
-      flat = sym (ap flat_numbers rows ∙ flat_plain (rows_kept n w zs ks) (row_of_numbers n more) plain ∙ ap (λ (xs : List ℤ). xs ++ numbers_of (row_of_numbers n more)) (sym h.flat) ∙ ap (λ (xs : List ℤ). zs ++ xs) (numbers_again n more (omega arith)));
+          (ap is_unit_row (last_row n w zs more last f e) ∙ p.plain);
+      flat = sym (ap flat_numbers rows ∙ flat_plain (rows_kept n w zs ks) (row_of_numbers n more) p.plain ∙ ap (λ (xs : List ℤ). xs ++ numbers_of (row_of_numbers n more)) (sym h.flat) ∙ ap (λ (xs : List ℤ). zs ++ xs) (numbers_again n more (omega arith)));
       few = rw (length_push ks (kept.At last), long, room_more (length ks) (row_length n w)) (omega (arith, h.few));
     }
 
@@ -153,7 +152,7 @@ pub sealed : (n w : ℕ) (last : Place) (zs : List ℤ) (ks : List Kept) → IsU
 sealed n w last zs ks h plain =
     let long : length (drop last.first zs) ≡ row_length n w = simp length-drop (omega (arith, h.begun)) in
     subst (λ (xs : List ℤ). IsFlat n w xs (ks ++ kept.At last ∷ [])) (take-append-drop last.first zs)
-    (with_plain n w (take last.first zs) (drop last.first zs) ks last h.flat (begun n w last zs ks h) long h.row h.reduced h.short plain)
+    (with_plain n w (take last.first zs) (drop last.first zs) ks last h.flat (begun n w last zs ks h) (record { length = long; row = h.row; reduced = h.reduced; short = h.short; plain = plain }))
 
 pub sealed_rows : (n w : ℕ) (last : Place) (zs : List ℤ) (ks : List Kept) → IsUnsealed n w last zs ks
     → rows_kept n w zs (ks ++ kept.At last ∷ []) ≡ rows_kept n w (take last.first zs) ks ++ row_of_numbers n (drop last.first zs) ∷ []
@@ -184,6 +183,16 @@ more_rows n w start zs all made ks more r e f row h =
     let front : take start all ≡ zs = ap (take start) e ∙ take_at zs (numbers_of r) start (sym f) in
     let last : row_of_numbers n (drop start all) ≡ r = ap (row_of_numbers n) (ap (drop start) e ∙ drop_at zs (numbers_of r) start (sym f)) ∙ row_again n r row in
     h ∙ rw (front, last) refl
+
+-- a table's rows by its parts
+abbrev pub kept_rows : ℕ → ℕ → ℕ → List Row → KeptRows
+kept_rows n w most rows = record { unknowns = n; width = w; most = most; rows = rows }
+
+-- a table with the row that was appended and is now kept
+pub pushed : (t : KeptRows) (n w most : ℕ) (zs all made : List ℤ) (ks more : List Kept) (start : ℕ) (r : Row) → kept_rows n w most (rows_kept n w zs ks) ≡ t → all ≡ zs ++ numbers_of r → start ≡ length zs
+    → length r.coefs ≡ n → rows_kept n w made more ≡ rows_kept n w (take start all) ks ++ row_of_numbers n (drop start all) ∷ [] → kept_rows n w most (rows_kept n w made more) ≡ with_more t r
+pushed t n w most zs all made ks more start r is e f row h =
+    ap (kept_rows n w most) (more_rows n w start zs all made ks more r e f row h) ∙ ap (λ (u : KeptRows). with_more u r) is
 
 pub flat_same : (n m w v : ℕ) (xs ys : List ℤ) (ks ls : List Kept) → n ≡ m → w ≡ v → xs ≡ ys → ks ≡ ls → IsFlat m v ys ls → IsFlat n w xs ks
 flat_same n m w v xs ys ks ls e f g h flat = rw (e, f, g, h) flat

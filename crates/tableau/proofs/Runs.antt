@@ -1,5 +1,5 @@
 -- Kept rows whose numbers follow one another, which are copied as one run.
-use Rattle.std.proofs.Common.{◌≡◌, refl, ap, sym, ◌∙◌, subst, ℕ, suc, ◌+◌, ◌-◌, ◌*◌, ◌^◌, ◌<◌, ◌≤◌, ℤ, List, [], ◌∷◌, ◌++◌, length, map, take, drop, arith, append_assoc, append-nil, length-append}
+use Rattle.std.proofs.Common.{◌≡◌, refl, ap, sym, ◌∙◌, subst, ℕ, suc, ◌+◌, ◌-◌, ◌*◌, ◌^◌, ◌<◌, ◌≤◌, get_or, ℤ, List, [], ◌∷◌, ◌++◌, length, map, take, drop, arith, append_assoc, append-nil, length-append}
 use Rattle.std.specs.Prelude.{All}
 use Rattle.std.proofs.lemmas.List.{drop-drop, length-drop, length-take-le}
 use Rattle.std.proofs.lemmas.List.Elements.{All-head, All-tail, All-cons, All-take, All-drop}
@@ -9,12 +9,13 @@ use Rattle.pip_model.specs.Rows.{Row, unit_row}
 use Rattle.tableau_row.specs.Rows.{IsRow, IsReduced}
 use Rattle.tableau_row.specs.Flat.{row_of_numbers, is_unit_row}
 use Rattle.tableau_row.specs.Short.{IsShortRow}
-use Rattle.tableau.specs.KeptRows.{IsPlace, IsKnown, IsPlain, IsFlat, AreKept, IsRun, IsMovable, moved_kept, row_length, row_kept, rows_kept}
+use Rattle.tableau.specs.KeptRows.{IsPlace, IsKnown, IsPlain, IsPlainRow, IsFlat, AreKept, AreLent, AreSides, IsRun, lent_row, IsMovable, moved_kept, row_length, row_kept, rows_kept}
+use Rattle.tableau.specs.declared.kept.Lent.{Lent}
 use Rattle.tableau.specs.declared.kept.Kept.{Kept}
 use Rattle.tableau.specs.declared.kept.Kept.TheVariants as kept
 use Rattle.tableau.specs.declared.kept.Place.{Place}
 use Rattle.tableau.proofs.Flat.{with_plain, with_unit, rows_more, rows_unit}
-use Rattle.tableau.proofs.Turning.{all_kept}
+use Rattle.tableau.proofs.Turning.{all_kept, row_is}
 
 -- ---- the rows in front and behind
 
@@ -43,6 +44,19 @@ kept_flat n w zs ks h = record {
   reduced = all_kept IsReduced (row_kept n w zs) ks h.reduced;
   short = h.short;
   plain = h.plain;
+}
+
+-- the kept rows of a table on both sides of one
+pub kept_sides : (v : Lent) (ks front back : List Kept) (p : Row) (r : ℕ) (d : Kept) → AreLent v ks → r < length ks → front ≡ take r ks → back ≡ drop (r + 1) ks → p ≡ lent_row v (get_or ks r d)
+    → AreSides v ks r front p back
+kept_sides v ks front back p r d h lt e g is = record {
+  front = e;
+  row = is ∙ row_is (row_kept v.unknowns v.width v.numbers.now) ks r d lt;
+  back = g;
+  front_lent = subst (AreLent v) (sym e) (kept_front v.unknowns v.width v.numbers.now ks r h);
+  back_lent = subst (AreLent v) (sym g) (kept_behind v.unknowns v.width v.numbers.now ks (r + 1) h);
+  formed = subst (IsRow v.unknowns v.width) (sym is) (h.rows r d lt);
+  reduced = subst IsReduced (sym is) (h.reduced r d lt);
 }
 
 -- ---- the places of a run
@@ -138,11 +152,14 @@ with_run n w first to zs xs ks (kept.At p ∷ ls) a b le e h lent flat =
     let long : length more ≡ l = length-take-le l (drop a xs) (rw (length-drop a xs) (omega (arith, within, at))) in
     let put : last.first ≡ length zs = omega (arith, at, e) in
     let is : row_of_numbers n more ≡ row_kept n w xs (kept.At p) = ap (λ i. row_of_numbers n (take l (drop i xs))) (sym at) in
-    let whole = with_plain n w zs more ks last flat put long
-    (subst (IsRow n w) (sym is) (All-head (λ k. IsRow n w (row_kept n w xs k)) (kept.At p) ls lent.rows))
-    (subst IsReduced (sym is) (All-head (λ k. IsReduced (row_kept n w xs k)) (kept.At p) ls lent.reduced))
-    (λ s. subst IsShortRow (sym is) (All-head (IsKnown n w xs) (kept.At p) ls lent.short s))
-    (ap is_unit_row is ∙ All-head (IsPlain n w xs) (kept.At p) ls lent.plain) in
+    let plain : IsPlainRow n w more p.short = record {
+      length = long;
+      row = subst (IsRow n w) (sym is) (All-head (λ k. IsRow n w (row_kept n w xs k)) (kept.At p) ls lent.rows);
+      reduced = subst IsReduced (sym is) (All-head (λ k. IsReduced (row_kept n w xs k)) (kept.At p) ls lent.reduced);
+      short = λ s. subst IsShortRow (sym is) (All-head (IsKnown n w xs) (kept.At p) ls lent.short s);
+      plain = ap is_unit_row is ∙ All-head (IsPlain n w xs) (kept.At p) ls lent.plain;
+    } in
+    let whole = with_plain n w zs more ks last flat put plain in
     let rest = with_run n w first to (zs ++ more) xs (ks ++ kept.At last ∷ []) ls (a + l) b (omega arith) (rw (length-append zs more, long) (omega (arith, e))) h.1 (kept_tail n w xs (kept.At p) ls lent) whole in
     let run = take (b - (a + l)) (drop (a + l) xs) in
     let numbers : (zs ++ more) ++ run ≡ zs ++ take (b - a) (drop a xs) = append_assoc zs more run ∙ ap (λ (ys : List ℤ). zs ++ ys) (sym (behind_row l a b xs (run_grows l (a + l) b ls h.1))) in

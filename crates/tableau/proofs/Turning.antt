@@ -122,22 +122,22 @@ pub map_twice : {X Y Z : Type 0} (g : Y → Z) (f : X → Y) (xs : List X) → m
 map_twice g f [] = refl
 map_twice g f (x ∷ xs) = ap (λ ys. g (f x) ∷ ys) (map_twice g f xs)
 
-pub turned_sides : {X : Type 0} (f : X → Row) (xs front back : List X) (p : Row) (r c : ℕ) → front ≡ take r xs → back ≡ drop (r + 1) xs → p ≡ row_at (map f xs) r
-    → all_fit (pivot_listed (map f xs) r c) ≡ (all_fit (flat_map (λ x. eliminated_listed p c (f x)) front) && all_fit (flat_map (λ x. eliminated_listed p c (f x)) back))
-turned_sides f xs front back p r c e g same =
-    checked_sides (map f xs) (map f front) (map f back) p r c (ap (map f) e ∙ sym (take-map f r xs)) (ap (map f) g ∙ sym (drop-map f (r + 1) xs)) same
+pub turned_sides : {X : Type 0} (f : X → Row) (rows : List Row) (front back : List X) (p : Row) (r c : ℕ) → map f front ≡ take r rows → map f back ≡ drop (r + 1) rows → p ≡ row_at rows r
+    → all_fit (pivot_listed rows r c) ≡ (all_fit (flat_map (λ x. eliminated_listed p c (f x)) front) && all_fit (flat_map (λ x. eliminated_listed p c (f x)) back))
+turned_sides f rows front back p r c e g same =
+    checked_sides rows (map f front) (map f back) p r c e g same
     ∙ rw (flat_map-map (eliminated_listed p c) f front, flat_map-map (eliminated_listed p c) f back) refl
 
-pub turned_pivot : {X : Type 0} (f : X → Row) (xs front back : List X) (p : Row) (r c n w : ℕ) → r < length xs → front ≡ take r xs → back ≡ drop (r + 1) xs → p ≡ row_at (map f xs) r → IsRow n w p
-    → map (λ x. eliminated p c (f x)) front ++ unit_row n w c ∷ map (λ x. eliminated p c (f x)) back ≡ pivot (map f xs) r c
-turned_pivot f xs front back p r c n w h e g same hp =
-    let q = row_at (map f xs) r in
+pub turned_pivot : {X : Type 0} (f : X → Row) (rows : List Row) (front back : List X) (p : Row) (r c n w : ℕ) → r < length rows → map f front ≡ take r rows → map f back ≡ drop (r + 1) rows → p ≡ row_at rows r → IsRow n w p
+    → map (λ x. eliminated p c (f x)) front ++ unit_row n w c ∷ map (λ x. eliminated p c (f x)) back ≡ pivot rows r c
+turned_pivot f rows front back p r c n w h e g same hp =
+    let q = row_at rows r in
     let unit : unit_row n w c ≡ unit_row (length q.coefs) (width q.constant) c
     = ap_two (λ i j. unit_row i j c) (sym hp.coefs) (omega (arith, hp.constant)) ∙ ap (λ (s : Row). unit_row (length s.coefs) (width s.constant) c) same in
-    let k : r < length (map (eliminated q c) (map f xs)) = simp length-map h in
+    let k : r < length (map (eliminated q c) rows) = simp length-map h in
     ap (λ (s : Row). map (λ x. eliminated s c (f x)) front ++ unit_row n w c ∷ map (λ x. eliminated s c (f x)) back) same
-    ∙ rw (unit, e, g, ← map_twice (eliminated q c) f (take r xs), ← map_twice (eliminated q c) f (drop (r + 1) xs), ← take-map f r xs, ← drop-map f (r + 1) xs, ← take-map (eliminated q c) r (map f xs), ← drop-map (eliminated q c) (r + 1) (map f xs))
-    (sym (set_parts (map (eliminated q c) (map f xs)) r (unit_row (length q.coefs) (width q.constant) c) k))
+    ∙ rw (unit, ← map_twice (eliminated q c) f front, ← map_twice (eliminated q c) f back, e, g, ← take-map (eliminated q c) r rows, ← drop-map (eliminated q c) (r + 1) rows)
+    (sym (set_parts (map (eliminated q c) rows) r (unit_row (length q.coefs) (width q.constant) c) k))
   where
     ap_two : (f : ℕ → ℕ → Row) {x y u v : ℕ} → x ≡ y → u ≡ v → f x u ≡ f y v
     ap_two f {x} {y} {u} {v} e k = ap (λ t. f t u) e ∙ ap (λ t. f y t) k
@@ -149,26 +149,36 @@ all_kept P f xs h = λ k d lt. subst P (get_or-map f xs k d (f d) lt) (h k (f d)
 pub row_is : {X : Type 0} (f : X → Row) (xs : List X) (r : ℕ) (d : X) → r < length xs → f (get_or xs r d) ≡ row_at (map f xs) r
 row_is f xs r d h = sym (get_or-map f xs r d (form_row 0 []) h)
 
-pub row_formed : (n w : ℕ) (rows : List Row) (p : Row) (r : ℕ) → p ≡ row_at rows r → r < length rows → All (IsRow n w) rows → IsRow n w p
-row_formed n w rows p r e h all = subst (IsRow n w) (sym e) (all r (form_row 0 []) h)
-
 -- the rows with another in place of row r
-pub replaced_row : {X : Type 0} (f : X → Row) (xs front back : List X) (r : ℕ) (made : Row) → r < length xs → front ≡ take r xs → back ≡ drop (r + 1) xs
-    → map f front ++ made ∷ map f back ≡ slice_set (map f xs) r made
-replaced_row f xs front back r made h e g =
-    let k : r < length (map f xs) = simp length-map h in
-    rw (e, g, ← take-map f r xs, ← drop-map f (r + 1) xs) (sym (set_parts (map f xs) r made k))
-
--- rows with the rows in front, another, and the rows behind
-pub joined_rows : (t : KeptRows) (front back all : List Row) (r : Row) → front ++ r ∷ back ≡ all → with_rows (with_more (with_rows t front) r) back ≡ with_rows t all
-joined_rows t front back all r e =
-    ap (λ (rs : List Row). record t { rows = rs })
-    (append_assoc (t.rows ++ front) (r ∷ []) back ∙ append_assoc t.rows front (r ∷ back) ∙ ap (λ (rs : List Row). t.rows ++ rs) e)
+pub replaced_row : (rows front back : List Row) (r : ℕ) (made : Row) → r < length rows → front ≡ take r rows → back ≡ drop (r + 1) rows → front ++ made ∷ back ≡ slice_set rows r made
+replaced_row rows front back r made h e g = rw (e, g) (sym (set_parts rows r made h))
 
 pub length_pivot : (rows : List Row) (r c : ℕ) → length (pivot rows r c) ≡ length rows
 length_pivot rows r c =
     let p = row_at rows r in
     length-set (map (eliminated p c) rows) r (unit_row (length p.coefs) (width p.constant) c) ∙ length-map rows (eliminated p c)
+
+pub shape_same : (t : KeptRows) → SameShape t t
+shape_same t = record { unknowns = refl; width = refl; most = refl }
+
+pub shape_more : (s t u : KeptRows) → SameShape s t → SameShape t u → SameShape s u
+shape_more s t u h g = record { unknowns = h.unknowns ∙ g.unknowns; width = h.width ∙ g.width; most = h.most ∙ g.most }
+
+pub shape_with : (s t : KeptRows) (rows : List Row) → s ≡ record t { rows = rows } → SameShape s t
+shape_with s t rows e = record {
+  unknowns = ap (λ (u : KeptRows). u.unknowns) e;
+  width = ap (λ (u : KeptRows). u.width) e;
+  most = ap (λ (u : KeptRows). u.most) e;
+}
+
+pub still_spare : (rows next made : KeptRows) (units : List ℤ) → IsSpare rows next units → SameShape made next → IsSpare rows made units
+still_spare rows next made units h same = record {
+  unknowns = same.unknowns ∙ h.unknowns;
+  width = same.width ∙ h.width;
+  room = rw same.most h.room;
+  begun = h.begun;
+  run = h.run;
+}
 
 -- rows that were made in the next ones change places with them
 pub swapped : (rows next made : KeptRows) (units : List ℤ) → IsSpare rows next units → SameShape made next → length made.rows ≡ length rows.rows → length rows.rows ≤ rows.most

@@ -1,6 +1,7 @@
 -- Rows as they are kept: the row of a column by the column, any other by the place of its numbers.
-use Rattle.std.specs.Prelude.{◌≡◌, ℕ, ◌+◌, ◌-◌, ◌*◌, ◌^◌, ◌<◌, ◌≤◌, ℤ, pos, Bool, true, false, not, IsTrue, List, [], ◌∷◌, ◌++◌, length, take, drop, map, filter, flat_map, max, replicate, All}
-use Rattle.pip_model.specs.Rows.{Row, unit_row, eliminated, eliminated_listed}
+use Rattle.std.specs.Prelude.{◌≡◌, ℕ, ◌+◌, ◌-◌, ◌*◌, ◌^◌, ◌<◌, ◌≤◌, ℤ, pos, ◌≤ℤ◌, Bool, true, false, not, IsTrue, List, [], ◌∷◌, ◌++◌, length, take, drop, map, filter, flat_map, max, replicate, All}
+use Rattle.pip_model.specs.Forms.{entry}
+use Rattle.pip_model.specs.Rows.{Row, row_at, unit_row, eliminated, eliminated_listed}
 use Rattle.pip_model.specs.Listed.{all_fit}
 use Rattle.tableau_row.specs.Short.{IsShortRow}
 use Rattle.tableau_row.specs.Rows.{IsRow, IsReduced}
@@ -42,11 +43,6 @@ lent_rows v ks = rows_kept v.unknowns v.width v.numbers.now ks
 abbrev pub IsPlace : ℕ → ℕ → ℕ → Kept → Type 0
 IsPlace n w len (kept.Unit c) = c < n
 IsPlace n w len (kept.At p) = p.first + row_length n w ≤ len
-
--- rows over the columns and places of those that are lent
-pub record IsOver (t : KeptRows) (v : Lent) : Type 0 where
-  pub unknowns : t.unknowns ≡ v.unknowns
-  pub width : t.width ≡ v.width
 
 -- whether all numbers of the row are known to be short
 abbrev pub kept_short : Kept → Bool
@@ -139,6 +135,64 @@ pub record HasRoom (n w most count kept_capacity numbers_capacity : ℕ) : Type 
 abbrev pub unit_run : ℕ → ℕ → List ℤ
 unit_run n w = replicate n (pos 0) ++ pos 1 ∷ replicate (max n (w + 1)) (pos 0)
 
+-- rows over the columns and places of those that are lent, with the run of the columns' rows
+pub record IsOver (t : KeptRows) (v : Lent) : Type 0 where
+  pub unknowns : t.unknowns ≡ v.unknowns
+  pub width : t.width ≡ v.width
+  pub units : v.units.now ≡ unit_run v.unknowns v.width
+
+-- the same, with one place more
+pub record IsWider (t : KeptRows) (v : Lent) : Type 0 where
+  pub unknowns : t.unknowns ≡ v.unknowns
+  pub width : t.width ≡ v.width + 1
+  pub units : v.units.now ≡ unit_run v.unknowns v.width
+
+-- the kept rows, as they are lent, are those of the table
+pub record AreLentOf (t : KeptRows) (v : Lent) (ks : List Kept) : Type 0 where
+  pub over : IsOver t v
+  pub lent : AreLent v ks
+  pub rows : lent_rows v ks ≡ t.rows
+  pub count : length ks ≡ length t.rows
+  pub few : length t.rows ≤ t.most
+
+-- the kept rows in front of row r, the row, and the kept rows behind it
+pub record AreSides (v : Lent) (ks : List Kept) (r : ℕ) (before : List Kept) (p : Row) (behind : List Kept) : Type 0 where
+  pub front : before ≡ take r ks
+  pub row : p ≡ row_at (lent_rows v ks) r
+  pub back : behind ≡ drop (r + 1) ks
+  pub front_lent : AreLent v before
+  pub back_lent : AreLent v behind
+  pub formed : IsRow v.unknowns v.width p
+  pub reduced : IsReduced p
+
+-- a row without a common divisor that can be solved for the quantity of column c
+pub record IsSolvable (n w : ℕ) (p : Row) (c : ℕ) : Type 0 where
+  pub row : IsRow n w p
+  pub reduced : IsReduced p
+  pub column : c < n
+  pub positive : pos 1 ≤ℤ entry p.coefs c
+
+-- row r of rows over n columns is positive in column c
+pub record IsPivot (n : ℕ) (rows : List Row) (r c : ℕ) : Type 0 where
+  pub row : r < length rows
+  pub column : c < n
+  pub positive : pos 1 ≤ℤ entry (row_at rows r).coefs c
+
+-- what the kept rows are after the pivot on row p and column c, and their listed numbers
+abbrev pub turned : Row → ℕ → Lent → List Kept → List Row
+turned p c v ks = map (λ k. eliminated p c (lent_row v k)) ks
+
+abbrev pub turned_listed : Row → ℕ → Lent → List Kept → List ℤ
+turned_listed p c v ks = flat_map (λ k. eliminated_listed p c (lent_row v k)) ks
+
+-- the numbers of a row that is not that of a column
+pub record IsPlainRow (n w : ℕ) (numbers : List ℤ) (known : Bool) : Type 0 where
+  pub length : length numbers ≡ row_length n w
+  pub row : IsRow n w (row_of_numbers n numbers)
+  pub reduced : IsReduced (row_of_numbers n numbers)
+  pub short : IsTrue known → IsShortRow (row_of_numbers n numbers)
+  pub plain : is_unit_row (row_of_numbers n numbers) ≡ false
+
 -- the numbers from the place on are those of one more row
 pub record IsUnsealed (n w : ℕ) (last : Place) (numbers : List ℤ) (ks : List Kept) : Type 0 where
   pub flat : IsFlat n w (take last.first numbers) ks
@@ -160,6 +214,27 @@ pub record SameShape (s t : KeptRows) : Type 0 where
   pub unknowns : s.unknowns ≡ t.unknowns
   pub width : s.width ≡ t.width
   pub most : s.most ≡ t.most
+
+-- the same rows; there may be room for others
+pub record SameRows (s t : KeptRows) : Type 0 where
+  pub unknowns : s.unknowns ≡ t.unknowns
+  pub width : s.width ≡ t.width
+  pub rows : s.rows ≡ t.rows
+
+-- rest is left of the kept rows, behind those that rows t have more than s
+pub record AreLeft (p : Row) (c : ℕ) (v : Lent) (s : KeptRows) (ks : List Kept) (t : KeptRows) (rest : List Kept) : Type 0 where
+  pub lent : AreLent v rest
+  pub listed : all_fit (turned_listed p c v rest) ≡ all_fit (turned_listed p c v ks)
+  pub rows : with_rows t (turned p c v rest) ≡ with_rows s (turned p c v ks)
+  pub fewer : length rest ≤ length ks
+  pub count : length t.rows + length rest ≡ length s.rows + length ks
+  pub shape : SameShape t s
+
+-- there is room for so many rows in both, and the run is there
+pub record AreReady (rows next : KeptRows) (run : List ℤ) (count : ℕ) : Type 0 where
+  pub room : count ≤ rows.most
+  pub next_room : count ≤ next.most
+  pub units : run ≡ unit_run rows.unknowns rows.width
 
 -- the next rows have room for as many rows, and the run is there where there is a row
 pub record IsSpare (rows next : KeptRows) (units : List ℤ) : Type 0 where

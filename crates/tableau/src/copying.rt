@@ -1,6 +1,5 @@
 ghost use Rattle.std.specs.Prelude.{◌≡◌, ◌+◌, ◌-◌, ◌<◌, ◌≤◌, ◌++◌, length, map, take, drop, All, IfOk, vec_len, vec_capacity};
-ghost use Rattle.tableau.specs.KeptRows.{IsOver, IsLent, AreLent, IsRun, IsMovable, moved_kept, row_length, lent_row, lent_rows, with_more, with_rows};
-ghost use Rattle.tableau_row.specs.Rows.{IsRow, IsReduced};
+ghost use Rattle.tableau.specs.KeptRows.{IsOver, IsLent, AreLent, IsRun, IsMovable, SameRows, moved_kept, row_length, lent_row, lent_rows, with_more, with_rows};
 
 use crate::flat_rows::FlatRows;
 use crate::kept::{Kept, Lent, Place};
@@ -104,9 +103,7 @@ impl FlatRows {
 
     // The same rows, with room for two more.
     pub(crate) fn try_clone(&self, alloc: Global) -> Result<FlatRows, WantOfMemory>
-        ensures unknowns { IfOk result (λ t. t.unknowns ≡ self.now.unknowns) }
-        ensures width { IfOk result (λ t. t.width ≡ self.now.width) }
-        ensures rows { IfOk result (λ t. t.rows ≡ self.now.rows) }
+        ensures { IfOk result (λ t. SameRows t self.now) }
     {
         let mut made = FlatRows::with_room(alloc, self.unknowns, self.width, self.len() + 2)?;
         self.copy(&mut made);

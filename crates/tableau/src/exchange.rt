@@ -1,12 +1,10 @@
-ghost use Rattle.std.specs.Prelude.{◌≡◌, ◌+◌, ◌-◌, ◌<◌, ◌≤◌, pos, ◌≤ℤ◌, false, [], ◌∷◌, length, take, map, flat_map, IsTrue, IfSome, OnSome, OnErr, OnOk};
-ghost use Rattle.pip_model.specs.Forms.{entry};
-ghost use Rattle.pip_model.specs.Listed.{all_fit};
+ghost use Rattle.std.specs.Prelude.{◌≡◌, ◌+◌, ◌-◌, ◌<◌, ◌≤◌, [], ◌∷◌, length, take, IfSome, OnSome, OnErr, OnOk};
 ghost use Rattle.pip_model.specs.Rows as model;
 ghost use Rattle.pip_model.specs.Agreement.{IsChecked};
 ghost use Rattle.affine_forms.specs.Checks.{is_overflow};
-ghost use Rattle.tableau.specs.KeptRows.{IsOver, IsLent, AreLent, AreSteady, IsFlat, IsRun, IsSteady, SameShape, lent_row, lent_rows, row_length, with_more, with_rows, unit_run};
-ghost use Rattle.tableau_row.specs.Rows.{IsRow, IsOwnRow, IsReduced};
-ghost use Rattle.tableau_row.specs.Views.{row_of, is_known_short};
+ghost use Rattle.tableau.specs.KeptRows.{IsOver, IsLent, AreLeft, AreLent, AreSteady, IsPivot, IsRun, IsSolvable, IsSpare, IsSteady, SameShape, lent_row, row_length, turned, turned_listed, with_more, with_rows};
+ghost use Rattle.tableau_row.specs.Rows.{IsRow, IsOwnRow};
+ghost use Rattle.tableau_row.specs.Views.{row_of};
 
 use crate::copying::copy_kept;
 use crate::flat_rows::FlatRows;
@@ -31,14 +29,6 @@ fn check_row(p: &RowView<'_>, c: usize, row: &RowView<'_>) -> Result<(), Overflo
     check_eliminated(p, c, row)
 }
 
-// The row, as one that is not known to be short.
-fn as_long<'t>(row: &RowView<'t>) -> RowView<'t>
-    ensures value { row_of result ≡ row_of row.now }
-    ensures short { is_known_short result ≡ false }
-{
-    RowView::new(row.den, row.coefs, row.constant, false)
-}
-
 // Adds what a kept row is after the pivot on row p and column c. A row that is 0 in the column stays, since its numbers
 // have no common divisor.
 fn turn_row(
@@ -50,11 +40,8 @@ fn turn_row(
 ) -> Result<(), Overflow>
     requires room { length next.old.rows < next.old.most }
     requires over { IsOver next.old lent.now }
-    requires units { lent.now.units.now ≡ unit_run lent.now.unknowns lent.now.width }
     requires one { IsLent lent.now one }
-    requires p { IsRow lent.now.unknowns lent.now.width (row_of p.now) }
-    requires column { c < lent.now.unknowns }
-    requires positive { pos 1 ≤ℤ entry p.now.coefs.now c }
+    requires p { IsSolvable lent.now.unknowns lent.now.width (row_of p.now) c }
     ensures listed { IsChecked is_overflow (model.eliminated_listed (row_of p.now) c (lent_row lent.now one)) result }
     ensures ok { OnOk result
         (next.new ≡ with_more next.old (model.eliminated (row_of p.now) c (lent_row lent.now one))) }
@@ -80,12 +67,8 @@ fn turn_kept(
 ) -> Result<(), Overflow>
     requires room { length next.old.rows < next.old.most }
     requires over { IsOver next.old lent.now }
-    requires units { lent.now.units.now ≡ unit_run lent.now.unknowns lent.now.width }
     requires one { IsLent lent.now one }
-    requires p { IsRow lent.now.unknowns lent.now.width (row_of p.now) }
-    requires p_reduced { IsTrue (is_known_short p.now) → IsReduced (row_of p.now) }
-    requires column { c < lent.now.unknowns }
-    requires positive { pos 1 ≤ℤ entry p.now.coefs.now c }
+    requires p { IsSolvable lent.now.unknowns lent.now.width (row_of p.now) c }
     ensures listed { IsChecked is_overflow (model.eliminated_listed (row_of p.now) c (lent_row lent.now one)) result }
     ensures ok { OnOk result
         (next.new ≡ with_more next.old (model.eliminated (row_of p.now) c (lent_row lent.now one))) }
@@ -105,9 +88,7 @@ fn turn_kept(
 // column.
 fn steady_end(p: &RowView<'_>, c: usize, lent: &Lent<'_>, one: Kept, at: usize) -> Option<usize>
     requires one { IsLent lent.now one }
-    requires p { IsRow lent.now.unknowns lent.now.width (row_of p.now) }
-    requires column { c < lent.now.unknowns }
-    requires positive { pos 1 ≤ℤ entry p.now.coefs.now c }
+    requires p { IsSolvable lent.now.unknowns lent.now.width (row_of p.now) c }
     ensures run { IfSome result (λ end.
         IsRun (row_length lent.now.unknowns lent.now.width) at end (one ∷ [])) }
     ensures steady { OnSome result (IsSteady (row_of p.now) c (lent_row lent.now one)) }
@@ -132,9 +113,7 @@ fn steady_end(p: &RowView<'_>, c: usize, lent: &Lent<'_>, one: Kept, at: usize) 
 // follow one another from the place on, and the place behind them.
 fn steady(p: &RowView<'_>, c: usize, lent: &Lent<'_>, kept: &[Kept], first: usize) -> (usize, usize)
     requires lent { AreLent lent.now kept.now }
-    requires p { IsRow lent.now.unknowns lent.now.width (row_of p.now) }
-    requires column { c < lent.now.unknowns }
-    requires positive { pos 1 ≤ℤ entry p.now.coefs.now c }
+    requires p { IsSolvable lent.now.unknowns lent.now.width (row_of p.now) c }
     ensures count { result.0 ≤ length kept.now }
     ensures run { IsRun (row_length lent.now.unknowns lent.now.width) first result.1 (take result.0 kept.now) }
     ensures steady { AreSteady (row_of p.now) c lent.now (take result.0 kept.now) }
@@ -162,19 +141,8 @@ fn push_steady<'k>(
     requires room { length next.old.rows + length kept.now ≤ next.old.most }
     requires over { IsOver next.old lent.now }
     requires lent { AreLent lent.now kept.now }
-    requires p { IsRow lent.now.unknowns lent.now.width (row_of p.now) }
-    requires column { c < lent.now.unknowns }
-    requires positive { pos 1 ≤ℤ entry p.now.coefs.now c }
-    ensures lent { AreLent lent.now result.0.now }
-    ensures listed { all_fit
-        (flat_map (λ one. model.eliminated_listed (row_of p.now) c (lent_row lent.now one)) result.0.now)
-        ≡ all_fit (flat_map (λ one. model.eliminated_listed (row_of p.now) c (lent_row lent.now one)) kept.now) }
-    ensures rows { with_rows next.new
-        (map (λ one. model.eliminated (row_of p.now) c (lent_row lent.now one)) result.0.now)
-        ≡ with_rows next.old (map (λ one. model.eliminated (row_of p.now) c (lent_row lent.now one)) kept.now) }
-    ensures fewer { length result.0.now ≤ length kept.now }
-    ensures count { length next.new.rows + length result.0.now ≡ length next.old.rows + length kept.now }
-    ensures shape { SameShape next.new next.old }
+    requires p { IsSolvable lent.now.unknowns lent.now.width (row_of p.now) c }
+    ensures { AreLeft (row_of p.now) c lent.now next.old kept.now next.new result.0.now }
 {
     let (count, end) = steady(p, c, lent, kept, first);
     let (run, rest) = kept.split_at(count);
@@ -194,16 +162,10 @@ fn turn_rows(
 ) -> Result<(), Overflow>
     requires room { length next.old.rows + length kept.now ≤ next.old.most }
     requires over { IsOver next.old lent.now }
-    requires units { lent.now.units.now ≡ unit_run lent.now.unknowns lent.now.width }
     requires lent { AreLent lent.now kept.now }
-    requires p { IsRow lent.now.unknowns lent.now.width (row_of p.now) }
-    requires p_reduced { IsTrue (is_known_short p.now) → IsReduced (row_of p.now) }
-    requires column { c < lent.now.unknowns }
-    requires positive { pos 1 ≤ℤ entry p.now.coefs.now c }
-    ensures listed { IsChecked is_overflow
-        (flat_map (λ one. model.eliminated_listed (row_of p.now) c (lent_row lent.now one)) kept.now) result }
-    ensures ok { OnOk result (next.new ≡ with_rows next.old
-        (map (λ one. model.eliminated (row_of p.now) c (lent_row lent.now one)) kept.now)) }
+    requires p { IsSolvable lent.now.unknowns lent.now.width (row_of p.now) c }
+    ensures listed { IsChecked is_overflow (turned_listed (row_of p.now) c lent.now kept.now) result }
+    ensures ok { OnOk result (next.new ≡ with_rows next.old (turned (row_of p.now) c lent.now kept.now)) }
     ensures shape { SameShape next.new next.old }
 {
     let mut rest = kept;
@@ -221,39 +183,8 @@ fn turn_rows(
     }
 }
 
-// Makes of no rows the kept rows after the pivot on row r and column c.
-fn turn_all(
-    next: &mut FlatRows,
-    lent: &Lent<'_>,
-    kept: &[Kept],
-    r: usize,
-    c: usize,
-) -> Result<(), Overflow>
-    requires empty { next.old.rows ≡ [] }
-    requires room { length kept.now ≤ next.old.most }
-    requires over { IsOver next.old lent.now }
-    requires units { lent.now.units.now ≡ unit_run lent.now.unknowns lent.now.width }
-    requires flat { IsFlat lent.now.unknowns lent.now.width lent.now.numbers.now kept.now }
-    requires row { r < length kept.now }
-    requires column { c < lent.now.unknowns }
-    requires positive { pos 1 ≤ℤ entry (model.row_at (lent_rows lent.now kept.now) r).coefs c }
-    ensures listed { IsChecked is_overflow
-        (model.pivot_listed (lent_rows lent.now kept.now) r c) result }
-    ensures ok { OnOk result (next.new
-        ≡ with_rows next.old (model.pivot (lent_rows lent.now kept.now) r c)) }
-    ensures shape { SameShape next.new next.old }
-{
-    let (front, _) = kept.split_at(r);
-    let (_, back) = kept.split_at(r + 1);
-    let p = lent.row(kept[r]);
-    turn_rows(next, &p, c, lent, front, 0)?;
-    next.push_unit(c);
-    turn_rows(next, &p, c, lent, back, lent.behind(kept[r], 0))?;
-    Ok(())
-}
-
 impl FlatRows {
-    // Makes of the next rows these after the pivot on row r and column c.
+    // Makes of the next rows these after the pivot on row r and column c; they may then change places.
     pub(crate) fn turn(
         &self,
         units: &[i128],
@@ -261,62 +192,20 @@ impl FlatRows {
         c: usize,
         next: &mut FlatRows,
     ) -> Result<(), Overflow>
-        requires units { units.now ≡ unit_run self.now.unknowns self.now.width }
-        requires row { r < length self.now.rows }
-        requires column { c < self.now.unknowns }
-        requires positive { pos 1 ≤ℤ entry (model.row_at self.now.rows r).coefs c }
-        requires unknowns { next.old.unknowns ≡ self.now.unknowns }
-        requires width { next.old.width ≡ self.now.width }
-        requires room { length self.now.rows ≤ next.old.most }
+        requires spare { IsSpare self.now next.old units.now }
+        requires pivot { IsPivot self.now.unknowns self.now.rows r c }
         ensures listed { IsChecked is_overflow (model.pivot_listed self.now.rows r c) result }
         ensures ok { OnOk result (next.new ≡ record next.old { rows = model.pivot self.now.rows r c }) }
-        ensures shape { SameShape next.new next.old }
-        ensures few { length self.now.rows ≤ self.now.most }
+        ensures spare { IsSpare self.now next.new units.now }
+        ensures swapped { OnOk result (IsSpare next.new self.now units.now) }
     {
-        let lent = Lent {
-            unknowns: self.unknowns,
-            width: self.width,
-            numbers: self.numbers.as_slice(),
-            units,
-        };
+        let (lent, kept) = self.lent(units);
+        let (front, p, back) = lent.sides(kept, r);
+        let end = lent.behind(kept[r], 0);
         next.clear();
-        turn_all(next, &lent, self.kept.as_slice(), r, c)
-    }
-
-    // Makes of the next rows these with row p, solved for the quantity of column c, put into each.
-    pub(crate) fn put_in(
-        &self,
-        units: &[i128],
-        p: &RowView<'_>,
-        c: usize,
-        next: &mut FlatRows,
-    ) -> Result<(), Overflow>
-        requires units { 0 < length self.now.rows → units.now ≡ unit_run self.now.unknowns self.now.width }
-        requires p { IsRow self.now.unknowns self.now.width (row_of p.now) }
-        requires column { c < self.now.unknowns }
-        requires positive { pos 1 ≤ℤ entry p.now.coefs.now c }
-        requires unknowns { next.old.unknowns ≡ self.now.unknowns }
-        requires width { next.old.width ≡ self.now.width }
-        requires room { length self.now.rows ≤ next.old.most }
-        ensures listed { IsChecked is_overflow (flat_map
-            (model.eliminated_listed (row_of p.now) c) self.now.rows) result }
-        ensures ok { OnOk result (next.new
-            ≡ record next.old { rows = map (model.eliminated (row_of p.now) c) self.now.rows }) }
-        ensures shape { SameShape next.new next.old }
-        ensures few { length self.now.rows ≤ self.now.most }
-    {
-        next.clear();
-        if self.kept.is_empty() {
-            return Ok(());
-        }
-        let lent = Lent {
-            unknowns: self.unknowns,
-            width: self.width,
-            numbers: self.numbers.as_slice(),
-            units,
-        };
-        // The numbers of p may have a common divisor.
-        let pivot = as_long(p);
-        turn_rows(next, &pivot, c, &lent, self.kept.as_slice(), 0)
+        turn_rows(next, &p, c, &lent, front, 0)?;
+        next.push_unit(c);
+        turn_rows(next, &p, c, &lent, back, end)?;
+        Ok(())
     }
 }

@@ -1,9 +1,8 @@
 ghost use Rattle.std.specs.Prelude.{◌≡◌, ◌*◌, ◌^◌, ◌<◌, ◌≤◌, false, [], length, IfOk, IfSome, IfNone, OnOk};
 ghost use Rattle.pip_model.specs.Rows as model;
-ghost use Rattle.tableau.specs.KeptRows.{flat_numbers};
-ghost use Rattle.tableau.specs.KeptRows.{row_length, unit_run};
+ghost use Rattle.tableau.specs.KeptRows.{AreLentOf, SameRows, flat_numbers, row_length, unit_run};
 ghost use Rattle.tableau_row.specs.Flat.{is_unit_row};
-ghost use Rattle.tableau_row.specs.Rows.{IsRow, IsReduced};
+ghost use Rattle.tableau_row.specs.Rows.{IsRow};
 ghost use Rattle.tableau_row.specs.Views.{row_of};
 
 use crate::kept::{Kept, Lent};
@@ -99,13 +98,10 @@ impl FlatRows {
         self.numbers.as_slice()
     }
 
-    // Row i, lent from the run of the columns' rows.
-    pub(crate) fn row<'t>(&'t self, units: &'t [i128], i: usize) -> RowView<'t>
-        requires place { i < length self.now.rows }
-        requires units { units.now ≡ unit_run self.now.unknowns self.now.width }
-        ensures value { row_of result ≡ model.row_at self.now.rows i }
-        ensures row { IsRow self.now.unknowns self.now.width (row_of result) }
-        ensures reduced { IsReduced (row_of result) }
+    // The kept rows, and what they are lent from.
+    pub(crate) fn lent<'t>(&'t self, units: &'t [i128]) -> (Lent<'t>, &'t [Kept])
+        requires { units.now ≡ unit_run self.now.unknowns self.now.width }
+        ensures { AreLentOf self.now result.0 result.1.now }
     {
         let lent = Lent {
             unknowns: self.unknowns,
@@ -113,7 +109,18 @@ impl FlatRows {
             numbers: self.numbers.as_slice(),
             units,
         };
-        lent.row(self.kept[i])
+        (lent, self.kept.as_slice())
+    }
+
+    // Row i, lent from the run of the columns' rows.
+    pub(crate) fn row<'t>(&'t self, units: &'t [i128], i: usize) -> RowView<'t>
+        requires place { i < length self.now.rows }
+        requires units { units.now ≡ unit_run self.now.unknowns self.now.width }
+        ensures value { row_of result ≡ model.row_at self.now.rows i }
+        ensures row { IsRow self.now.unknowns self.now.width (row_of result) }
+    {
+        let (lent, kept) = self.lent(units);
+        lent.row(kept[i])
     }
 
     // The column whose row row i is, none of any other row.
@@ -131,9 +138,7 @@ impl FlatRows {
 
     // Makes room for so many rows; where there is not enough, for half as many more than now at least.
     pub(crate) fn reserve(&mut self, most: usize) -> Result<(), WantOfMemory>
-        ensures unknowns { self.new.unknowns ≡ self.old.unknowns }
-        ensures width { self.new.width ≡ self.old.width }
-        ensures rows { self.new.rows ≡ self.old.rows }
+        ensures same { SameRows self.new self.old }
         ensures ok { OnOk result (most ≤ self.new.most) }
         ensures room { self.old.most ≤ self.new.most }
     {
@@ -155,9 +160,8 @@ impl FlatRows {
         width: usize,
         most: usize,
     ) -> Result<FlatRows, WantOfMemory>
-        ensures unknowns { IfOk result (λ t. t.unknowns ≡ unknowns) }
-        ensures width { IfOk result (λ t. t.width ≡ width) }
-        ensures rows { IfOk result (λ t. t.rows ≡ []) }
+        ensures empty { IfOk result (λ t.
+            SameRows t (record { unknowns = unknowns; width = width; most = 0; rows = [] })) }
         ensures room { IfOk result (λ t. most ≤ t.most) }
     {
         let mut made = FlatRows::new(alloc, unknowns, width);

@@ -1,13 +1,12 @@
-ghost use Rattle.std.specs.Prelude.{◌≡◌, ◌+◌, ◌-◌, ◌<◌, ◌≤◌, pos, ◌≤ℤ◌, false, [], ◌∷◌, ◌++◌, length, take, drop, All, IsTrue, IfSome, OnErr, OnOk, vec_len, vec_capacity};
-ghost use Rattle.pip_model.specs.Forms.{entry};
+ghost use Rattle.std.specs.Prelude.{◌≡◌, ◌+◌, ◌-◌, ◌<◌, ◌≤◌, pos, [], ◌∷◌, ◌++◌, length, take, drop, All, IsTrue, IfSome, OnErr, OnOk, vec_len, vec_capacity};
 ghost use Rattle.pip_model.specs.Listed.{all_fit};
 ghost use Rattle.pip_model.specs.Rows as model;
 ghost use Rattle.pip_model.specs.Cuts.{rounded, rounded_listed};
 ghost use Rattle.pip_model.specs.Agreement.{IsChecked};
 ghost use Rattle.affine_forms.specs.Checks.{is_overflow};
 ghost use Rattle.affine_forms.specs.Forms.{IsForm};
-ghost use Rattle.tableau_row.specs.Flat.{numbers_of, row_of_numbers, is_unit_row};
-ghost use Rattle.tableau.specs.KeptRows.{IsFlat, IsUnsealed, row_length, rows_kept, with_more};
+ghost use Rattle.tableau_row.specs.Flat.{numbers_of, row_of_numbers};
+ghost use Rattle.tableau.specs.KeptRows.{IsFlat, IsPlainRow, IsSolvable, IsUnsealed, rows_kept, with_more};
 ghost use Rattle.tableau_row.specs.Short.{IsShort, IsShortRow};
 ghost use Rattle.tableau_row.specs.Rows.{IsRow, IsReduced};
 ghost use Rattle.tableau_row.specs.Views.{row_of};
@@ -16,8 +15,8 @@ use crate::flat_rows::FlatRows;
 use crate::kept::{Kept, Place};
 use affine_forms::{Form, Overflow};
 use tableau_row::{
-    RowView, append_divided, append_eliminated, append_entries, append_rounded, append_row,
-    append_solved, append_widened, is_short_row, unit_column, view_of,
+    RowView, append_divided, append_eliminated, append_entries, append_rounded, append_solved,
+    append_widened, is_short_row, unit_column, view_of,
 };
 
 // Appends the kept row, for which there is room.
@@ -88,38 +87,12 @@ impl FlatRows {
     // Adds the row of these numbers, which is not that of a column.
     pub(crate) fn push_plain(&mut self, numbers: &[i128], short: bool)
         requires room { length self.old.rows < self.old.most }
-        requires length { length numbers.now ≡ row_length self.old.unknowns self.old.width }
-        requires row { IsRow self.old.unknowns self.old.width (row_of_numbers self.old.unknowns numbers.now) }
-        requires reduced { IsReduced (row_of_numbers self.old.unknowns numbers.now) }
-        requires plain { is_unit_row (row_of_numbers self.old.unknowns numbers.now) ≡ false }
-        requires short { IsTrue short → IsShortRow (row_of_numbers self.old.unknowns numbers.now) }
+        requires row { IsPlainRow self.old.unknowns self.old.width numbers.now short }
         ensures { self.new ≡ with_more self.old (row_of_numbers self.old.unknowns numbers.now) }
     {
         let first = self.numbers.len();
         append_entries(&mut self.numbers, numbers);
         append_kept(&mut self.kept, Kept::At(Place { first, short }));
-    }
-
-    // Adds a row.
-    pub(crate) fn push_row(&mut self, row: &RowView<'_>)
-        requires room { length self.old.rows < self.old.most }
-        requires row { IsRow self.old.unknowns self.old.width (row_of row.now) }
-        requires reduced { IsReduced (row_of row.now) }
-        ensures { self.new ≡ with_more self.old (row_of row.now) }
-    {
-        let first = self.numbers.len();
-        append_row(&mut self.numbers, row);
-        let last = Place {
-            first,
-            short: row.is_known_short(),
-        };
-        seal(
-            &mut self.kept,
-            &mut self.numbers,
-            last,
-            self.unknowns,
-            self.width,
-        );
     }
 
     // Adds the row of a form over the columns and then the places.
@@ -167,11 +140,9 @@ impl FlatRows {
         run: Option<&[i128]>,
     )
         requires room { length self.old.rows < self.old.most }
-        requires p { IsRow self.old.unknowns self.old.width (row_of p.now) }
+        requires p { IsSolvable self.old.unknowns self.old.width (row_of p.now) c }
         requires row { IsRow self.old.unknowns self.old.width (row_of row.now) }
         requires run { IfSome run (λ s. s.now ≡ numbers_of (row_of row.now)) }
-        requires column { c < self.old.unknowns }
-        requires positive { pos 1 ≤ℤ entry p.now.coefs.now c }
         requires listed { IsTrue (all_fit (model.eliminated_listed (row_of p.now) c (row_of row.now))) }
         ensures { self.new ≡ with_more self.old (model.eliminated (row_of p.now) c (row_of row.now)) }
     {
@@ -190,11 +161,8 @@ impl FlatRows {
     // Adds what the row of column c itself is after the pivot on row p and that column.
     pub(crate) fn push_solved(&mut self, p: &RowView<'_>, c: usize)
         requires room { length self.old.rows < self.old.most }
-        requires p { IsRow self.old.unknowns self.old.width (row_of p.now) }
-        requires reduced { IsReduced (row_of p.now) }
+        requires p { IsSolvable self.old.unknowns self.old.width (row_of p.now) c }
         requires short { IsShortRow (row_of p.now) }
-        requires column { c < self.old.unknowns }
-        requires positive { pos 1 ≤ℤ entry p.now.coefs.now c }
         ensures listed { IsTrue (all_fit (model.eliminated_listed (row_of p.now) c
             (model.unit_row self.old.unknowns self.old.width c))) }
         ensures row { self.new ≡ with_more self.old (model.eliminated (row_of p.now) c

@@ -5,7 +5,7 @@ ghost use Rattle.pip_model.specs.Cuts.{rounded_listed};
 ghost use Rattle.pip_model.specs.Agreement.{IsChecked};
 ghost use Rattle.affine_forms.specs.Checks.{is_overflow};
 ghost use Rattle.tableau_row.specs.Flat.{numbers_of, is_unit_row};
-ghost use Rattle.tableau.specs.KeptRows.{IsSpare, with_rows, unit_run};
+ghost use Rattle.tableau.specs.KeptRows.{AreReady, IsSpare, SameRows, with_rows};
 ghost use Rattle.tableau_row.specs.Rows.{IsRow, row_from};
 ghost use Rattle.tableau.specs.Tableaus.{with_row, with_rounded};
 ghost use Rattle.tableau_row.specs.Views.{row_of};
@@ -51,36 +51,13 @@ fn make_rooms(
 ) -> Result<(), WantOfMemory>
     requires spare { IsSpare rows.old next.old units.old.items }
     ensures spare { IsSpare rows.new next.new units.new.items }
-    ensures unknowns { rows.new.unknowns ≡ rows.old.unknowns }
-    ensures width { rows.new.width ≡ rows.old.width }
-    ensures rows { rows.new.rows ≡ rows.old.rows }
-    ensures room { OnOk result (most ≤ rows.new.most) }
-    ensures next_room { OnOk result (most ≤ next.new.most) }
-    ensures units { OnOk result (units.new.items ≡ unit_run rows.new.unknowns rows.new.width) }
+    ensures same { SameRows rows.new rows.old }
+    ensures ready { OnOk result (AreReady rows.new next.new units.new.items most) }
 {
     make_run(units, rows.unknowns(), rows.width())?;
     rows.reserve(most)?;
     next.reserve(most)?;
     Ok(())
-}
-
-// Makes room for one more row, and the run.
-fn make_room(
-    rows: &mut FlatRows,
-    next: &mut FlatRows,
-    units: &mut Vec<i128>,
-) -> Result<(), WantOfMemory>
-    requires spare { IsSpare rows.old next.old units.old.items }
-    ensures spare { IsSpare rows.new next.new units.new.items }
-    ensures unknowns { rows.new.unknowns ≡ rows.old.unknowns }
-    ensures width { rows.new.width ≡ rows.old.width }
-    ensures rows { rows.new.rows ≡ rows.old.rows }
-    ensures room { OnOk result (length rows.new.rows < rows.new.most) }
-    ensures next_room { OnOk result (length rows.new.rows < next.new.most) }
-    ensures units { OnOk result (units.new.items ≡ unit_run rows.new.unknowns rows.new.width) }
-{
-    let most = rows.len() + 1;
-    make_rooms(rows, next, units, most)
 }
 
 // For how many rows a tableau of so many columns and forms has room at its start.
@@ -212,17 +189,6 @@ impl Tableau {
         self.rows.allocator()
     }
 
-    /// The same columns and places, and no rows. It takes no memory.
-    pub fn empty_like(&self) -> Tableau
-        ensures { result ≡ record self.now { rows = [] } }
-    {
-        Tableau::new(
-            self.rows.allocator(),
-            self.rows.unknowns(),
-            self.rows.width(),
-        )
-    }
-
     /// The same tableau.
     pub fn try_clone(&self, alloc: Global) -> Result<Tableau, WantOfMemory>
         ensures { IfOk result (λ t. t ≡ self.now) }
@@ -244,34 +210,11 @@ impl Tableau {
         ensures ok { OnOk result (self.new ≡ with_row self.old (model.divided (row_from den coefs.now constant.now))) }
         ensures err { OnErr result (self.new ≡ self.old) }
     {
-        make_room(&mut self.rows, &mut self.next, &mut self.units)?;
+        let most = self.rows.len() + 1;
+        make_rooms(&mut self.rows, &mut self.next, &mut self.units, most)?;
         let short = is_short_row(den, coefs, constant);
         self.rows
             .push_divided(&RowView::new(den, coefs, constant, short));
-        Ok(())
-    }
-
-    /// Adds row i of a tableau over the same columns and places.
-    pub fn push_copy(&mut self, t: &Tableau, i: usize) -> Result<(), WantOfMemory>
-        requires unknowns { t.now.unknowns ≡ self.old.unknowns }
-        requires width { t.now.width ≡ self.old.width }
-        requires row { i < length t.now.rows }
-        ensures ok { OnOk result (self.new ≡ with_row self.old (model.row_at t.now.rows i)) }
-        ensures err { OnErr result (self.new ≡ self.old) }
-    {
-        make_room(&mut self.rows, &mut self.next, &mut self.units)?;
-        self.rows.push_row(&t.rows.row(t.units.as_slice(), i));
-        Ok(())
-    }
-
-    /// Adds the row of column c, whose quantity is that column's.
-    pub fn push_unit(&mut self, c: usize) -> Result<(), WantOfMemory>
-        requires { c < self.old.unknowns }
-        ensures ok { OnOk result (self.new ≡ with_row self.old (model.unit_row self.old.unknowns self.old.width c)) }
-        ensures err { OnErr result (self.new ≡ self.old) }
-    {
-        make_room(&mut self.rows, &mut self.next, &mut self.units)?;
-        self.rows.push_unit(c);
         Ok(())
     }
 
@@ -307,23 +250,6 @@ impl Tableau {
         ensures err { OnErr result (self.new ≡ self.old) }
     {
         self.rows.turn(self.units.as_slice(), r, c, &mut self.next)?;
-        swap(&mut self.rows, &mut self.next);
-        Ok(())
-    }
-
-    /// Puts row p, solved for the quantity of column c, into each row. It takes no memory.
-    pub fn eliminate(&mut self, p: &RowView<'_>, c: usize) -> Result<(), Overflow>
-        requires p { IsRow self.old.unknowns self.old.width (row_of p.now) }
-        requires column { c < self.old.unknowns }
-        requires positive { pos 1 ≤ℤ entry (row_of p.now).coefs c }
-        ensures listed { IsChecked is_overflow (flat_map
-            (model.eliminated_listed (row_of p.now) c) self.old.rows) result }
-        ensures ok { OnOk result (self.new
-            ≡ record self.old { rows = map (model.eliminated (row_of p.now) c) self.old.rows }) }
-        ensures err { OnErr result (self.new ≡ self.old) }
-    {
-        self.rows
-            .put_in(self.units.as_slice(), p, c, &mut self.next)?;
         swap(&mut self.rows, &mut self.next);
         Ok(())
     }

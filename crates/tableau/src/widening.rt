@@ -1,6 +1,6 @@
 ghost use Rattle.std.specs.Prelude.{◌≡◌, ◌+◌, ◌<◌, ◌≤◌, length, map};
 ghost use Rattle.pip_model.specs.Rows as model;
-ghost use Rattle.tableau.specs.KeptRows.{AreLent, IsLent, lent_row, with_more, with_rows, unit_run};
+ghost use Rattle.tableau.specs.KeptRows.{AreLent, IsLent, IsWider, lent_row, with_more, with_rows, unit_run};
 
 use crate::flat_rows::FlatRows;
 use crate::kept::{Kept, Lent};
@@ -8,9 +8,7 @@ use crate::kept::{Kept, Lent};
 // Adds a kept row with a 0 before the constant of its constant form.
 fn widen_kept(next: &mut FlatRows, lent: &Lent<'_>, one: Kept)
     requires room { length next.old.rows < next.old.most }
-    requires unknowns { next.old.unknowns ≡ lent.now.unknowns }
-    requires width { next.old.width ≡ lent.now.width + 1 }
-    requires units { lent.now.units.now ≡ unit_run lent.now.unknowns lent.now.width }
+    requires wider { IsWider next.old lent.now }
     requires one { IsLent lent.now one }
     ensures { next.new ≡ with_more next.old (model.widened (lent_row lent.now one)) }
 {
@@ -23,9 +21,7 @@ fn widen_kept(next: &mut FlatRows, lent: &Lent<'_>, one: Kept)
 // Adds the kept rows, each with a 0 before the constant of its constant form.
 fn widen_rows(next: &mut FlatRows, lent: &Lent<'_>, kept: &[Kept])
     requires room { length next.old.rows + length kept.now ≤ next.old.most }
-    requires unknowns { next.old.unknowns ≡ lent.now.unknowns }
-    requires width { next.old.width ≡ lent.now.width + 1 }
-    requires units { lent.now.units.now ≡ unit_run lent.now.unknowns lent.now.width }
+    requires wider { IsWider next.old lent.now }
     requires lent { AreLent lent.now kept.now }
     ensures { next.new ≡ with_rows next.old (map (λ one. model.widened (lent_row lent.now one)) kept.now) }
 {
@@ -43,15 +39,10 @@ impl FlatRows {
         requires room { length next.old.rows + length self.now.rows ≤ next.old.most }
         ensures { next.new ≡ with_rows next.old (map model.widened self.now.rows) }
     {
-        if self.kept.is_empty() {
+        if self.len() == 0 {
             return;
         }
-        let lent = Lent {
-            unknowns: self.unknowns,
-            width: self.width,
-            numbers: self.numbers.as_slice(),
-            units,
-        };
-        widen_rows(next, &lent, self.kept.as_slice());
+        let (lent, kept) = self.lent(units);
+        widen_rows(next, &lent, kept);
     }
 }

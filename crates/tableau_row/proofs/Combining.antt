@@ -7,6 +7,7 @@ use Rattle.std.proofs.lemmas.List.{drop_more, take_more, set_at, get_or_at, leng
 use Rattle.std.proofs.lemmas.List.Elements.{All-push}
 use Rattle.std.proofs.Common.{append-nil}
 use Rattle.pip_model.proofs.Forms.{length-combine}
+use Rattle.pip_model.proofs.Tests.{both}
 use Rattle.pip_model.specs.Numbers.{fits}
 use Rattle.pip_model.specs.Forms.{combine, remove}
 use Rattle.pip_model.specs.Listed.{all_fit, combine_listed}
@@ -33,10 +34,6 @@ short_three a x b y ha hx hb hy =
       short_fits b y (short_bound b hb) (short_bound y hy),
       lt-ltb (unsigned_abs (a *ℤ x -ℤ b *ℤ y)) (2 ^ 127) (difference_bound (a *ℤ x) (b *ℤ y) pa pb),
     )
-
-both : (a b : Bool) → IsTrue (a && b) → IsTrue a × IsTrue b
-both true b e = (refl, e)
-both false b e = absurd cc
 
 -- short numbers make numbers that fit
 pub short_listed : (a b : ℤ) (r s : List ℤ) → IsTrue (is_short a) → IsTrue (is_short b) → IsTrue (list_all is_short r) → IsTrue (list_all is_short s)

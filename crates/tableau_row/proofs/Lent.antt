@@ -1,40 +1,52 @@
 -- The numbers of a row that stand last, lent and written.
-use Rattle.std.proofs.Common.{◌≡◌, refl, ap, sym, ◌∙◌, ℕ, ◌<◌, ℤ, List, ◌++◌, length, take, drop, length-append, append-nil, arith}
+use Rattle.std.proofs.Common.{◌≡◌, refl, ap, sym, ◌∙◌, ℕ, ◌<◌, ◌≤◌, ℤ, List, ◌++◌, length, take, drop, length-append, append-nil, arith, vec_len, vec_capacity}
+use Rattle.std.specs.Prelude.{Vec}
+use Rattle.std.specs.Vec.{with_items}
+use Rattle.std.specs.declared.alloc.Global.{Global}
 use Rattle.std.proofs.lemmas.List.{take_at, drop_at, take_all, drop_all}
 use Rattle.pip_model.specs.Rows.{Row}
 use Rattle.tableau_row.specs.Flat.{numbers_of, row_of_numbers}
-use Rattle.tableau_row.specs.Rows.{IsRow, IsOwnRow}
+use Rattle.tableau_row.specs.Steps.{Appends}
 use Rattle.tableau_row.proofs.Numbers.{row_again}
 
-pub last_numbers : (zs all last : List ℤ) (start : ℕ) (r : Row) → all ≡ zs ++ numbers_of r → last ≡ drop start all → start ≡ length zs → last ≡ numbers_of r
-last_numbers zs all last start r e f g = f ∙ ap (drop start) e ∙ drop_at zs (numbers_of r) start (sym g)
+-- ---- numbers with others behind them
 
-pub row_of_last : (n : ℕ) (last : List ℤ) (r : Row) → last ≡ numbers_of r → length r.coefs ≡ n → row_of_numbers n last ≡ r
-row_of_last n last r e h = ap (row_of_numbers n) e ∙ row_again n r h
-
-pub last_longer : (n : ℕ) (last : List ℤ) (r : Row) → last ≡ numbers_of r → length r.coefs ≡ n → n < length last
-last_longer n last r e h = omega (arith, ap length e, length-append r.coefs r.constant, h)
-
-pub own_row : (n w : ℕ) (r : Row) → IsRow n w r → IsOwnRow r
-own_row n w r h = record {
-  positive = h.positive;
-  den_fits = h.den_fits;
-  coefs = refl;
-  constant = omega (arith, h.constant);
-  coefs_fit = h.coefs_fit;
-  constant_fit = h.constant_fit;
+pub appends : (old new : Vec ℤ Global) (zs : List ℤ) → new.items ≡ old.items ++ zs → vec_capacity old ≤ vec_capacity new → Appends old new zs
+appends old new zs e room = record {
+  items = e;
+  count = omega (arith, new.ok.0, old.ok.0, ap length e, length-append old.items zs);
+  room = room;
 }
 
--- the numbers of row d are written over those of row r
-pub written_last : (zs all front last new : List ℤ) (start len : ℕ) (r d : Row) → all ≡ zs ++ numbers_of r → front ≡ take start all → last ≡ drop start all → start ≡ length zs → len ≡ length all
-    → new ≡ numbers_of d → length new ≡ length last
-    → take len ((front ++ new) ++ drop (length (front ++ new)) all) ≡ zs ++ numbers_of d
-written_last zs all front last new start len r d e f g h k m n =
-    let front_is : front ≡ zs = f ∙ ap (take start) e ∙ take_at zs (numbers_of r) start (sym h) in
-    let last_is : last ≡ numbers_of r = last_numbers zs all last start r e g h in
-    let whole : length all ≡ length (zs ++ numbers_of r) = ap length e in
-    let long : length (front ++ new) ≡ length all = omega (arith, length-append front new, ap length front_is, n, ap length last_is, whole, length-append zs (numbers_of r)) in
-    ap (λ (xs : List ℤ). take len ((front ++ new) ++ xs)) (drop_all (length (front ++ new)) all (omega (arith, long)))
-    ∙ ap (take len) (append-nil (front ++ new))
-    ∙ take_all len (front ++ new) (omega (arith, k, long))
-    ∙ rw (front_is, m) refl
+-- ---- the numbers of row r, over n columns, that stand last
+
+pub record IsLast (n : ℕ) (last : List ℤ) (r : Row) : Type 0 where
+  pub numbers : last ≡ numbers_of r
+  pub longer : n < length last
+  pub row : row_of_numbers n last ≡ r
+
+pub lent : (old all : Vec ℤ Global) (last : List ℤ) (n start : ℕ) (r : Row) → Appends old all (numbers_of r) → length r.coefs ≡ n → last ≡ drop start all.items → start ≡ vec_len old → IsLast n last r
+lent old all last n start r h long e f =
+    let told : last ≡ numbers_of r = e ∙ ap (drop start) h.items ∙ drop_at old.items (numbers_of r) start (sym (f ∙ old.ok.0)) in
+    record {
+      numbers = told;
+      longer = omega (arith, ap length told, length-append r.coefs r.constant, long);
+      row = ap (row_of_numbers n) told ∙ row_again n r long;
+    }
+
+-- the numbers of row d are written over them
+pub written_last : (old all : Vec ℤ Global) (front last new : List ℤ) (n start : ℕ) (r d : Row) → Appends old all (numbers_of r) → IsLast n last r
+    → front ≡ take start all.items → start ≡ vec_len old → new ≡ numbers_of d → length new ≡ length last → Appends old (with_items all (front ++ new)) (numbers_of d)
+written_last old all front last new n start r d h k e f g same =
+    let begun : front ≡ old.items = e ∙ ap (take start) h.items ∙ take_at old.items (numbers_of r) start (sym (f ∙ old.ok.0)) in
+    let size : length (numbers_of d) ≡ length (numbers_of r) = sym (ap length g) ∙ same ∙ ap length k.numbers in
+    let long : length (front ++ new) ≡ length all.items = omega (arith, length-append front new, ap length begun, same, ap length k.numbers, h.count, all.ok.0, old.ok.0) in
+    record {
+      items =
+          ap (λ (xs : List ℤ). take (vec_len all) ((front ++ new) ++ xs)) (drop_all (length (front ++ new)) all.items (omega (arith, long)))
+          ∙ ap (take (vec_len all)) (append-nil (front ++ new))
+          ∙ take_all (vec_len all) (front ++ new) (omega (arith, all.ok.0, long))
+          ∙ rw (begun, g) refl;
+      count = omega (arith, h.count, size);
+      room = h.room;
+    }

@@ -10,6 +10,7 @@ pub mod RowLaws
 pub mod ShortHeld
 pub mod ShortRows
 pub mod Solved
+pub mod Stepping
 pub mod Substituting
 pub mod Unchanged
 pub mod UnitRows

@@ -1,5 +1,5 @@
 -- The numbers of a row.
-use Rattle.std.proofs.Common.{◌≡◌, refl, ap, sym, ◌∙◌, subst, ℕ, ◌-◌, ◌<◌, ℤ, List, [], ◌∷◌, ◌++◌, length, take, drop, arith}
+use Rattle.std.proofs.Common.{◌≡◌, refl, ap, ◌∙◌, subst, ℕ, ◌-◌, ◌<◌, ℤ, List, [], ◌∷◌, ◌++◌, length, take, arith}
 use Rattle.std.specs.Prelude.{slice_set}
 use Rattle.std.proofs.lemmas.List.{take_at, drop_at}
 use Rattle.pip_model.specs.Rows.{Row}
@@ -21,7 +21,3 @@ row_over n w r made s coefs constant e f g h given =
     let one : length coefs ≡ n = ap length e ∙ given.coefs in
     let two : length constant - 1 ≡ w = omega (arith, ap length f, given.constant) in
     subst (λ k. IsRow k w s) one (subst (λ k. IsRow (length coefs) k s) two (subst (IsRow (length coefs) (length constant - 1)) g h))
-
--- the row whose numbers stand behind the others
-pub lent_last : (zs last : List ℤ) (start : ℕ) (r : Row) → last ≡ drop start (zs ++ numbers_of r) → start ≡ length zs → row_of_numbers (length r.coefs) last ≡ r
-lent_last zs last start r e f = ap (row_of_numbers (length r.coefs)) (e ∙ drop_at zs (numbers_of r) start (sym f)) ∙ row_again (length r.coefs) r refl

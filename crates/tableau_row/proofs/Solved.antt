@@ -16,6 +16,7 @@ use Rattle.tableau_row.specs.Short.{IsShort, IsShortRow}
 use Rattle.tableau_row.proofs.Places.{set_parts}
 use Rattle.tableau_row.proofs.RowLaws.{divided_one}
 use Rattle.tableau_row.proofs.ShortRows.{short_fit, fits_short, short_eliminated}
+use Rattle.tableau_row.proofs.Unchanged.{once}
 
 -- row p solved for column c
 abbrev pub solved : Row → ℕ → Row
@@ -42,9 +43,6 @@ unit_entry : (n c : ℕ) → c < n → entry (slice_set (replicate n (pos 0)) c 
 unit_entry zero c h = absurd (omega arith)
 unit_entry (suc n) zero h = refl
 unit_entry (suc n) (suc c) h = unit_entry n c (omega arith)
-
-once : (z : ℤ) → pos 1 *ℤ z ≡ z
-once z = omega (arith, ints)
 
 substituted_unit : (n w c : ℕ) (p : Row) → length p.coefs ≡ n → length p.constant ≡ w + 1 → c < n → substituted p c (unit_row n w c) ≡ solved p c
 substituted_unit n w c p e f h =

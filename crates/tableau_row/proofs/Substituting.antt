@@ -14,7 +14,7 @@ use Rattle.affine_forms.specs.Checks.{Fits}
 use Rattle.tableau_row.specs.Flat.{numbers_of}
 use Rattle.tableau_row.specs.Rows.{IsRow, IsReduced, row_from}
 use Rattle.tableau_row.proofs.Contents.{content-divided}
-use Rattle.tableau_row.proofs.Unchanged.{eliminated-none}
+use Rattle.tableau_row.proofs.Unchanged.{eliminated-none, all_fit-append}
 
 -- the listed numbers of a row, part by part
 pub record ListedParts (p : Row) (c : ℕ) (r : Row) : Type 0 where
@@ -96,9 +96,6 @@ pub eliminated_reduced : (n w c : ℕ) (p r : Row) → IsRow n w r → pos 1 ≤
 eliminated_reduced n w c p r hr h = content-divided (substituted p c r) (some_product r.den (entry p.coefs c) hr.positive h)
 
 -- ---- rows
-
-all_fit-append : (xs ys : List ℤ) → all_fit (xs ++ ys) ≡ (all_fit xs && all_fit ys)
-all_fit-append xs ys = list_all-append fits xs ys
 
 -- the numbers of the rows in front and behind
 pivot_listed_sides : (rows : List Row) (r c : ℕ) → all_fit (pivot_listed rows r c)

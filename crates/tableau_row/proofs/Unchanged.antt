@@ -2,6 +2,7 @@
 -- numbers of the row are its own numbers times the pivot, and zeros.
 use Rattle.std.proofs.Common.{◌≡◌, ◌∙◌, refl, ap, sym, ℕ, zero, suc, ◌<◌, ℤ, pos, ◌-ℤ◌, ◌*ℤ◌, unsigned_abs, arith, List, [], ◌∷◌, ◌++◌, length, Bool, true, false, ◌&&◌}
 use Rattle.std.specs.Prelude.{slice_set, IsTrue, All}
+use Rattle.std.proofs.lemmas.List.Folds.{list_all-append}
 use Rattle.std.proofs.lemmas.List.Sums.{list_all-from_AllPass}
 use Rattle.std.proofs.lemmas.Int.{ints, unsigned_abs-mul}
 use Rattle.pip_model.specs.Numbers.{fits, floor_div, gcd, gcd_of}
@@ -115,13 +116,8 @@ combine_listed-none a (x ∷ r) [] e = absurd (omega arith)
 combine_listed-none a (x ∷ r) (y ∷ s) e =
     rw (zero_times y, minus_none (a *ℤ x), combine_listed-none a r s (omega arith)) (twice (fits (a *ℤ x)) (all_fit (scale a r)))
 
-regroup : (a b c : Bool) → (a && (b && c)) ≡ ((a && b) && c)
-regroup true b c = refl
-regroup false b c = refl
-
 pub all_fit-append : (xs ys : List ℤ) → all_fit (xs ++ ys) ≡ (all_fit xs && all_fit ys)
-all_fit-append [] ys = refl
-all_fit-append (x ∷ xs) ys = ap (λ (b : Bool). fits x && b) (all_fit-append xs ys) ∙ regroup (fits x) (all_fit xs) (all_fit ys)
+all_fit-append xs ys = list_all-append fits xs ys
 
 times_fits : (a : ℤ) (xs : List ℤ) (c : ℕ) → entry xs c ≡ pos 0 → all_fit (scale a (remove c xs)) ≡ all_fit (scale a xs)
 times_fits a [] c e = refl
@@ -152,7 +148,7 @@ eliminated_listed-none p c i b e f =
 
 -- ---- where the pivot is 1 too, they are its own numbers
 
-once : (z : ℤ) → pos 1 *ℤ z ≡ z
+pub once : (z : ℤ) → pos 1 *ℤ z ≡ z
 once z = omega (arith, ints)
 
 pub by_one : (z : ℤ) → z *ℤ pos 1 ≡ z

@@ -1,5 +1,5 @@
 -- The rows of columns, as they are found.
-use Rattle.std.proofs.Common.{◌≡◌, refl, ap, sym, ◌∙◌, ℕ, zero, suc, ◌+◌, ◌-◌, ◌<◌, ◌≤◌, ℤ, pos, negsuc, Bool, true, false, ◌&&◌, List, [], ◌∷◌, ◌++◌, length, take, drop, replicate, arith}
+use Rattle.std.proofs.Common.{◌≡◌, refl, ap, sym, ◌∙◌, ℕ, zero, suc, ◌+◌, ◌-◌, ◌<◌, ◌≤◌, ℤ, pos, negsuc, true, false, ◌&&◌, List, [], ◌∷◌, ◌++◌, length, take, drop, replicate, arith}
 use Rattle.std.specs.Prelude.{slice_set, IsTrue}
 use Rattle.std.specs.List.{list_all}
 use Rattle.std.proofs.lemmas.List.{drop-replicate, take-replicate, length-replicate, length-drop, take-append-drop, take_all, append-nil, get_or-drop, take_more, replicate_more}
@@ -7,6 +7,7 @@ use Rattle.std.proofs.lemmas.Bool.{eqb-true}
 use Rattle.pip_model.specs.Numbers.{is_zero, same_number}
 use Rattle.pip_model.specs.Forms.{entry}
 use Rattle.pip_model.specs.Rows.{unit_row}
+use Rattle.pip_model.proofs.Tests.{both}
 use Rattle.tableau_row.specs.Flat.{is_unit, is_unit_row}
 use Rattle.tableau_row.proofs.Places.{set_parts}
 
@@ -43,10 +44,6 @@ begun zs i e = sym (take-append-drop i zs) ∙ ap (λ (ys : List ℤ). ys ++ dro
 one_is : (z : ℤ) → IsTrue (same_number z (pos 1)) → z ≡ pos 1
 one_is (pos n) h = ap pos (eqb-true n 1 h)
 one_is (negsuc n) h = absurd cc
-
-both : (a b : Bool) → IsTrue (a && b) → IsTrue a × IsTrue b
-both true b e = (refl, e)
-both false b e = absurd cc
 
 -- a 1, and zeros behind it
 one_alone : (zs : List ℤ) → 0 < length zs → IsTrue (same_number (entry zs 0) (pos 1) && list_all is_zero (drop 1 zs)) → zs ≡ pos 1 ∷ replicate (length zs - 1) (pos 0)

@@ -1,4 +1,4 @@
-ghost use Rattle.std.specs.Prelude.{◌≡◌, ℕ, ◌+◌, ◌-◌, ◌<◌, ◌≤◌, ◌^◌, pos, ◌≤ℤ◌, [], ◌∷◌, ◌++◌, length, All, IsTrue, IfOk, IfSome, OnErr, OnOk, unsigned_abs, vec_len, vec_capacity};
+ghost use Rattle.std.specs.Prelude.{◌≡◌, ◌+◌, ◌-◌, ◌<◌, ◌≤◌, [], ◌∷◌, length, All, IsTrue, IfOk, IfSome, OnErr, OnOk, true, vec_len, vec_capacity};
 ghost use Rattle.pip_model.specs.Forms.{combine, entry, negate};
 ghost use Rattle.pip_model.specs.Listed.{all_fit};
 ghost use Rattle.pip_model.specs.Rows as model;
@@ -6,11 +6,12 @@ ghost use Rattle.pip_model.specs.Cuts.{rounded, rounded_listed};
 ghost use Rattle.pip_model.specs.Agreement.{IsChecked};
 ghost use Rattle.affine_forms.specs.Checks.{Fits, is_overflow};
 ghost use Rattle.tableau_row.specs.Flat.{numbers_of};
-ghost use Rattle.tableau_row.specs.Short.{IsShort, IsShortRow};
-ghost use Rattle.tableau_row.specs.Rows.{IsRow, IsOwnRow, IsReduced, row_from};
+ghost use Rattle.tableau_row.specs.Short.{IsShort, IsShortRow, IsHalf, AreHalf, AreShortLists, AreShortRows};
+ghost use Rattle.tableau_row.specs.Rows.{IsOwnRow, IsReduced};
+ghost use Rattle.tableau_row.specs.Steps.{IsPivotRow, IsElimination, IsMadeReduced, MakesRow, Appends, Leaves, column_row};
 ghost use Rattle.tableau_row.specs.Views.{row_of};
 
-use crate::row::{divide, eliminate_long, eliminate_short, round};
+use crate::row::{divide, eliminate, round};
 use crate::short::{both, half_entry, is_half, narrow, short_opposite, short_product, with_entry};
 use crate::view::RowView;
 use affine_forms::Overflow;
@@ -18,9 +19,7 @@ use affine_forms::Overflow;
 /// Appends the entries, for which there is room. It takes no memory, like all that append here.
 pub fn append_entries(numbers: &mut Vec<i128>, entries: &[i128])
     requires room { vec_len numbers.old + length entries.now ≤ vec_capacity numbers.old }
-    ensures items { numbers.new.items ≡ numbers.old.items ++ entries.now }
-    ensures length { vec_len numbers.new ≡ vec_len numbers.old + length entries.now }
-    ensures room { vec_capacity numbers.old ≤ vec_capacity numbers.new }
+    ensures { Appends numbers.old numbers.new entries.now }
 {
     match numbers.extend_from_slice(entries) {
         Ok(()) => {}
@@ -31,9 +30,7 @@ pub fn append_entries(numbers: &mut Vec<i128>, entries: &[i128])
 // Appends the number, for which there is room.
 fn append_one(numbers: &mut Vec<i128>, number: i128)
     requires room { vec_len numbers.old < vec_capacity numbers.old }
-    ensures items { numbers.new.items ≡ numbers.old.items ++ number ∷ [] }
-    ensures length { vec_len numbers.new ≡ vec_len numbers.old + 1 }
-    ensures room { vec_capacity numbers.old ≤ vec_capacity numbers.new }
+    ensures { Appends numbers.old numbers.new (number ∷ []) }
 {
     numbers.push_reserved(number);
 }
@@ -41,8 +38,7 @@ fn append_one(numbers: &mut Vec<i128>, number: i128)
 /// Appends the numbers of a row: its denominator, its coefficients, the entries of its constant form.
 pub fn append_row(numbers: &mut Vec<i128>, row: &RowView<'_>)
     requires room { vec_len numbers.old + length (numbers_of (row_of row.now)) ≤ vec_capacity numbers.old }
-    ensures items { numbers.new.items ≡ numbers.old.items ++ numbers_of (row_of row.now) }
-    ensures room { vec_capacity numbers.old ≤ vec_capacity numbers.new }
+    ensures { Appends numbers.old numbers.new (numbers_of (row_of row.now)) }
 {
     append_one(numbers, row.den);
     append_entries(numbers, row.coefs);
@@ -53,8 +49,7 @@ pub fn append_row(numbers: &mut Vec<i128>, row: &RowView<'_>)
 fn append_run(numbers: &mut Vec<i128>, row: &RowView<'_>, run: Option<&[i128]>)
     requires room { vec_len numbers.old + length (numbers_of (row_of row.now)) ≤ vec_capacity numbers.old }
     requires run { IfSome run (λ s. s.now ≡ numbers_of (row_of row.now)) }
-    ensures items { numbers.new.items ≡ numbers.old.items ++ numbers_of (row_of row.now) }
-    ensures room { vec_capacity numbers.old ≤ vec_capacity numbers.new }
+    ensures { Appends numbers.old numbers.new (numbers_of (row_of row.now)) }
 {
     match run {
         Some(run) => append_entries(numbers, run),
@@ -66,11 +61,8 @@ fn append_run(numbers: &mut Vec<i128>, row: &RowView<'_>, run: Option<&[i128]>)
 pub fn append_divided(numbers: &mut Vec<i128>, row: &RowView<'_>) -> bool
     requires room { vec_len numbers.old + length (numbers_of (row_of row.now)) ≤ vec_capacity numbers.old }
     requires row { IsOwnRow (row_of row.now) }
-    ensures items { numbers.new.items ≡ numbers.old.items ++ numbers_of (model.divided (row_of row.now)) }
-    ensures row { (n w : ℕ) → IsRow n w (row_of row.now) → IsRow n w (model.divided (row_of row.now)) }
-    ensures reduced { IsReduced (model.divided (row_of row.now)) }
-    ensures short { IsTrue result → IsShortRow (model.divided (row_of row.now)) }
-    ensures room { vec_capacity numbers.old ≤ vec_capacity numbers.new }
+    ensures appended { Appends numbers.old numbers.new (numbers_of (model.divided (row_of row.now))) }
+    ensures made { IsMadeReduced (row_of row.now) result (model.divided (row_of row.now)) }
 {
     let start = numbers.len();
     append_row(numbers, row);
@@ -81,16 +73,12 @@ pub fn append_divided(numbers: &mut Vec<i128>, row: &RowView<'_>) -> bool
 // Appends `a*r - b*s`, entry by entry, for short numbers, a and b being of 32 bits; whether those are short too.
 fn append_combined(numbers: &mut Vec<i128>, a: i64, r: &[i128], b: i64, s: &[i128]) -> bool
     requires room { vec_len numbers.old + length r.now ≤ vec_capacity numbers.old }
-    requires lengths { length r.now ≡ length s.now }
-    requires a { unsigned_abs a < 2 ^ 31 }
-    requires r { All IsShort r.now }
-    requires b { unsigned_abs b < 2 ^ 31 }
-    requires s { All IsShort s.now }
-    ensures items { numbers.new.items ≡ numbers.old.items ++ combine a r.now b s.now }
+    requires factors { AreHalf a b }
+    requires lists { AreShortLists r.now s.now }
+    ensures appended { Appends numbers.old numbers.new (combine a r.now b s.now) }
     ensures length { vec_len numbers.new ≡ vec_len numbers.old + length r.now }
     ensures fits { All Fits (combine a r.now b s.now) }
     ensures short { IsTrue result → All IsShort (combine a r.now b s.now) }
-    ensures room { vec_capacity numbers.old ≤ vec_capacity numbers.new }
 {
     let mut short = true;
     for i in 0..r.len() {
@@ -105,20 +93,14 @@ fn append_combined(numbers: &mut Vec<i128>, a: i64, r: &[i128], b: i64, s: &[i12
 // rows are short, and their entries in the column are of 32 bits.
 fn append_substituted(numbers: &mut Vec<i128>, p: &RowView<'_>, c: usize, row: &RowView<'_>) -> bool
     requires room { vec_len numbers.old + length (numbers_of (row_of row.now)) ≤ vec_capacity numbers.old }
-    requires p { IsOwnRow (row_of p.now) }
-    requires row { IsRow (length p.now.coefs.now) (length p.now.constant.now - 1) (row_of row.now) }
-    requires column { c < length p.now.coefs.now }
-    requires positive { pos 1 ≤ℤ entry p.now.coefs.now c }
-    requires p_short { IsShortRow (row_of p.now) }
-    requires row_short { IsShortRow (row_of row.now) }
-    requires p_half { unsigned_abs (entry p.now.coefs.now c) < 2 ^ 31 }
-    requires row_half { unsigned_abs (entry row.now.coefs.now c) < 2 ^ 31 }
-    ensures items { numbers.new.items
-        ≡ numbers.old.items ++ numbers_of (model.substituted (row_of p.now) c (row_of row.now)) }
-    ensures row { IsRow (length p.now.coefs.now) (length p.now.constant.now - 1)
-        (model.substituted (row_of p.now) c (row_of row.now)) }
-    ensures short { IsTrue result → IsShortRow (model.substituted (row_of p.now) c (row_of row.now)) }
-    ensures room { vec_capacity numbers.old ≤ vec_capacity numbers.new }
+    requires step { IsElimination (row_of p.now) c (row_of row.now) }
+    requires short { AreShortRows (row_of p.now) (row_of row.now) }
+    requires pivot_half { IsHalf (entry p.now.coefs.now c) }
+    requires row_half { IsHalf (entry row.now.coefs.now c) }
+    ensures appended { Appends numbers.old numbers.new
+        (numbers_of (model.substituted (row_of p.now) c (row_of row.now))) }
+    ensures made { let made = model.substituted (row_of p.now) c (row_of row.now) in
+        MakesRow (row_of row.now) made result made }
 {
     let a = narrow(p.coefs[c]);
     let b = narrow(row.coefs[c]);
@@ -139,21 +121,13 @@ fn append_substituted(numbers: &mut Vec<i128>, p: &RowView<'_>, c: usize, row: &
 // whether they are short. The numbers of both rows are short, and their entries in the column are of 32 bits.
 fn append_half(numbers: &mut Vec<i128>, p: &RowView<'_>, c: usize, row: &RowView<'_>) -> bool
     requires room { vec_len numbers.old + length (numbers_of (row_of row.now)) ≤ vec_capacity numbers.old }
-    requires p { IsOwnRow (row_of p.now) }
-    requires row { IsRow (length p.now.coefs.now) (length p.now.constant.now - 1) (row_of row.now) }
-    requires column { c < length p.now.coefs.now }
-    requires positive { pos 1 ≤ℤ entry p.now.coefs.now c }
-    requires p_short { IsShortRow (row_of p.now) }
-    requires row_short { IsShortRow (row_of row.now) }
-    requires p_half { unsigned_abs (entry p.now.coefs.now c) < 2 ^ 31 }
-    requires row_half { unsigned_abs (entry row.now.coefs.now c) < 2 ^ 31 }
-    ensures items { numbers.new.items
-        ≡ numbers.old.items ++ numbers_of (model.eliminated (row_of p.now) c (row_of row.now)) }
-    ensures row { IsRow (length p.now.coefs.now) (length p.now.constant.now - 1)
-        (model.eliminated (row_of p.now) c (row_of row.now)) }
-    ensures reduced { IsReduced (model.eliminated (row_of p.now) c (row_of row.now)) }
-    ensures short { IsTrue result → IsShortRow (model.eliminated (row_of p.now) c (row_of row.now)) }
-    ensures room { vec_capacity numbers.old ≤ vec_capacity numbers.new }
+    requires step { IsElimination (row_of p.now) c (row_of row.now) }
+    requires short { AreShortRows (row_of p.now) (row_of row.now) }
+    requires pivot_half { IsHalf (entry p.now.coefs.now c) }
+    requires row_half { IsHalf (entry row.now.coefs.now c) }
+    ensures appended { Appends numbers.old numbers.new
+        (numbers_of (model.eliminated (row_of p.now) c (row_of row.now))) }
+    ensures made { IsMadeReduced (row_of row.now) result (model.eliminated (row_of p.now) c (row_of row.now)) }
 {
     let start = numbers.len();
     let short = append_substituted(numbers, p, c, row);
@@ -171,28 +145,17 @@ fn append_in_place(
     run: Option<&[i128]>,
 ) -> bool
     requires room { vec_len numbers.old + length (numbers_of (row_of row.now)) ≤ vec_capacity numbers.old }
-    requires p { IsOwnRow (row_of p.now) }
-    requires row { IsRow (length p.now.coefs.now) (length p.now.constant.now - 1) (row_of row.now) }
+    requires step { IsElimination (row_of p.now) c (row_of row.now) }
     requires run { IfSome run (λ s. s.now ≡ numbers_of (row_of row.now)) }
-    requires column { c < length p.now.coefs.now }
-    requires positive { pos 1 ≤ℤ entry p.now.coefs.now c }
     requires listed { IsTrue (all_fit (model.eliminated_listed (row_of p.now) c (row_of row.now))) }
-    ensures items { numbers.new.items
-        ≡ numbers.old.items ++ numbers_of (model.eliminated (row_of p.now) c (row_of row.now)) }
-    ensures row { IsRow (length p.now.coefs.now) (length p.now.constant.now - 1)
-        (model.eliminated (row_of p.now) c (row_of row.now)) }
-    ensures reduced { IsReduced (model.eliminated (row_of p.now) c (row_of row.now)) }
-    ensures short { IsTrue result → IsShortRow (model.eliminated (row_of p.now) c (row_of row.now)) }
-    ensures room { vec_capacity numbers.old ≤ vec_capacity numbers.new }
+    ensures appended { Appends numbers.old numbers.new
+        (numbers_of (model.eliminated (row_of p.now) c (row_of row.now))) }
+    ensures made { IsMadeReduced (row_of row.now) result (model.eliminated (row_of p.now) c (row_of row.now)) }
 {
     let start = numbers.len();
     append_run(numbers, row, run);
     let (_, last) = numbers.split_at_mut(start);
-    if both(p.short, row.short) {
-        eliminate_short(last, p, c)
-    } else {
-        eliminate_long(last, p, c)
-    }
+    eliminate(last, p, c, both(p.short, row.short))
 }
 
 /// Appends the numbers of what the row is after the pivot on row p and column c, which are known to fit; whether they
@@ -205,19 +168,12 @@ pub fn append_eliminated(
     run: Option<&[i128]>,
 ) -> bool
     requires room { vec_len numbers.old + length (numbers_of (row_of row.now)) ≤ vec_capacity numbers.old }
-    requires p { IsOwnRow (row_of p.now) }
-    requires row { IsRow (length p.now.coefs.now) (length p.now.constant.now - 1) (row_of row.now) }
+    requires step { IsElimination (row_of p.now) c (row_of row.now) }
     requires run { IfSome run (λ s. s.now ≡ numbers_of (row_of row.now)) }
-    requires column { c < length p.now.coefs.now }
-    requires positive { pos 1 ≤ℤ entry p.now.coefs.now c }
     requires listed { IsTrue (all_fit (model.eliminated_listed (row_of p.now) c (row_of row.now))) }
-    ensures items { numbers.new.items
-        ≡ numbers.old.items ++ numbers_of (model.eliminated (row_of p.now) c (row_of row.now)) }
-    ensures row { IsRow (length p.now.coefs.now) (length p.now.constant.now - 1)
-        (model.eliminated (row_of p.now) c (row_of row.now)) }
-    ensures reduced { IsReduced (model.eliminated (row_of p.now) c (row_of row.now)) }
-    ensures short { IsTrue result → IsShortRow (model.eliminated (row_of p.now) c (row_of row.now)) }
-    ensures room { vec_capacity numbers.old ≤ vec_capacity numbers.new }
+    ensures appended { Appends numbers.old numbers.new
+        (numbers_of (model.eliminated (row_of p.now) c (row_of row.now))) }
+    ensures made { IsMadeReduced (row_of row.now) result (model.eliminated (row_of p.now) c (row_of row.now)) }
 {
     if both(p.short, row.short) {
         let a = narrow(p.coefs[c]);
@@ -232,9 +188,8 @@ pub fn append_eliminated(
 fn append_negated(numbers: &mut Vec<i128>, entries: &[i128])
     requires room { vec_len numbers.old + length entries.now ≤ vec_capacity numbers.old }
     requires short { All IsShort entries.now }
-    ensures items { numbers.new.items ≡ numbers.old.items ++ negate entries.now }
+    ensures appended { Appends numbers.old numbers.new (negate entries.now) }
     ensures length { vec_len numbers.new ≡ vec_len numbers.old + length entries.now }
-    ensures room { vec_capacity numbers.old ≤ vec_capacity numbers.new }
 {
     for entry in entries {
         append_one(numbers, short_opposite(*entry));
@@ -246,22 +201,14 @@ fn append_negated(numbers: &mut Vec<i128>, entries: &[i128])
 /// divided.
 pub fn append_solved(numbers: &mut Vec<i128>, p: &RowView<'_>, c: usize)
     requires room { vec_len numbers.old + length (numbers_of (row_of p.now)) ≤ vec_capacity numbers.old }
-    requires p { IsOwnRow (row_of p.now) }
+    requires p { IsPivotRow (row_of p.now) c }
     requires reduced { IsReduced (row_of p.now) }
-    requires p_short { IsShortRow (row_of p.now) }
-    requires column { c < length p.now.coefs.now }
-    requires positive { pos 1 ≤ℤ entry p.now.coefs.now c }
-    ensures listed { IsTrue (all_fit (model.eliminated_listed (row_of p.now) c
-        (model.unit_row (length p.now.coefs.now) (length p.now.constant.now - 1) c))) }
-    ensures items { numbers.new.items ≡ numbers.old.items ++ numbers_of (model.eliminated (row_of p.now) c
-        (model.unit_row (length p.now.coefs.now) (length p.now.constant.now - 1) c)) }
-    ensures row { IsRow (length p.now.coefs.now) (length p.now.constant.now - 1) (model.eliminated (row_of p.now) c
-        (model.unit_row (length p.now.coefs.now) (length p.now.constant.now - 1) c)) }
-    ensures reduced { IsReduced (model.eliminated (row_of p.now) c
-        (model.unit_row (length p.now.coefs.now) (length p.now.constant.now - 1) c)) }
-    ensures short { IsShortRow (model.eliminated (row_of p.now) c
-        (model.unit_row (length p.now.coefs.now) (length p.now.constant.now - 1) c)) }
-    ensures room { vec_capacity numbers.old ≤ vec_capacity numbers.new }
+    requires short { IsShortRow (row_of p.now) }
+    ensures listed { IsTrue (all_fit (model.eliminated_listed (row_of p.now) c (column_row (row_of p.now) c))) }
+    ensures appended { Appends numbers.old numbers.new
+        (numbers_of (model.eliminated (row_of p.now) c (column_row (row_of p.now) c))) }
+    ensures made { IsMadeReduced (row_of p.now) true
+        (model.eliminated (row_of p.now) c (column_row (row_of p.now) c)) }
 {
     let (front, rest) = p.coefs.split_at(c);
     let (_, back) = rest.split_at(1);
@@ -283,29 +230,27 @@ pub fn append_rounded(
     requires row { IsOwnRow (row_of row.now) }
     requires place { q + 1 < length row.now.constant.now }
     ensures listed { IsChecked is_overflow (rounded_listed (row_of row.now) q) result }
-    ensures items { OnOk result (numbers.new.items ≡ numbers.old.items ++ numbers_of (rounded (row_of row.now) q)) }
-    ensures row { OnOk result ((n w : ℕ) → IsRow n w (row_of row.now) → IsRow n w (rounded (row_of row.now) q)) }
-    ensures reduced { OnOk result (IsReduced (rounded (row_of row.now) q)) }
-    ensures short { IfOk result (λ s. IsTrue s → IsShortRow (rounded (row_of row.now) q)) }
-    ensures err { OnErr result (numbers.new.items ≡ numbers.old.items) }
-    ensures room { vec_capacity numbers.old ≤ vec_capacity numbers.new }
+    ensures appended { OnOk result (Appends numbers.old numbers.new (numbers_of (rounded (row_of row.now) q))) }
+    ensures made { IfOk result (λ s. IsMadeReduced (row_of row.now) s (rounded (row_of row.now) q)) }
+    ensures err { OnErr result (Leaves numbers.old numbers.new) }
 {
     let start = numbers.len();
     append_row(numbers, row);
     let (_, last) = numbers.split_at_mut(start);
-    let rounded = round(last, row.coefs.len(), q);
-    if rounded.is_err() {
-        numbers.truncate(start);
+    match round(last, row.coefs.len(), q) {
+        Ok(short) => Ok(short),
+        Err(refusal) => {
+            numbers.truncate(start);
+            Err(refusal)
+        }
     }
-    rounded
 }
 
 /// Appends the numbers of the row with a 0 before the constant of its constant form.
 pub fn append_widened(numbers: &mut Vec<i128>, narrow: &RowView<'_>)
     requires room { vec_len numbers.old + length (numbers_of (row_of narrow.now)) < vec_capacity numbers.old }
     requires constant { 0 < length narrow.now.constant.now }
-    ensures items { numbers.new.items ≡ numbers.old.items ++ numbers_of (model.widened (row_of narrow.now)) }
-    ensures room { vec_capacity numbers.old ≤ vec_capacity numbers.new }
+    ensures { Appends numbers.old numbers.new (numbers_of (model.widened (row_of narrow.now))) }
 {
     let (coefficients, last) = narrow.constant.split_at(narrow.constant.len() - 1);
     append_one(numbers, narrow.den);

@@ -1,11 +1,12 @@
-ghost use Rattle.std.specs.Prelude.{◌≡◌, ◌+◌, ◌-◌, ◌<◌, pos, ◌≤ℤ◌, ◌*ℤ◌, ◌-ℤ◌, [], ◌∷◌, ◌++◌, length, take, drop, slice_set, All, IsTrue};
+ghost use Rattle.std.specs.Prelude.{◌≡◌, ◌+◌, ◌-◌, ◌<◌, ◌*ℤ◌, ◌-ℤ◌, [], ◌∷◌, ◌++◌, length, take, drop, slice_set, All, IsTrue, true};
 ghost use Rattle.pip_model.specs.Forms.{combine, entry, remove};
 ghost use Rattle.pip_model.specs.Listed.{all_fit, combine_listed};
 ghost use Rattle.pip_model.specs.Rows as model;
 ghost use Rattle.pip_model.specs.Agreement.{IsChecked};
 ghost use Rattle.affine_forms.specs.Checks.{Fits, is_overflow};
-ghost use Rattle.tableau_row.specs.Short.{IsShortRow};
-ghost use Rattle.tableau_row.specs.Rows.{IsRow, IsOwnRow, IsReduced, row_from};
+ghost use Rattle.tableau_row.specs.Short.{IsShortRow, AreShortRows};
+ghost use Rattle.tableau_row.specs.Rows.{IsRow, IsOwnRow, row_from};
+ghost use Rattle.tableau_row.specs.Steps.{IsElimination, MakesRow};
 ghost use Rattle.tableau_row.specs.Views.{row_of};
 
 use crate::divisor::divisor_with;
@@ -133,9 +134,8 @@ fn combine_but(a: i128, r: &mut [i128], b: i128, s: &[i128], c: usize, entry: i1
 fn divide_short_parts(den: i128, coefs: &mut [i128], constant: &mut [i128]) -> i128
     requires row { IsOwnRow (row_from den coefs.old constant.old) }
     requires short { IsShortRow (row_from den coefs.old constant.old) }
-    ensures value { row_from result coefs.new constant.new ≡ model.divided (row_from den coefs.old constant.old) }
-    ensures row { IsRow (length coefs.old) (length constant.old - 1) (row_from result coefs.new constant.new) }
-    ensures short { IsShortRow (row_from result coefs.new constant.new) }
+    ensures { let r = row_from den coefs.old constant.old in
+        MakesRow r (model.divided r) true (row_from result coefs.new constant.new) }
 {
     let divisor = short_divisor_with(short_divisor_with(narrow(den), coefs), constant);
     if divisor == 1 {
@@ -150,9 +150,8 @@ fn divide_short_parts(den: i128, coefs: &mut [i128], constant: &mut [i128]) -> i
 // to be short, as before where nothing is divided.
 fn divide_long_parts(den: i128, coefs: &mut [i128], constant: &mut [i128]) -> (i128, bool)
     requires { IsOwnRow (row_from den coefs.old constant.old) }
-    ensures value { row_from result.0 coefs.new constant.new ≡ model.divided (row_from den coefs.old constant.old) }
-    ensures row { IsRow (length coefs.old) (length constant.old - 1) (row_from result.0 coefs.new constant.new) }
-    ensures short { IsTrue result.1 → IsShortRow (row_from result.0 coefs.new constant.new) }
+    ensures { let r = row_from den coefs.old constant.old in
+        MakesRow r (model.divided r) result.1 (row_from result.0 coefs.new constant.new) }
 {
     let divisor = divisor_with(divisor_with(den, coefs), constant);
     if divisor == 1 {
@@ -174,9 +173,8 @@ pub(crate) fn divide_parts(
 ) -> (i128, bool)
     requires row { IsOwnRow (row_from den coefs.old constant.old) }
     requires short { IsTrue short → IsShortRow (row_from den coefs.old constant.old) }
-    ensures value { row_from result.0 coefs.new constant.new ≡ model.divided (row_from den coefs.old constant.old) }
-    ensures row { IsRow (length coefs.old) (length constant.old - 1) (row_from result.0 coefs.new constant.new) }
-    ensures short { IsTrue result.1 → IsShortRow (row_from result.0 coefs.new constant.new) }
+    ensures { let r = row_from den coefs.old constant.old in
+        MakesRow r (model.divided r) result.1 (row_from result.0 coefs.new constant.new) }
 {
     if den == 1 {
         return (1, short);
@@ -196,10 +194,7 @@ fn substitute_long(
     coefs: &mut [i128],
     constant: &mut [i128],
 ) -> i128
-    requires p { IsRow (length coefs.old) (length constant.old - 1) (row_of p.now) }
-    requires row { IsOwnRow (row_from den coefs.old constant.old) }
-    requires column { c < length coefs.old }
-    requires positive { pos 1 ≤ℤ entry p.now.coefs.now c }
+    requires step { IsElimination (row_of p.now) c (row_from den coefs.old constant.old) }
     requires listed { IsTrue (all_fit
         (model.eliminated_listed (row_of p.now) c (row_from den coefs.old constant.old))) }
     ensures value { row_from result coefs.new constant.new ≡ model.substituted (row_of p.now) c
@@ -222,16 +217,10 @@ fn substitute_short(
     coefs: &mut [i128],
     constant: &mut [i128],
 ) -> (i128, bool)
-    requires p { IsRow (length coefs.old) (length constant.old - 1) (row_of p.now) }
-    requires row { IsOwnRow (row_from den coefs.old constant.old) }
-    requires column { c < length coefs.old }
-    requires positive { pos 1 ≤ℤ entry p.now.coefs.now c }
-    requires p_short { IsShortRow (row_of p.now) }
-    requires row_short { IsShortRow (row_from den coefs.old constant.old) }
-    ensures value { row_from result.0 coefs.new constant.new ≡ model.substituted (row_of p.now) c
-        (row_from den coefs.old constant.old) }
-    ensures row { IsRow (length coefs.old) (length constant.old - 1) (row_from result.0 coefs.new constant.new) }
-    ensures short { IsTrue result.1 → IsShortRow (row_from result.0 coefs.new constant.new) }
+    requires step { IsElimination (row_of p.now) c (row_from den coefs.old constant.old) }
+    requires short { AreShortRows (row_of p.now) (row_from den coefs.old constant.old) }
+    ensures { let r = row_from den coefs.old constant.old in
+        MakesRow r (model.substituted (row_of p.now) c r) result.1 (row_from result.0 coefs.new constant.new) }
 {
     let a = p.coefs[c];
     let b = coefs[c];
@@ -243,50 +232,46 @@ fn substitute_short(
     (den, both(coefs_short, constant_short))
 }
 
-// Makes of a row what it is after the pivot on row p and column c; the new denominator, and whether the numbers are
-// short.
-pub(crate) fn eliminate_long_parts(
+// The same for rows whose numbers may be known to be short.
+fn substitute(
     p: &RowView<'_>,
     c: usize,
     den: i128,
     coefs: &mut [i128],
     constant: &mut [i128],
+    short: bool,
 ) -> (i128, bool)
-    requires p { IsRow (length coefs.old) (length constant.old - 1) (row_of p.now) }
-    requires row { IsOwnRow (row_from den coefs.old constant.old) }
-    requires column { c < length coefs.old }
-    requires positive { pos 1 ≤ℤ entry p.now.coefs.now c }
+    requires step { IsElimination (row_of p.now) c (row_from den coefs.old constant.old) }
     requires listed { IsTrue (all_fit
         (model.eliminated_listed (row_of p.now) c (row_from den coefs.old constant.old))) }
-    ensures value { row_from result.0 coefs.new constant.new ≡ model.eliminated (row_of p.now) c
-        (row_from den coefs.old constant.old) }
-    ensures row { IsRow (length coefs.old) (length constant.old - 1) (row_from result.0 coefs.new constant.new) }
-    ensures short { IsTrue result.1 → IsShortRow (row_from result.0 coefs.new constant.new) }
+    requires short { IsTrue short → AreShortRows (row_of p.now) (row_from den coefs.old constant.old) }
+    ensures { let r = row_from den coefs.old constant.old in
+        MakesRow r (model.substituted (row_of p.now) c r) result.1 (row_from result.0 coefs.new constant.new) }
 {
+    if short {
+        return substitute_short(p, c, den, coefs, constant);
+    }
     let den = substitute_long(p, c, den, coefs, constant);
-    let short = is_short_row(den, coefs, constant);
-    divide_parts(den, coefs, constant, short)
+    (den, is_short_row(den, coefs, constant))
 }
 
-// The same for rows whose numbers are short.
-pub(crate) fn eliminate_short_parts(
+// Makes of a row what it is after the pivot on row p and column c; the new denominator, and whether the numbers are
+// short. Those of both rows may be known to be.
+pub(crate) fn eliminate_parts(
     p: &RowView<'_>,
     c: usize,
     den: i128,
     coefs: &mut [i128],
     constant: &mut [i128],
+    short: bool,
 ) -> (i128, bool)
-    requires p { IsRow (length coefs.old) (length constant.old - 1) (row_of p.now) }
-    requires row { IsOwnRow (row_from den coefs.old constant.old) }
-    requires column { c < length coefs.old }
-    requires positive { pos 1 ≤ℤ entry p.now.coefs.now c }
-    requires p_short { IsShortRow (row_of p.now) }
-    requires row_short { IsShortRow (row_from den coefs.old constant.old) }
-    ensures value { row_from result.0 coefs.new constant.new ≡ model.eliminated (row_of p.now) c
-        (row_from den coefs.old constant.old) }
-    ensures row { IsRow (length coefs.old) (length constant.old - 1) (row_from result.0 coefs.new constant.new) }
-    ensures short { IsTrue result.1 → IsShortRow (row_from result.0 coefs.new constant.new) }
+    requires step { IsElimination (row_of p.now) c (row_from den coefs.old constant.old) }
+    requires listed { IsTrue (all_fit
+        (model.eliminated_listed (row_of p.now) c (row_from den coefs.old constant.old))) }
+    requires short { IsTrue short → AreShortRows (row_of p.now) (row_from den coefs.old constant.old) }
+    ensures { let r = row_from den coefs.old constant.old in
+        MakesRow r (model.eliminated (row_of p.now) c r) result.1 (row_from result.0 coefs.new constant.new) }
 {
-    let (den, short) = substitute_short(p, c, den, coefs, constant);
+    let (den, short) = substitute(p, c, den, coefs, constant, short);
     divide_parts(den, coefs, constant, short)
 }

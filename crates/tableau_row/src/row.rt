@@ -1,4 +1,4 @@
-ghost use Rattle.std.specs.Prelude.{◌≡◌, ℕ, ◌+◌, ◌-◌, ◌<◌, pos, ◌≤ℤ◌, ◌++◌, ◌&&◌, false, length, take, drop, All, IsTrue, IfOk, IfSome, IfNone, OnErr, OnOk, MatchOption, replicate, slice_set};
+ghost use Rattle.std.specs.Prelude.{◌≡◌, ◌+◌, ◌-◌, ◌<◌, pos, ◌&&◌, false, length, drop, IsTrue, IfOk, IfSome, IfNone, OnErr, OnOk, replicate, slice_set};
 ghost use Rattle.std.specs.List.{list_all};
 ghost use Rattle.pip_model.specs.Numbers.{is_zero, same_number};
 ghost use Rattle.pip_model.specs.Forms.{entry};
@@ -8,11 +8,12 @@ ghost use Rattle.pip_model.specs.Cuts.{rounded, rounded_listed};
 ghost use Rattle.pip_model.specs.Agreement.{IsChecked};
 ghost use Rattle.affine_forms.specs.Checks.{is_overflow};
 ghost use Rattle.tableau_row.specs.Flat.{numbers_of, row_of_numbers, is_unit, is_unit_row};
-ghost use Rattle.tableau_row.specs.Short.{IsShortRow};
+ghost use Rattle.tableau_row.specs.Short.{IsShortRow, AreShortRows};
 ghost use Rattle.tableau_row.specs.Rows.{IsRow, IsOwnRow, IsReduced, row_from};
+ghost use Rattle.tableau_row.specs.Steps.{IsElimination, IsMadeReduced};
 ghost use Rattle.tableau_row.specs.Views.{row_of};
 
-use crate::elimination::{divide_parts, eliminate_long_parts, eliminate_short_parts};
+use crate::elimination::{divide_parts, eliminate_parts};
 use crate::short::is_short_row;
 use crate::view::RowView;
 use affine_forms::{Overflow, divide_all, floor_div, gcd_with, round_form};
@@ -89,10 +90,7 @@ pub(crate) fn divide(numbers: &mut [i128], unknowns: usize, short: bool) -> bool
     requires row { IsOwnRow (row_of_numbers unknowns numbers.old) }
     requires short { IsTrue short → IsShortRow (row_of_numbers unknowns numbers.old) }
     ensures value { numbers.new ≡ numbers_of (model.divided (row_of_numbers unknowns numbers.old)) }
-    ensures row { (n w : ℕ) → IsRow n w (row_of_numbers unknowns numbers.old)
-        → IsRow n w (model.divided (row_of_numbers unknowns numbers.old)) }
-    ensures reduced { IsReduced (model.divided (row_of_numbers unknowns numbers.old)) }
-    ensures short { IsTrue result → IsShortRow (model.divided (row_of_numbers unknowns numbers.old)) }
+    ensures made { let r = row_of_numbers unknowns numbers.old in IsMadeReduced r result (model.divided r) }
 {
     let (den, parts) = numbers.split_at_mut(1);
     let (coefs, constant) = parts.split_at_mut(unknowns);
@@ -102,51 +100,24 @@ pub(crate) fn divide(numbers: &mut [i128], unknowns: usize, short: bool) -> bool
 }
 
 // Makes of a row's numbers those of what the row is after the pivot on row p and column c; whether they are short.
-pub(crate) fn eliminate_long(numbers: &mut [i128], p: &RowView<'_>, c: usize) -> bool
+// Those of both rows may be known to be.
+pub(crate) fn eliminate(numbers: &mut [i128], p: &RowView<'_>, c: usize, short: bool) -> bool
     requires length { length p.now.coefs.now < length numbers.old }
-    requires p { IsOwnRow (row_of p.now) }
-    requires row { IsRow (length p.now.coefs.now) (length p.now.constant.now - 1)
-        (row_of_numbers (length p.now.coefs.now) numbers.old) }
-    requires column { c < length p.now.coefs.now }
-    requires positive { pos 1 ≤ℤ entry p.now.coefs.now c }
+    requires step { IsElimination (row_of p.now) c (row_of_numbers (length p.now.coefs.now) numbers.old) }
     requires listed { IsTrue (all_fit
         (model.eliminated_listed (row_of p.now) c (row_of_numbers (length p.now.coefs.now) numbers.old))) }
+    requires short { IsTrue short
+        → AreShortRows (row_of p.now) (row_of_numbers (length p.now.coefs.now) numbers.old) }
     ensures value { numbers.new
         ≡ numbers_of (model.eliminated (row_of p.now) c (row_of_numbers (length p.now.coefs.now) numbers.old)) }
-    ensures row { IsRow (length p.now.coefs.now) (length p.now.constant.now - 1)
-        (model.eliminated (row_of p.now) c (row_of_numbers (length p.now.coefs.now) numbers.old)) }
-    ensures short { IsTrue result → IsShortRow
-        (model.eliminated (row_of p.now) c (row_of_numbers (length p.now.coefs.now) numbers.old)) }
+    ensures made { let r = row_of_numbers (length p.now.coefs.now) numbers.old in
+        IsMadeReduced r result (model.eliminated (row_of p.now) c r) }
 {
     let (den, parts) = numbers.split_at_mut(1);
     let (coefs, constant) = parts.split_at_mut(p.coefs.len());
-    let (made, short) = eliminate_long_parts(p, c, den[0], coefs, constant);
+    let (made, made_short) = eliminate_parts(p, c, den[0], coefs, constant, short);
     den[0] = made;
-    short
-}
-
-// The same for rows whose numbers are short.
-pub(crate) fn eliminate_short(numbers: &mut [i128], p: &RowView<'_>, c: usize) -> bool
-    requires length { length p.now.coefs.now < length numbers.old }
-    requires p { IsOwnRow (row_of p.now) }
-    requires row { IsRow (length p.now.coefs.now) (length p.now.constant.now - 1)
-        (row_of_numbers (length p.now.coefs.now) numbers.old) }
-    requires column { c < length p.now.coefs.now }
-    requires positive { pos 1 ≤ℤ entry p.now.coefs.now c }
-    requires p_short { IsShortRow (row_of p.now) }
-    requires row_short { IsShortRow (row_of_numbers (length p.now.coefs.now) numbers.old) }
-    ensures value { numbers.new
-        ≡ numbers_of (model.eliminated (row_of p.now) c (row_of_numbers (length p.now.coefs.now) numbers.old)) }
-    ensures row { IsRow (length p.now.coefs.now) (length p.now.constant.now - 1)
-        (model.eliminated (row_of p.now) c (row_of_numbers (length p.now.coefs.now) numbers.old)) }
-    ensures short { IsTrue result → IsShortRow
-        (model.eliminated (row_of p.now) c (row_of_numbers (length p.now.coefs.now) numbers.old)) }
-{
-    let (den, parts) = numbers.split_at_mut(1);
-    let (coefs, constant) = parts.split_at_mut(p.coefs.len());
-    let (made, short) = eliminate_short_parts(p, c, den[0], coefs, constant);
-    den[0] = made;
-    short
+    made_short
 }
 
 // The parts of the row rounded by the quotient at place q, and its new denominator; a refusal leaves the parts as they
@@ -182,10 +153,8 @@ pub(crate) fn round(numbers: &mut [i128], unknowns: usize, q: usize) -> Result<b
     requires place { q + unknowns + 2 < length numbers.old }
     ensures listed { IsChecked is_overflow (rounded_listed (row_of_numbers unknowns numbers.old) q) result }
     ensures ok { OnOk result (numbers.new ≡ numbers_of (rounded (row_of_numbers unknowns numbers.old) q)) }
-    ensures row { OnOk result ((n w : ℕ) → IsRow n w (row_of_numbers unknowns numbers.old)
-        → IsRow n w (rounded (row_of_numbers unknowns numbers.old) q)) }
-    ensures reduced { OnOk result (IsReduced (rounded (row_of_numbers unknowns numbers.old) q)) }
-    ensures short { IfOk result (λ s. IsTrue s → IsShortRow (rounded (row_of_numbers unknowns numbers.old) q)) }
+    ensures made { let r = row_of_numbers unknowns numbers.old in
+        IfOk result (λ s. IsMadeReduced r s (rounded r q)) }
     ensures err { OnErr result (numbers.new ≡ numbers.old) }
 {
     let (den, parts) = numbers.split_at_mut(1);

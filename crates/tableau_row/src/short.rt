@@ -1,8 +1,7 @@
-ghost use Rattle.std.specs.Prelude.{◌≡◌, ◌<◌, ◌^◌, pos, ◌*ℤ◌, ◌-ℤ◌, neg_ℤ, ◌&&◌, unsigned_abs, length, All, IsTrue};
+ghost use Rattle.std.specs.Prelude.{◌≡◌, ◌<◌, ◌^◌, pos, ◌*ℤ◌, ◌-ℤ◌, neg_ℤ, ◌&&◌, unsigned_abs, IsTrue};
 ghost use Rattle.std.specs.List.{list_all};
-ghost use Rattle.pip_model.specs.Forms.{combine};
 ghost use Rattle.affine_forms.specs.Checks.{Fits};
-ghost use Rattle.tableau_row.specs.Short.{is_short as is_short_number, IsShort, IsShortRow};
+ghost use Rattle.tableau_row.specs.Short.{is_short as is_short_number, IsShort, IsShortRow, IsHalf, AreShort, AreHalf, AreShortLists, IsCombined};
 ghost use Rattle.tableau_row.specs.Rows.{row_from};
 
 // Whether the number lies from -(2^63 - 1) to 2^63 - 1.
@@ -32,8 +31,7 @@ pub fn is_short_row(den: i128, coefs: &[i128], constant: &[i128]) -> bool
 // The product of short numbers, in one multiplication.
 #[tactic(auto, using(crate::proofs::ShortRows::product_bound))]
 fn exact_product(a: i128, b: i128) -> i128
-    requires a { IsShort a }
-    requires b { IsShort b }
+    requires { AreShort a b }
     ensures { result ≡ a *ℤ b }
 {
     (a as i64 as i128) * (b as i64 as i128)
@@ -41,8 +39,7 @@ fn exact_product(a: i128, b: i128) -> i128
 
 // The product of short numbers, and its bound.
 pub(crate) fn short_product(a: i128, b: i128) -> i128
-    requires a { IsShort a }
-    requires b { IsShort b }
+    requires { AreShort a b }
     ensures value { result ≡ a *ℤ b }
     ensures bound { unsigned_abs result < 2 ^ 126 }
     ensures fits { Fits result }
@@ -62,10 +59,8 @@ fn exact_difference(a: i128, b: i128) -> i128
 
 // `a*x - b*y` for short numbers.
 fn short_difference(a: i128, x: i128, b: i128, y: i128) -> i128
-    requires a { IsShort a }
-    requires x { IsShort x }
-    requires b { IsShort b }
-    requires y { IsShort y }
+    requires first { AreShort a x }
+    requires second { AreShort b y }
     ensures value { result ≡ a *ℤ x -ℤ b *ℤ y }
     ensures fits { Fits result }
 {
@@ -90,7 +85,7 @@ pub(crate) fn with_entry(short: bool, entry: i128) -> bool
 
 // Whether the number lies from -(2^31 - 1) to 2^31 - 1.
 pub(crate) fn is_half(z: i64) -> bool
-    ensures { IsTrue result → unsigned_abs z < 2 ^ 31 }
+    ensures { IsTrue result → IsHalf z }
 {
     -2147483647 <= z && z <= 2147483647
 }
@@ -114,8 +109,7 @@ pub(crate) fn short_opposite(z: i128) -> i128
 // The product of numbers of 32 bits.
 #[tactic(auto, using(crate::proofs::ShortRows::half_bound))]
 fn exact_half_product(a: i64, b: i64) -> i64
-    requires a { unsigned_abs a < 2 ^ 31 }
-    requires b { unsigned_abs b < 2 ^ 31 }
+    requires { AreHalf a b }
     ensures { result ≡ a *ℤ b }
 {
     a * b
@@ -124,8 +118,7 @@ fn exact_half_product(a: i64, b: i64) -> i64
 // The product of numbers of 32 bits, and its bound.
 #[tactic(auto, using(crate::proofs::ShortRows::half_bound))]
 fn half_product(a: i64, b: i64) -> i64
-    requires a { unsigned_abs a < 2 ^ 31 }
-    requires b { unsigned_abs b < 2 ^ 31 }
+    requires { AreHalf a b }
     ensures value { result ≡ a *ℤ b }
     ensures bound { unsigned_abs result < 2 ^ 62 }
 {
@@ -144,10 +137,8 @@ fn narrow_difference(a: i64, b: i64) -> i64
 
 // `a*x - b*y` for numbers of 32 bits, which is short.
 fn half_difference(a: i64, x: i64, b: i64, y: i64) -> i64
-    requires a { unsigned_abs a < 2 ^ 31 }
-    requires x { unsigned_abs x < 2 ^ 31 }
-    requires b { unsigned_abs b < 2 ^ 31 }
-    requires y { unsigned_abs y < 2 ^ 31 }
+    requires first { AreHalf a x }
+    requires second { AreHalf b y }
     ensures value { result ≡ a *ℤ x -ℤ b *ℤ y }
     ensures short { IsShort result }
 {
@@ -156,10 +147,8 @@ fn half_difference(a: i64, x: i64, b: i64, y: i64) -> i64
 
 // `a*x - b*y` for short numbers, a and b being of 32 bits; whether it is known to be short.
 pub(crate) fn half_entry(a: i64, x: i128, b: i64, y: i128) -> (i128, bool)
-    requires a { unsigned_abs a < 2 ^ 31 }
-    requires x { IsShort x }
-    requires b { unsigned_abs b < 2 ^ 31 }
-    requires y { IsShort y }
+    requires factors { AreHalf a b }
+    requires entries { AreShort x y }
     ensures value { result.0 ≡ a *ℤ x -ℤ b *ℤ y }
     ensures fits { Fits result.0 }
     ensures short { IsTrue result.1 → IsShort result.0 }
@@ -177,14 +166,9 @@ pub(crate) fn half_entry(a: i64, x: i128, b: i64, y: i128) -> (i128, bool)
 // Makes `a*r - b*s` of r, entry by entry, for short numbers; whether those are short too.
 #[tactic(auto, using(crate::proofs::ShortRows::fits_short))]
 fn combine_by_short(a: i128, r: &mut [i128], b: i128, s: &[i128]) -> bool
-    requires lengths { length r.old ≡ length s.now }
-    requires a { IsShort a }
-    requires r { All IsShort r.old }
-    requires b { IsShort b }
-    requires s { All IsShort s.now }
-    ensures value { r.new ≡ combine a r.old b s.now }
-    ensures fits { All Fits r.new }
-    ensures short { IsTrue result → All IsShort r.new }
+    requires factors { AreShort a b }
+    requires lists { AreShortLists r.old s.now }
+    ensures { IsCombined a r.old b s.now result r.new }
 {
     let mut short = true;
     for i in 0..r.len() {
@@ -198,13 +182,9 @@ fn combine_by_short(a: i128, r: &mut [i128], b: i128, s: &[i128]) -> bool
 // The same where a is 1, and b of 32 bits: the entries of r at which s is 0 stay.
 #[tactic(auto, using(crate::proofs::ShortRows::fits_short))]
 fn combine_by_one(r: &mut [i128], b: i64, s: &[i128]) -> bool
-    requires lengths { length r.old ≡ length s.now }
-    requires r { All IsShort r.old }
-    requires b { unsigned_abs b < 2 ^ 31 }
-    requires s { All IsShort s.now }
-    ensures value { r.new ≡ combine (pos 1) r.old b s.now }
-    ensures fits { All Fits r.new }
-    ensures short { IsTrue result → All IsShort r.new }
+    requires factor { IsHalf b }
+    requires lists { AreShortLists r.old s.now }
+    ensures { IsCombined (pos 1) r.old b s.now result r.new }
 {
     let mut short = true;
     for i in 0..r.len() {
@@ -219,14 +199,9 @@ fn combine_by_one(r: &mut [i128], b: i64, s: &[i128]) -> bool
 
 // Makes `a*r - b*s` of r for short numbers; whether those are short too.
 pub(crate) fn combine_short(a: i128, r: &mut [i128], b: i128, s: &[i128]) -> bool
-    requires lengths { length r.old ≡ length s.now }
-    requires a { IsShort a }
-    requires r { All IsShort r.old }
-    requires b { IsShort b }
-    requires s { All IsShort s.now }
-    ensures value { r.new ≡ combine a r.old b s.now }
-    ensures fits { All Fits r.new }
-    ensures short { IsTrue result → All IsShort r.new }
+    requires factors { AreShort a b }
+    requires lists { AreShortLists r.old s.now }
+    ensures { IsCombined a r.old b s.now result r.new }
 {
     let narrow_b = narrow(b);
     if narrow(a) == 1 && is_half(narrow_b) {

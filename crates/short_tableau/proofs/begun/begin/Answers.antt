@@ -12,26 +12,25 @@ pub returns-clause-value : goal.returns-clause-value
 returns-clause-value c =
     substituted_made (row_of c.args.p.now) c.args.c (row_from c.args.den c.args.coefs.now c.args.constant.now) _ _ _ _ (search rules) (search rules) (search rules) (search rules)
 
-pub returns-clause-zero : goal.returns-clause-zero
-returns-clause-zero c =
+pub returns-clause-begun : goal.returns-clause-begun
+returns-clause-begun c =
     let a : to_z w64 (of_z w64 (entry c.args.p.now.coefs.now c.args.c)) ≡ entry c.args.p.now.coefs.now c.args.c = search rules in
     let b : to_z w64 (of_z w64 (entry c.args.coefs.now c.args.c)) ≡ entry c.args.coefs.now c.args.c = search rules in
     let whole : finished (to_z w64 (of_z w64 (entry c.args.p.now.coefs.now c.args.c))) c.combine.new.r (to_z w64 (of_z w64 (entry c.args.coefs.now c.args.c))) c.args.p.now.coefs.now c.combine.result
     ≡ combine (to_z w64 (of_z w64 (entry c.args.p.now.coefs.now c.args.c))) c.args.coefs.now (to_z w64 (of_z w64 (entry c.args.coefs.now c.args.c))) c.args.p.now.coefs.now = search rules in
-    ap (λ xs. entry xs c.args.c) whole
-    ∙ combine_zero (to_z w64 (of_z w64 (entry c.args.p.now.coefs.now c.args.c))) (to_z w64 (of_z w64 (entry c.args.coefs.now c.args.c))) c.args.coefs.now c.args.p.now.coefs.now c.args.c (search rules) c.requires.column b a
-
-pub returns-clause-begun : goal.returns-clause-begun
-returns-clause-begun c =
     let same : to_z w128 (of_z w128 c.product.result) ≡ c.args.den *ℤ entry c.args.p.now.coefs.now c.args.c = search rules in
     record {
-      of_row = search rules;
-      of_pivot = search rules;
-      positive = subst (λ z. pos 1 ≤ℤ z) (sym same) (product_positive c.args.den (entry c.args.p.now.coefs.now c.args.c) c.requires.row.positive c.requires.positive);
-      den_fits = search rules;
+      den = record {
+        positive = subst (λ z. pos 1 ≤ℤ z) (sym same) (product_positive c.args.den (entry c.args.p.now.coefs.now c.args.c) c.requires.row.row.positive c.requires.pivot.candidate.positive);
+        fits = search rules;
+      };
       entry_fits = search rules;
+      column = search rules;
+      coefs_terms = search rules;
+      constant_terms = search rules;
       coefs_made = search rules;
       constant_made = search rules;
-      coefs_short = search rules;
-      constant_short = search rules;
+      zero =
+          ap (λ xs. entry xs c.args.c) whole
+          ∙ combine_zero (to_z w64 (of_z w64 (entry c.args.p.now.coefs.now c.args.c))) (to_z w64 (of_z w64 (entry c.args.coefs.now c.args.c))) c.args.coefs.now c.args.p.now.coefs.now c.args.c (search rules) c.requires.pivot.candidate.column b a;
     }

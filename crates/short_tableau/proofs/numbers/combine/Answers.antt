@@ -1,4 +1,4 @@
-use Rattle.std.proofs.Common.{arith, rules, ◌≡◌, ◌∙◌, length, length-set}
+use Rattle.std.proofs.Common.{arith, rules, ◌≡◌, length}
 use Rattle.std.proofs.lemmas.List.Elements.{All-set}
 use Rattle.tableau.specs.Short.{IsShort}
 use Rattle.tableau.proofs.Combining.{combined, combined_step}
@@ -9,7 +9,6 @@ pub loop-i-preserved : goal.loop-i-preserved
 loop-i-preserved c = record {
   value = let made = combined_step c.args.a c.args.b c.args.r.now c.args.s.now c.requires.lengths c.loop-i.i (omega arith) c.loop-i.r c.in-Some.number (search rules) (search rules) in search (rules, made);
   short = All-set IsShort _ _ _ (search rules) c.loop-i.invariant.short;
-  length = length-set _ _ _ ∙ c.loop-i.invariant.length;
 }
 
 pub returns-in_default-clause-value : goal.returns-in_default-clause-value

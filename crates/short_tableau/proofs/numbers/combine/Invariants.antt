@@ -1,4 +1,4 @@
-use Rattle.std.proofs.Common.{◌≡◌, length}
+use Rattle.std.proofs.Common.{◌≡◌}
 use Rattle.std.specs.Prelude.{All}
 use Rattle.tableau.specs.Short.{IsShort}
 use Rattle.tableau.proofs.Combining.{combined}
@@ -8,5 +8,4 @@ abbrev pub invariant-loop-i : goal.invariant-loop-i
 invariant-loop-i l = record {
   value : l.r ≡ combined l.a l.fn.r l.b l.s l.i;
   short : All IsShort l.r;
-  length : length l.r ≡ length l.fn.r;
 }

@@ -1,4 +1,4 @@
-use Rattle.std.proofs.Common.{rules, pos, arith, ◌∙◌, length-set}
+use Rattle.std.proofs.Common.{rules, pos, arith}
 use Rattle.short_tableau.proofs.UnitNumbers.{written_step, short_step}
 use Rattle.short_tableau.proofs.pushing.narrow_all.Goals as goal
 
@@ -6,5 +6,4 @@ pub loop-i-preserved : goal.loop-i-preserved
 loop-i-preserved c = record {
   items = written_step c.args.entries.now c.args.numbers.now c.loop-i.numbers c.loop-i.i _ (omega arith) c.requires c.loop-i.invariant.items (search rules);
   short = short_step c.args.entries.now c.loop-i.i c.in-Some.short (pos 0) (omega arith) c.loop-i.invariant.short (search rules) (search rules);
-  length = length-set _ _ _ ∙ c.loop-i.invariant.length;
 }

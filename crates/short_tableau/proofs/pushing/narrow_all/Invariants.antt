@@ -1,4 +1,4 @@
-use Rattle.std.proofs.Common.{◌≡◌, ◌++◌, take, drop, length}
+use Rattle.std.proofs.Common.{◌≡◌, ◌++◌, take, drop}
 use Rattle.std.specs.Prelude.{All}
 use Rattle.tableau.specs.Short.{IsShort}
 use Rattle.short_tableau.proofs.pushing.narrow_all.Given as goal
@@ -7,5 +7,4 @@ abbrev pub invariant-loop-i : goal.invariant-loop-i
 invariant-loop-i l = record {
   items : l.numbers ≡ take l.i l.entries ++ drop l.i l.fn.numbers;
   short : All IsShort (take l.i l.entries);
-  length : length l.numbers ≡ length l.fn.numbers;
 }

@@ -2,6 +2,6 @@ use Rattle.std.proofs.Common.{◌∙◌, ap, replicate, pos, ℕ}
 use Rattle.short_tableau.proofs.UnitNumbers.{unit_numbers}
 use Rattle.short_tableau.proofs.row.make_unit.Goals as goal
 
-pub returns-clause-value : goal.returns-clause-value
-returns-clause-value c =
+pub returns : goal.returns
+returns c =
     unit_numbers c.args.unknowns c.args.c c.clear_all.new.numbers (c.clear_all.ensures ∙ ap (λ (k : ℕ). replicate k (pos 0)) c.requires.size) c.requires.column

@@ -1,38 +1,39 @@
-use Rattle.std.proofs.Common.{rules, ◌∙◌, ap, sym, arith, length, refl, List, []}
+use Rattle.std.proofs.Common.{rules, ◌∙◌, ap, sym, arith, refl, List, []}
 use Rattle.std.specs.Prelude.{IsTrue, IsFalse}
 use Rattle.pip_model.specs.Rows.{Row, row_at, form_row, eliminated}
 use Rattle.affine_forms.proofs.Mapped.{mapped_read, mapped_step}
-use Rattle.short_tableau.specs.Begun.{is_short_row}
 use Rattle.short_tableau.specs.Dense.{rows_in}
 use Rattle.short_tableau.specs.Rows.{row_of}
-use Rattle.short_tableau.proofs.Places.{length_rows, long_row, mapped_all}
+use Rattle.short_tableau.specs.Turned.{is_short_row}
+use Rattle.short_tableau.proofs.Places.{length_rows, long_row, mapped_all, not_turned}
 use Rattle.short_tableau.proofs.rows.turn_rows.Goals as goal
 
 pub loop-i-preserved : goal.loop-i-preserved
 loop-i-preserved c =
-    let n = length c.args.p.now.coefs.now in
     let done : IsTrue c.turn_at.result = search rules in
-    let h = length_rows n c.args.rows c.args.numbers.now in
+    let h = length_rows c.args.unknowns c.args.rows c.args.numbers.now in
     record {
       dense = c.turn_at.ensures.dense done;
       rows = c.turn_at.ensures.rows done
-          ∙ mapped_step (eliminated (row_of c.args.p.now) c.args.c) (rows_in n c.args.rows c.args.numbers.now) (rows_in n c.args.rows c.loop-i.numbers) c.loop-i.i _ (form_row 0 []) (omega (arith, h)) c.loop-i.invariant.rows refl;
-      size = c.turn_at.ensures.size ∙ c.loop-i.invariant.size;
+          ∙ mapped_step (eliminated (row_of c.args.p.now) c.args.c) (rows_in c.args.unknowns c.args.rows c.args.numbers.now) (rows_in c.args.unknowns c.args.rows c.loop-i.numbers) c.loop-i.i _ (form_row 0 []) (omega (arith, h)) c.loop-i.invariant.rows refl;
     }
 
-pub returns-clause-rows : goal.returns-clause-rows
-returns-clause-rows c = λ all.
-    let n = length c.args.p.now.coefs.now in
-    let h = length_rows n c.args.rows c.args.numbers.now in
-    c.loop-i.invariant.rows ∙ mapped_all (eliminated (row_of c.args.p.now) c.args.c) (rows_in n c.args.rows c.args.numbers.now) c.loop-i.i (omega (arith, h))
+pub returns : goal.returns
+returns c = record {
+  dense = λ all. c.loop-i.invariant.dense;
+  rows = λ all.
+      let h = length_rows c.args.unknowns c.args.rows c.args.numbers.now in
+      c.loop-i.invariant.rows ∙ mapped_all (eliminated (row_of c.args.p.now) c.args.c) (rows_in c.args.unknowns c.args.rows c.args.numbers.now) c.loop-i.i (omega (arith, h));
+  long = λ none. cc;
+}
 
-pub returns-then-not-turn_at-clause-long : goal.returns-then-not-turn_at-clause-long
-returns-then-not-turn_at-clause-long c = λ all.
-    let n = length c.args.p.now.coefs.now in
-    let old = rows_in n c.args.rows c.args.numbers.now in
-    let h = length_rows n c.args.rows c.args.numbers.now in
+pub returns-then-not-turn_at : goal.returns-then-not-turn_at
+returns-then-not-turn_at c =
+    let old = rows_in c.args.unknowns c.args.rows c.args.numbers.now in
+    let h = length_rows c.args.unknowns c.args.rows c.args.numbers.now in
     let long : IsFalse c.turn_at.result = search rules in
-    long_row (eliminated (row_of c.args.p.now) c.args.c) (rows_in n c.args.rows c.args.numbers.now) c.loop-i.i (omega (arith, h))
+    not_turned _ _ _ _
+    (long_row (eliminated (row_of c.args.p.now) c.args.c) old c.loop-i.i (omega (arith, h))
     (ap (λ (r : Row). is_short_row (eliminated (row_of c.args.p.now) c.args.c r))
     (sym (ap (λ (rs : List Row). row_at rs c.loop-i.i) c.loop-i.invariant.rows ∙ mapped_read (eliminated (row_of c.args.p.now) c.args.c) old c.loop-i.i (form_row 0 []) (omega (arith, h))))
-    ∙ c.turn_at.ensures.long long)
+    ∙ c.turn_at.ensures.long long))

@@ -1,4 +1,4 @@
-use Rattle.std.proofs.Common.{arith, rules, ◌≡◌, ◌∙◌, ap, sym, length-set, get_or, pos, ◌-ℤ◌, ◌*ℤ◌, to_z, of_z}
+use Rattle.std.proofs.Common.{arith, rules, ◌≡◌, ◌∙◌, ap, sym, get_or, pos, ◌-ℤ◌, ◌*ℤ◌, to_z, of_z}
 use Rattle.std.specs.Int.{w64, w128}
 use Rattle.std.specs.List.{list_all}
 use Rattle.std.proofs.lemmas.List.Elements.{All-set}
@@ -13,23 +13,30 @@ loop-i-preserved c = record {
   value =
       let z : c.wide_entry-number.result ≡ c.args.by.of_row *ℤ get_or c.loop-i.r c.loop-i.i (pos 0) -ℤ c.args.by.of_pivot *ℤ get_or c.args.s.now c.loop-i.i (pos 0) = search rules in
       let q : to_z w64 (of_z w64 c.in-Some.quotient) ≡ floor_div c.wide_entry-number.result (to_z w128 (of_z w128 c.args.d)) = search rules in
-      quotient_next c.args.by.of_row c.args.by.of_pivot c.args.r.now c.args.s.now c.requires.lengths (to_z w128 (of_z w128 c.args.d)) c.loop-i.i (omega arith) c.loop-i.r c.loop-i.invariant.value
+      quotient_next c.args.by.of_row c.args.by.of_pivot c.args.r.now c.args.s.now c.requires.terms.lengths (to_z w128 (of_z w128 c.args.d)) c.loop-i.i (omega arith) c.loop-i.r c.loop-i.invariant.value
       c.wide_entry-number.result (to_z w64 (of_z w64 c.in-Some.quotient)) z q;
   short = All-set IsShort _ _ _ (search rules) c.loop-i.invariant.short;
-  length = length-set _ _ _ ∙ c.loop-i.invariant.length;
 }
 
-pub returns-clause-value : goal.returns-clause-value
-returns-clause-value c = λ all.
-    let same : to_z w128 (of_z w128 c.args.d) ≡ c.args.d = search rules in
-    quotient_end c.args.by.of_row c.args.by.of_pivot c.args.r.now c.args.s.now c.requires.lengths (to_z w128 (of_z w128 c.args.d)) c.loop-i.i (omega arith) c.loop-i.r c.loop-i.invariant.value
-    ∙ ap (λ d. floor_divided d (combine c.args.by.of_row c.args.r.now c.args.by.of_pivot c.args.s.now)) same
+pub returns : goal.returns
+returns c = record {
+  value = λ all.
+      let same : to_z w128 (of_z w128 c.args.d) ≡ c.args.d = search rules in
+      quotient_end c.args.by.of_row c.args.by.of_pivot c.args.r.now c.args.s.now c.requires.terms.lengths (to_z w128 (of_z w128 c.args.d)) c.loop-i.i (omega arith) c.loop-i.r c.loop-i.invariant.value
+      ∙ ap (λ d. floor_divided d (combine c.args.by.of_row c.args.r.now c.args.by.of_pivot c.args.s.now)) same;
+  short = λ all. c.loop-i.invariant.short;
+  long = λ none. cc;
+}
 
-pub returns-in_default-clause-long : goal.returns-in_default-clause-long
-returns-in_default-clause-long c = λ all.
-    let same : to_z w128 (of_z w128 c.args.d) ≡ c.args.d = search rules in
-    let number : to_z w128 (of_z w128 c.wide_entry-number.result) ≡ c.wide_entry-number.result = search rules in
-    let z : c.wide_entry-number.result ≡ c.args.by.of_row *ℤ get_or c.loop-i.r c.loop-i.i (pos 0) -ℤ c.args.by.of_pivot *ℤ get_or c.args.s.now c.loop-i.i (pos 0) = search rules in
-    ap (λ d. list_all is_short (floor_divided d (combine c.args.by.of_row c.args.r.now c.args.by.of_pivot c.args.s.now))) (sym same)
-    ∙ quotient_long c.args.by.of_row c.args.by.of_pivot c.args.r.now c.args.s.now c.requires.lengths (to_z w128 (of_z w128 c.args.d)) c.loop-i.i (omega arith) c.loop-i.r c.loop-i.invariant.value
-    c.wide_entry-number.result z (ap (λ x. is_short (floor_div x (to_z w128 (of_z w128 c.args.d)))) (sym number) ∙ c.in_default.ensures.long)
+pub returns-in_default : goal.returns-in_default
+returns-in_default c = record {
+  value = λ all. cc;
+  short = λ all. absurd cc;
+  long = λ none.
+      let same : to_z w128 (of_z w128 c.args.d) ≡ c.args.d = search rules in
+      let number : to_z w128 (of_z w128 c.wide_entry-number.result) ≡ c.wide_entry-number.result = search rules in
+      let z : c.wide_entry-number.result ≡ c.args.by.of_row *ℤ get_or c.loop-i.r c.loop-i.i (pos 0) -ℤ c.args.by.of_pivot *ℤ get_or c.args.s.now c.loop-i.i (pos 0) = search rules in
+      ap (λ d. list_all is_short (floor_divided d (combine c.args.by.of_row c.args.r.now c.args.by.of_pivot c.args.s.now))) (sym same)
+      ∙ quotient_long c.args.by.of_row c.args.by.of_pivot c.args.r.now c.args.s.now c.requires.terms.lengths (to_z w128 (of_z w128 c.args.d)) c.loop-i.i (omega arith) c.loop-i.r c.loop-i.invariant.value
+      c.wide_entry-number.result z (ap (λ x. is_short (floor_div x (to_z w128 (of_z w128 c.args.d)))) (sym number) ∙ c.in_default.ensures.long);
+}

@@ -1,4 +1,4 @@
-use Rattle.std.proofs.Common.{◌≡◌, drop, take, ◌++◌, length}
+use Rattle.std.proofs.Common.{◌≡◌, drop, take, ◌++◌}
 use Rattle.std.specs.Prelude.{All}
 use Rattle.pip_model.specs.Forms.{combine, floor_divided}
 use Rattle.tableau.specs.Short.{IsShort}
@@ -8,5 +8,4 @@ abbrev pub invariant-loop-i : goal.invariant-loop-i
 invariant-loop-i l = record {
   value : l.r ≡ take l.i (floor_divided l.d (combine l.by.of_row l.fn.r l.by.of_pivot l.s)) ++ drop l.i l.fn.r;
   short : All IsShort l.r;
-  length : length l.r ≡ length l.fn.r;
 }

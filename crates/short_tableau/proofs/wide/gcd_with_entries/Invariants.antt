@@ -1,12 +1,11 @@
-use Rattle.std.proofs.Common.{◌≡◌, ◌≤ℤ◌, pos, drop}
+use Rattle.std.proofs.Common.{◌≡◌, drop}
 use Rattle.pip_model.specs.Forms.{combine}
 use Rattle.pip_model.specs.Numbers.{gcd, gcd_of}
-use Rattle.affine_forms.specs.Checks.{Fits}
+use Rattle.short_tableau.specs.Terms.{IsDivisor}
 use Rattle.short_tableau.proofs.wide.gcd_with_entries.Given as goal
 
 abbrev pub invariant-loop-i : goal.invariant-loop-i
 invariant-loop-i l = record {
   value : gcd l.found (gcd_of (drop l.i (combine l.by.of_row l.r l.by.of_pivot l.s))) ≡ gcd l.start (gcd_of (combine l.by.of_row l.r l.by.of_pivot l.s));
-  positive : pos 1 ≤ℤ l.found;
-  fits : Fits l.found;
+  divisor : IsDivisor l.found;
 }

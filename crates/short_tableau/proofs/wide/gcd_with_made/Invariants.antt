@@ -1,11 +1,10 @@
-use Rattle.std.proofs.Common.{◌≡◌, ◌≤ℤ◌, pos, drop}
+use Rattle.std.proofs.Common.{◌≡◌, drop}
 use Rattle.pip_model.specs.Numbers.{gcd, gcd_of}
-use Rattle.affine_forms.specs.Checks.{Fits}
+use Rattle.short_tableau.specs.Terms.{IsDivisor}
 use Rattle.short_tableau.proofs.wide.gcd_with_made.Given as goal
 
 abbrev pub invariant-loop-number : goal.invariant-loop-number
 invariant-loop-number l = record {
   value : gcd l.found (gcd_of (drop l.number-index l.entries)) ≡ gcd l.start (gcd_of l.entries);
-  positive : pos 1 ≤ℤ l.found;
-  fits : Fits l.found;
+  divisor : IsDivisor l.found;
 }

@@ -13,7 +13,7 @@ returns-then-k-c-clause-steady c =
     let l = c.args.lent.now in
     let p = row_of c.args.p.now in
     subst (λ (x : Kept). IsSteady p c.args.c (lent_row l x)) (sym c.in-Unit.is)
-    (unit_steady l.unknowns l.width c.in-Unit.k c.args.c p (search rules) c.requires.column (λ e. c.if-k-c.true (sym e)) c.requires.p c.requires.positive)
+    (unit_steady l.unknowns l.width c.in-Unit.k c.args.c p (search rules) c.requires.p.column (λ e. c.if-k-c.true (sym e)) c.requires.p.row c.requires.p.positive)
 
 pub returns-then-lent-at-eq0-clause-steady : goal.returns-then-lent-at-eq0-clause-steady
 returns-then-lent-at-eq0-clause-steady c =
@@ -25,5 +25,5 @@ returns-then-lent-at-eq0-clause-steady c =
     let within = subst (IsPlace l.unknowns l.width (length l.numbers.now)) c.in-At.is c.requires.one.place in
     let read : entry l.numbers.now (c.args.at + 1 + c.args.c) ≡ pos 0 = search rules in
     let none = subst (λ (x : Kept). entry (lent_row l x).coefs c.args.c ≡ pos 0) (sym c.in-At.is)
-    (place_entry l.unknowns l.width c.args.c c.in-At.place.first l.numbers.now c.requires.column within ∙ ap (λ i. entry l.numbers.now (i + 1 + c.args.c)) c.if-place-at.true ∙ read) in
-    short_steady l.unknowns l.width c.args.c p r c.requires.p c.requires.one.row c.requires.column c.requires.positive none c.requires.one.reduced p_short r_short
+    (place_entry l.unknowns l.width c.args.c c.in-At.place.first l.numbers.now c.requires.p.column within ∙ ap (λ i. entry l.numbers.now (i + 1 + c.args.c)) c.if-place-at.true ∙ read) in
+    short_steady l.unknowns l.width c.args.c p r c.requires.p.row c.requires.one.row c.requires.p.column c.requires.p.positive none c.requires.one.reduced p_short r_short

@@ -1,4 +1,7 @@
 use Rattle.std.proofs.Common.{rules, pos, arith}
+use Rattle.std.proofs.lemmas.Grind.{common_steps}
+use Rattle.pip_model.specs.Forms.{negate}
+use Rattle.tableau_row.proofs.Lent.{appends}
 use Rattle.tableau_row.proofs.Solved.{negated_step}
 use Rattle.tableau_row.proofs.append.append_negated.Goals as goal
 
@@ -8,3 +11,6 @@ loop-entry-preserved c = record {
   length = search rules;
   room = search rules;
 }
+
+pub returns-clause-appended : goal.returns-clause-appended
+returns-clause-appended c = appends c.args.numbers.now c.loop-entry.numbers (negate c.args.entries.now) (grind (arith, common_steps)) c.loop-entry.invariant.room

@@ -5,7 +5,11 @@ use Rattle.tableau_row.proofs.RowLaws.{divided_whole}
 use Rattle.tableau_row.proofs.Substituting.{row_parts}
 use Rattle.tableau_row.proofs.elimination.divide_parts.Goals as goal
 
-pub returns-then-den-eq1-clause-value : goal.returns-then-den-eq1-clause-value
-returns-then-den-eq1-clause-value c =
+pub returns-then-den-eq1 : goal.returns-then-den-eq1
+returns-then-den-eq1 c =
     let r = row_from c.args.den c.args.coefs.now c.args.constant.now in
-    row_parts (λ x. x ≡ divided r) _ c.args.den _ c.args.coefs.now _ c.args.constant.now (search rules) refl refl (divided_whole c.args.den c.args.coefs.now c.args.constant.now (search rules))
+    record {
+      value = row_parts (λ x. x ≡ divided r) _ c.args.den _ c.args.coefs.now _ c.args.constant.now (search rules) refl refl (divided_whole c.args.den c.args.coefs.now c.args.constant.now (search rules));
+      row = search rules;
+      short = search rules;
+    }

@@ -1,6 +1,7 @@
 use Rattle.std.proofs.Common.{rules}
 use Rattle.tableau_row.specs.Rows.{row_from}
 use Rattle.tableau_row.specs.Views.{row_of}
+use Rattle.tableau_row.proofs.Stepping.{pivot_over}
 use Rattle.tableau_row.proofs.Substituting.{listed_parts, substituted_row}
 use Rattle.tableau_row.proofs.elimination.substitute_long.Goals as goal
 
@@ -24,5 +25,7 @@ returns-clause-value c = search rules
 
 pub returns-clause-row : goal.returns-clause-row
 returns-clause-row c =
-    substituted_row _ _ c.args.c (row_of c.args.p.now) (row_from c.args.den c.args.coefs.now c.args.constant.now) _ (returns-clause-value c) c.requires.p c.requires.row c.requires.positive
+    let p = row_of c.args.p.now in
+    let r = row_from c.args.den c.args.coefs.now c.args.constant.now in
+    substituted_row _ _ c.args.c p r _ (returns-clause-value c) (pivot_over c.args.c p r c.requires.step) c.requires.step.row c.requires.step.pivot.positive
     (search rules) (search rules) (search rules)

@@ -7,63 +7,57 @@ use Rattle.tableau_row.specs.Short.{IsShort}
 use Rattle.tableau_row.specs.Rows.{row_from}
 use Rattle.tableau_row.specs.Views.{row_of}
 use Rattle.tableau_row.proofs.ShortHeld.{short_held, short_entry_held}
+use Rattle.tableau_row.proofs.Stepping.{pivot_over}
 use Rattle.tableau_row.proofs.Substituting.{substituted_row, substituted_is}
 use Rattle.tableau_row.proofs.elimination.substitute_short.Goals as goal
 
-pub short_product-den-requires-clause-a : goal.short_product-den-requires-clause-a
-short_product-den-requires-clause-a c = short_held c.args.den c.requires.row_short.den
+pub short_product-den-requires : goal.short_product-den-requires
+short_product-den-requires c = record {
+  first = short_held c.args.den c.requires.short.second.den;
+  second = short_entry_held _ _ c.requires.short.first.coefs c.requires.step.pivot.column;
+}
 
-pub short_product-den-requires-clause-b : goal.short_product-den-requires-clause-b
-short_product-den-requires-clause-b c = short_entry_held _ _ c.requires.p_short.coefs (omega (arith, c.requires.p.coefs, c.requires.column))
+pub short_product-entry-requires : goal.short_product-entry-requires
+short_product-entry-requires c = record {
+  first = short_entry_held _ _ c.requires.short.second.coefs (omega (arith, c.requires.step.coefs, c.requires.step.pivot.column));
+  second = short_held c.args.p.now.den c.requires.short.first.den;
+}
 
-pub short_product-entry-requires-clause-a : goal.short_product-entry-requires-clause-a
-short_product-entry-requires-clause-a c = short_entry_held _ _ c.requires.row_short.coefs c.requires.column
+pub combine_short-requires : goal.combine_short-requires
+combine_short-requires c = record {
+  factors = record {
+    first = short_entry_held _ _ c.requires.short.first.coefs c.requires.step.pivot.column;
+    second = short_entry_held _ _ c.requires.short.second.coefs (omega (arith, c.requires.step.coefs, c.requires.step.pivot.column));
+  };
+  lists = record { lengths = c.requires.step.coefs; first = c.requires.short.second.coefs; second = c.requires.short.first.coefs };
+}
 
-pub short_product-entry-requires-clause-b : goal.short_product-entry-requires-clause-b
-short_product-entry-requires-clause-b c = short_held c.args.p.now.den c.requires.p_short.den
+pub combine_short-requires-2 : goal.combine_short-requires-2
+combine_short-requires-2 c = record {
+  factors = record {
+    first = short_entry_held _ _ c.requires.short.first.coefs c.requires.step.pivot.column;
+    second = short_entry_held _ _ c.requires.short.second.coefs (omega (arith, c.requires.step.coefs, c.requires.step.pivot.column));
+  };
+  lists = record { lengths = c.requires.step.constant; first = c.requires.short.second.constant; second = c.requires.short.first.constant };
+}
 
-pub combine_short-requires-clause-a : goal.combine_short-requires-clause-a
-combine_short-requires-clause-a c = short_entry_held _ _ c.requires.p_short.coefs (omega (arith, c.requires.p.coefs, c.requires.column))
-
-pub combine_short-requires-clause-r : goal.combine_short-requires-clause-r
-combine_short-requires-clause-r c = c.requires.row_short.coefs
-
-pub combine_short-requires-clause-b : goal.combine_short-requires-clause-b
-combine_short-requires-clause-b c = short_entry_held _ _ c.requires.row_short.coefs c.requires.column
-
-pub combine_short-requires-clause-s : goal.combine_short-requires-clause-s
-combine_short-requires-clause-s c = c.requires.p_short.coefs
-
-pub combine_short-requires-2-clause-a : goal.combine_short-requires-2-clause-a
-combine_short-requires-2-clause-a c = short_entry_held _ _ c.requires.p_short.coefs (omega (arith, c.requires.p.coefs, c.requires.column))
-
-pub combine_short-requires-2-clause-r : goal.combine_short-requires-2-clause-r
-combine_short-requires-2-clause-r c = c.requires.row_short.constant
-
-pub combine_short-requires-2-clause-b : goal.combine_short-requires-2-clause-b
-combine_short-requires-2-clause-b c = short_entry_held _ _ c.requires.row_short.coefs c.requires.column
-
-pub combine_short-requires-2-clause-s : goal.combine_short-requires-2-clause-s
-combine_short-requires-2-clause-s c = c.requires.p_short.constant
-
-pub returns-clause-value : goal.returns-clause-value
-returns-clause-value c =
+pub returns : goal.returns
+returns c =
     let p = row_of c.args.p.now in
     let r = row_from c.args.den c.args.coefs.now c.args.constant.now in
-    substituted_is c.args.c p r (entry p.coefs c.args.c) (entry r.coefs c.args.c) (to_z w128 (of_z w128 c.short_product-den.result)) (to_z w128 (of_z w128 c.short_product-entry.result))
-    c.combine_short.new.r c.combine_short-2.new.r refl refl (search rules) (search rules) (search rules) (search rules)
-
-pub returns-clause-row : goal.returns-clause-row
-returns-clause-row c =
-    substituted_row _ _ c.args.c (row_of c.args.p.now) (row_from c.args.den c.args.coefs.now c.args.constant.now) _ (returns-clause-value c) c.requires.p c.requires.row c.requires.positive
-    (search rules) (All-set Fits _ _ _ (search rules) c.combine_short.ensures.fits) (search rules)
-
-pub returns-clause-short : goal.returns-clause-short
-returns-clause-short c = λ all.
-    let coefs_short = c.both.ensures.first all in
-    let constant_short = c.both.ensures.second all in
+    let value = substituted_is c.args.c p r (entry p.coefs c.args.c) (entry r.coefs c.args.c) (to_z w128 (of_z w128 c.short_product-den.result)) (to_z w128 (of_z w128 c.short_product-entry.result))
+    c.combine_short.new.r c.combine_short-2.new.r refl refl (search rules) (search rules) (search rules) (search rules) in
     record {
-      den = search (rules, c.with_entry-constant_short.ensures.entry constant_short);
-      coefs = All-set IsShort _ _ _ (search (rules, c.with_entry-coefs_short.ensures.entry coefs_short)) (c.combine_short.ensures.short (c.with_entry-coefs_short.ensures.so_far coefs_short));
-      constant = c.combine_short-2.ensures.short (c.with_entry-constant_short.ensures.so_far constant_short);
+      value = value;
+      row =
+          substituted_row _ _ c.args.c p r _ value (pivot_over c.args.c p r c.requires.step) c.requires.step.row c.requires.step.pivot.positive
+          (search rules) (All-set Fits _ _ _ (search rules) c.combine_short.ensures.fits) (search rules);
+      short = λ all.
+          let coefs_short = c.both.ensures.first all in
+          let constant_short = c.both.ensures.second all in
+          record {
+            den = search (rules, c.with_entry-constant_short.ensures.entry constant_short);
+            coefs = All-set IsShort _ _ _ (search (rules, c.with_entry-coefs_short.ensures.entry coefs_short)) (c.combine_short.ensures.short (c.with_entry-coefs_short.ensures.so_far coefs_short));
+            constant = c.combine_short-2.ensures.short (c.with_entry-constant_short.ensures.so_far constant_short);
+          };
     }

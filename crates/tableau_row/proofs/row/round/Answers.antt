@@ -12,13 +12,13 @@ returns-in_err-made-clause-listed c =
     let refused = c.in_err-made.ensures.listed refl in
     search (rules, refused)
 
-pub returns-clause-row : goal.returns-clause-row
-returns-clause-row c = λ n w given.
+pub returns-clause-made : goal.returns-clause-made
+returns-clause-made c =
     let r = row_of_numbers c.args.unknowns c.args.numbers.now in
     let same : row_from c.in_ok-made.made c.round_parts.new.coefs c.round_parts.new.constant ≡ rounded r c.args.q = search rules in
-    row_over n w r _ (rounded r c.args.q) c.split_at_mut-coefs.result.0.now c.split_at_mut-coefs.result.1.now (search rules) (search rules) same (search rules) given
-
-pub returns-clause-reduced : goal.returns-clause-reduced
-returns-clause-reduced c =
-    let r = row_of_numbers c.args.unknowns c.args.numbers.now in
-    content-divided (row_from r.den r.coefs (add r.constant (negate (rounding (width r.constant) c.args.q (residue_of r))))) c.requires.row.positive
+    record {
+      row = λ n w given.
+          row_over n w r _ (rounded r c.args.q) c.split_at_mut-coefs.result.0.now c.split_at_mut-coefs.result.1.now (search rules) (search rules) same (search rules) given;
+      reduced = content-divided (row_from r.den r.coefs (add r.constant (negate (rounding (width r.constant) c.args.q (residue_of r))))) c.requires.row.positive;
+      short = search rules;
+    }

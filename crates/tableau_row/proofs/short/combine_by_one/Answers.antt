@@ -7,15 +7,15 @@ use Rattle.tableau_row.proofs.Combining.{combined_step, combined_all, kept_at, k
 use Rattle.tableau_row.proofs.short.combine_by_one.Goals as goal
 use Rattle.tableau_row.proofs.short.combine_by_one.Goals.{then-narrow-ne0, else-narrow-ne0}
 
-pub half_entry-entry-requires-clause-x : goal.half_entry-entry-requires-clause-x
-half_entry-entry-requires-clause-x c =
-    let now = kept_at (pos 1) c.args.b c.args.r.now c.args.s.now c.requires.lengths c.loop-i.i (omega arith) IsShort c.loop-i.r (search rules) c.requires.r in
-    search (rules, now)
+pub half_entry-entry-requires-clause-entries : goal.half_entry-entry-requires-clause-entries
+half_entry-entry-requires-clause-entries c =
+    let now = kept_at (pos 1) c.args.b c.args.r.now c.args.s.now c.requires.lists.lengths c.loop-i.i (omega arith) IsShort c.loop-i.r (search rules) c.requires.lists.first in
+    record { first = search (rules, now); second = search rules }
 
 pub loop-i-preserved : goal.loop-i-preserved
 loop-i-preserved c = elim c.if-narrow-ne0.branch [
   | then-narrow-ne0 w ↦ record {
-    value = let made = combined_step (pos 1) c.args.b c.args.r.now c.args.s.now c.requires.lengths c.loop-i.i (omega arith) c.loop-i.r w.half_entry-entry.result.0 (search rules) (search rules) in search (rules, made);
+    value = let made = combined_step (pos 1) c.args.b c.args.r.now c.args.s.now c.requires.lists.lengths c.loop-i.i (omega arith) c.loop-i.r w.half_entry-entry.result.0 (search rules) (search rules) in search (rules, made);
     fits = let made = All-set Fits c.loop-i.r c.loop-i.i w.half_entry-entry.result.0 w.half_entry-entry.ensures.fits c.loop-i.invariant.fits in search (rules, made);
     short = λ all.
         let now = subst IsTrue w.short-is all in
@@ -23,11 +23,13 @@ loop-i-preserved c = elim c.if-narrow-ne0.branch [
         search (rules, made);
   }
   | else-narrow-ne0 w ↦ record {
-    value = let made = kept_step (pos 1) c.args.b c.args.r.now c.args.s.now c.requires.lengths c.loop-i.i (omega arith) c.loop-i.r (search rules) refl (search rules) in search (rules, made);
+    value = let made = kept_step (pos 1) c.args.b c.args.r.now c.args.s.now c.requires.lists.lengths c.loop-i.i (omega arith) c.loop-i.r (search rules) refl (search rules) in search (rules, made);
     fits = search rules;
     short = search rules;
   }
 ]
 
-pub returns-clause-value : goal.returns-clause-value
-returns-clause-value c = let whole = combined_all (pos 1) c.args.b c.args.r.now c.args.s.now c.loop-i.i c.requires.lengths (omega arith) in search (rules, whole)
+pub returns : goal.returns
+returns c =
+    let whole = combined_all (pos 1) c.args.b c.args.r.now c.args.s.now c.loop-i.i c.requires.lists.lengths (omega arith) in
+    record { value = search (rules, whole); fits = search rules; short = search rules }

@@ -6,7 +6,7 @@ use Rattle.tableau_row.proofs.short.exact_half_product.Goals as goal
 
 pub returns : goal.returns
 returns c =
-    let small = half_bound c.args.a c.args.b c.requires.a c.requires.b in
+    let small = half_bound c.args.a c.args.b c.requires.first c.requires.second in
     let fits = fits_signed_from_abs w64 (c.args.a *ℤ c.args.b) (omega (arith, small)) in
     let a = c.ranges.a in
     let b = c.ranges.b in

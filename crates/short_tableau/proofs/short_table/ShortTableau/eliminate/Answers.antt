@@ -1,14 +1,23 @@
-use Rattle.std.proofs.Common.{◌≡◌, ◌∙◌, ap, sym, subst, arith, rules, ℕ, ℤ, false, List, length, map}
+use Rattle.std.proofs.Common.{◌≡◌, ◌∙◌, ap, sym, subst, arith, rules, ℕ, ℤ, false, List, map}
 use Rattle.std.specs.Prelude.{IsTrue, IsFalse, flat_map}
 use Rattle.std.specs.List.{list_all}
+use Rattle.dual_pivot.specs.Choices.{IsCandidate}
 use Rattle.pip_model.specs.Listed.{all_fit}
 use Rattle.pip_model.specs.Rows.{Row, row_at, eliminated, eliminated_listed}
 use Rattle.tableau.specs.Tableaus.{TableauRows}
-use Rattle.short_tableau.specs.Begun.{is_short_row}
 use Rattle.short_tableau.specs.Dense.{rows_in, IsShortReduced}
 use Rattle.short_tableau.specs.Rows.{row_of}
+use Rattle.short_tableau.specs.Turned.{is_short_row}
 use Rattle.short_tableau.proofs.Fitting.{flat_fit}
 use Rattle.short_tableau.proofs.short_table.ShortTableau.eliminate.Goals as goal
+
+pub turn_rows-requires-clause-pivot : goal.turn_rows-requires-clause-pivot
+turn_rows-requires-clause-pivot c =
+    let n : c.self.inside.unknowns ≡ c.args.self.now.unknowns = ap (λ (t : TableauRows). t.unknowns) c.self.view_is in
+    record {
+      row = subst (λ (k : ℕ). IsShortReduced k (row_of c.row.result)) (c.requires.unknowns ∙ sym n) c.row.ensures.row;
+      candidate = subst (λ (k : ℕ). IsCandidate k (row_of c.row.result) c.args.c) (sym n) (subst (λ (r : Row). IsCandidate c.args.self.now.unknowns r c.args.c) (sym c.row.ensures.value) c.requires.candidate);
+    }
 
 pub returns-then-not-turn_rows-clause-listed : goal.returns-then-not-turn_rows-clause-listed
 returns-then-not-turn_rows-clause-listed c =
@@ -16,7 +25,7 @@ returns-then-not-turn_rows-clause-listed c =
     let n : c.args.t.now.unknowns ≡ c.self.inside.unknowns = c.requires.unknowns ∙ sym (ap (λ (t : TableauRows). t.unknowns) c.self.view_is) in
     let row = subst (IsShortReduced s.unknowns) c.row.ensures.value (subst (λ (k : ℕ). IsShortReduced k (row_of c.row.result)) n c.row.ensures.row) in
     subst (λ (t : TableauRows). IsTrue (all_fit (flat_map (eliminated_listed (row_at c.args.t.now.rows c.args.i) c.args.c) t.rows))) c.self.view_is
-    (flat_fit s.unknowns (row_at c.args.t.now.rows c.args.i) c.args.c (rows_in s.unknowns s.count s.numbers.items) row (omega (arith, n, c.requires.unknowns, c.requires.column)) c.self.invariant.rows)
+    (flat_fit s.unknowns (row_at c.args.t.now.rows c.args.i) c.args.c (rows_in s.unknowns s.count s.numbers.items) row (omega (arith, n, c.requires.unknowns, c.requires.candidate.column)) c.self.invariant.rows)
 
 pub returns-clause-listed : goal.returns-clause-listed
 returns-clause-listed c =
@@ -24,17 +33,14 @@ returns-clause-listed c =
     let n : c.args.t.now.unknowns ≡ c.self.inside.unknowns = c.requires.unknowns ∙ sym (ap (λ (t : TableauRows). t.unknowns) c.self.view_is) in
     let row = subst (IsShortReduced s.unknowns) c.row.ensures.value (subst (λ (k : ℕ). IsShortReduced k (row_of c.row.result)) n c.row.ensures.row) in
     subst (λ (t : TableauRows). IsTrue (all_fit (flat_map (eliminated_listed (row_at c.args.t.now.rows c.args.i) c.args.c) t.rows))) c.self.view_is
-    (flat_fit s.unknowns (row_at c.args.t.now.rows c.args.i) c.args.c (rows_in s.unknowns s.count s.numbers.items) row (omega (arith, n, c.requires.unknowns, c.requires.column)) c.self.invariant.rows)
+    (flat_fit s.unknowns (row_at c.args.t.now.rows c.args.i) c.args.c (rows_in s.unknowns s.count s.numbers.items) row (omega (arith, n, c.requires.unknowns, c.requires.candidate.column)) c.self.invariant.rows)
 
 pub returns-then-not-turn_rows-clause-long : goal.returns-then-not-turn_rows-clause-long
-returns-then-not-turn_rows-clause-long c = λ all.
+returns-then-not-turn_rows-clause-long c = λ none.
     let s = c.self.inside in
-    let n : c.args.t.now.unknowns ≡ c.self.inside.unknowns = c.requires.unknowns ∙ sym (ap (λ (t : TableauRows). t.unknowns) c.self.view_is) in
-    let row = subst (IsShortReduced s.unknowns) c.row.ensures.value (subst (λ (k : ℕ). IsShortReduced k (row_of c.row.result)) n c.row.ensures.row) in
-    let size : length c.row.result.coefs.now ≡ c.self.inside.unknowns = ap (λ (r : Row). length r.coefs) c.row.ensures.value ∙ row.row.coefs in
     let items : c.self.inside.numbers.items ≡ c.deref_mut.result.now = search rules in
     let long : IsFalse c.turn_rows.result = search rules in
     subst (λ (t : TableauRows). list_all is_short_row (map (eliminated (row_at c.args.t.now.rows c.args.i) c.args.c) t.rows) ≡ false) c.self.view_is
     (ap (λ (zs : List ℤ). list_all is_short_row (map (eliminated (row_at c.args.t.now.rows c.args.i) c.args.c) (rows_in s.unknowns s.count zs))) items
     ∙ ap (λ (r : Row). list_all is_short_row (map (eliminated r c.args.c) (rows_in s.unknowns s.count c.deref_mut.result.now))) (sym c.row.ensures.value)
-    ∙ subst (λ (k : ℕ). list_all is_short_row (map (eliminated (row_of c.row.result) c.args.c) (rows_in k s.count c.deref_mut.result.now)) ≡ false) size (c.turn_rows.ensures.long long))
+    ∙ c.turn_rows.ensures.long long)

@@ -4,8 +4,8 @@ use Rattle.std.specs.List.{list_all}
 use Rattle.pip_model.specs.Listed.{all_fit}
 use Rattle.pip_model.specs.Rows.{pivot, pivot_listed}
 use Rattle.tableau.specs.Tableaus.{TableauRows}
-use Rattle.short_tableau.specs.Begun.{is_short_row}
 use Rattle.short_tableau.specs.Dense.{rows_in}
+use Rattle.short_tableau.specs.Turned.{is_short_row}
 use Rattle.short_tableau.proofs.Fitting.{pivot_fits}
 use Rattle.short_tableau.proofs.Places.{count_is, length_rows}
 use Rattle.short_tableau.proofs.short_table.ShortTableau.pivot.Goals as goal
@@ -22,7 +22,7 @@ returns-then-not-pivot_rows-clause-listed c =
     let k = count_is s.unknowns s.count s.numbers.items c.args.self.now c.self.view_is in
     let l = length_rows s.unknowns s.count s.numbers.items in
     subst (λ (t : TableauRows). IsTrue (all_fit (pivot_listed t.rows c.args.r c.args.c))) c.self.view_is
-    (pivot_fits s.unknowns c.args.r c.args.c (rows_in s.unknowns s.count s.numbers.items) c.self.invariant.rows (omega (arith, k, l, c.requires.row)) (omega (arith, n, c.requires.column)))
+    (pivot_fits s.unknowns c.args.r c.args.c (rows_in s.unknowns s.count s.numbers.items) c.self.invariant.rows (omega (arith, k, l, c.requires.row)) (omega (arith, n, c.requires.candidate.column)))
 
 pub returns-clause-listed : goal.returns-clause-listed
 returns-clause-listed c =
@@ -31,7 +31,7 @@ returns-clause-listed c =
     let k = count_is s.unknowns s.count s.numbers.items c.args.self.now c.self.view_is in
     let l = length_rows s.unknowns s.count s.numbers.items in
     subst (λ (t : TableauRows). IsTrue (all_fit (pivot_listed t.rows c.args.r c.args.c))) c.self.view_is
-    (pivot_fits s.unknowns c.args.r c.args.c (rows_in s.unknowns s.count s.numbers.items) c.self.invariant.rows (omega (arith, k, l, c.requires.row)) (omega (arith, n, c.requires.column)))
+    (pivot_fits s.unknowns c.args.r c.args.c (rows_in s.unknowns s.count s.numbers.items) c.self.invariant.rows (omega (arith, k, l, c.requires.row)) (omega (arith, n, c.requires.candidate.column)))
 
 pub returns-then-not-pivot_rows-clause-long : goal.returns-then-not-pivot_rows-clause-long
 returns-then-not-pivot_rows-clause-long c = λ all.

@@ -10,7 +10,7 @@ pub seal-requires-clause-unsealed : goal.seal-requires-clause-unsealed
 seal-requires-clause-unsealed c =
     let s = c.self.inside in
     let given = subst (λ (t : KeptRows). IsRow t.unknowns t.width (row_of c.args.row.now)) (sym c.self.view_is) c.requires.row in
-    unsealed s.unknowns s.width _ s.numbers.items c.append_divided-short.new.numbers.items s.kept.items (divided (row_of c.args.row.now)) c.append_divided-short.ensures.items (search rules) c.self.invariant.0
-    (c.append_divided-short.ensures.row s.unknowns s.width given)
-    c.append_divided-short.ensures.reduced
-    c.append_divided-short.ensures.short
+    unsealed s.unknowns s.width _ s.numbers.items c.append_divided-short.new.numbers.items s.kept.items (divided (row_of c.args.row.now)) c.append_divided-short.ensures.appended.items (search rules) c.self.invariant.0
+    (c.append_divided-short.ensures.made.row s.unknowns s.width given)
+    c.append_divided-short.ensures.made.reduced
+    c.append_divided-short.ensures.made.short

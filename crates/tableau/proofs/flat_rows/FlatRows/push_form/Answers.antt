@@ -1,9 +1,9 @@
 use Rattle.std.proofs.Common.{rules, ap, refl, ◌≡◌, ◌∙◌, ◌+◌, ◌++◌, sym, subst, List, ℤ, length}
-use Rattle.pip_model.specs.Rows.{Row, form_row}
+use Rattle.pip_model.specs.Rows.{form_row}
 use Rattle.tableau_row.specs.Flat.{numbers_of}
 use Rattle.tableau_row.proofs.Contents.{content-one}
-use Rattle.tableau.specs.KeptRows.{KeptRows, rows_kept, with_more}
-use Rattle.tableau.proofs.Flat.{unsealed, more_rows}
+use Rattle.tableau.specs.KeptRows.{KeptRows, with_more}
+use Rattle.tableau.proofs.Flat.{unsealed, pushed}
 use Rattle.tableau.proofs.FormRows.{form_numbers, form_fits, form_short}
 use Rattle.tableau.proofs.flat_rows.FlatRows.push_form.Goals as goal
 
@@ -25,7 +25,6 @@ returns c =
     let long = subst (λ (t : KeptRows). length f ≡ t.unknowns + t.width + 1) (sym c.self.view_is) c.requires.length in
     let items : c.append_form-short.new.numbers.items ≡ s.numbers.items ++ numbers_of (form_row s.unknowns f) = c.append_form-short.ensures.items ∙ ap (λ (xs : List ℤ). s.numbers.items ++ xs) (sym (form_numbers s.unknowns f)) in
     let row = form_fits s.unknowns s.width f long c.append_form-short.ensures.form.fits in
-    subst (λ (t : KeptRows). record { unknowns = s.unknowns; width = s.width; most = s.most; rows = rows_kept s.unknowns s.width c.seal.new.numbers.items c.seal.new.kept.items } ≡ with_more t (form_row t.unknowns f)) c.self.view_is
-    (ap (λ (rs : List Row). record { unknowns = s.unknowns; width = s.width; most = s.most; rows = rs })
-    (more_rows s.unknowns s.width c.len-first.result s.numbers.items c.append_form-short.new.numbers.items c.seal.new.numbers.items s.kept.items c.seal.new.kept.items (form_row s.unknowns f) items (search rules) row.coefs
-    c.seal.ensures.rows))
+    pushed c.args.self.now s.unknowns s.width s.most s.numbers.items c.append_form-short.new.numbers.items c.seal.new.numbers.items s.kept.items c.seal.new.kept.items c.len-first.result (form_row s.unknowns f) c.self.view_is items (search rules) row.coefs
+    c.seal.ensures.rows
+    ∙ ap (λ (t : KeptRows). with_more c.args.self.now (form_row t.unknowns f)) c.self.view_is

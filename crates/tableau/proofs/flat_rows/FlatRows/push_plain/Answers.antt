@@ -1,11 +1,8 @@
-use Rattle.std.proofs.Common.{rules, arith, ap, ◌≡◌, subst, sym, List, length, false}
-use Rattle.std.specs.Prelude.{IsTrue}
+use Rattle.std.proofs.Common.{rules, arith, ap, ◌≡◌, subst, sym, List, length}
 use Rattle.std.proofs.lemmas.Grind.{common_steps}
 use Rattle.pip_model.specs.Rows.{Row}
-use Rattle.tableau_row.specs.Rows.{IsRow, IsReduced}
-use Rattle.tableau_row.specs.Flat.{row_of_numbers, is_unit_row}
-use Rattle.tableau_row.specs.Short.{IsShortRow}
-use Rattle.tableau.specs.KeptRows.{KeptRows, row_length, rows_kept, with_more}
+use Rattle.tableau_row.specs.Flat.{row_of_numbers}
+use Rattle.tableau.specs.KeptRows.{KeptRows, IsPlainRow, row_length, rows_kept, with_more}
 use Rattle.tableau.specs.declared.kept.Place.{Place}
 use Rattle.tableau.proofs.Flat.{with_plain, rows_more}
 use Rattle.tableau.proofs.flat_rows.FlatRows.push_plain.Goals as goal
@@ -14,15 +11,10 @@ pub invariant_of-self : goal.invariant_of-self
 invariant_of-self c =
     let s = c.self.inside in
     let xs = c.args.numbers.now in
-    let back = sym c.self.view_is in
     let room = c.self.invariant.1 in
     let last : Place = record { first = c.len-first.result; short = c.args.short } in
-    let whole = with_plain s.unknowns s.width s.numbers.items xs s.kept.items last c.self.invariant.0 (search rules)
-    (subst (λ (t : KeptRows). length xs ≡ row_length t.unknowns t.width) back c.requires.length)
-    (subst (λ (t : KeptRows). IsRow t.unknowns t.width (row_of_numbers t.unknowns xs)) back c.requires.row)
-    (subst (λ (t : KeptRows). IsReduced (row_of_numbers t.unknowns xs)) back c.requires.reduced)
-    (subst (λ (t : KeptRows). IsTrue c.args.short → IsShortRow (row_of_numbers t.unknowns xs)) back c.requires.short)
-    (subst (λ (t : KeptRows). is_unit_row (row_of_numbers t.unknowns xs) ≡ false) back c.requires.plain) in
+    let plain = subst (λ (t : KeptRows). IsPlainRow t.unknowns t.width xs c.args.short) (sym c.self.view_is) c.requires.row in
+    let whole = with_plain s.unknowns s.width s.numbers.items xs s.kept.items last c.self.invariant.0 (search rules) plain in
     (rw (c.append_entries.ensures.items, c.append_kept.ensures.items) whole, record { few = grind (arith, common_steps); kept = search rules; numbers = search rules })
 
 pub returns : goal.returns
@@ -30,7 +22,7 @@ returns c =
     let s = c.self.inside in
     let xs = c.args.numbers.now in
     let last : Place = record { first = c.len-first.result; short = c.args.short } in
-    let long = subst (λ (t : KeptRows). length xs ≡ row_length t.unknowns t.width) (sym c.self.view_is) c.requires.length in
+    let long = subst (λ (t : KeptRows). length xs ≡ row_length t.unknowns t.width) (sym c.self.view_is) c.requires.row.length in
     let rows = rows_more s.unknowns s.width s.numbers.items xs s.kept.items last c.self.invariant.0.places (search rules) long in
     subst (λ (t : KeptRows). record { unknowns = s.unknowns; width = s.width; most = s.most; rows = rows_kept s.unknowns s.width c.append_entries.new.numbers.items c.append_kept.new.kept.items } ≡ with_more t (row_of_numbers t.unknowns xs)) c.self.view_is
     (ap (λ (rs : List Row). record { unknowns = s.unknowns; width = s.width; most = s.most; rows = rs })

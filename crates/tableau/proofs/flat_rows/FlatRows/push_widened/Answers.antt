@@ -1,9 +1,9 @@
-use Rattle.std.proofs.Common.{rules, arith, ap, ◌≡◌, ◌∙◌, ◌+◌, ◌-◌, ◌<◌, subst, sym, List}
-use Rattle.pip_model.specs.Rows.{Row, widened}
+use Rattle.std.proofs.Common.{rules, arith, ◌≡◌, ◌∙◌, ◌+◌, ◌-◌, ◌<◌, subst, sym}
+use Rattle.pip_model.specs.Rows.{widened}
 use Rattle.tableau_row.specs.Rows.{IsRow}
-use Rattle.tableau.specs.KeptRows.{KeptRows, rows_kept, with_more}
+use Rattle.tableau.specs.KeptRows.{KeptRows}
 use Rattle.tableau_row.specs.Views.{row_of}
-use Rattle.tableau.proofs.Flat.{unsealed, more_rows}
+use Rattle.tableau.proofs.Flat.{unsealed, pushed}
 use Rattle.tableau_row.proofs.RowLaws.{widened_is_row, widened_content}
 use Rattle.tableau_row.proofs.ShortRows.{widened_short}
 use Rattle.tableau.proofs.flat_rows.FlatRows.push_widened.Goals as goal
@@ -25,7 +25,5 @@ returns c =
     let s = c.self.inside in
     let r = row_of c.args.row.now in
     let given = subst (λ (t : KeptRows). IsRow t.unknowns (t.width - 1) r) (sym c.self.view_is) c.requires.row in
-    subst (λ (t : KeptRows). record { unknowns = s.unknowns; width = s.width; most = s.most; rows = rows_kept s.unknowns s.width c.seal.new.numbers.items c.seal.new.kept.items } ≡ with_more t (widened r)) c.self.view_is
-    (ap (λ (rs : List Row). record { unknowns = s.unknowns; width = s.width; most = s.most; rows = rs })
-    (more_rows s.unknowns s.width c.len-first.result s.numbers.items c.append_widened.new.numbers.items c.seal.new.numbers.items s.kept.items c.seal.new.kept.items (widened r) c.append_widened.ensures.items (search rules) given.coefs
-    c.seal.ensures.rows))
+    pushed c.args.self.now s.unknowns s.width s.most s.numbers.items c.append_widened.new.numbers.items c.seal.new.numbers.items s.kept.items c.seal.new.kept.items c.len-first.result (widened r) c.self.view_is c.append_widened.ensures.items (search rules) given.coefs
+    c.seal.ensures.rows

@@ -12,8 +12,8 @@ push_forms-requires-clause-room c =
     let count : length units ≡ made.unknowns = length-map (count_from 0 made.unknowns) (unit_row made.unknowns made.width) ∙ length-count 0 made.unknowns in
     let now : c.push_units.new.rows ≡ record made { rows = units } = rw (c.clear.ensures) at c.push_units.ensures in
     let few : c.unknowns.result + length c.args.forms.now ≤ c.in_ok-most.most = c.in_ok-most.ensures in
-    let room : c.in_ok-most.most ≤ made.most = c.in_ok-make_rooms.ensures.room in
-    let same : c.unknowns.result ≡ made.unknowns = grind (arith, c.unknowns.ensures, c.make_rooms.ensures.unknowns) in
+    let room : c.in_ok-most.most ≤ made.most = c.in_ok-make_rooms.ensures.ready.room in
+    let same : c.unknowns.result ≡ made.unknowns = grind (arith, c.unknowns.ensures, c.make_rooms.ensures.same.unknowns) in
     rw now (omega (arith, count, few, room, same))
 
 pub invariant_of-self-2 : goal.invariant_of-self-2
@@ -28,9 +28,9 @@ invariant_of-self-2 c =
     let now : c.push_units.new.rows ≡ record made { rows = units } = rw (c.clear.ensures) at c.push_units.ensures in
     let all : c.push_forms.new.rows ≡ record made { rows = units ++ forms } = rw now at c.push_forms.ensures in
     let few : c.unknowns.result + length c.args.forms.now ≤ c.in_ok-most.most = c.in_ok-most.ensures in
-    let room : c.in_ok-most.most ≤ next.most = c.in_ok-make_rooms.ensures.next_room in
-    let same : c.unknowns.result ≡ made.unknowns = grind (arith, c.unknowns.ensures, c.make_rooms.ensures.unknowns) in
-    let run = c.in_ok-make_rooms.ensures.units in
+    let room : c.in_ok-most.most ≤ next.most = c.in_ok-make_rooms.ensures.ready.next_room in
+    let same : c.unknowns.result ≡ made.unknowns = grind (arith, c.unknowns.ensures, c.make_rooms.ensures.same.unknowns) in
+    let run = c.in_ok-make_rooms.ensures.ready.units in
     let zeros = replicate (max made.unknowns (made.width + 1)) (pos 0) in
     let long : length (unit_run made.unknowns made.width) ≡ length (replicate made.unknowns (pos 0)) + suc (length zeros) = length-append (replicate made.unknowns (pos 0)) (pos 1 ∷ zeros) in
     rw all record {

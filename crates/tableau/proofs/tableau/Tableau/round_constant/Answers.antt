@@ -1,12 +1,13 @@
-use Rattle.std.proofs.Common.{ap, ◌∙◌, length, length-set}
-use Rattle.pip_model.specs.Cuts.{rounded}
-use Rattle.pip_model.specs.Rows.{row_at}
-use Rattle.tableau.specs.KeptRows.{KeptRows}
-use Rattle.tableau.proofs.Turning.{swapped}
+use Rattle.std.proofs.Common.{subst, sym}
+use Rattle.tableau.specs.KeptRows.{IsSpare}
 use Rattle.tableau.proofs.tableau.Tableau.round_constant.Goals as goal
+
+pub round-requires-clause-spare : goal.round-requires-clause-spare
+round-requires-clause-spare c = subst (IsSpare c.self.inside.rows c.self.inside.next) (sym c.as_slice.ensures.value) c.self.invariant
+
+pub invariant_of-self : goal.invariant_of-self
+invariant_of-self c = subst (IsSpare c.self.inside.rows c.round.new.next) c.as_slice.ensures.value c.round.ensures.spare
 
 pub invariant_of-self-2 : goal.invariant_of-self-2
 invariant_of-self-2 c =
-    let s = c.self.inside in
-    let long = ap (λ (t : KeptRows). length t.rows) c.in_ok-round.ensures.ok ∙ length-set s.rows.rows c.args.row (rounded (row_at s.rows.rows c.args.row) c.args.q) in
-    rw (c.swap.ensures.x_after, c.swap.ensures.y_after) (swapped s.rows s.next c.round.new.next s.units.items c.self.invariant c.in_ok-round.ensures.shape long c.in_ok-round.ensures.few)
+    rw (c.swap.ensures.x_after, c.swap.ensures.y_after) (subst (IsSpare c.round.new.next c.self.inside.rows) c.as_slice.ensures.value c.in_ok-round.ensures.swapped)

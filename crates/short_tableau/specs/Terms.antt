@@ -1,0 +1,53 @@
+-- Short numbers that are put together, and what is made of them.
+use Rattle.std.specs.Prelude.{◌≡◌, ◌^◌, ◌<◌, ℤ, pos, ◌≤ℤ◌, unsigned_abs, Bool, false, IsTrue, IsFalse, Option, IfSome, IfNone, List, length, All}
+use Rattle.std.specs.List.{list_all}
+use Rattle.affine_forms.specs.Checks.{Fits}
+use Rattle.tableau.specs.Short.{is_short, IsShort}
+
+-- z lies from -(2^31 - 1) to 2^31 - 1
+abbrev pub IsHalf : ℤ → Type 0
+IsHalf z = unsigned_abs z < 2 ^ 31
+
+-- the terms of a*x - b*y have 32 bits
+pub record AreHalf (a x b y : ℤ) : Type 0 where
+  pub row_factor : IsHalf a
+  pub row_entry : IsHalf x
+  pub pivot_factor : IsHalf b
+  pub pivot_entry : IsHalf y
+
+-- the terms of a*x - b*y are short
+pub record AreShort (a x b y : ℤ) : Type 0 where
+  pub row_factor : IsShort a
+  pub row_entry : IsShort x
+  pub pivot_factor : IsShort b
+  pub pivot_entry : IsShort y
+
+-- the terms of a*r - b*s are short, and r has as many entries as s
+pub record AreTerms (a : ℤ) (r : List ℤ) (b : ℤ) (s : List ℤ) : Type 0 where
+  pub lengths : length r ≡ length s
+  pub row_factor : IsShort a
+  pub row : All IsShort r
+  pub pivot_factor : IsShort b
+  pub pivot : All IsShort s
+
+-- d lies from 1 to 2^63 - 1
+pub record IsShortDivisor (d : ℤ) : Type 0 where
+  pub positive : pos 1 ≤ℤ d
+  pub short : IsShort d
+
+-- d lies from 1 to 2^127 - 1
+pub record IsDivisor (d : ℤ) : Type 0 where
+  pub positive : pos 1 ≤ℤ d
+  pub fits : Fits d
+
+-- z in 64 bits, where it is short
+pub record IsNarrowed (z : ℤ) (n : Option ℤ) : Type 0 where
+  pub value : IfSome n (λ x. x ≡ z)
+  pub short : IfSome n IsShort
+  pub long : IfNone n (is_short z ≡ false)
+
+-- whether all numbers of zs are short, and then they are made
+pub record AreNarrowed (zs : List ℤ) (all : Bool) (made : List ℤ) : Type 0 where
+  pub value : IsTrue all → made ≡ zs
+  pub short : IsTrue all → All IsShort made
+  pub long : IsFalse all → list_all is_short zs ≡ false

@@ -1,0 +1,10 @@
+use Rattle.std.proofs.Common.{rules, arith}
+use Rattle.std.proofs.lemmas.Grind.{common_steps}
+use Rattle.pip_model.specs.Rows.{widened}
+use Rattle.tableau_row.specs.Flat.{numbers_of}
+use Rattle.tableau_row.specs.Views.{row_of}
+use Rattle.tableau_row.proofs.Lent.{appends}
+use Rattle.tableau_row.proofs.append.append_widened.Goals as goal
+
+pub returns : goal.returns
+returns c = appends c.args.numbers.now c.append_entries-3.new.numbers (numbers_of (widened (row_of c.args.narrow.now))) (grind (arith, common_steps)) (search rules)

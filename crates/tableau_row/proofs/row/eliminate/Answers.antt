@@ -1,0 +1,12 @@
+use Rattle.std.proofs.Common.{rules, length}
+use Rattle.pip_model.specs.Rows.{eliminated}
+use Rattle.tableau_row.specs.Flat.{row_of_numbers}
+use Rattle.tableau_row.specs.Views.{row_of}
+use Rattle.tableau_row.proofs.Stepping.{made_reduced, reduced_by}
+use Rattle.tableau_row.proofs.row.eliminate.Goals as goal
+
+pub returns-clause-made : goal.returns-clause-made
+returns-clause-made c =
+    let p = row_of c.args.p.now in
+    let r = row_of_numbers (length p.coefs) c.args.numbers.now in
+    made_reduced (eliminated p c.args.c) r _ _ _ c.eliminate_parts-made.ensures (search rules) (reduced_by c.args.c p r c.requires.step)
