@@ -5,7 +5,7 @@ use Rattle.std.proofs.lemmas.List.{take-append-le, get_or_at}
 use Rattle.std.specs.List.{list_any}
 use Rattle.pip_model.specs.Numbers.{is_nonneg, is_positive}
 use Rattle.pip_model.specs.Forms.{constant, entry}
-use Rattle.pip_model.specs.Rows.{Row, row_at, form_row, count_from, candidates, entering_of, entering_of_listed, first_fraction, fraction_from}
+use Rattle.pip_model.specs.Rows.{Row, row_at, form_row, count_from, candidates, entering, entering_of, entering_of_listed, first_fraction, fraction_from}
 use Rattle.pip_model.specs.Tree.{Bottom}
 use Rattle.pip_model.specs.Run.{Work, Done, Closed, go_on, give, listed, leaf, turn, turn_by, last_turn, pivot_turn, numbers_of, point_setting}
 use Rattle.pip_model.proofs.Tests.{both}
@@ -15,7 +15,7 @@ use Rattle.context.specs.Remembered.{replayed, finds_point, asked, IsStopped, En
 use Rattle.context.specs.declared.remembered.Remembered.{Remembered}
 use Rattle.context.proofs.Turning.{signs_of, turn_is}
 
-none_of : (o : Option ℕ) → is_none o ≡ true → o ≡ None
+pub none_of : (o : Option ℕ) → is_none o ≡ true → o ≡ None
 none_of None e = refl
 none_of (Some r) e = absurd cc
 
@@ -90,7 +90,7 @@ filter-none : (f : ℕ → Bool) (ks : List ℕ) → ((k : ℕ) → f k ≡ fals
 filter-none f [] all = refl
 filter-none f (k ∷ ks) all = rw (all k) (filter-none f ks all)
 
-no_candidates : (p : Row) → list_any is_positive p.coefs ≡ false → candidates p ≡ []
+pub no_candidates : (p : Row) → list_any is_positive p.coefs ≡ false → candidates p ≡ []
 no_candidates p e = filter-none (λ k. is_positive (entry p.coefs k)) (count_from 0 (length p.coefs)) (λ k. no_entry p.coefs k e)
 
 negative-last : (E : List Row) (r : Row) (i : ℕ) → negative_from i E ≡ None → is_nonneg (constant r.constant) ≡ false → negative_from i (E ++ r ∷ []) ≡ Some (i + length E)
@@ -106,18 +106,29 @@ negative-last (x ∷ E) r i e f = by (is_nonneg (constant x.constant)) e (λ h. 
     by true e later = let g : i + 1 + length E ≡ i + suc (length E) = omega arith in later e ∙ ap Some g
     by false e later = absurd cc
 
+-- so the run ends there without a point
+module _ (n : ℕ) (rows : List Row) (r : ℕ) (below : negative_from 0 rows ≡ Some r) (free : candidates (row_at rows r) ≡ []) where
+  abbrev p : Row
+  p = row_at rows r
+
+  pub no_column : entering rows r ≡ None
+  no_column = ap (λ (ks : List ℕ). entering_of (take (length p.coefs) rows) p ks) free
+
+  pub closes : (v : Work) → turn (point_setting n) (node_of rows) v ≡ Done (Closed Bottom) v
+  closes v =
+      turn_is n rows v
+      ∙ ap (λ o. turn_by (point_setting n) (node_of rows) (signs_of o) v) below
+      ∙ ap (λ (ks : List ℕ). go_on (listed (entering_of_listed (take (length p.coefs) rows) p ks) v) (λ done. pivot_turn (point_setting n) (node_of rows) r (entering_of (take (length p.coefs) rows) p ks))) free
+
+  pub finds_none : (v : Work) → finds_point n rows v ≡ Done false v
+  finds_none v = ap (λ o. go_on o (λ t. give (is_some (numbers_of t)))) (closed_run_from (point_setting n) falls-constant_class (node_of rows) v v Bottom (closes v))
+
 none_here : (n : ℕ) (E : List Row) (r : Row) (v : Work) → negative_from 0 E ≡ None → is_nonneg (constant r.constant) ≡ false → candidates r ≡ [] → finds_point n (E ++ r ∷ []) v ≡ Done false v
 none_here n E r v e below free =
-    let rows = E ++ r ∷ [] in
     let at : row_at (E ++ r ∷ []) (length E) ≡ r = get_or_at E r [] (form_row 0 []) (length E) refl in
     let none : 0 + length E ≡ length E = omega arith in
     let first : negative_from 0 (E ++ r ∷ []) ≡ Some (length E) = negative-last E r 0 e below ∙ ap Some none in
-    let closed : turn (point_setting n) (node_of (E ++ r ∷ [])) v ≡ Done (Closed Bottom) v
-    = turn_is n rows v
-    ∙ ap (λ o. turn_by (point_setting n) (node_of rows) (signs_of o) v) first
-    ∙ ap (λ (p : Row). go_on (listed (entering_of_listed (take (length p.coefs) rows) p (candidates p)) v) (λ done. pivot_turn (point_setting n) (node_of rows) (length E) (entering_of (take (length p.coefs) rows) p (candidates p)))) at
-    ∙ ap (λ (ks : List ℕ). go_on (listed (entering_of_listed (take (length r.coefs) rows) r ks) v) (λ done. pivot_turn (point_setting n) (node_of rows) (length E) (entering_of (take (length r.coefs) rows) r ks))) free in
-    ap (λ o. go_on o (λ t. give (is_some (numbers_of t)))) (closed_run_from (point_setting n) falls-constant_class (node_of rows) v v Bottom closed)
+    finds_none n (E ++ r ∷ []) (length E) first (ap candidates at ∙ free) v
 
 pub ends_none : (now : List Row) → length now ≡ 1 → is_nonneg (constant (row_at now 0).constant) ≡ false → list_any is_positive (row_at now 0).coefs ≡ false → EndsWith now false
 ends_none now one below none n E v h e =

@@ -1,7 +1,7 @@
 -- The kept run of some forms with others behind them.
 use Rattle.std.proofs.Common.{◌≡◌, ◌∙◌, refl, ap, ap₂, sym, subst, ℕ, zero, suc, ◌+◌, ◌<◌, ◌≤◌, arith, ℤ, Bool, false, List, [], ◌∷◌, ◌++◌, All, length, length-append, map, get_or, take, drop, Option, Some, None}
 use Rattle.std.specs.Prelude.{IfSome, nat_eq}
-use Rattle.std.proofs.lemmas.List.{map-append, length-map, length-take-le, drop_more, drop_all}
+use Rattle.std.proofs.lemmas.List.{map-append, length-map, length-take-le, drop_more, drop_all, take-append-drop}
 use Rattle.std.proofs.lemmas.List.Elements.{All-head, All-tail}
 use Rattle.pip_model.specs.Contexts.{IsContext}
 use Rattle.pip_model.specs.Made.{narrow_to}
@@ -167,3 +167,18 @@ pub known-fault : (places : List ℤ) (known : List (List ℤ)) (first : ℤ) (w
     → IfSome o (λ f. refute (length places) (map (narrow_to (length places)) known) places first w ≡ Refused f u)
 known-fault places known first w u None some e = e
 known-fault places known first w u (Some f) some e = known-run places known first w some ∙ e
+
+-- ---- more kept forms
+
+pub context-more : (n : ℕ) (K : List (List ℤ)) (c : List ℤ) → IsContext n K → length c ≡ n + 1 → IsContext n (K ++ c ∷ [])
+context-more n [] c all e = (record { some = omega (arith, e); most = omega (arith, e) }, tt)
+context-more n (x ∷ K) c all e = (all.0, context-more n K c all.1 e)
+
+-- the kept forms are those of the front, and the others come behind them
+pub kept-further : (w v i : ℕ) (F known front more : List (List ℤ)) → v ≡ w → F ≡ map (narrow_to w) front → front ≡ take i known → more ≡ drop i known
+    → F ++ map (narrow_to v) more ≡ map (narrow_to w) known
+kept-further w v i F known front more same fronts first rest =
+    ap₂ (λ (X Y : List (List ℤ)). X ++ Y) (fronts ∙ ap (λ (X : List (List ℤ)). map (narrow_to w) X) first)
+    (ap (λ (k : ℕ). map (narrow_to k) more) same ∙ ap (λ (X : List (List ℤ)). map (narrow_to w) X) rest)
+    ∙ sym (map-append (narrow_to w) (take i known) (drop i known))
+    ∙ ap (λ (X : List (List ℤ)). map (narrow_to w) X) (take-append-drop i known)

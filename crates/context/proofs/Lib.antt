@@ -11,4 +11,6 @@ pub mod Retracing
 pub mod FurtherForms
 pub mod OneFormMore
 pub mod Ending
+pub mod EndingBehind
+pub mod AtOnce
 pub mod PointMeaning

@@ -52,7 +52,7 @@ has_point_is : (n : ℕ) (K : List (List ℤ)) (c : List ℤ) (w : Work) → has
 has_point_is n K c w = by_run n (K ++ c ∷ []) w (point_some n K c) ∙ ap (λ (rows : List Row). finds_point n rows w) (first_more n K c)
 
 -- the run of the context's own forms
-alone_is : (n : ℕ) (K : List (List ℤ)) (w : Work) → has_point n K w ≡ finds_point n (first_rows n K) w
+pub alone_is : (n : ℕ) (K : List (List ℤ)) (w : Work) → has_point n K w ≡ finds_point n (first_rows n K) w
 alone_is zero [] w = sym (finds_here 0 [] [] w (omega arith) refl refl refl)
 alone_is zero (c ∷ K) w = by_run zero (c ∷ K) w refl
 alone_is (suc n) K w = by_run (suc n) K w refl

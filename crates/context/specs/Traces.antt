@@ -1,5 +1,7 @@
 -- What a run without parameters has derived, turn by turn.
 use Rattle.std.specs.Prelude.{◌≡◌, ℕ, ◌<◌, pos, ◌+ℤ◌, Bool, true, false, Option, Some, None, List, [], ◌∷◌, ◌++◌, length, slice_set}
+use Rattle.std.specs.List.{list_any}
+use Rattle.pip_model.specs.Numbers.{is_positive}
 use Rattle.pip_model.specs.Forms.{entry}
 use Rattle.pip_model.specs.Rows.{Row, row_at, entering, first_fraction}
 use Rattle.pip_model.specs.Cuts.{constant_cut}
@@ -39,6 +41,12 @@ IsTurnAt n rows now (code.Pivot r c) =
 IsTurnAt n rows now (code.Cut i) =
     (negative_from 0 rows ≡ None) × (first_fraction n rows ≡ Some i) × (i < length rows)
     × (now ≡ rows ++ constant_cut (row_at rows i) ∷ [])
+
+-- row r is the first below 0, and no column enters there
+pub record IsClosing (rows : List Row) (r : ℕ) : Type 0 where
+  pub below : negative_from 0 rows ≡ Some r
+  pub within : r < length rows
+  pub none : list_any is_positive (row_at rows r).coefs ≡ false
 
 -- an index for each row and each column
 pub record IsTraced (n : ℕ) (rows : List Row) (T : Trace) : Type 0 where

@@ -8,7 +8,6 @@ ghost use Rattle.context.specs.Remembered.{IsFormed, replayed};
 ghost use Rattle.context.specs.Traces.{exchanges};
 
 use crate::asking::replay;
-use crate::question::Question;
 use crate::remembered::Replay;
 use crate::short_rows::push_short;
 use crate::stop::Stop;
@@ -45,27 +44,37 @@ fn push_rows(rows: &mut ShortTableau, more: &ShortTableau) -> Result<(), WantOfM
     Ok(())
 }
 
-// Makes the rows of further forms, turned by the remembered pivots, and puts them behind the last rows of the run.
+// Makes the rows of further forms, turned by the remembered pivots.
 pub(crate) fn rows_behind(
     m: &Replay,
-    question: &mut Question,
+    rows: &mut ShortTableau,
     forms: &[Form],
     work: &mut Work,
 ) -> Result<(), Stop>
     requires formed { IsFormed m.now }
     requires context { IsContext m.now.end.unknowns forms.now }
-    ensures gives { IsCountedRun (λ x. question.new.row.rows) stop_fault result work.old work.new
+    ensures gives { IsCountedRun (λ x. rows.new.rows) stop_fault result work.old work.new
         (replayed m.now.pivots.rows m.now.columns.items
         (map (form_row m.now.end.unknowns) (map (widen_to m.now.end.unknowns) forms.now))) }
-    ensures rows { OnOk result (question.new.run ≡ record m.now.end {
-      rows = m.now.end.rows ++ question.new.row.rows;
-    }) }
-    ensures number { OnOk result (length question.new.row.rows ≡ length forms.now) }
+    ensures unknowns { OnOk result (rows.new.unknowns ≡ m.now.end.unknowns) }
+    ensures number { OnOk result (length rows.new.rows ≡ length forms.now) }
 {
-    start_forms(&mut question.row, m.end.unknowns(), forms)?;
-    replay(m, &mut question.row, work)?;
-    question.run.copy_from(&m.end)?;
-    push_rows(&mut question.run, &question.row)?;
+    start_forms(rows, m.end.unknowns(), forms)?;
+    replay(m, rows, work)?;
+    Ok(())
+}
+
+// Puts rows behind the last rows of a run.
+pub(crate) fn put_behind(
+    m: &Replay,
+    rows: &ShortTableau,
+    run: &mut ShortTableau,
+) -> Result<(), WantOfMemory>
+    requires { rows.now.unknowns ≡ m.now.end.unknowns }
+    ensures { OnOk result (run.new ≡ record m.now.end { rows = m.now.end.rows ++ rows.now.rows }) }
+{
+    run.copy_from(&m.end)?;
+    push_rows(run, rows)?;
     Ok(())
 }
 

@@ -3,6 +3,7 @@ ghost use Rattle.pip_model.specs.Contexts.{IsContext, PointTells, IsPointRefusal
 ghost use Rattle.pip_model.specs.RefutedPoint.{IsRefutedPoint};
 ghost use Rattle.pip_model.specs.Refuting as refuting;
 ghost use Rattle.pip_model.specs.Run as model;
+ghost use Rattle.pip_model.specs.Run.{Work as Counts, Done};
 ghost use Rattle.affine_forms.specs.Checks.{Fits};
 ghost use Rattle.pip_problem.specs.Faults.{run_fault};
 ghost use Rattle.run_counts.specs.Counts.{IsCountedRun};
@@ -11,6 +12,7 @@ ghost use Rattle.context.specs.Scoped.{IsKeptContext};
 
 use crate::alone::find_shortly;
 use crate::asking::{ask_plainly, ask_shortly};
+use crate::constants::are_nonnegative;
 use crate::further::go_further;
 use crate::point::Point;
 use crate::point_run::find_point;
@@ -227,13 +229,30 @@ impl Context {
         find_shortly(&self.run, &mut self.question, work)
     }
 
+    // Whether the context has a point, where it has no forms, or no places: the run then ends at its first rows. None
+    // elsewhere.
+    fn point_at_once(&self) -> Option<bool>
+        ensures { IfSome result (λ b. (w : Counts) → has_point self.now.width self.now.forms w ≡ Done b w) }
+    {
+        if self.forms.is_empty() {
+            return Some(true);
+        }
+        if self.width == 0 {
+            return Some(are_nonnegative(&self.forms));
+        }
+        None
+    }
+
     /// Whether the context has a point, as `point` would find it, with its counts and refusals. The context stays as it
-    /// was, and the pivots are kept for the questions that follow.
+    /// was, and the pivots are kept for the questions that follow. Without forms or without places no run is begun.
     pub fn has_point(&mut self, alloc: Global, work: &mut Work) -> Result<bool, Refusal>
         ensures gives { IsCountedRun (λ b. b) run_fault result work.old work.new
             (has_point self.old.width self.old.forms) }
         ensures kept { IsKeptContext self.old self.new }
     {
+        if let Some(found) = self.point_at_once() {
+            return Ok(found);
+        }
         self.recall();
         if let Some(answer) = self.find_known(work) {
             return answer;

@@ -75,3 +75,33 @@ pub(crate) fn go_further(
     run_to_end(m)?;
     Ok(())
 }
+
+// The same with one form.
+fn go_one_further(m: &mut Remembered, form: &Form, room: &mut ShortTableau) -> Result<(), Stop>
+    requires stopped { IsStopped m.old }
+    requires narrow { length form.now ≤ m.old.run.end.unknowns + 1 }
+    ensures { OnOk result ((n : ℕ) (K : List (List ℤ)) → IsRemembered n K m.old
+        → IsRemembered n (K ++ form.now ∷ []) m.new) }
+{
+    push_further(&mut m.run, form, room)?;
+    run_to_end(m)?;
+    Ok(())
+}
+
+// Goes on from a run that is known; whether that of one form more is.
+pub(crate) fn goes_further(
+    is_known: bool,
+    m: &mut Remembered,
+    form: &Form,
+    room: &mut ShortTableau,
+) -> bool
+    requires stopped { IsTrue is_known → IsStopped m.old }
+    requires narrow { IsTrue is_known → length form.now ≤ m.old.run.end.unknowns + 1 }
+    ensures { (n : ℕ) (K : List (List ℤ)) → (IsTrue is_known → IsRemembered n K m.old)
+        → IsTrue result → IsRemembered n (K ++ form.now ∷ []) m.new }
+{
+    if !is_known {
+        return false;
+    }
+    go_one_further(m, form, room).is_ok()
+}

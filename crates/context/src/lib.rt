@@ -4,6 +4,8 @@
 mod alone;
 mod asking;
 mod behind;
+mod closing;
+mod constants;
 mod context;
 mod further;
 mod narrowed;

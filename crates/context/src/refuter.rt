@@ -1,4 +1,4 @@
-ghost use Rattle.std.specs.Prelude.{◌≡◌, ◌^◌, ◌<◌, ◌++◌, pos, ◌≤ℤ◌, ◌<ℤ◌, length, map, All, OnOk};
+ghost use Rattle.std.specs.Prelude.{◌≡◌, ◌^◌, ◌<◌, [], ◌∷◌, ◌++◌, pos, ◌≤ℤ◌, ◌<ℤ◌, length, map, All, OnOk};
 ghost use Rattle.pip_model.specs.Contexts.{IsContext};
 ghost use Rattle.pip_model.specs.Made.{narrow_to};
 ghost use Rattle.pip_model.specs.Refuting as model;
@@ -12,11 +12,12 @@ ghost use Rattle.context.specs.Traces.{IsTraced, steps_if};
 ghost use Rattle.context.specs.Turns.{node_of};
 
 use crate::behind::{exchange_all, rows_behind};
-use crate::narrowed::{are_narrowed, narrow_all};
+use crate::closing::refute_with;
+use crate::further::goes_further;
+use crate::narrowed::{are_narrowed, narrow_all, narrowed};
 use crate::question::Question;
 use crate::refute::refute_forms;
 use crate::remembered::{Remembered, remember};
-use crate::short_refute::refute_on;
 use crate::stop::Stop;
 use crate::trace::Trace;
 use affine_forms::{Form, WantOfMemory};
@@ -27,8 +28,8 @@ use std::alloc::Global;
 use std::marker::Model;
 
 /// Makes refutations of known forms, one after the other. From one to the next it keeps the first pivots of the run of
-/// so many first forms as it is told, and makes them again only where these forms or the places are others. What it was
-/// asked before changes no answer.
+/// so many first forms as it is told. It goes on from them where the next first forms begin with these, over as many
+/// places, and else begins again. What it was asked before changes no answer.
 #[derive(Drop)]
 pub struct Refuter {
     alloc: Global,
@@ -55,7 +56,9 @@ impl Model for Refuter {
 
 impl Refuter {
     /// It keeps no forms. Takes no memory.
-    pub fn new(alloc: Global) -> Refuter {
+    pub fn new(alloc: Global) -> Refuter
+        ensures { result ≡ record { width = 0; forms = [] } }
+    {
         Refuter {
             alloc,
             kept: 0,
@@ -68,7 +71,9 @@ impl Refuter {
     }
 
     /// From now on it keeps the run of so many of the first known forms; of none where there are fewer.
-    pub fn keep(&mut self, forms: usize) {
+    pub fn keep(&mut self, forms: usize)
+        ensures { self.new ≡ self.old }
+    {
         self.kept = forms;
     }
 
@@ -85,14 +90,45 @@ impl Refuter {
         Ok(())
     }
 
-    // Has the run of these forms, over so many places.
+    // Goes on from the run of its forms to that of these and one more.
+    fn recall_one(&mut self, form: &Form) -> Result<(), WantOfMemory>
+        requires { self.old.width < length form.now }
+        ensures width { OnOk result (self.new.width ≡ self.old.width) }
+        ensures forms { OnOk result (self.new.forms ≡ self.old.forms ++ narrow_to self.old.width form.now ∷ []) }
+    {
+        let form = narrowed(self.alloc, form, self.width)?;
+        let is_known = goes_further(self.is_known, &mut self.run, &form, &mut self.question.row);
+        self.is_known = false;
+        self.forms.push(form)?;
+        self.is_known = is_known;
+        Ok(())
+    }
+
+    // The same with these forms.
+    fn recall_further(&mut self, more: &[Form]) -> Result<(), WantOfMemory>
+        requires { All (λ c. self.old.width < length c) more.now }
+        ensures width { OnOk result (self.new.width ≡ self.old.width) }
+        ensures forms { OnOk result (self.new.forms ≡ self.old.forms ++ map (narrow_to self.old.width) more.now) }
+    {
+        for form in more {
+            self.recall_one(form)?;
+        }
+        Ok(())
+    }
+
+    // Has the run of these forms, over so many places. It goes on from its own where they begin with its forms.
     fn recall_others(&mut self, known: &[Form], width: usize) -> Result<(), WantOfMemory>
         requires { All (λ c. width < length c) known.now }
         ensures width { OnOk result (self.new.width ≡ width) }
         ensures forms { OnOk result (self.new.forms ≡ map (narrow_to width) known.now) }
     {
-        if self.width == width && are_narrowed(&self.forms, known, width) {
-            return Ok(());
+        let kept = self.forms.len();
+        if self.width != width || kept == 0 || known.len() < kept {
+            return self.recall(known, width);
+        }
+        let (front, more) = known.split_at(kept);
+        if are_narrowed(&self.forms, front, width) {
+            return self.recall_further(more);
         }
         self.recall(known, width)
     }
@@ -114,9 +150,9 @@ impl Refuter {
         if !self.is_known {
             return Err(Stop::Long);
         }
-        rows_behind(&self.run.run, &mut self.question, more, work)?;
+        rows_behind(&self.run.run, &mut self.question.row, more, work)?;
         exchange_all(&self.run.run, trace);
-        refute_on(self.alloc, &mut self.question.run, trace, work)
+        refute_with(self.alloc, &self.run, &mut self.question, trace, work)
     }
 
     // The steps by which known forms have no point, by the run of those that are kept; `Long` where none are.

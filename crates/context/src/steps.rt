@@ -5,7 +5,7 @@ ghost use Rattle.pip_model.specs.Rows.{row_at};
 ghost use Rattle.pip_model.specs.Run.{Setting, Node, turn_by, MinusAt};
 ghost use Rattle.pip_problem.specs.Faults.{run_fault};
 ghost use Rattle.run_counts.specs.Counts.{IsCountedRun};
-ghost use Rattle.context.specs.Turns.{pivoted, counted_cut, HasSameScope};
+ghost use Rattle.context.specs.Turns.{pivoted, counted_cut, HasSameScope, IsEntered};
 
 use dual_pivot::{entering, pivot};
 use gomory_cut::constant_cut;
@@ -19,9 +19,7 @@ pub(crate) fn enter(rows: &mut Tableau, r: usize, work: &mut Work) -> Result<Opt
     requires row { r < length rows.old.rows }
     ensures gives { (S : Setting) (N : Node) → IsCountedRun (λ c. pivoted N rows.new.rows (is_some c)) run_fault result
         work.old work.new (turn_by S (record N { rows = rows.old.rows }) (MinusAt r)) }
-    ensures column { IfOk result (λ c. c ≡ model.entering rows.old.rows r) }
-    ensures bound { IfOk result (λ c. IfSome c (λ k. k < rows.old.unknowns)) }
-    ensures kept { IfOk result (λ c. c ≡ None → rows.new ≡ rows.old) }
+    ensures column { IfOk result (IsEntered rows.old.unknowns r rows.old.rows rows.new.rows) }
     ensures err { OnErr result (rows.new ≡ rows.old) }
     ensures number { length rows.new.rows ≡ length rows.old.rows }
     ensures scope { HasSameScope rows.old rows.new }

@@ -3,4 +3,5 @@ pub mod Steps
 pub mod Making
 pub mod Smaller
 pub mod Owned
+pub mod NextGoal
 pub mod Refuted

@@ -1,7 +1,13 @@
 -- The known forms of a refutation.
-use Rattle.std.specs.Prelude.{ℕ, ℤ, List}
+use Rattle.std.specs.Prelude.{◌≡◌, ℕ, ℤ, List, ◌++◌, length, take, Result, OnOk}
 
 -- forms over this number of places
 pub record KnownForms : Type 0 where
   pub width : ℕ
   pub forms : List (List ℤ)
+
+-- forms put behind the others: all of them where the call succeeds, and what was there stays
+pub record ArePushed {X E : Type 0} (result : Result X E) (forms : List (List ℤ)) (old new : KnownForms) : Type 0 where
+  pub ok : OnOk result (new ≡ record old { forms = old.forms ++ forms })
+  pub front : take (length old.forms) new.forms ≡ old.forms
+  pub width : new.width ≡ old.width

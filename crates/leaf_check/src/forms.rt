@@ -1,8 +1,9 @@
-ghost use Rattle.std.specs.Prelude.{◌≡◌, ◌+◌, ◌-◌, ◌≤◌, ◌<◌, ◌++◌, [], ◌∷◌, pos, length, map, take, All, IfOk, OnOk};
+ghost use Rattle.std.specs.Prelude.{◌≡◌, ◌+◌, ◌-◌, ◌≤◌, ◌<◌, ◌++◌, [], ◌∷◌, pos, length, map, All, IfOk};
 ghost use Rattle.pip_model.specs.Forms.{unit_form, widen_to};
 ghost use Rattle.pip_model.specs.Check as model;
 ghost use Rattle.affine_forms.specs.Checks.{Fits};
 ghost use Rattle.affine_forms.specs.Forms.{IsForm};
+ghost use Rattle.leaf_check.specs.Known.{ArePushed};
 
 use crate::known::Known;
 use crate::sum::zeros;
@@ -61,11 +62,8 @@ impl Known {
         n: usize,
     ) -> Result<(), WantOfMemory>
         requires { first + n ≤ self.old.width }
-        ensures ok { OnOk result (self.new ≡ record self.old {
-          forms = self.old.forms ++ model.places_from self.old.width first n;
-        }) }
-        ensures front { take (length self.old.forms) self.new.forms ≡ self.old.forms }
-        ensures width { self.new.width ≡ self.old.width }
+        ensures pushed { ArePushed result
+            (model.places_from self.old.width first n) self.old self.new }
     {
         let width = self.width();
         for i in 0..n {
@@ -78,11 +76,8 @@ impl Known {
     // Puts these forms, read over all places, behind the others.
     pub(crate) fn push_widened(&mut self, alloc: Global, forms: &[Form]) -> Result<(), WantOfMemory>
         requires { All (λ c. length c ≤ self.old.width + 1) forms.now }
-        ensures ok { OnOk result (self.new ≡ record self.old {
-          forms = self.old.forms ++ map (widen_to self.old.width) forms.now;
-        }) }
-        ensures front { take (length self.old.forms) self.new.forms ≡ self.old.forms }
-        ensures width { self.new.width ≡ self.old.width }
+        ensures pushed { ArePushed result
+            (map (widen_to self.old.width) forms.now) self.old self.new }
     {
         let width = self.width();
         for form in forms {
@@ -103,11 +98,8 @@ impl Known {
         requires places { self.old.width ≡ scope + unknowns }
         requires some { All (λ row. unknowns < length row) rows.now }
         requires within { All (λ row. length row ≤ unknowns + scope + 1) rows.now }
-        ensures ok { OnOk result (self.new ≡ record self.old {
-          forms = self.old.forms ++ map (model.row_form unknowns scope) rows.now;
-        }) }
-        ensures front { take (length self.old.forms) self.new.forms ≡ self.old.forms }
-        ensures width { self.new.width ≡ self.old.width }
+        ensures pushed { ArePushed result
+            (map (model.row_form unknowns scope) rows.now) self.old self.new }
     {
         for row in rows {
             let form = turned_row(alloc, unknowns, scope, row)?;

@@ -8,6 +8,7 @@ ghost use Rattle.pip_model.specs.Check as model;
 ghost use Rattle.affine_forms.specs.Checks.{Fits, is_overflow, is_form_overflow};
 ghost use Rattle.affine_forms.specs.Forms.{IsForm};
 ghost use Rattle.quast.specs.Components.{IsComponent};
+ghost use Rattle.leaf_check.specs.Known.{ArePushed};
 
 use crate::forms::widened;
 use crate::known::Known;
@@ -189,11 +190,8 @@ impl Known {
         requires widths { All (λ (c : Component). length c.form ≡ scope + 1) front.now }
         ensures listed { let goal = model.smaller_from self.old.width scope front.now in
             IsChecked is_form_overflow (constant (slice_index_or goal (length goal - 1) []) ∷ []) result }
-        ensures ok { OnOk result (self.new ≡ record self.old {
-          forms = self.old.forms ++ model.smaller_from self.old.width scope front.now;
-        }) }
-        ensures front { take (length self.old.forms) self.new.forms ≡ self.old.forms }
-        ensures width { self.new.width ≡ self.old.width }
+        ensures pushed { ArePushed result
+            (model.smaller_from self.old.width scope front.now) self.old self.new }
     {
         let width = self.width();
         let last = front.len() - 1;
@@ -201,6 +199,32 @@ impl Known {
             let form = not_above(alloc, width, scope + i, &front[i])?;
             self.push(form)?;
         }
+        let form = below(alloc, width, scope + last, &front[last])?;
+        self.push(form)?;
+        Ok(())
+    }
+    // Puts the last two forms of the goal of a smaller point behind the others: the unknown in front of the last one agrees
+    // with its component, and the last one is smaller.
+    pub(crate) fn push_next_smaller(
+        &mut self,
+        alloc: Global,
+        scope: usize,
+        front: &[Component],
+    ) -> Result<(), FormRefusal>
+        requires some { 1 < length front.now }
+        requires places { scope + length front.now ≤ self.old.width }
+        requires widths { All (λ (c : Component). length c.form ≡ scope + 1) front.now }
+        ensures listed { let goal = model.smaller_from self.old.width scope front.now in
+            IsChecked is_form_overflow (constant (slice_index_or goal (length goal - 1) []) ∷ []) result }
+        ensures ok { OnOk result (self.new ≡ record self.old {
+          forms = self.old.forms
+              ++ drop (length front.now - 2) (model.smaller_from self.old.width scope front.now);
+        }) }
+    {
+        let width = self.width();
+        let last = front.len() - 1;
+        let form = not_above(alloc, width, scope + (last - 1), &front[last - 1])?;
+        self.push(form)?;
         let form = below(alloc, width, scope + last, &front[last])?;
         self.push(form)?;
         Ok(())

@@ -4,6 +4,7 @@ ghost use Rattle.pip_model.specs.Numbers.{is_zero, is_negative};
 ghost use Rattle.pip_model.specs.Agreement.{Agrees};
 ghost use Rattle.pip_model.specs.Check as model;
 ghost use Rattle.leaf_check.specs.Faults.{fault_of, spot_of};
+ghost use Rattle.leaf_check.specs.Goals.{without_last};
 
 use crate::fault::{Fault, Spot};
 use crate::step::derive;
@@ -78,6 +79,14 @@ impl Known {
         ensures { self.new ≡ record self.old { forms = take n self.old.forms } }
     {
         self.forms.truncate(n);
+    }
+
+    // Drops the last form.
+    pub(crate) fn drop_last(&mut self)
+        ensures { self.new ≡ record self.old { forms = without_last self.old.forms } }
+    {
+        let rest = self.len().saturating_sub(1);
+        self.truncate(rest);
     }
 
     // Derives the next form by a step, and puts it behind the others.

@@ -6,7 +6,8 @@ ghost use Rattle.pip_model.specs.Agreement.{IsChecked, Agrees};
 ghost use Rattle.pip_model.specs.Check as model;
 ghost use Rattle.affine_forms.specs.Checks.{is_form_overflow};
 ghost use Rattle.leaf_check.specs.Faults.{fault_of, spot_of};
-ghost use Rattle.leaf_check.specs.Leaves.{case_of, own_premises, AreWide, IsLeaf, nothing, goal_count, has_shape as has_shape_of};
+ghost use Rattle.leaf_check.specs.Leaves.{case_of, own_premises, AreWide, IsLeaf, nothing, goal_forms, goal_count, has_shape as has_shape_of};
+ghost use Rattle.leaf_check.specs.Known.{ArePushed};
 
 use crate::fault::{Fault, Spot};
 use crate::goals::{row_goal, sign_goal};
@@ -96,11 +97,8 @@ impl Leaf<'_> {
     fn push_unknowns(&self, alloc: Global, known: &mut Known) -> Result<(), WantOfMemory>
         requires leaf { IsLeaf self.now.problem.now (case_of self.now) }
         requires width { known.old.width ≡ self.now.scope + self.now.problem.now.unknowns }
-        ensures ok { OnOk result (known.new ≡ record known.old {
-          forms = known.old.forms ++ model.unknown_forms self.now.problem.now (case_of self.now);
-        }) }
-        ensures front { take (length known.old.forms) known.new.forms ≡ known.old.forms }
-        ensures width { known.new.width ≡ known.old.width }
+        ensures pushed { ArePushed result
+            (model.unknown_forms self.now.problem.now (case_of self.now)) known.old known.new }
     {
         let unknowns = self.problem.unknowns();
         known.push_places(alloc, self.scope, unknowns)?;
@@ -123,12 +121,9 @@ impl Leaf<'_> {
         requires within { length row.now ≤ self.now.problem.now.unknowns + self.now.scope + 1 }
         ensures listed { IsChecked is_form_overflow
             (model.row_premises self.now.problem.now (case_of self.now) components.now row.now).listed result }
-        ensures ok { OnOk result (known.new ≡ record known.old {
-          forms = known.old.forms
-              ++ (model.row_premises self.now.problem.now (case_of self.now) components.now row.now).known;
-        }) }
-        ensures front { take (length known.old.forms) known.new.forms ≡ known.old.forms }
-        ensures width { known.new.width ≡ known.old.width }
+        ensures pushed { ArePushed result
+            (model.row_premises self.now.problem.now (case_of self.now) components.now row.now).known
+            known.old known.new }
     {
         let form = row_goal(alloc, self.problem.unknowns(), self.scope, row, components)?;
         known.push(form)?;
@@ -146,11 +141,9 @@ impl Leaf<'_> {
         requires wide { length component.now.form ≡ self.now.scope + 1 }
         ensures listed { IsChecked is_form_overflow
             (model.sign_premises self.now.problem.now (case_of self.now) component.now).listed result }
-        ensures ok { OnOk result (known.new ≡ record known.old {
-          forms = known.old.forms ++ (model.sign_premises self.now.problem.now (case_of self.now) component.now).known;
-        }) }
-        ensures front { take (length known.old.forms) known.new.forms ≡ known.old.forms }
-        ensures width { known.new.width ≡ known.old.width }
+        ensures pushed { ArePushed result
+            (model.sign_premises self.now.problem.now (case_of self.now) component.now).known
+            known.old known.new }
     {
         let form = sign_goal(alloc, known.width(), component)?;
         known.push(form)?;
@@ -172,11 +165,9 @@ impl Leaf<'_> {
         requires widths { AreWide self.now.scope front.now }
         ensures listed { IsChecked is_form_overflow
             (model.least_premises self.now.problem.now (case_of self.now) front.now).listed result }
-        ensures ok { OnOk result (known.new ≡ record known.old {
-          forms = known.old.forms ++ (model.least_premises self.now.problem.now (case_of self.now) front.now).known;
-        }) }
-        ensures front { take (length known.old.forms) known.new.forms ≡ known.old.forms }
-        ensures width { known.new.width ≡ known.old.width }
+        ensures pushed { ArePushed result
+            (model.least_premises self.now.problem.now (case_of self.now) front.now).known
+            known.old known.new }
     {
         self.push_unknowns(alloc, known)?;
         known.push_smaller(alloc, self.scope, front)?;
@@ -199,12 +190,9 @@ impl Leaf<'_> {
         ensures listed { IsChecked is_form_overflow (slice_index_or
             (model.leaf_premises self.now.problem.now (case_of self.now) (Some components.now)) r nothing).listed
             result }
-        ensures ok { OnOk result (known.new ≡ record known.old {
-          forms = known.old.forms ++ (slice_index_or
-              (model.leaf_premises self.now.problem.now (case_of self.now) (Some components.now)) r nothing).known;
-        }) }
-        ensures front { take (length known.old.forms) known.new.forms ≡ known.old.forms }
-        ensures width { known.new.width ≡ known.old.width }
+        ensures pushed { ArePushed result
+            (slice_index_or (model.leaf_premises self.now.problem.now (case_of self.now) (Some components.now)) r
+            nothing).known known.old known.new }
     {
         let rows = self.problem.rows();
         if r < rows.len() {
@@ -226,12 +214,8 @@ impl Leaf<'_> {
         requires place { r < length (own_premises self.now) }
         ensures listed { IsChecked is_form_overflow (slice_index_or
             (own_premises self.now) r nothing).listed result }
-        ensures ok { OnOk result (known.new ≡ record known.old {
-          forms = known.old.forms ++ (slice_index_or
-              (own_premises self.now) r nothing).known;
-        }) }
-        ensures front { take (length known.old.forms) known.new.forms ≡ known.old.forms }
-        ensures width { known.new.width ≡ known.old.width }
+        ensures pushed { ArePushed result
+            (slice_index_or (own_premises self.now) r nothing).known known.old known.new }
     {
         match self.list {
             Some(components) => self.push_list_goal(alloc, known, components, r),
@@ -263,6 +247,50 @@ impl Leaf<'_> {
                 known.truncate(before);
                 Err(refusal)
             }
+        }
+    }
+
+    // Turns the forms of a list's refutation, from 0, into those of the next one.
+    fn next_list_goal(
+        &self,
+        alloc: Global,
+        known: &mut Known,
+        components: &[Component],
+        r: usize,
+    ) -> Result<(), FormRefusal>
+        requires leaf { IsLeaf self.now.problem.now (case_of self.now) }
+        requires list { option_copied self.now.list ≡ Some components.now }
+        requires count { length components.now ≡ self.now.problem.now.unknowns }
+        requires width { known.old.width ≡ self.now.scope + self.now.problem.now.unknowns }
+        requires known { known.old.forms ≡ goal_forms self.now r }
+        requires place { r + 1 < length (own_premises self.now) }
+        ensures listed { IsChecked is_form_overflow (slice_index_or (own_premises self.now) (r + 1) nothing).listed
+            result }
+        ensures ok { OnOk result (known.new ≡ record known.old { forms = goal_forms self.now (r + 1) }) }
+    {
+        let single = self.problem.rows().len() + components.len();
+        known.drop_last();
+        if r < single {
+            return self.push_list_goal(alloc, known, components, r + 1);
+        }
+        let (front, _) = components.split_at(r - single + 2);
+        known.push_next_smaller(alloc, self.scope, front)
+    }
+
+    /// Turns the forms of a refutation, from 0, into those of the next one, from which they differ at their end.
+    pub fn next_goal(&self, alloc: Global, known: &mut Known, r: usize) -> Result<(), FormRefusal>
+        requires leaf { IsLeaf self.now.problem.now (case_of self.now) }
+        requires whole { IsTrue (model.is_whole_list self.now.problem.now.unknowns (option_copied self.now.list)) }
+        requires width { known.old.width ≡ self.now.scope + self.now.problem.now.unknowns }
+        requires known { known.old.forms ≡ goal_forms self.now r }
+        requires place { r + 1 < length (own_premises self.now) }
+        ensures listed { IsChecked is_form_overflow (slice_index_or (own_premises self.now) (r + 1) nothing).listed
+            result }
+        ensures ok { OnOk result (known.new ≡ record known.old { forms = goal_forms self.now (r + 1) }) }
+    {
+        match self.list {
+            None => unreachable!(),
+            Some(components) => self.next_list_goal(alloc, known, components, r),
         }
     }
 

@@ -3,6 +3,7 @@ ghost use Rattle.pip_model.specs.Agreement.{Agrees};
 ghost use Rattle.pip_model.specs.Check as model;
 ghost use Rattle.affine_forms.specs.Checks.{Fits};
 ghost use Rattle.leaf_check.specs.Faults.{fault_of, spot_of};
+ghost use Rattle.leaf_check.specs.Steps.{derived_from};
 
 use crate::fault::{Fault, Spot};
 use crate::sum::{add_terms, zeros};
@@ -21,7 +22,26 @@ fn is_divisible(d: i128, sum: &[i128]) -> bool
     coefficients.iter().all(|c| divides(d, *c))
 }
 
+// Adds a step's multiples of the known forms to the sum, and divides it by the step's divisor.
+fn derive_in(at: Spot, known: &[Form], sum: &mut [i128], step: &Step) -> Result<(), Fault>
+    requires positive { pos 1 ≤ℤ step.now.divisor }
+    requires some { 0 < length sum.old }
+    requires widths { All (λ c. length c ≡ length sum.old) known.now }
+    requires fits { All Fits sum.old }
+    ensures gives { Agrees (λ _. sum.new) fault_of result
+        (derived_from (spot_of at) known.now sum.old step.now) }
+    ensures fits { All Fits sum.new }
+{
+    add_terms(at, known, sum, step.terms.as_slice())?;
+    if !is_divisible(step.divisor, sum) {
+        return Err(Fault::Rejected(at));
+    }
+    divide_all(sum, step.divisor);
+    Ok(())
+}
+
 // The form that a step derives from the known forms over so many places.
+#[tactic(auto, using(crate::proofs::Steps::step_derives))]
 pub(crate) fn derive(
     alloc: Global,
     at: Spot,
@@ -38,10 +58,6 @@ pub(crate) fn derive(
         return Err(Fault::Rejected(at));
     }
     let mut sum = zeros(alloc, width)?;
-    add_terms(at, known, &mut sum, step.terms.as_slice())?;
-    if !is_divisible(step.divisor, &sum) {
-        return Err(Fault::Rejected(at));
-    }
-    divide_all(&mut sum, step.divisor);
+    derive_in(at, known, &mut sum, step)?;
     Ok(Form::from_entries(sum))
 }

@@ -7,3 +7,4 @@ pub mod Refuting
 pub mod Whole
 pub mod Certifying
 pub mod AtNode
+pub mod GoalsBefore

@@ -1,5 +1,6 @@
 -- The answer's tree has whole lists, and the point's numbers fit.
 use Rattle.std.proofs.Common.{◌≡◌, refl, ap, subst, ℕ, true, List, ℤ}
+use Rattle.run_laws.proofs.SolveRight.{narrow_rows}
 use Rattle.std.specs.Prelude.{Option, Some, None}
 use Rattle.pip_model.specs.Problem.{Problem}
 use Rattle.pip_model.specs.Tree.{Tree, Bottom, Leaf, If, NewParm, Answer, Solved}
@@ -10,7 +11,6 @@ use Rattle.pip_model.proofs.Tests.{both_true}
 use Rattle.run_laws.proofs.Ensured.{OnDone}
 use Rattle.run_laws.proofs.PointRight.{IsPointOf, point_right}
 use Rattle.certificate_laws.proofs.TreeShape.{Shaped}
-use Rattle.certificate_laws.proofs.NoPoint.{narrow_rows}
 use Rattle.certificate_laws.proofs.Accepted.{done_by, tree_shaped}
 use Rattle.certificate_laws.proofs.FitCertificate.{point_fits}
 use Rattle.run_laws.proofs.FitRun.{fitting_rows}

@@ -1,14 +1,15 @@
 -- The refutations of a leaf, each by its place.
-use Rattle.std.specs.Prelude.{◌≡◌, ℕ, ◌+◌, List, length, slice_index_or}
+use Rattle.std.specs.Prelude.{◌≡◌, ℕ, zero, suc, ◌+◌, ℤ, List, length, slice_index_or, IsTrue, option_copied}
 use Rattle.pip_model.specs.Problem.{Problem}
 use Rattle.pip_model.specs.Certificate.{Refutation, LeafProofs}
-use Rattle.pip_model.specs.Check.{LeafCase, joined, leaf_forms, leaf_premises}
+use Rattle.pip_model.specs.Check.{LeafCase, joined, leaf_forms, leaf_premises, scope_forms, is_whole_list}
 use Rattle.pip_model.specs.Run.{Counted, ◌>>=◌, give}
 use Rattle.pip_model.specs.Made.{PathQuotient, made_refutation, made_leaf, unshared}
-use Rattle.certificate_check.specs.Leaves.{nothing}
+use Rattle.certificate_check.specs.Leaves.{case_of, goal_forms, nothing, IsLeaf}
 use Rattle.solve_certified.specs.Goals.{unknowns_at}
 use Rattle.solve_certified.specs.Quotients.{ReadsPlaces}
 use Rattle.solve_certified.specs.declared.refutation.Scope.{Scope}
+use Rattle.solve_certified.specs.declared.leaf.LeafMaking.{LeafMaking}
 
 -- refutation r of a leaf, from 0
 abbrev pub made_at : Problem → LeafCase → List PathQuotient → ℕ → Counted Refutation
@@ -28,3 +29,14 @@ pub record IsScopeOf (P : Problem) (L : LeafCase) (s : Scope) : Type 0 where
   pub own : s.own ≡ P.params + length P.context + length L.path
   pub scope : L.scope ≡ P.params + length s.quotients.now
   pub reads : ReadsPlaces P.params s.quotients.now
+
+-- a leaf that is a list's or a bottom's, and what is in scope there
+pub record IsMaking (m : LeafMaking) : Type 0 where
+  pub leaf : IsLeaf m.leaf.problem.now (case_of m.leaf)
+  pub whole : IsTrue (is_whole_list m.leaf.problem.now.unknowns (option_copied m.leaf.list))
+  pub scope : IsScopeOf m.leaf.problem.now (case_of m.leaf) m.scope
+
+-- the forms of the refutation in front of refutation r; the leaf's in front of the first
+abbrev pub forms_before : LeafMaking → ℕ → List (List ℤ)
+forms_before m zero = scope_forms m.leaf.problem.now (case_of m.leaf)
+forms_before m (suc r) = goal_forms m.leaf r

@@ -1,12 +1,14 @@
-ghost use Rattle.std.specs.Prelude.{◌≡◌, ◌+◌, ◌<◌, length, OnOk, IsTrue, option_copied};
-ghost use Rattle.pip_model.specs.Agreement.{AgreesCounted};
-ghost use Rattle.pip_model.specs.Check.{is_whole_list, scope_forms};
+ghost use Rattle.std.specs.Prelude.{◌≡◌, ◌+◌, ◌<◌, length, slice_index_or, OnOk, IsTrue, option_copied};
+ghost use Rattle.pip_model.specs.Agreement.{IsChecked, AgreesCounted};
+ghost use Rattle.pip_model.specs.Check.{is_whole_list};
+ghost use Rattle.affine_forms.specs.Checks.{is_form_overflow};
 ghost use Rattle.pip_problem.specs.Faults.{run_fault};
-ghost use Rattle.certificate_check.specs.Leaves.{case_of, own_premises, IsLeaf};
-ghost use Rattle.solve_certified.specs.Leaves.{made_at, made_proofs, IsScopeOf};
+ghost use Rattle.certificate_check.specs.Leaves.{case_of, own_premises, goal_forms, nothing};
+ghost use Rattle.solve_certified.specs.Leaves.{made_at, made_proofs, forms_before, IsMaking};
 ghost use Rattle.solve_certified.specs.Goals.{unknowns_at};
 
 use crate::refutation::Scope;
+use affine_forms::FormRefusal;
 use certificate_check::{Known, Leaf, refutation_count};
 use certificate_parts::{LeafProofs, Refutation};
 use context::{Refuter, Work};
@@ -39,23 +41,32 @@ impl LeafMaking<'_> {
         }
     }
 
-    // How many of the forms that refutation r, from 0, starts from are the next one's too; so many are known in front of
-    // its own.
-    fn kept(&self, known: usize, r: usize) -> usize
-        requires { IsTrue (is_whole_list self.now.leaf.problem.now.unknowns (option_copied self.now.leaf.list)) }
-    {
+    // How many of so many forms that a refutation starts from are the next one's too: of a list's all but the last.
+    fn kept(&self, known: usize) -> usize {
         if self.leaf.list.is_none() {
             return 0;
         }
-        let n = self.unknowns(r);
-        if n == 0 {
-            return known;
-        }
-        let rows = self.leaf.problem.rows().len();
-        known.saturating_add(n).saturating_add(rows)
+        known.saturating_sub(1)
     }
 
-    // Refutation r, from 0, behind the leaf's known forms, which are as they were where it is made.
+    // Turns the forms of the refutation before into those of refutation r, from 0; the first one's stand behind the
+    // leaf's.
+    fn turn_to(&self, known: &mut Known, r: usize) -> Result<(), FormRefusal>
+        requires making { IsMaking self.now }
+        requires width { known.old.width ≡ self.now.leaf.scope + self.now.leaf.problem.now.unknowns }
+        requires known { known.old.forms ≡ forms_before self.now r }
+        requires place { r < length (own_premises self.now.leaf) }
+        ensures listed { IsChecked is_form_overflow (slice_index_or (own_premises self.now.leaf) r nothing).listed
+            result }
+        ensures ok { OnOk result (known.new ≡ record known.old { forms = goal_forms self.now.leaf r }) }
+    {
+        if r == 0 {
+            return self.leaf.push_goal(self.scope.alloc, known, r);
+        }
+        self.leaf.next_goal(self.scope.alloc, known, r - 1)
+    }
+
+    // Refutation r, from 0, where the forms are those of the one before.
     fn refute_goal(
         &self,
         refuter: &mut Refuter,
@@ -63,31 +74,23 @@ impl LeafMaking<'_> {
         r: usize,
         work: &mut Work,
     ) -> Result<Refutation, Refusal>
-        requires leaf { IsLeaf self.now.leaf.problem.now (case_of self.now.leaf) }
-        requires whole { IsTrue (is_whole_list self.now.leaf.problem.now.unknowns
-            (option_copied self.now.leaf.list)) }
-        requires scope { IsScopeOf self.now.leaf.problem.now (case_of self.now.leaf) self.now.scope }
+        requires making { IsMaking self.now }
         requires width { known.old.width ≡ self.now.leaf.scope + self.now.leaf.problem.now.unknowns }
-        requires known { known.old.forms ≡ scope_forms self.now.leaf.problem.now (case_of self.now.leaf) }
+        requires known { known.old.forms ≡ forms_before self.now r }
         requires place { r < length (own_premises self.now.leaf) }
         ensures gives { AgreesCounted (λ steps. steps) run_fault result work.new (made_at self.now.leaf.problem.now
             (case_of self.now.leaf) self.now.scope.quotients.now r work.old) }
-        ensures known { OnOk result (known.new ≡ known.old) }
+        ensures known { OnOk result (known.new ≡ record known.old { forms = goal_forms self.now.leaf r }) }
     {
-        let before = known.len();
-        self.leaf.push_goal(self.scope.alloc, known, r)?;
-        refuter.keep(self.kept(before, r));
+        self.turn_to(known, r)?;
+        refuter.keep(self.kept(known.len()));
         let steps = self.scope.refute(refuter, known, self.unknowns(r), work)?;
-        known.truncate(before);
         Ok(steps)
     }
 
     // The refutations of the leaf, in the order of the check.
     pub(crate) fn refute_all(&self, work: &mut Work) -> Result<LeafProofs, Refusal>
-        requires leaf { IsLeaf self.now.leaf.problem.now (case_of self.now.leaf) }
-        requires whole { IsTrue (is_whole_list self.now.leaf.problem.now.unknowns
-            (option_copied self.now.leaf.list)) }
-        requires scope { IsScopeOf self.now.leaf.problem.now (case_of self.now.leaf) self.now.scope }
+        requires { IsMaking self.now }
         ensures { AgreesCounted (λ proofs. proofs) run_fault result work.new (made_proofs self.now.leaf.problem.now
             (case_of self.now.leaf) self.now.scope.quotients.now work.old) }
     {

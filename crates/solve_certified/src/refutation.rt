@@ -81,6 +81,9 @@ fn with_found(
     match found {
         None => Ok(steps),
         Some(found) => {
+            if steps.as_slice().is_empty() {
+                return Ok(found);
+            }
             push_steps(alloc, &mut steps, found.as_slice())?;
             Ok(steps)
         }

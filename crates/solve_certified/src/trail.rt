@@ -1,7 +1,7 @@
 ghost use Rattle.std.specs.Prelude.{◌≡◌, ◌^◌, ◌+◌, ◌-◌, ◌<◌, ◌≤◌, ◌++◌, [], ◌∷◌, pos, ◌≤ℤ◌, length, take, All, OnOk};
 ghost use Rattle.pip_model.specs.Forms.{opposite, constant};
 ghost use Rattle.pip_model.specs.Listed.{opposite_listed};
-ghost use Rattle.pip_model.specs.Cuts.{Quotient, lower_bound, upper_bound};
+ghost use Rattle.pip_model.specs.Cuts.{Quotient, upper_bound};
 ghost use Rattle.pip_model.specs.Agreement.{IsChecked};
 ghost use Rattle.affine_forms.specs.Checks.{Fits, is_form_overflow};
 ghost use Rattle.solve_certified.specs.Trails.{below_quotient};

@@ -6,4 +6,6 @@ mod forms;
 #[cfg(test)]
 mod outside;
 #[cfg(test)]
+mod refutations;
+#[cfg(test)]
 mod tableaus;

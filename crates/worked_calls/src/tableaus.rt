@@ -1,11 +1,11 @@
 //! Rows that are kept, and the cut by a quotient that is known, whose residue is not at hand.
-ghost use Rattle.std.specs.Prelude.{◌≡◌, ◌<◌, length, IfOk};
+ghost use Rattle.std.specs.Prelude.{◌≡◌, length, IfOk};
 
 use affine_rows::{Form, WantOfMemory};
 use gomory_cut::{parametric_cut, residue_of};
 use std::alloc::Global;
 use std::test::Fail;
-use tableau::{StepRefusal, Tableau};
+use tableau::Tableau;
 
 // The row 2x - n, over one unknown and one parameter.
 fn started(alloc: Global) -> Result<Tableau, WantOfMemory>
@@ -22,7 +22,7 @@ fn push_rows(t: &mut Tableau) -> Result<(), WantOfMemory>
     requires width { t.old.width ≡ 1 }
 {
     t.push_row(4, &[2], &[-6, 8])?;
-    t.push_unit(0)?;
+    t.push_row(1, &[1], &[0, 0])?;
     t.widen_params()
 }
 
@@ -42,35 +42,6 @@ fn are_kept(t: &Tableau) -> bool {
 fn rows_are_kept(rt: HostRuntime) -> Result<(), Fail> {
     let t = copied(rt.alloc())?;
     assert!(rt; are_kept(&t));
-    Ok(())
-}
-
-// The row (2x - 6n + 8) / 4 in a tableau of its own, with the x that the row 2x - n gives put into it.
-fn put_in(t: &Tableau) -> Result<Tableau, StepRefusal>
-    requires unknowns { t.now.unknowns ≡ 1 }
-    requires rows { 2 < length t.now.rows }
-{
-    let mut further = t.empty_like();
-    further.push_copy(t, 2)?;
-    let row = t.row(1);
-    if row.coefs[0] > 0 {
-        further.eliminate(&row, 0)?;
-    }
-    Ok(further)
-}
-
-fn is_put_in(t: &Tableau) -> Result<bool, StepRefusal> {
-    if t.unknowns() != 1 || t.rows() < 3 {
-        return Ok(false);
-    }
-    let further = put_in(t)?;
-    Ok(further.flat() == [4, 1, -5, 0, 8].as_slice())
-}
-
-#[test]
-fn a_row_is_put_into_another_tableau(rt: HostRuntime) -> Result<(), Fail> {
-    let t = copied(rt.alloc())?;
-    assert!(rt; is_put_in(&t)?);
     Ok(())
 }
 

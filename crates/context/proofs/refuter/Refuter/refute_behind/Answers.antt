@@ -27,14 +27,14 @@ exchange_all-requires-clause-columns c =
     let traced = rw (← width, ← forms) at c.requires.traced in
     column-within c.self.inside.width c.self.inside.forms.items c.args.more.now c.self.inside.run is c.args.trace.now c.args.work.now traced
 
-pub refute_on-requires-clause-traced : goal.refute_on-requires-clause-traced
-refute_on-requires-clause-traced c =
+pub refute_with-requires-clause-traced : goal.refute_with-requires-clause-traced
+refute_with-requires-clause-traced c =
     let width : c.self.inside.width ≡ c.args.self.now.width = search rules in
     let forms : c.self.inside.forms.items ≡ c.args.self.now.forms = search rules in
     let is : IsRemembered c.self.inside.width c.self.inside.forms.items c.self.inside.run = search rules in
     let traced = rw (← width, ← forms) at c.requires.traced in
-    rw (c.in_ok-rows_behind.ensures.rows, c.exchange_all.ensures)
-    (traced-end c.self.inside.width c.self.inside.forms.items c.args.more.now c.self.inside.run is c.args.trace.now c.args.work.now traced c.rows_behind.new.question.row.rows c.in_ok-rows_behind.ensures.number)
+    rw c.exchange_all.ensures
+    (traced-end c.self.inside.width c.self.inside.forms.items c.args.more.now c.self.inside.run is c.args.trace.now c.args.work.now traced c.rows_behind.new.rows.rows c.in_ok-rows_behind.ensures.number)
 
 pub returns-in_err-rows_behind : goal.returns-in_err-rows_behind
 returns-in_err-rows_behind c =
@@ -51,12 +51,12 @@ returns c =
     let forms : c.self.inside.forms.items ≡ c.args.self.now.forms = search rules in
     let is : IsRemembered c.self.inside.width c.self.inside.forms.items c.self.inside.run = search rules in
     let m = c.self.inside.run in
-    let made = behind-made c.self.inside.width c.self.inside.forms.items c.args.more.now m is c.args.trace.now c.args.work.now c.rows_behind.new.question.row.rows c.rows_behind.new.work c.in_ok-rows_behind.ensures.gives.agrees in
-    let told = rw (c.in_ok-rows_behind.ensures.rows, c.exchange_all.ensures) at c.refute_on.ensures.gives in
+    let made = behind-made c.self.inside.width c.self.inside.forms.items c.args.more.now m is c.args.trace.now c.args.work.now c.rows_behind.new.rows.rows c.rows_behind.new.work c.in_ok-rows_behind.ensures.gives.agrees in
+    let told = rw c.exchange_all.ensures at c.refute_with.ensures.gives in
     rw (← width, ← forms)
     (record {
       gives = record {
         agrees = rw made told.agrees;
-        counted = counted_on c.args.work.now c.rows_behind.new.work c.refute_on.new.work c.in_ok-rows_behind.ensures.gives.counted told.counted;
+        counted = counted_on c.args.work.now c.rows_behind.new.work c.refute_with.new.work c.in_ok-rows_behind.ensures.gives.counted told.counted;
       };
     })

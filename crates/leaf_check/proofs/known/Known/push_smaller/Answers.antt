@@ -14,6 +14,9 @@ pub returns-clause-listed : goal.returns-clause-listed
 returns-clause-listed c =
     rw (last_smaller c.args.self.now.width c.args.scope c.args.front.now (length c.args.front.now - 1) c.index-front-last.result (omega arith) []) (grind (arith, common_steps))
 
-pub returns-clause-ok : goal.returns-clause-ok
-returns-clause-ok c =
-    rw (smaller_is c.args.self.now.width c.args.scope c.args.front.now (length c.args.front.now - 1) c.index-front-last.result (omega arith)) (grind (arith, common_steps))
+pub returns-clause-pushed : goal.returns-clause-pushed
+returns-clause-pushed c = record {
+  ok = rw (smaller_is c.args.self.now.width c.args.scope c.args.front.now (length c.args.front.now - 1) c.index-front-last.result (omega arith)) (grind (arith, common_steps));
+  front = grind (arith, common_steps);
+  width = grind (arith, common_steps);
+}

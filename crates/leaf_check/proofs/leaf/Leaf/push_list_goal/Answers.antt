@@ -9,8 +9,8 @@ returns-clause-listed c =
     rw (own_least c.args.self.now.problem.now (case_of c.args.self.now) c.args.components.now c.args.r (c.args.r - length c.args.self.now.problem.now.rows - length c.args.components.now) c.split_at.result.0.now (omega arith) (omega arith) (search rules))
     c.push_least_goal.ensures.listed
 
-pub returns-clause-ok : goal.returns-clause-ok
-returns-clause-ok c =
+pub returns-clause-pushed : goal.returns-clause-pushed
+returns-clause-pushed c =
     let same : length c.rows-rows.result.now ≡ length c.args.self.now.problem.now.rows = ap length c.rows-rows.ensures.value in
     rw (own_least c.args.self.now.problem.now (case_of c.args.self.now) c.args.components.now c.args.r (c.args.r - length c.args.self.now.problem.now.rows - length c.args.components.now) c.split_at.result.0.now (omega arith) (omega arith) (search rules))
-    c.push_least_goal.ensures.ok
+    c.push_least_goal.ensures.pushed

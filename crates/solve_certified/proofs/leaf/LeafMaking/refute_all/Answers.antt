@@ -3,8 +3,10 @@ use Rattle.std.specs.Prelude.{option_copied}
 use Rattle.std.proofs.lemmas.Result.{err_from_is_err_and}
 use Rattle.pip_model.specs.Certificate.{Refutation, LeafProofs}
 use Rattle.pip_problem.specs.Faults.{run_fault}
+use Rattle.certificate_check.specs.Known.{KnownForms}
 use Rattle.certificate_check.specs.Leaves.{case_of}
 use Rattle.certificate_check.proofs.Owned.{own_goals}
+use Rattle.solve_certified.proofs.GoalsBefore.{before_next}
 use Rattle.solve_certified.proofs.MadeGoals.{from_here, leaf_start, leaf_next, leaf_stop, leaf_end}
 use Rattle.solve_certified.proofs.leaf.LeafMaking.refute_all.Goals as goal
 
@@ -42,7 +44,7 @@ loop-r-preserved c =
     let longer : c.push.new.self.refutations ≡ c.loop-r.proofs.refutations ++ c.in_ok-steps.steps ∷ [] = ap (λ (p : LeafProofs). p.refutations) pushed in
     record {
       width = search rules;
-      known = search rules;
+      known = ap (λ (k : KnownForms). k.forms) c.in_ok-steps.ensures.known ∙ sym (before_next c.args.self.now c.loop-r.r);
       shared = ap (λ (p : LeafProofs). p.shared) pushed ∙ c.loop-r.invariant.shared;
       made = c.loop-r.invariant.made
           ∙ leaf_next P L ks c.loop-r.proofs.refutations c.loop-r.r c.loop-r.work

@@ -1,7 +1,7 @@
 use Rattle.std.proofs.Common.{◌≡◌, ◌+◌, []}
-use Rattle.pip_model.specs.Check.{scope_forms}
 use Rattle.pip_model.specs.Made.{made_leaf}
 use Rattle.certificate_check.specs.Leaves.{case_of}
+use Rattle.solve_certified.specs.Leaves.{forms_before}
 use Rattle.solve_certified.proofs.MadeGoals.{from_here}
 use Rattle.solve_certified.proofs.leaf.LeafMaking.refute_all.Given as goal
 
@@ -12,7 +12,7 @@ invariant-loop-r l =
     let ks = l.self.scope.quotients.now in
     record {
       width : l.known.width ≡ l.self.leaf.scope + P.unknowns;
-      known : l.known.forms ≡ scope_forms P L;
+      known : l.known.forms ≡ forms_before l.self l.r;
       shared : l.proofs.shared ≡ [];
       made : made_leaf P L ks L.list l.fn.work ≡ from_here P L ks l.r l.proofs.refutations l.work;
     }

@@ -1,9 +1,10 @@
-use Rattle.std.proofs.Common.{rules, ◌≡◌, ◌∙◌, ap, ◌++◌, List, ℤ, IsTrue}
+use Rattle.std.proofs.Common.{rules, ◌≡◌, ◌∙◌, ap, ◌++◌, IsTrue}
 use Rattle.std.specs.Prelude.{option_copied, slice_index_or}
 use Rattle.std.proofs.lemmas.Result.{err_from_is_err_and}
 use Rattle.pip_model.specs.Listed.{all_fit}
 use Rattle.pip_model.specs.Check.{scope_forms}
 use Rattle.pip_problem.specs.Faults.{run_fault}
+use Rattle.certificate_check.specs.Known.{KnownForms}
 use Rattle.certificate_check.specs.Leaves.{case_of, own_premises, nothing}
 use Rattle.solve_certified.specs.Goals.{unknowns_at}
 use Rattle.solve_certified.proofs.Refuting.{goal_same, goal_fault}
@@ -17,10 +18,9 @@ returns-in_err-steps-clause-gives c =
     let o = slice_index_or (own_premises leaf) c.args.r nothing in
     let p = err_from_is_err_and c.from_residual-in_err-steps.result c.from_residual-in_err-steps.ensures.1 in
     let fits : IsTrue (all_fit o.listed) = search rules in
-    let pushed : c.push_goal.new.known.forms ≡ c.args.known.now.forms ++ o.known = search rules in
-    let known : c.push_goal.new.known.forms ≡ scope_forms P (case_of leaf) ++ o.known = pushed ∙ ap (λ (X : List (List ℤ)). X ++ o.known) c.requires.known in
+    let known : c.turn_to.new.known.forms ≡ scope_forms P (case_of leaf) ++ o.known = ap (λ (k : KnownForms). k.forms) c.in_ok-turn_to.ensures.ok in
     rw (p.1, p.2)
-    (goal_fault P leaf.scope leaf.path.now list c.args.self.now.scope c.requires.scope (unknowns_at P list c.args.r) o c.args.work.now c.unknowns.result c.push_goal.new.known.forms fits c.unknowns.ensures known
+    (goal_fault P leaf.scope leaf.path.now list c.args.self.now.scope c.requires.making.scope (unknowns_at P list c.args.r) o c.args.work.now c.unknowns.result c.turn_to.new.known.forms fits c.unknowns.ensures known
     (run_fault c.in_err-steps.field-0.0) c.refute.new.work c.in_err-steps.ensures)
 
 pub returns-clause-gives : goal.returns-clause-gives
@@ -30,7 +30,6 @@ returns-clause-gives c =
     let list = option_copied leaf.list in
     let o = slice_index_or (own_premises leaf) c.args.r nothing in
     let fits : IsTrue (all_fit o.listed) = search rules in
-    let pushed : c.push_goal.new.known.forms ≡ c.args.known.now.forms ++ o.known = search rules in
-    let known : c.push_goal.new.known.forms ≡ scope_forms P (case_of leaf) ++ o.known = pushed ∙ ap (λ (X : List (List ℤ)). X ++ o.known) c.requires.known in
-    goal_same P leaf.scope leaf.path.now list c.args.self.now.scope c.requires.scope (unknowns_at P list c.args.r) o c.args.work.now c.unknowns.result c.push_goal.new.known.forms fits c.unknowns.ensures known
+    let known : c.turn_to.new.known.forms ≡ scope_forms P (case_of leaf) ++ o.known = ap (λ (k : KnownForms). k.forms) c.in_ok-turn_to.ensures.ok in
+    goal_same P leaf.scope leaf.path.now list c.args.self.now.scope c.requires.making.scope (unknowns_at P list c.args.r) o c.args.work.now c.unknowns.result c.turn_to.new.known.forms fits c.unknowns.ensures known
     ∙ c.in_ok-steps.ensures

@@ -1,0 +1,70 @@
+-- Where a run shows a point, the first row behind its own that is below 0 ends it where no column enters there.
+use Rattle.std.proofs.Common.{◌≡◌, ◌∙◌, refl, ap, sym, ℕ, suc, ◌+◌, ◌-◌, arith, Bool, true, false, Option, Some, None, is_none, List, [], ◌∷◌, ◌++◌, length}
+use Rattle.std.specs.Prelude.{if◌then◌else◌}
+use Rattle.std.proofs.lemmas.List.{get_or-append_right}
+use Rattle.pip_model.specs.Numbers.{is_nonneg}
+use Rattle.pip_model.specs.Forms.{constant, entry}
+use Rattle.pip_model.specs.Rows.{Row, row_at, form_row, candidates, first_fraction}
+use Rattle.pip_model.specs.Run.{Work, Done}
+use Rattle.pip_model.specs.Refuting.{Trace, refute_from, with_step, last_step}
+use Rattle.pip_model.proofs.Tests.{both}
+use Rattle.context.specs.Turns.{negative_from, node_of}
+use Rattle.context.specs.Remembered.{is_end}
+use Rattle.context.specs.Traces.{IsClosing, steps_if}
+use Rattle.context.proofs.Ending.{none_of, no_candidates, no_column, closes}
+use Rattle.context.proofs.Tracing.{next-bottom, refutes-bottom}
+
+-- so many places later
+abbrev later : ℕ → Option ℕ → Option ℕ
+later j None = None
+later j (Some r) = Some (j + r)
+
+later-later : (j : ℕ) (o : Option ℕ) → later (j + 1) o ≡ later j (later 1 o)
+later-later j None = refl
+later-later j (Some r) = let e : j + 1 + r ≡ j + (1 + r) = omega arith in ap Some e
+
+negative-later : (S : List Row) (j : ℕ) → negative_from j S ≡ later j (negative_from 0 S)
+negative-later [] j = refl
+negative-later (x ∷ S) j = by (is_nonneg (constant x.constant)) (negative-later S (j + 1)) (negative-later S 1)
+  where
+    by : (t : Bool) → negative_from (j + 1) S ≡ later (j + 1) (negative_from 0 S) → negative_from 1 S ≡ later 1 (negative_from 0 S)
+        → (if t then negative_from (j + 1) S else Some j) ≡ later j (if t then negative_from 1 S else Some 0)
+    by true a b = a ∙ later-later j (negative_from 0 S) ∙ ap (later j) (sym b)
+    by false a b = let e : j ≡ j + 0 = omega arith in ap Some e
+
+negative-behind : (E S : List Row) (i r : ℕ) → negative_from i E ≡ None → negative_from 0 S ≡ Some r → negative_from i (E ++ S) ≡ Some (i + (length E + r))
+negative-behind [] S i r e f = negative-later S i ∙ ap (later i) f ∙ (let g : i + r ≡ i + (0 + r) = omega arith in ap Some g)
+negative-behind (x ∷ E) S i r e f = by (is_nonneg (constant x.constant)) e (λ h. negative-behind E S (i + 1) r h f)
+  where
+    by : (t : Bool) → (if t then negative_from (i + 1) E else Some i) ≡ None → (negative_from (i + 1) E ≡ None → negative_from (i + 1) (E ++ S) ≡ Some (i + 1 + (length E + r)))
+        → (if t then negative_from (i + 1) (E ++ S) else Some i) ≡ Some (i + (suc (length E) + r))
+    by true e more = let g : i + 1 + (length E + r) ≡ i + (suc (length E) + r) = omega arith in more e ∙ ap Some g
+    by false e more = absurd cc
+
+module _ (n : ℕ) (E S : List Row) (r : ℕ) (is : IsClosing S r) (end : is_end n E ≡ true) where
+  abbrev rows : List Row
+  rows = E ++ S
+
+  abbrev k : ℕ
+  k = length E + r
+
+  row_here : row_at (E ++ S) (length E + r) ≡ row_at S r
+  row_here =
+      let back : length E + r - length E ≡ r = omega arith in
+      get_or-append_right E S (length E) (length E + r) (form_row 0 []) refl (omega arith) ∙ ap (λ (i : ℕ). row_at S i) back
+
+  below_here : negative_from 0 (E ++ S) ≡ Some (length E + r)
+  below_here =
+      let none = none_of (negative_from 0 E) (both (is_none (negative_from 0 E)) (is_none (first_fraction n E)) end).0 in
+      let e : 0 + (length E + r) ≡ length E + r = omega arith in
+      negative-behind E S 0 r none is.below ∙ ap Some e
+
+  free_here : candidates (row_at (E ++ S) (length E + r)) ≡ []
+  free_here = ap candidates row_here ∙ no_candidates (row_at S r) is.none
+
+  pub refuted-behind : (T U : Trace) (v : Work) → U ≡ with_step T (last_step (row_at S r) (entry T.rows (length E + r)) T.columns) → refute_from n T (node_of (E ++ S)) v ≡ Done (steps_if true U) v
+  refuted-behind T U v made =
+      refutes-bottom n (refute_from n T (node_of rows) v) rows T v refl U v
+      (next-bottom n rows T k below_here (no_column n rows k below_here free_here)
+      ∙ ap (λ (R : Row). with_step T (last_step R (entry T.rows (length E + r)) T.columns)) row_here ∙ sym made)
+      (closes n rows k below_here free_here v)

@@ -1,0 +1,9 @@
+use Rattle.std.proofs.Common.{◌≡◌, ◌++◌, map, take}
+use Rattle.pip_model.specs.Made.{narrow_to}
+use Rattle.context.proofs.refuter.Refuter.recall_further.Given as goal
+
+abbrev pub invariant-loop-form : goal.invariant-loop-form
+invariant-loop-form l = record {
+  width : l.self.width ≡ l.fn.self.width;
+  forms : l.self.forms ≡ l.fn.self.forms ++ map (narrow_to l.fn.self.width) (take l.form-index l.more);
+}

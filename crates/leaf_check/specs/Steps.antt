@@ -1,0 +1,12 @@
+-- What a step derives.
+use Rattle.std.specs.Prelude.{ℤ, List, Ok}
+use Rattle.pip_model.specs.Reading.{◌>>=◌, ◌>>◌}
+use Rattle.pip_model.specs.Certificate.{Step}
+use Rattle.pip_model.specs.Check.{Spot, Checks, holds, sum_of, is_divisible, derived}
+
+-- the form that a step derives, begun with this sum
+abbrev pub derived_from : Spot → List (List ℤ) → List ℤ → Step → Checks (List ℤ)
+derived_from at known start s = do
+  sum ← sum_of at known start s.terms
+  holds at (is_divisible s.divisor sum)
+  Ok (derived s.divisor sum)
