@@ -5,9 +5,7 @@ use Rattle.pip_model.specs.Run.{Work, Budget, Done, Plus, class}
 use Rattle.run_laws.proofs.CountedAgain.{class-again}
 use Rattle.run_counts.specs.declared.work.Counts.{Counts}
 use Rattle.context.specs.Scoped.{ScopedForms, IsKeptContext}
-use Rattle.pip_solve.specs.declared.known.KnownForm.{KnownForm}
-use Rattle.pip_solve.specs.declared.known.KnownForms.{KnownForms}
-use Rattle.pip_solve.specs.Known.{IsKnownForm, AreKnown}
+use Rattle.pip_solve.specs.Known.{KnownForm, IsKnownForm, AreKnown}
 
 -- a form whose class was Plus is known with what was counted
 pub found_known : (K : List (List ℤ)) (w : ℕ) (entries : List ℤ) (before after : Work) (counts : Counts) → class K w entries before ≡ Done Plus after
@@ -18,19 +16,19 @@ found_known K w entries before after counts e pivots cuts splits = record {
 }
 
 module _ (K : List (List ℤ)) (w : ℕ) (b : Budget) where
-  pub known_none : (now : KnownForms) → now.forms.items ≡ [] → AreKnown K w b now
+  pub known_none : (now : List KnownForm) → now ≡ [] → AreKnown K w b now
   known_none now e = λ k d h. absurd (omega (arith, ap (λ (xs : List KnownForm). length xs) e))
 
-  pub known_same : (old now : KnownForms) → now.forms.items ≡ old.forms.items → AreKnown K w b old → AreKnown K w b now
-  known_same old now e h = All-same (IsKnownForm K w b) now.forms.items old.forms.items e h
+  pub known_same : (old now : List KnownForm) → now ≡ old → AreKnown K w b old → AreKnown K w b now
+  known_same old now e h = All-same (IsKnownForm K w b) now old e h
 
-  pub known_more : (old now : KnownForms) (more : KnownForm) → (now.forms.items ≡ old.forms.items ++ more ∷ []) ⊎ (now.forms.items ≡ old.forms.items) → AreKnown K w b old → IsKnownForm K w b more → AreKnown K w b now
-  known_more old now more (inl e) h k = All-same (IsKnownForm K w b) now.forms.items (old.forms.items ++ more ∷ []) e (All-push (IsKnownForm K w b) old.forms.items more h k)
+  pub known_more : (old now : List KnownForm) (more : KnownForm) → (now ≡ old ++ more ∷ []) ⊎ (now ≡ old) → AreKnown K w b old → IsKnownForm K w b more → AreKnown K w b now
+  known_more old now more (inl e) h k = All-same (IsKnownForm K w b) now (old ++ more ∷ []) e (All-push (IsKnownForm K w b) old more h k)
   known_more old now more (inr e) h k = known_same old now e h
 
 -- on the same context with the same budget
-pub known_on : (k now : ScopedForms) (b c : Budget) (known : KnownForms) → IsKeptContext k now → c ≡ b → AreKnown k.forms k.width b known → AreKnown now.forms now.width c known
+pub known_on : (k now : ScopedForms) (b c : Budget) (known : List KnownForm) → IsKeptContext k now → c ≡ b → AreKnown k.forms k.width b known → AreKnown now.forms now.width c known
 known_on k now b c known kept e h = rw (kept.forms, kept.width, e) h
 
-pub at_start : (k now : ScopedForms) (b c : Budget) (known : KnownForms) → IsKeptContext k now → c ≡ b → AreKnown now.forms now.width c known → AreKnown k.forms k.width b known
+pub at_start : (k now : ScopedForms) (b c : Budget) (known : List KnownForm) → IsKeptContext k now → c ≡ b → AreKnown now.forms now.width c known → AreKnown k.forms k.width b known
 at_start k now b c known kept e h = rw (← kept.forms, ← kept.width, ← e) h

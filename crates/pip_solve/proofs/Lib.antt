@@ -6,6 +6,7 @@ pub mod Popping
 pub mod Turned
 pub mod Scanning
 pub mod Knowing
+pub mod KnownPlaces
 pub mod Cutting
 pub mod Paths
 pub mod Answered

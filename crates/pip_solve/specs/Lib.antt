@@ -1,5 +1,6 @@
 pub mod Frames
 pub mod Known
+pub mod KnownPlaces
 pub mod Nodes
 pub mod Signs
 pub mod Starts

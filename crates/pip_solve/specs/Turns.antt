@@ -57,6 +57,12 @@ after S (run.Split c N M) = do
   b ← run_from S M
   give (If c a b)
 
+-- a quotient over all places of the scope, and none of its quotients
+pub record IsNewQuotient (q : Scope) (k : Quotient) : Type 0 where
+  pub absent : find_from q.params q.quotients k ≡ None
+  pub quotient : IsQuotient (size q) k
+  pub wide : length k.form ≡ size q + 1
+
 -- k is the residue of row i over its denominator, and none of the path's quotients
 pub record IsNewParameter (t : TableauRows) (q : Scope) (i : ℕ) (k : Quotient) : Type 0 where
   pub within : i < length t.rows

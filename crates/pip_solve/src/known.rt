@@ -1,44 +1,60 @@
 ghost use Rattle.std.specs.Prelude.{◌≡◌, ◌⊎◌, [], ◌∷◌, ◌++◌, Contains, IfSome};
-ghost use Rattle.affine_forms.specs.Forms.{IsForm};
 
-use affine_forms::Form;
 use context::Counts;
 use std::alloc::Global;
+use std::marker::Model;
 
 // More forms are not remembered, so that the search for one stays short.
 const MOST_KNOWN: usize = 64;
 
-// A form that was found at least 0 on a context, and what was counted for that.
-#[derive(Drop)]
-pub(crate) struct KnownForm {
-    pub form: Form,
-    pub counts: Counts,
+// Where the entries of a form that was found at least 0 on a context stand among the numbers, and what was counted for
+// that.
+#[derive(Clone, Copy)]
+struct KnownPlace {
+    start: usize,
+    end: usize,
+    counts: Counts,
 }
 
-// The forms that were found at least 0 on a context, up to some number.
+// The forms that were found at least 0 on a context, up to some number: their entries behind one another.
+//
+// Contracts see the forms in order, each with what was counted for it.
 #[derive(Drop)]
 pub(crate) struct KnownForms {
-    pub forms: Vec<KnownForm>,
+    numbers: Vec<i128>,
+    places: Vec<KnownPlace>,
+}
+
+impl Model for KnownForms {
+    ghost use Rattle.std.specs.Prelude.{List, All, map};
+    ghost use Rattle.pip_solve.specs.Known.{KnownForm};
+    ghost use Rattle.pip_solve.specs.KnownPlaces.{form_at, IsPlaceIn};
+
+    ghost Value = { List KnownForm };
+
+    ghost view = { λ known. map (form_at known.numbers.items) known.places.items };
+
+    ghost invariant = { λ known. All (IsPlaceIn known.numbers.items) known.places.items };
 }
 
 impl KnownForms {
     // None is known.
     pub(crate) fn new(alloc: Global) -> KnownForms
-        ensures { result.forms.items ≡ [] }
+        ensures { result ≡ [] }
     {
         KnownForms {
-            forms: Vec::new(alloc),
+            numbers: Vec::new(alloc),
+            places: Vec::new(alloc),
         }
     }
 
     // What was counted for the form of these entries, where it is known.
     pub(crate) fn find(&self, entries: &[i128]) -> Option<Counts>
-        ensures { IfSome result (λ counts. Contains self.now.forms.items
-            (record { form = entries.now; counts = counts })) }
+        ensures { IfSome result (λ counts. Contains self.now (record { form = entries.now; counts = counts })) }
     {
-        for known in &self.forms {
-            if known.form.as_slice() == entries {
-                return Some(known.counts);
+        for place in &self.places {
+            if &self.numbers[place.start..place.end] == entries {
+                return Some(place.counts);
             }
         }
         None
@@ -46,23 +62,24 @@ impl KnownForms {
 
     // The form of these entries is known from then on, with what was counted for it, or nothing changes: where many are
     // known, or memory is wanting.
-    pub(crate) fn add(&mut self, alloc: Global, entries: &[i128], counts: Counts)
-        requires { IsForm entries.now }
-        ensures { (self.new.forms.items ≡ self.old.forms.items ++ record { form = entries.now; counts = counts } ∷ [])
-            ⊎ (self.new.forms.items ≡ self.old.forms.items) }
+    pub(crate) fn add(&mut self, entries: &[i128], counts: Counts)
+        ensures { (self.new ≡ self.old ++ record { form = entries.now; counts = counts } ∷ []) ⊎ (self.new ≡ self.old) }
     {
-        if self.forms.len() >= MOST_KNOWN {
+        if self.places.len() >= MOST_KNOWN {
             return;
         }
-        if let Ok(form) = Form::try_new(alloc, entries) {
-            let _ = self.forms.push(KnownForm { form, counts });
+        let start = self.numbers.len();
+        if self.numbers.extend_from_slice(entries).is_ok() {
+            let end = self.numbers.len();
+            let _ = self.places.push(KnownPlace { start, end, counts });
         }
     }
 
     // None is known any more.
     pub(crate) fn forget(&mut self)
-        ensures { self.new.forms.items ≡ [] }
+        ensures { self.new ≡ [] }
     {
-        self.forms.clear();
+        self.places.clear();
+        self.numbers.clear();
     }
 }

@@ -1,4 +1,4 @@
-ghost use Rattle.std.specs.Prelude.{◌≡◌, ℕ, ◌+◌, ◌*◌, ◌-◌, ◌^◌, ◌<◌, ◌≤◌, None, [], ◌∷◌, ◌++◌, map, length, IfOk, OnOk};
+ghost use Rattle.std.specs.Prelude.{◌≡◌, ℕ, ◌+◌, ◌*◌, ◌-◌, ◌^◌, ◌<◌, ◌≤◌, [], ◌∷◌, ◌++◌, map, length, IfOk, OnOk};
 ghost use Rattle.pip_model.specs.Limits.{most_nesting};
 ghost use Rattle.pip_model.specs.Rows.{row_at, widened};
 ghost use Rattle.pip_model.specs.Cuts as cuts;
@@ -6,10 +6,10 @@ ghost use Rattle.pip_model.specs.Run.{Work as Counts};
 ghost use Rattle.pip_model.specs.Agreement.{AgreesCounted};
 ghost use Rattle.pip_problem.specs.Faults.{run_fault};
 ghost use Rattle.tableau.specs.Tableaus.{IsRow};
-ghost use Rattle.new_parameters.specs.Scopes.{IsQuotient, size};
+ghost use Rattle.new_parameters.specs.Scopes.{size};
 ghost use Rattle.pip_solve.specs.Nodes.{IsBelow, IsKept};
 ghost use Rattle.pip_solve.specs.Signs.{IsCondition};
-ghost use Rattle.pip_solve.specs.Turns.{tree_in, IsNewParameter};
+ghost use Rattle.pip_solve.specs.Turns.{tree_in, IsNewParameter, IsNewQuotient};
 ghost use Rattle.pip_solve.specs.Frames.{whole_run, turned_run, next_run, HasRoom, HasNextRoom, IsRunning, IsTurned, IsNext, weight};
 ghost use Rattle.pip_solve.specs.declared.turn.Turn.TheVariants as turned;
 
@@ -52,9 +52,7 @@ fn cut_below(rows: &mut Tableau, i: usize, residue: &Form) -> Result<(), WantOfM
 
 // Goes one level down, below a new quotient: it joins the path's quotients, and its two bounds the context.
 fn add_quotient(alloc: Global, path: &mut Path, key: Quotient) -> Result<(), WantOfMemory>
-    requires absent { cuts.find_from path.old.quotients.params path.old.quotients.quotients key ≡ None }
-    requires quotient { IsQuotient (size path.old.quotients) key }
-    requires wide { length key.form ≡ size path.old.quotients + 1 }
+    requires quotient { IsNewQuotient path.old.quotients key }
     requires scope { path.old.context.width ≡ size path.old.quotients }
     requires room { size path.old.quotients < 2 ^ 64 - 1 }
     requires spare { 2 ≤ path.old.context.spare }

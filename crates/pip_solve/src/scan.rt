@@ -61,7 +61,7 @@ fn class_anew(
     let before = work.counts();
     match class_of_entries(alloc, context, entries, work)? {
         Class::Plus => {
-            known.add(alloc, entries, work.counts_since(before));
+            known.add(entries, work.counts_since(before));
             Ok(Class::Plus)
         }
         class => Ok(class),

@@ -44,11 +44,13 @@ fn add_forms(alloc: Global, problem: &Problem, context: &mut Context) -> Result<
 fn empty_path(alloc: Global, problem: &Problem) -> Result<Path, WantOfMemory>
     ensures { IfOk result (IsFirstPath (record problem.now { context = [] })) }
 {
+    let quotients = Quotients::try_new(alloc, problem.params())?;
+    let context = Context::try_new(alloc, problem.params())?;
     Ok(Path {
         integer: problem.integer(),
         depth: 0,
-        context: Context::try_new(alloc, problem.params())?,
-        quotients: Quotients::try_new(alloc, problem.params())?,
+        context,
+        quotients,
     })
 }
 
@@ -167,6 +169,27 @@ pub fn answer_from(
     }
 }
 
+// The answer of the run from the path to the problem's first node.
+fn answer_on(
+    alloc: Global,
+    problem: &Problem,
+    path: &mut Path,
+    levels: usize,
+    work: &mut Work,
+) -> Result<Answer, Refusal>
+    requires path { IsFirstPath problem.now path.old }
+    requires nesting { levels ≡ work.old.budget.nesting }
+    requires few { levels ≤ most_nesting }
+    ensures gives { AgreesCounted answer_of run_fault result work.new (model.answer problem.now work.old) }
+    ensures scope { IfOk result (IsOver problem.now.params) }
+{
+    if !path.context.has_point(alloc, work)? {
+        return Ok(Answer::Void);
+    }
+    let tree = tree(alloc, problem, path, levels, work)?;
+    Ok(Answer::Tree(tree))
+}
+
 // The answer of the run from its start, in which nothing is counted yet.
 fn answer(
     alloc: Global,
@@ -180,11 +203,7 @@ fn answer(
 {
     let levels = limits.nesting() as usize;
     let mut path = first_path(alloc, problem)?;
-    if !path.context.has_point(alloc, work)? {
-        return Ok(Answer::Void);
-    }
-    let tree = tree(alloc, problem, &mut path, levels, work)?;
-    Ok(Answer::Tree(tree))
+    answer_on(alloc, problem, &mut path, levels, work)
 }
 
 // The answer of the run from its start.

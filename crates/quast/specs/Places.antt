@@ -1,11 +1,13 @@
 -- What a place in a tree stands for, and the numbers on the way to it.
-use Rattle.std.specs.Prelude.{◌≡◌, ◌<◌, ◌≤◌, ℤ, All, length, Bool, List, [], ◌∷◌, ◌++◌, map, flat_map, Option, Some, None, if◌then◌else◌}
+use Rattle.std.specs.Prelude.{◌≡◌, ℕ, ◌+◌, ◌<◌, ◌≤◌, ℤ, All, IsTrue, length, Bool, List, [], ◌∷◌, ◌++◌, map, flat_map, Option, Some, None, if◌then◌else◌}
 use Rattle.pip_model.specs.Limits.{most_components}
 use Rattle.pip_model.specs.Numbers.{is_nonneg, floor_div}
 use Rattle.pip_model.specs.Forms.{value}
 use Rattle.pip_model.specs.Listed.{value_listed, all_fit}
-use Rattle.pip_model.specs.Tree.{Tree, Bottom, Leaf, If, NewParm, Component}
+use Rattle.pip_model.specs.Tree.{Tree, Bottom, Leaf, If, NewParm, Component, is_scoped, nesting}
+use Rattle.pip_model.specs.Printed.{tree_fits}
 use Rattle.affine_forms.specs.Checks.{Fits}
+use Rattle.quast.specs.Components.{IsComponent}
 use Rattle.quast.specs.declared.place.Place.{Place}
 use Rattle.quast.specs.declared.place.Place.TheVariants as place
 
@@ -45,3 +47,26 @@ value_fits u c = all_fit (value_listed c.form u)
 abbrev pub list_listed : Option (List Component × List ℤ) → List ℤ
 list_listed None = []
 list_listed (Some l) = flat_map (λ c. value_listed c.form l.1) l.0
+
+-- a tree over the numbers of a vector, which has room for one more at each node of a path
+pub record IsOnPath (t : Tree) (u : List ℤ) (capacity : ℕ) : Type 0 where
+  pub scope : IsTrue (is_scoped (length u) t)
+  pub numbers : IsTrue (tree_fits t)
+  pub fits : All Fits u
+  pub room : length u + nesting t ≤ capacity
+
+-- a list has at least one component, at most as many as the limit, each over w places
+pub record IsListOver (w : ℕ) (cs : List Component) : Type 0 where
+  pub some : 0 < length cs
+  pub few : length cs ≤ most_components
+  pub components : All (IsComponent w) cs
+
+-- one number more
+pub record IsAppended (before : List ℤ) (x : ℤ) (now : List ℤ) : Type 0 where
+  pub items : now ≡ before ++ x ∷ []
+  pub longer : length now ≡ length before + 1
+
+-- the values of the components' forms, which fit
+pub record AreNumerators (cs : List Component) (u ns : List ℤ) : Type 0 where
+  pub values : ns ≡ map (λ c. value c.form u) cs
+  pub fits : All Fits ns

@@ -1,17 +1,15 @@
-ghost use Rattle.std.specs.Prelude.{[], ◌∷◌, ◌≡◌, ◌+◌, ◌<◌, ◌≤ℤ◌, pos, ◌≤◌, ◌++◌, length, map, All, vec_len, vec_capacity, IsTrue, IfOk, OnOk, IfSome, flat_map};
+ghost use Rattle.std.specs.Prelude.{[], ◌≡◌, ◌+◌, ◌<◌, ◌≤ℤ◌, pos, ◌≤◌, length, All, vec_len, vec_capacity, IfOk, OnOk, IfSome, flat_map};
 ghost use Rattle.std.specs.Option.{option_map};
 ghost use Rattle.pip_model.specs.Numbers.{floor_div as floor_div_of};
-ghost use Rattle.pip_model.specs.Forms.{value};
 ghost use Rattle.pip_model.specs.Listed.{value_listed};
-ghost use Rattle.pip_model.specs.Limits.{most_params, most_components};
-ghost use Rattle.pip_model.specs.Tree.{is_scoped, nesting, leaf_of};
-ghost use Rattle.pip_model.specs.Printed.{tree_fits};
+ghost use Rattle.pip_model.specs.Limits.{most_params};
+ghost use Rattle.pip_model.specs.Tree.{leaf_of};
 ghost use Rattle.pip_model.specs.Values.{tree_value_listed};
 ghost use Rattle.pip_model.specs.Agreement.{IsChecked};
 ghost use Rattle.affine_forms.specs.Checks.{Fits, is_overflow};
 ghost use Rattle.quast.specs.Components.{IsComponent};
 ghost use Rattle.quast.specs.Trees.{tree_of};
-ghost use Rattle.quast.specs.Places.{landing_of, landed, path_listed, IsLanding};
+ghost use Rattle.quast.specs.Places.{landing_of, landed, path_listed, IsAppended, IsLanding, IsListOver, IsOnPath, AreNumerators};
 
 use crate::component::{Component, Components};
 use crate::node::Node;
@@ -96,16 +94,11 @@ impl Quast {
 
 // The list that the vector leads to; the values of the new parameters on the path are appended to the vector.
 fn find_leaf<'t>(node: &'t Node, vector: &mut Vec<i128>) -> Result<Option<&'t Components>, Overflow>
-    requires scope { IsTrue (is_scoped (vec_len vector.old) (tree_of node.now)) }
-    requires numbers { IsTrue (tree_fits (tree_of node.now)) }
-    requires fits { All Fits vector.old.items }
-    requires room { vec_len vector.old + nesting (tree_of node.now) ≤ vec_capacity vector.old }
+    requires { IsOnPath (tree_of node.now) vector.old.items (vec_capacity vector.old) }
     ensures listed { IsChecked is_overflow (path_listed (tree_of node.now) vector.old.items) result }
     ensures leaf { IfOk result
         (λ o. option_map (λ c. (c.now, vector.new.items)) o ≡ leaf_of (tree_of node.now) vector.old.items) }
-    ensures some { IfOk result (λ o. IfSome o (λ c. 0 < length c.now)) }
-    ensures few { IfOk result (λ o. IfSome o (λ c. length c.now ≤ most_components)) }
-    ensures components { IfOk result (λ o. IfSome o (λ c. All (IsComponent (vec_len vector.new)) c.now)) }
+    ensures list { IfOk result (λ o. IfSome o (λ c. IsListOver (vec_len vector.new) c.now)) }
     ensures fits { All Fits vector.new.items }
     ensures room { vec_capacity vector.old ≤ vec_capacity vector.new }
 {
@@ -134,8 +127,7 @@ fn append_floor(vector: &mut Vec<i128>, x: i128, d: i128)
     requires number { Fits x }
     requires fits { All Fits vector.old.items }
     requires room { vec_len vector.old < vec_capacity vector.old }
-    ensures items { vector.new.items ≡ vector.old.items ++ floor_div_of x d ∷ [] }
-    ensures length { vec_len vector.new ≡ vec_len vector.old + 1 }
+    ensures appended { IsAppended vector.old.items (floor_div_of x d) vector.new.items }
     ensures fits { All Fits vector.new.items }
     ensures room { vec_capacity vector.old ≤ vec_capacity vector.new }
 {
@@ -155,8 +147,7 @@ fn put_numerators(
     requires empty { out.old.items ≡ [] }
     requires room { vec_len out.old + length components.now ≤ vec_capacity out.old }
     ensures listed { IsChecked is_overflow (flat_map (λ c. value_listed c.form vector.now) components.now) result }
-    ensures value { OnOk result (out.new.items ≡ map (λ c. value c.form vector.now) components.now) }
-    ensures fits { OnOk result (All Fits out.new.items) }
+    ensures numbers { OnOk result (AreNumerators components.now vector.now out.new.items) }
     ensures room { vec_capacity out.old ≤ vec_capacity out.new }
 {
     for c in components {

@@ -11,12 +11,13 @@ use Rattle.pip_model.specs.ToolLaws.{IsLeastAnswer, IsLeastRefusal}
 use Rattle.pip_model.specs.WellFormed.{IsWellFormedAnswer}
 use Rattle.walk_laws.proofs.Choosing.{least-gives, least-refuses}
 use Rattle.walk_laws.proofs.Depths.{least-nested}
-use Rattle.quast.specs.Answers.{answer_of}
+use Rattle.quast.specs.Answers.{answer_of, IsOver}
 use Rattle.quast.specs.declared.answer.Answer.{Answer}
 use Rattle.quast.specs.declared.answer.Answer.TheVariants as code
 use Rattle.quast_walk.specs.Faults.{tool_fault}
 use Rattle.quast_walk.specs.Readings.{answer_nesting}
 use Rattle.quast_walk.specs.declared.refusal.ToolRefusal.{ToolRefusal}
+use Rattle.quast_tools.specs.Nodes.{IsWithinLimits}
 use Rattle.quast_tools.proofs.Restricted.{made_of, refusal_tells}
 
 module _ (m : ℕ) (rows : List (List ℤ)) (a b : model.Answer) (k : Budget) (context : IsContext m rows) (first : IsWellFormedAnswer m a) (second : IsWellFormedAnswer m b) where
@@ -35,3 +36,8 @@ module _ (m : ℕ) (rows : List (List ℤ)) (a b : model.Answer) (k : Budget) (c
   pub is_nested : (r : Result Answer ToolRefusal) → Agrees answer_of tool_fault r (without_counts (least m rows a b (start_work k))) → IfOk r (λ s. answer_nesting s ≤ k.nesting)
   is_nested (Ok s) h = nested_by s h
   is_nested (Err e) h = tt
+
+-- an answer, by its parts
+pub within_limits : (w most : ℕ) (r : Result Answer ToolRefusal) → IfOk r (λ a. IsWellFormedAnswer w (answer_of a)) → IfOk r (IsOver w) → IfOk r (λ a. answer_nesting a ≤ most) → IfOk r (IsWithinLimits w most)
+within_limits w most (Ok a) formed scope nested = record { well_formed = formed; scope = scope; nested = nested }
+within_limits w most (Err e) formed scope nested = tt

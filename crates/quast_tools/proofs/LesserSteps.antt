@@ -59,19 +59,8 @@ module _ (k0 k1 : ScopedForms) (kept : IsKeptContext k0 k1) (depth : ℕ) (v : L
     choice_uncounted None s = s k1
     choice_uncounted (Some e) s = from_sign (Made (Unknown f) w1) known ∙ ap (counted_then (visit_of k1 depth) f) (s k1)
 
-    module _ (w3 : Work) (counted : (k : ScopedForms) → count_if (visit_of k depth) w1 ≡ Made tt w2) where
-      abbrev joined : Walked Tree → Walked Tree
-      joined o = walk_on o (λ x. make (If f x leaf))
-
-      from_counted : whole ≡ joined (next (where_holds (visit_of k1 depth) f) w2)
-      from_counted = from_sign (Made (Unknown f) w1) known ∙ ap (counted_then (visit_of k1 depth) f) (counted k1)
-
-      pub choice_holding_stops : (o : Option walks.ToolRefusal) → IfSome o (λ e. next (where_holds (visit_of k1 depth) f) w2 ≡ Stopped e w3) → IfSome o (λ e. whole ≡ Stopped e w3)
-      choice_holding_stops None s = s
-      choice_holding_stops (Some e) s = from_counted ∙ ap joined s
-
-      pub choice_made : (x : Tree) → next (where_holds (visit_of k1 depth) f) w2 ≡ Made x w3 → whole ≡ Made (If f x leaf) w3
-      choice_made x s = from_counted ∙ ap joined s
+    pub choice_goes : ((k : ScopedForms) → count_if (visit_of k depth) w1 ≡ Made tt w2) → walk_on (next (where_holds (visit_of k1 depth) f) w2) (λ x. make (If f x leaf)) ≡ whole
+    choice_goes counted = sym (from_sign (Made (Unknown f) w1) known ∙ ap (counted_then (visit_of k1 depth) f) (counted k1))
 
 -- ---- by the components that are left
 

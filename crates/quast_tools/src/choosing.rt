@@ -1,6 +1,7 @@
-ghost use Rattle.std.specs.Prelude.{◌≡◌, ◌≤◌, IfOk, IfErr, IfSome};
+ghost use Rattle.std.specs.Prelude.{◌≡◌, ◌+◌, ◌*◌, IfOk, IfErr, IfSome};
 ghost use Rattle.pip_model.specs.Agreement.{Agrees};
 ghost use Rattle.pip_model.specs.Contexts.{IsContext};
+ghost use Rattle.pip_model.specs.Limits.{most_components};
 ghost use Rattle.pip_model.specs.Run.{start_work};
 ghost use Rattle.pip_model.specs.ToolAgreement.{AgreesWalked, without_counts};
 ghost use Rattle.pip_model.specs.ToolLaws.{IsLeastAnswer, IsLeastRefusal};
@@ -8,17 +9,39 @@ ghost use Rattle.pip_model.specs.Tools as model;
 ghost use Rattle.pip_model.specs.WellFormed.{IsWellFormedAnswer};
 ghost use Rattle.quast.specs.Answers.{answer_of, IsOver};
 ghost use Rattle.quast_walk.specs.Faults.{tool_fault};
-ghost use Rattle.quast_walk.specs.Readings.{answer_nesting};
-ghost use Rattle.quast_tools.specs.Nodes.{node_answer};
+ghost use Rattle.quast_walk.specs.Readings.{answer_nesting, HasRoom};
+ghost use Rattle.quast_tools.specs.Nodes.{node_answer, IsWithinLimits};
 
 use crate::choosing_walk::choose_answers;
 use crate::nodes::as_answer;
 use affine_forms::{Forms, MOST_COMPONENTS};
-use context::Work;
+use context::{Context, Work};
 use pip_problem::Limits;
 use quast::{Answer, Node};
 use quast_walk::{ToolRefusal, context_of, levels, point};
 use std::alloc::Global;
+
+// The lesser of two answers on a context that has room for their trees, after what was counted; none is `void`.
+fn chosen_on(
+    alloc: Global,
+    first: &Answer,
+    second: &Answer,
+    context: &mut Context,
+    work: &mut Work,
+) -> Result<Option<Node>, ToolRefusal>
+    requires first { IsOver context.old.width first.now }
+    requires second { IsOver context.old.width second.now }
+    requires room { HasRoom (2 * answer_nesting first.now + 2 * answer_nesting second.now + 2 * most_components) 0 0
+        context.old }
+    ensures { AgreesWalked node_answer tool_fault result work.new (model.least context.old.width context.old.forms
+        (answer_of first.now) (answer_of second.now) work.old) }
+{
+    if point(alloc, context, work)?.is_none() {
+        return Ok(None);
+    }
+    let made = choose_answers(alloc, first, second, context, work)?;
+    Ok(Some(made))
+}
 
 // The lesser of two answers on the rows, after what was counted; none is `void`.
 fn chosen(
@@ -35,11 +58,7 @@ fn chosen(
 {
     let room = levels(first) + levels(second) + MOST_COMPONENTS;
     let mut context = context_of(alloc, rows, room)?;
-    if point(alloc, &context, work)?.is_none() {
-        return Ok(None);
-    }
-    let made = choose_answers(alloc, first, second, &mut context, work)?;
-    Ok(Some(made))
+    chosen_on(alloc, first, second, &mut context, work)
 }
 
 // The lesser of two answers on the rows, from the start, and what is known of them.
@@ -88,9 +107,7 @@ pub fn least(
         IsLeastAnswer rows.now.width rows.now.forms (answer_of first.now) (answer_of second.now) (answer_of a)) }
     ensures refusal { IfErr result (λ e. IfSome (tool_fault e)
         (IsLeastRefusal rows.now.width rows.now.forms (answer_of first.now) (answer_of second.now))) }
-    ensures well_formed { IfOk result (λ a. IsWellFormedAnswer rows.now.width (answer_of a)) }
-    ensures scope { IfOk result (IsOver rows.now.width) }
-    ensures nested { IfOk result (λ a. answer_nesting a ≤ limits.now.nesting) }
+    ensures made { IfOk result (IsWithinLimits rows.now.width limits.now.nesting) }
 {
     let made = started(alloc, rows, first, second, limits);
     made

@@ -1,4 +1,4 @@
-ghost use Rattle.std.specs.Prelude.{◌≡◌, IfOk, IfErr, IfSome};
+ghost use Rattle.std.specs.Prelude.{◌≡◌, ◌+◌, ◌*◌, IfOk, IfErr, IfSome};
 ghost use Rattle.pip_model.specs.Agreement.{Agrees};
 ghost use Rattle.pip_model.specs.Contexts.{IsContext};
 ghost use Rattle.pip_model.specs.Run.{start_work};
@@ -8,12 +8,13 @@ ghost use Rattle.pip_model.specs.Tools as model;
 ghost use Rattle.pip_model.specs.WellFormed.{IsWellFormedAnswer};
 ghost use Rattle.quast.specs.Answers.{answer_of, IsOver};
 ghost use Rattle.quast_walk.specs.Faults.{tool_fault};
+ghost use Rattle.quast_walk.specs.Readings.{answer_nesting, HasRoom};
 ghost use Rattle.quast_tools.specs.Samenesses.{sameness_of, DiffersOver};
 
 use crate::sameness::Sameness;
 use crate::searching::search_answers;
 use affine_forms::Forms;
-use context::{Point, Work};
+use context::{Context, Point, Work};
 use pip_problem::Limits;
 use quast::Answer;
 use quast_walk::{ToolRefusal, context_of, levels, point};
@@ -27,6 +28,27 @@ fn sameness(found: Option<Point>) -> Sameness
         None => Sameness::Same,
         Some(point) => Sameness::Differ(point),
     }
+}
+
+// Whether two answers agree on a context that has room for their trees, after what was counted.
+fn compared_on(
+    alloc: Global,
+    first: &Answer,
+    second: &Answer,
+    context: &mut Context,
+    work: &mut Work,
+) -> Result<Sameness, ToolRefusal>
+    requires first { IsOver context.old.width first.now }
+    requires second { IsOver context.old.width second.now }
+    requires room { HasRoom (2 * answer_nesting first.now + 2 * answer_nesting second.now + 1) 0 0 context.old }
+    ensures { AgreesWalked sameness_of tool_fault result work.new (model.same context.old.width context.old.forms
+        (answer_of first.now) (answer_of second.now) work.old) }
+{
+    if point(alloc, context, work)?.is_none() {
+        return Ok(Sameness::Same);
+    }
+    let found = search_answers(alloc, first, second, context, work)?;
+    Ok(sameness(found))
 }
 
 // Whether two answers agree on the rows, after what was counted.
@@ -43,11 +65,7 @@ fn compared(
         (answer_of first.now) (answer_of second.now) work.old) }
 {
     let mut context = context_of(alloc, rows, levels(first) + levels(second) + 1)?;
-    if point(alloc, &context, work)?.is_none() {
-        return Ok(Sameness::Same);
-    }
-    let found = search_answers(alloc, first, second, &mut context, work)?;
-    Ok(sameness(found))
+    compared_on(alloc, first, second, &mut context, work)
 }
 
 // Whether two answers agree on the rows, from the start, and what is known of them.

@@ -1,8 +1,12 @@
-ghost use Rattle.std.specs.Prelude.{◌≡◌, ℕ, ◌+◌, ◌^◌, ◌<◌, length};
+ghost use Rattle.std.specs.Prelude.{◌≡◌, ℕ, ◌+◌, ◌^◌, ◌<◌, ◌≤◌, length, All, IfOk};
+ghost use Rattle.pip_model.specs.Limits.{most_components};
+ghost use Rattle.pip_model.specs.Run.{Work as Counts};
 ghost use Rattle.pip_model.specs.ToolAgreement.{AgreesWalked};
 ghost use Rattle.pip_model.specs.Tools.{count_if as count_of};
 ghost use Rattle.pip_model.specs.Tree as model;
+ghost use Rattle.pip_model.specs.Walks.{Walked, walk_on, make};
 ghost use Rattle.context.specs.Scoped.{ScopedForms, IsKeptContext};
+ghost use Rattle.quast.specs.Components.{IsComponent, width_of};
 ghost use Rattle.quast.specs.Trees.{tree_of};
 ghost use Rattle.quast_walk.specs.Faults.{tool_fault};
 ghost use Rattle.quast_walk.specs.Readings.{HasRoom};
@@ -16,6 +20,7 @@ use context::{Context, Work};
 use quast::{Component, Node};
 use quast_walk::{ToolRefusal, difference, enter, leave, mark, negated, sign};
 use sign_split::Class;
+use std::alloc::Global;
 
 // Before the two trees of a node that chooses, of the tree that is made: it is counted, and then the nesting is raised.
 pub(crate) fn count_if(depth: u64, work: &mut Work) -> Result<(), ToolRefusal>
@@ -26,6 +31,38 @@ pub(crate) fn count_if(depth: u64, work: &mut Work) -> Result<(), ToolRefusal>
     work.count_split()?;
     work.check_nesting(depth + 1)?;
     Ok(())
+}
+
+// Before the two trees of a node that chooses by a condition, which is kept for the node.
+fn split(next: &Rest, condition: &Form, work: &mut Work) -> Result<Form, ToolRefusal>
+    requires { next.now.depth < 2 ^ 63 }
+    ensures counted { (k : ScopedForms) → AgreesWalked (λ x. tt) tool_fault result work.new
+        (count_of (visit_of k next.now.depth) work.old) }
+    ensures value { IfOk result (λ form. form ≡ condition.now) }
+{
+    count_if(next.depth, work)?;
+    let form = condition.try_clone(next.alloc)?;
+    Ok(form)
+}
+
+// A node that chooses: what was made where its form is at least 0, and elsewhere a list.
+fn joined(
+    alloc: Global,
+    form: Form,
+    made: Result<Node, ToolRefusal>,
+    other: &[Component],
+) -> Result<Node, ToolRefusal>
+    requires some { 0 < length other.now }
+    requires few { length other.now ≤ most_components }
+    requires components { All (IsComponent (width_of other.now)) other.now }
+    ensures { (part : Walked model.Tree) → (w : Counts) → AgreesWalked tree_of tool_fault made w part →
+        AgreesWalked tree_of tool_fault result w
+        (walk_on part (λ x. make (model.If form x (model.Leaf other.now)))) }
+{
+    let first = made?;
+    let second = list(alloc, other)?;
+    let node = choice(alloc, form, first, second)?;
+    Ok(node)
 }
 
 // The lesser of two lists, by what is left of them: the first list, where it is below the second by the next
@@ -79,14 +116,12 @@ fn choose_by(
         Class::Plus => choose_rest(next, context, work),
         Class::Minus => Ok(list(next.alloc, other)?),
         Class::Unknown(condition) => {
-            count_if(next.depth, work)?;
-            let kept = condition.try_clone(next.alloc)?;
+            let form = split(next, &condition, work)?;
             let start = mark(context);
             enter(context, condition);
-            let holding = choose_rest(&next.deeper(), context, work);
+            let made = choose_rest(&next.deeper(), context, work);
             leave(context, start);
-            let failing = list(next.alloc, other)?;
-            Ok(choice(next.alloc, kept, holding?, failing)?)
+            joined(next.alloc, form, made, other)
         }
     }
 }

@@ -12,6 +12,7 @@ ghost use Rattle.pip_model.specs.WellFormed.{IsWellFormedAnswer};
 ghost use Rattle.quast.specs.Answers.{answer_of, IsOver};
 ghost use Rattle.quast.specs.Trees.{tree_of};
 ghost use Rattle.quast_walk.specs.Faults.{tool_fault};
+ghost use Rattle.quast_walk.specs.Readings.{answer_nesting};
 ghost use Rattle.quast_tools.specs.Nodes.{node_answer};
 
 use crate::nodes::{as_answer, choice, definition, list};
@@ -110,6 +111,30 @@ fn restrict_tree(
     walk(&walker, tree.root(), 0, context, work)
 }
 
+// The answer on a context that has room for its tree, after what was counted; none is `void`.
+fn restricted_on(
+    alloc: Global,
+    answer: &Answer,
+    context: &mut Context,
+    work: &mut Work,
+) -> Result<Option<Node>, ToolRefusal>
+    requires width { IsOver context.old.width answer.now }
+    requires room { 2 * answer_nesting answer.now ≤ context.old.spare }
+    ensures { AgreesWalked node_answer tool_fault result work.new
+        (model.restrict context.old.width context.old.forms (answer_of answer.now) work.old) }
+{
+    if point(alloc, context, work)?.is_none() {
+        return Ok(None);
+    }
+    match answer {
+        Answer::Void => Ok(None),
+        Answer::Tree(tree) => {
+            let made = restrict_tree(alloc, tree, context, work)?;
+            Ok(Some(made))
+        }
+    }
+}
+
 // The answer on the rows, after what was counted; none is `void`.
 fn restricted(
     alloc: Global,
@@ -122,16 +147,7 @@ fn restricted(
         (model.restrict rows.now.width rows.now.forms (answer_of answer.now) work.old) }
 {
     let mut context = context_of(alloc, rows, levels(answer))?;
-    if point(alloc, &context, work)?.is_none() {
-        return Ok(None);
-    }
-    match answer {
-        Answer::Void => Ok(None),
-        Answer::Tree(tree) => {
-            let made = restrict_tree(alloc, tree, &mut context, work)?;
-            Ok(Some(made))
-        }
-    }
+    restricted_on(alloc, answer, &mut context, work)
 }
 
 // The answer on the rows from the start, and what is known of them.

@@ -64,6 +64,13 @@ pub record HasRoom (leaf depth nested : ℕ) (k : ScopedForms) : Type 0 where
   pub spare : 2 * nested + leaf ≤ k.spare
   pub shallow : depth + nested + leaf < 2 ^ 63
 
+-- the two trees of a node that chooses, each to be walked one level down
+pub record AreBranches (m n leaf depth : ℕ) (k : ScopedForms) (a b : Tree) : Type 0 where
+  pub first : IsTreeAt m n k.width a
+  pub second : IsTreeAt m n k.width b
+  pub first_room : HasRoom (leaf + 1) depth (nesting a) k
+  pub second_room : HasRoom (leaf + 1) depth (nesting b) k
+
 -- ---- components in memory
 
 -- they are made in lowest terms

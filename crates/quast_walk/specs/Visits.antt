@@ -1,9 +1,12 @@
 -- Where a walk stands: its context in memory.
-use Rattle.std.specs.Prelude.{◌≡◌, ℕ, ◌+◌, ◌≤◌, ℤ, List, [], ◌∷◌, ◌++◌, length}
+use Rattle.std.specs.Prelude.{◌≡◌, ℕ, ◌+◌, ◌≤◌, ℤ, List, [], ◌∷◌, ◌++◌, length, IsTrue}
 use Rattle.pip_model.specs.Contexts.{IsContext}
 use Rattle.pip_model.specs.Cuts.{Quotient, lower_bound, upper_bound}
-use Rattle.pip_model.specs.Run.{class}
-use Rattle.pip_model.specs.Walks.{Walking, ◌>>=◌, by_run, not_negative, Visit}
+use Rattle.pip_model.specs.Forms.{opposite}
+use Rattle.pip_model.specs.Listed.{all_fit, opposite_listed}
+use Rattle.pip_model.specs.Run.{class, listed}
+use Rattle.pip_model.specs.Tree.{Tree}
+use Rattle.pip_model.specs.Walks.{Walking, ◌>>=◌, ◌>>◌, by_run, not_negative, Visit, Walker, where_holds, below_listed, walk}
 use Rattle.context.specs.Scoped.{ScopedForms}
 use Rattle.context.specs.declared.context.ContextMark.{ContextMark}
 
@@ -14,6 +17,23 @@ visit_of k depth = record { places = k.width; context = k.forms; depth = depth }
 -- a new parameter's form is at least 0 on a context over w places, or the walk ends
 abbrev pub checked_sign : List (List ℤ) → ℕ → List ℤ → Walking (Unit {0})
 checked_sign K w v = by_run (class K w v) >>= not_negative
+
+-- what is done at a new parameter before its tree
+abbrev pub before_tree : {X : Type 0} → Walker X → Visit → Quotient → Walking (Unit {0})
+before_tree W h q = checked_sign h.context h.places q.form >> (W.at_quotient h >> by_run (listed (below_listed h q)))
+
+-- what is done with both trees of a node that chooses, whose form v has both signs, by the condition that parts them
+abbrev pub both_trees : {X : Type 0} → Walker X → Visit → List ℤ → Tree → Tree → List ℤ → Walking X
+both_trees W h v a b c = do
+  W.at_split h
+  x ← walk W (where_holds h c) a
+  W.joined v x (walk W (where_holds h (opposite c)) b)
+
+-- a condition over no more than w places, the number of whose opposite fits
+pub record IsCondition (w : ℕ) (c : List ℤ) : Type 0 where
+  pub some : 1 ≤ length c
+  pub narrow : length c ≤ w + 1
+  pub opposite_fits : IsTrue (all_fit (opposite_listed c))
 
 -- one form more
 pub record IsUnder (before : ScopedForms) (c : List ℤ) (now : ScopedForms) : Type 0 where

@@ -1,15 +1,18 @@
-ghost use Rattle.std.specs.Prelude.{◌≡◌, ℕ, ◌+◌, ◌^◌, ◌<◌, ◌≤◌, ℤ, List, Bool, false, true, length, IfOk};
+ghost use Rattle.std.specs.Prelude.{◌≡◌, ℕ, ◌+◌, ◌^◌, ◌<◌, ◌≤◌, ◌≤ℤ◌, pos, ℤ, List, Bool, false, true, length, IfOk, IsTrue, MatchResult};
+ghost use Rattle.pip_model.specs.Forms.{opposite as opposite_of};
+ghost use Rattle.pip_model.specs.Listed.{all_fit, opposite_listed};
 ghost use Rattle.pip_model.specs.Run as run;
 ghost use Rattle.pip_model.specs.ToolAgreement.{AgreesWalked};
 ghost use Rattle.pip_model.specs.Tools.{spread as spread_of, spread_tree};
 ghost use Rattle.pip_model.specs.Tree.{nesting};
 ghost use Rattle.pip_model.specs.Walks as model;
 ghost use Rattle.pip_model.specs.Walks.{where_holds};
+ghost use Rattle.affine_forms.specs.Checks.{Fits};
 ghost use Rattle.context.specs.Scoped.{ScopedForms, IsKeptContext};
 ghost use Rattle.quast.specs.Trees.{tree_of};
 ghost use Rattle.quast_walk.specs.Faults.{tool_fault};
-ghost use Rattle.quast_walk.specs.Readings.{leaf_tree, IsTreeAt, IsLeafAt, HasRoom};
-ghost use Rattle.quast_walk.specs.Visits.{visit_of};
+ghost use Rattle.quast_walk.specs.Readings.{leaf_tree, IsTreeAt, IsLeafAt, AreBranches, HasRoom};
+ghost use Rattle.quast_walk.specs.Visits.{visit_of, before_tree, both_trees, IsBelow, IsCondition};
 
 use crate::reading::{Leaf, Reading};
 use crate::refusal::ToolRefusal;
@@ -114,6 +117,90 @@ fn read<W: Walker>(walker: &W, form: &Form) -> Result<Form, WantOfMemory>
     spread(reading.alloc, form, reading.parameters, reading.between)
 }
 
+// Before the two trees of a node that chooses: the condition of its second tree.
+fn split<W: Walker>(
+    walker: &W,
+    condition: &Form,
+    depth: u64,
+    work: &mut Work,
+) -> Result<Form, ToolRefusal>
+    requires shallow { depth < 2 ^ 63 }
+    requires some { 1 ≤ length condition.now }
+    requires fits { IsTrue (all_fit (opposite_listed condition.now)) }
+    ensures gives { (k : ScopedForms) → AgreesWalked (λ x. tt) tool_fault result work.new
+        ((W.walker walker.now).at_split (visit_of k depth) work.old) }
+    ensures value { IfOk result (λ form. form ≡ opposite_of condition.now) }
+    ensures length { IfOk result (λ form. length form ≡ length condition.now) }
+{
+    walker.at_split(depth, work)?;
+    let fails = opposite(walker.reading().alloc, condition)?;
+    Ok(fails)
+}
+
+// What is made of a node that chooses, from what was made of its first tree and what the walk of its second gave.
+fn joined<W: Walker>(
+    walker: &W,
+    form: Form,
+    made: W::Made,
+    walked: Result<W::Made, ToolRefusal>,
+) -> Result<W::Made, ToolRefusal>
+    requires goes_on { W.ends made ≡ false }
+    requires stops { (v : List ℤ) → (second : model.Walking W.Seen) → (w x : run.Work) →
+        (e : model.ToolRefusal) → second w ≡ model.Stopped e x →
+        (W.walker walker.now).joined v (W.seen made) second w ≡ model.Stopped e x }
+    ensures { (second : model.Walking W.Seen) → (w x : run.Work) →
+        AgreesWalked W.seen tool_fault walked x (second w) →
+        AgreesWalked W.seen tool_fault result x ((W.walker walker.now).joined form (W.seen made) second w) }
+{
+    let other = walked?;
+    let whole = walker.join(form, made, other)?;
+    Ok(whole)
+}
+
+// Goes below a new parameter of this form and divisor, after its sign. Where it is refused, the context is as before.
+fn go_under<W: Walker>(
+    walker: &W,
+    form: &Form,
+    den: i128,
+    depth: u64,
+    context: &mut Context,
+    work: &mut Work,
+) -> Result<(), ToolRefusal>
+    requires wide { length form.now ≡ context.old.width + 1 }
+    requires divisor { pos 1 ≤ℤ den }
+    requires fits { Fits den }
+    requires room { 2 ≤ context.old.spare }
+    requires shallow { depth < 2 ^ 63 }
+    ensures gives { AgreesWalked (λ x. tt) tool_fault result work.new
+        (before_tree (W.walker walker.now) (visit_of context.old depth)
+        (record { form = form.now; den = den }) work.old) }
+    ensures context { MatchResult result
+        (λ x. IsBelow context.old (record { form = form.now; den = den }) context.new)
+        (λ e. IsKeptContext context.old context.new) }
+{
+    let alloc = walker.reading().alloc;
+    check_sign(alloc, form, context, work)?;
+    walker.at_quotient(depth, work)?;
+    go_below(alloc, form, den, context)?;
+    Ok(())
+}
+
+// What is made of a new parameter, from what the walk of its tree gave.
+fn defined<W: Walker>(
+    walker: &W,
+    form: Form,
+    den: i128,
+    walked: Result<W::Made, ToolRefusal>,
+) -> Result<W::Made, ToolRefusal>
+    ensures { (part : model.Walked W.Seen) → (w : run.Work) → AgreesWalked W.seen tool_fault walked w part →
+        AgreesWalked W.seen tool_fault result w
+        (model.walk_on part (λ x. model.make ((W.walker walker.now).defined form den x))) }
+{
+    let below = walked?;
+    let made = walker.define(form, den, below)?;
+    Ok(made)
+}
+
 /// The walk of a node's tree. The context is given back as it was.
 #[cycle(walk)]
 pub fn walk<W: Walker>(
@@ -135,37 +222,56 @@ pub fn walk<W: Walker>(
         Node::Bottom => walker.at_leaf(Leaf::Bottom, depth, context, work),
         Node::Leaf(list) => walker.at_leaf(Leaf::List(list.as_slice()), depth, context, work),
         Node::Select(form, first, second) => {
-            let alloc = walker.reading().alloc;
             let form = read(walker, form)?;
-            match sign(alloc, &form, context, work)? {
+            match sign(walker.reading().alloc, &form, context, work)? {
                 Class::Plus => walk(walker, first, depth, context, work),
                 Class::Minus => walk(walker, second, depth, context, work),
-                Class::Unknown(condition) => {
-                    walker.at_split(depth, work)?;
-                    let fails = opposite(alloc, &condition)?;
-                    let made = walk_where(walker, first, condition, depth, context, work)?;
-                    if walker.is_end(&made) {
-                        return Ok(made);
-                    }
-                    let other = walk_where(walker, second, fails, depth, context, work)?;
-                    Ok(walker.join(form, made, other)?)
-                }
+                Class::Unknown(condition) => walk_both(
+                    walker, form, first, second, condition, depth, context, work,
+                ),
             }
         }
         Node::Define(form, den, tree) => {
-            let alloc = walker.reading().alloc;
             let form = read(walker, form)?;
-            check_sign(alloc, &form, context, work)?;
-            walker.at_quotient(depth, work)?;
             let start = mark(context);
-            go_below(alloc, &form, *den, context)?;
+            go_under(walker, &form, *den, depth, context, work)?;
             let walked = walk(walker, tree, depth + 1, context, work);
             leave(context, start);
-            let below = walked?;
-            let made = walker.define(form, *den, below)?;
-            Ok(made)
+            defined(walker, form, *den, walked)
         }
     }
+}
+
+// The walks of both trees of a node that chooses: of the first where the condition is at least 0, of the second where
+// it is below 0.
+#[cycle(walk)]
+fn walk_both<W: Walker>(
+    walker: &W,
+    form: Form,
+    first: &Node,
+    second: &Node,
+    condition: Form,
+    depth: u64,
+    context: &mut Context,
+    work: &mut Work,
+) -> Result<W::Made, ToolRefusal>
+    requires ready { W.IsReady walker.now }
+    requires trees { AreBranches (W.parameters walker.now) (W.between walker.now) (W.room walker.now) depth
+        context.old (tree_of first.now) (tree_of second.now) }
+    requires condition { IsCondition context.old.width condition }
+    ensures gives { AgreesWalked W.seen tool_fault result work.new (both_trees (W.walker walker.now)
+        (visit_of context.old depth) form
+        (spread_tree (W.parameters walker.now) (W.between walker.now) (tree_of first.now))
+        (spread_tree (W.parameters walker.now) (W.between walker.now) (tree_of second.now)) condition work.old) }
+    ensures kept { IsKeptContext context.old context.new }
+{
+    let fails = split(walker, &condition, depth, work)?;
+    let made = walk_where(walker, first, condition, depth, context, work)?;
+    if walker.is_end(&made) {
+        return Ok(made);
+    }
+    let walked = walk_where(walker, second, fails, depth, context, work);
+    joined(walker, form, made, walked)
 }
 
 // The walk of a node's tree where a condition is at least 0, below a node that chooses of what is made.

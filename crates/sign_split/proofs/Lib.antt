@@ -2,3 +2,4 @@ pub mod ClassMeaning
 pub mod Opposites
 pub mod TightSigns
 pub mod Widening
+pub mod ByPoints

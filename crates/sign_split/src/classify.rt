@@ -1,12 +1,13 @@
-ghost use Rattle.std.specs.Prelude.{◌≡◌, ◌+◌, ◌≤◌, length, IfOk, IfErr, IfSome};
+ghost use Rattle.std.specs.Prelude.{◌≡◌, ◌+◌, ◌≤◌, length, IfOk, IfErr, IfSome, IsTrue};
 ghost use Rattle.pip_model.specs.Contexts.{ClassTells, IsPointRefusal};
-ghost use Rattle.pip_model.specs.Forms.{widen_to};
+ghost use Rattle.pip_model.specs.Forms.{widen_to, opposite};
+ghost use Rattle.pip_model.specs.Listed.{all_fit, opposite_listed};
 ghost use Rattle.pip_model.specs.Run as model;
 ghost use Rattle.affine_forms.specs.Forms.{IsForm};
 ghost use Rattle.pip_problem.specs.Faults.{run_fault};
 ghost use Rattle.context.specs.Counts.{IsCountedRun};
 ghost use Rattle.context.specs.Scoped.{IsKeptContext};
-ghost use Rattle.sign_split.specs.Classes.{class_of, widened_class, ConditionIs};
+ghost use Rattle.sign_split.specs.Classes.{class_of, class_if_below, widened_class, ConditionIs};
 
 use crate::classes::Class;
 use crate::signs::{is_everywhere_below, is_nowhere_below};
@@ -14,6 +15,38 @@ use affine_forms::Form;
 use context::{Context, Work};
 use pip_problem::Refusal;
 use std::alloc::Global;
+
+// The opposite of a form, whose listed number fits.
+fn turned(form: Form) -> Form
+    requires { IsTrue (all_fit (opposite_listed form)) }
+    ensures { result ≡ opposite form }
+{
+    let mut form = form;
+    match form.opposite() {
+        Ok(()) => form,
+        Err(_) => unreachable!(),
+    }
+}
+
+// The class of a tightened form that is below 0 at some point, by a point at which it is not.
+fn class_above(
+    alloc: Global,
+    context: &mut Context,
+    form: Form,
+    work: &mut Work,
+) -> Result<Class, Refusal>
+    requires narrow { length form ≤ context.old.width + 1 }
+    requires opposite_fits { IsTrue (all_fit (opposite_listed form)) }
+    ensures gives { IsCountedRun class_of run_fault result work.old work.new
+        (class_if_below context.old.width context.old.forms form) }
+    ensures kept { IsKeptContext context.old context.new }
+    ensures condition { IfOk result (ConditionIs (length form)) }
+{
+    if !context.point_with(alloc, &form, work)? {
+        return Ok(Class::Minus);
+    }
+    Ok(Class::Unknown(form))
+}
 
 // The class of a tightened form by points: with its opposite, which is then turned back, and with itself.
 fn class_by_points(
@@ -34,12 +67,7 @@ fn class_by_points(
     if !context.point_with(alloc, &below, work)? {
         return Ok(Class::Plus);
     }
-    let mut form = below;
-    form.opposite()?;
-    if !context.point_with(alloc, &form, work)? {
-        return Ok(Class::Minus);
-    }
-    Ok(Class::Unknown(form))
+    class_above(alloc, context, turned(below), work)
 }
 
 // The class of the form with these entries: by their signs where they tell it, else by points.

@@ -13,7 +13,7 @@ add-requires-2-clause-narrow c =
     let now : c.add.new.self ≡ record c.args.path.now.quotients { quotients = c.args.path.now.quotients.quotients ++ c.args.key ∷ [] } = search rules in
     let last = quotient_at-added c.args.path.now.quotients c.args.key in
     let lower : c.in_ok-lower.lower ≡ cuts.lower_bound (size c.args.path.now.quotients + 1) (size c.args.path.now.quotients) c.args.key = cc in
-    let long = length-bounds (size c.args.path.now.quotients + 1) (size c.args.path.now.quotients) c.args.key (omega (arith, c.requires.wide)) (omega (arith, c.requires.wide)) (omega arith) in
+    let long = length-bounds (size c.args.path.now.quotients + 1) (size c.args.path.now.quotients) c.args.key (omega (arith, c.requires.quotient.wide)) (omega (arith, c.requires.quotient.wide)) (omega arith) in
     let width = c.widen.ensures.width in
     rw lower (omega (arith, long.0, c.requires.scope, c.widen.ensures.width))
 
@@ -24,7 +24,7 @@ add-requires-3-clause-narrow c =
     let now : c.add.new.self ≡ record c.args.path.now.quotients { quotients = c.args.path.now.quotients.quotients ++ c.args.key ∷ [] } = search rules in
     let last = quotient_at-added c.args.path.now.quotients c.args.key in
     let upper : c.in_ok-lower.upper ≡ cuts.upper_bound (size c.args.path.now.quotients + 1) (size c.args.path.now.quotients) c.args.key = cc in
-    let long = length-bounds (size c.args.path.now.quotients + 1) (size c.args.path.now.quotients) c.args.key (omega (arith, c.requires.wide)) (omega (arith, c.requires.wide)) (omega arith) in
+    let long = length-bounds (size c.args.path.now.quotients + 1) (size c.args.path.now.quotients) c.args.key (omega (arith, c.requires.quotient.wide)) (omega (arith, c.requires.quotient.wide)) (omega arith) in
     rw upper (omega (arith, long.1, c.requires.scope, c.widen.ensures.width, c.add-2.ensures.width))
 
 pub returns : goal.returns

@@ -1,9 +1,9 @@
-use Rattle.std.proofs.Common.{◌≡◌, ◌∙◌, refl, ap, sym, subst, rules, arith, ◌+◌, ◌<◌, List, ℤ, length, get_or}
-use Rattle.std.specs.Prelude.{IfSome}
+use Rattle.std.proofs.Common.{◌≡◌, ◌∙◌, refl, ap, sym, rules, arith, ◌+◌, ◌<◌, List, ℤ, length, get_or}
 use Rattle.std.proofs.lemmas.Result.{err_from_is_err_and}
 use Rattle.pip_model.specs.Tree as model
-use Rattle.pip_model.specs.Tree.{Tree, Component}
-use Rattle.pip_model.specs.Walks.{Made, Stopped, Visit}
+use Rattle.pip_model.specs.Tree.{Component}
+use Rattle.pip_model.specs.ToolAgreement.{AgreesWalked}
+use Rattle.pip_model.specs.Walks.{Made, Visit, walk_on, make, where_holds}
 use Rattle.quast.specs.Trees.{tree_of}
 use Rattle.sign_split.specs.Classes.{class_of}
 use Rattle.quast_walk.specs.Faults.{tool_fault}
@@ -12,7 +12,7 @@ use Rattle.quast_walk.proofs.Walking.{agrees_as, under_visit}
 use Rattle.quast_tools.specs.Choices.{chosen_by, lesser_by, lesser_from, rest_chosen}
 use Rattle.quast_tools.specs.declared.rest.Known.{Known}
 use Rattle.quast_tools.specs.declared.rest.Rest.{Rest}
-use Rattle.quast_tools.proofs.LesserSteps.{choice_stops, choice_plus, choice_minus, choice_uncounted, choice_holding_stops, choice_made, rest_choice}
+use Rattle.quast_tools.proofs.LesserSteps.{choice_stops, choice_plus, choice_minus, choice_uncounted, choice_goes, rest_choice}
 use Rattle.quast_tools.proofs.lesser_lists.+lesser.Goals as goal
 
 pub choose_by-returns-in_err-sign-clause-gives : goal.choose_by-returns-in_err-sign-clause-gives
@@ -30,26 +30,21 @@ choose_by-returns-in_ok-list-in-Minus-clause-gives t c =
     let known = c.in_ok-sign.ensures.gives ∙ ap (λ k. Made (class_of k) c.sign.new.work) c.in-Minus.is in
     choice_minus c.args.context.now c.sign.new.context c.sign.ensures.kept c.args.next.now.depth c.args.form.now (rest_chosen c.args.next.now) (model.Leaf c.args.other.now) c.args.work.now c.sign.new.work _ refl known ∙ sym (ap (λ x. Made x c.sign.new.work) c.in_ok-list-in-Minus.ensures)
 
-pub choose_by-returns-in_err-count_if-in-Unknown-clause-gives : goal.choose_by-returns-in_err-count_if-in-Unknown-clause-gives
-choose_by-returns-in_err-count_if-in-Unknown-clause-gives t c =
+pub choose_by-returns-in_err-form-in-Unknown-clause-gives : goal.choose_by-returns-in_err-form-in-Unknown-clause-gives
+choose_by-returns-in_err-form-in-Unknown-clause-gives t c =
     let known = c.in_ok-sign.ensures.gives ∙ ap (λ k. Made (class_of k) c.sign.new.work) c.in-Unknown.is in
-    let p = err_from_is_err_and c.from_residual-in_err-count_if-in-Unknown.result c.from_residual-in_err-count_if-in-Unknown.ensures.1 in
-    rw (p.1, p.2) (choice_uncounted c.args.context.now c.sign.new.context c.sign.ensures.kept c.args.next.now.depth c.args.form.now (rest_chosen c.args.next.now) (model.Leaf c.args.other.now) c.args.work.now c.sign.new.work _ refl c.in-Unknown.condition known c.count_if.new.work (tool_fault c.in_err-count_if-in-Unknown.field-0.0) c.in_err-count_if-in-Unknown.ensures)
+    let p = err_from_is_err_and c.from_residual-in_err-form-in-Unknown.result c.from_residual-in_err-form-in-Unknown.ensures.1 in
+    rw (p.1, p.2) (choice_uncounted c.args.context.now c.sign.new.context c.sign.ensures.kept c.args.next.now.depth c.args.form.now (rest_chosen c.args.next.now) (model.Leaf c.args.other.now) c.args.work.now c.sign.new.work _ refl c.in-Unknown.condition known c.split.new.work (tool_fault c.in_err-form-in-Unknown.field-0.0) c.in_err-form-in-Unknown.ensures.counted)
 
-pub choose_by-returns-in_err-holding-in-Unknown-clause-gives : goal.choose_by-returns-in_err-holding-in-Unknown-clause-gives
-choose_by-returns-in_err-holding-in-Unknown-clause-gives t c =
+pub choose_by-returns-in_ok-form-in-Unknown-clause-gives : goal.choose_by-returns-in_ok-form-in-Unknown-clause-gives
+choose_by-returns-in_ok-form-in-Unknown-clause-gives t c =
     let known = c.in_ok-sign.ensures.gives ∙ ap (λ k. Made (class_of k) c.sign.new.work) c.in-Unknown.is in
-    let there = ap (λ (r : Rest). rest_chosen r (visit_of c.enter.new.context r.depth) c.count_if.new.work) c.deeper.ensures ∙ ap (λ (h : Visit). rest_chosen c.args.next.now h c.count_if.new.work) (under_visit c.sign.new.context c.enter.new.context c.in-Unknown.condition c.args.next.now.depth c.enter.ensures) in
-    let p = err_from_is_err_and c.from_residual-in_err-holding-in-Unknown.result c.from_residual-in_err-holding-in-Unknown.ensures.1 in
-    let stopped = subst (λ o. IfSome (tool_fault c.in_err-holding-in-Unknown.field-0.0) (λ f. o ≡ Stopped f c.choose_rest-holding.new.work)) there c.in_err-holding-in-Unknown.ensures.gives in
-    rw (p.1, p.2) (choice_holding_stops c.args.context.now c.sign.new.context c.sign.ensures.kept c.args.next.now.depth c.args.form.now (rest_chosen c.args.next.now) (model.Leaf c.args.other.now) c.args.work.now c.sign.new.work _ refl c.in-Unknown.condition known c.count_if.new.work c.choose_rest-holding.new.work c.in_ok-count_if-in-Unknown.ensures (tool_fault c.in_err-holding-in-Unknown.field-0.0) stopped)
-
-pub choose_by-returns-in_ok-choice-in-Unknown-clause-gives : goal.choose_by-returns-in_ok-choice-in-Unknown-clause-gives
-choose_by-returns-in_ok-choice-in-Unknown-clause-gives t c =
-    let known = c.in_ok-sign.ensures.gives ∙ ap (λ k. Made (class_of k) c.sign.new.work) c.in-Unknown.is in
-    let there = ap (λ (r : Rest). rest_chosen r (visit_of c.enter.new.context r.depth) c.count_if.new.work) c.deeper.ensures ∙ ap (λ (h : Visit). rest_chosen c.args.next.now h c.count_if.new.work) (under_visit c.sign.new.context c.enter.new.context c.in-Unknown.condition c.args.next.now.depth c.enter.ensures) in
-    let made : tree_of c.in_ok-choice-in-Unknown.field-0 ≡ model.If c.in-Unknown.condition (tree_of c.in_ok-holding-in-Unknown.field-0) (model.Leaf c.args.other.now) = search rules in
-    choice_made c.args.context.now c.sign.new.context c.sign.ensures.kept c.args.next.now.depth c.args.form.now (rest_chosen c.args.next.now) (model.Leaf c.args.other.now) c.args.work.now c.sign.new.work _ refl c.in-Unknown.condition known c.count_if.new.work c.choose_rest-holding.new.work c.in_ok-count_if-in-Unknown.ensures (tree_of c.in_ok-holding-in-Unknown.field-0) (sym there ∙ c.in_ok-holding-in-Unknown.ensures.gives) ∙ ap (λ x. Made x c.choose_rest-holding.new.work) (sym made)
+    let there = ap (λ (r : Rest). rest_chosen r (visit_of c.enter.new.context r.depth) c.split.new.work) c.deeper.ensures ∙ ap (λ (h : Visit). rest_chosen c.args.next.now h c.split.new.work) (under_visit c.sign.new.context c.enter.new.context c.in-Unknown.condition c.args.next.now.depth c.enter.ensures) in
+    let part = rest_chosen c.args.next.now (where_holds (visit_of c.sign.new.context c.args.next.now.depth) c.in-Unknown.condition) c.split.new.work in
+    let made : AgreesWalked tree_of tool_fault c.choose_rest-made.result c.choose_rest-made.new.work part = agrees_as tree_of tool_fault c.choose_rest-made.result c.choose_rest-made.new.work _ _ there c.choose_rest-made.ensures.gives in
+    let whole = choice_goes c.args.context.now c.sign.new.context c.sign.ensures.kept c.args.next.now.depth c.args.form.now (rest_chosen c.args.next.now) (model.Leaf c.args.other.now) c.args.work.now c.sign.new.work _ refl c.in-Unknown.condition known c.split.new.work c.in_ok-form-in-Unknown.ensures.counted in
+    let kept = ap (λ (f : List ℤ). walk_on part (λ x. make (model.If f x (model.Leaf c.args.other.now)))) c.in_ok-form-in-Unknown.ensures.value in
+    agrees_as tree_of tool_fault c.joined.result c.choose_rest-made.new.work _ _ (kept ∙ whole) (c.joined.ensures part c.choose_rest-made.new.work made)
 
 pub choose_rest-returns-in_ok-opposite-in-NotBelow-clause-gives : goal.choose_rest-returns-in_ok-opposite-in-NotBelow-clause-gives
 choose_rest-returns-in_ok-opposite-in-NotBelow-clause-gives t c =

@@ -4,7 +4,10 @@ use Rattle.quast.specs.Trees.{tree_of}
 use Rattle.quast_walk.proofs.tree_walk.+walk.Given as goal
 
 abbrev pub decreases-walk : goal.decreases-walk
-decreases-walk g l = 2 * size (tree_of l.node.now)
+decreases-walk g l = 3 * size (tree_of l.node.now)
+
+abbrev pub decreases-walk_both : goal.decreases-walk_both
+decreases-walk_both g l = 3 * (size (tree_of l.first.now) + size (tree_of l.second.now)) + 2
 
 abbrev pub decreases-walk_where : goal.decreases-walk_where
-decreases-walk_where g l = 2 * size (tree_of l.node.now) + 1
+decreases-walk_where g l = 3 * size (tree_of l.node.now) + 1

@@ -4,13 +4,13 @@ use Rattle.pip_model.specs.Run.{Done}
 use Rattle.pip_problem.specs.Faults.{run_fault}
 use Rattle.context.specs.Remembered.{has_point}
 use Rattle.pip_solve.proofs.Begun.{answer-made, answer-refused}
-use Rattle.pip_solve.proofs.solving.answer.Goals as goal
+use Rattle.pip_solve.proofs.solving.answer_on.Goals as goal
 
 pub returns-in_err-tree-clause-gives : goal.returns-in_err-tree-clause-gives
 returns-in_err-tree-clause-gives c =
     let yes : c.in_ok-has_point.field-0 ≡ true = search rules in
     let given : has_point c.args.problem.now.params c.args.problem.now.context c.args.work.now ≡ Done true c.has_point.new.work
-    = rw (yes, c.in_ok-path.ensures.width, c.in_ok-path.ensures.forms) at c.in_ok-has_point.ensures.gives.agrees in
+    = rw (yes, c.requires.path.width, c.requires.path.forms) at c.in_ok-has_point.ensures.gives.agrees in
     let fault = answer-refused c.args.problem.now c.args.work.now c.has_point.new.work given (run_fault c.in_err-tree.field-0.0) c.tree.new.work c.in_err-tree.ensures.gives in
     grind (arith, common_steps, fault)
 
@@ -18,5 +18,5 @@ pub returns-clause-gives : goal.returns-clause-gives
 returns-clause-gives c =
     let yes : c.in_ok-has_point.field-0 ≡ true = search rules in
     let given : has_point c.args.problem.now.params c.args.problem.now.context c.args.work.now ≡ Done true c.has_point.new.work
-    = rw (yes, c.in_ok-path.ensures.width, c.in_ok-path.ensures.forms) at c.in_ok-has_point.ensures.gives.agrees in
+    = rw (yes, c.requires.path.width, c.requires.path.forms) at c.in_ok-has_point.ensures.gives.agrees in
     answer-made c.args.problem.now c.args.work.now c.has_point.new.work given c.in_ok-tree.tree.tree c.tree.new.work c.in_ok-tree.ensures.gives

@@ -1,0 +1,42 @@
+use Rattle.std.proofs.Common.{◌≡◌, subst, rules, ℤ, IsTrue, IsFalse, to_z, of_z}
+use Rattle.std.specs.Int.{w128}
+use Rattle.std.proofs.lemmas.Result.{err_from_is_err_and}
+use Rattle.pip_model.specs.Listed.{all_fit}
+use Rattle.pip_model.specs.Walks.{below_listed}
+use Rattle.affine_forms.specs.Checks.{is_form_overflow}
+use Rattle.quast_walk.specs.Faults.{tool_fault}
+use Rattle.quast_walk.specs.Visits.{visit_of, IsBelow}
+use Rattle.quast_walk.proofs.Defining.{sign_stops, quotient_stops, bounds_unfit, bounds_fit, kept_below}
+use Rattle.quast_walk.proofs.Narrow.{quotient}
+use Rattle.quast_walk.proofs.tree_walk.go_under.Goals as goal
+
+pub returns-in_err-check_sign-clause-gives : goal.returns-in_err-check_sign-clause-gives
+returns-in_err-check_sign-clause-gives g c =
+    let p = err_from_is_err_and c.from_residual.result c.from_residual.ensures.1 in
+    rw (p.1, p.2) (sign_stops (g.W.Walker.walker c.args.walker.now) c.args.form.now c.args.den c.args.context.now c.args.depth c.args.work.now c.check_sign.new.work (tool_fault c.in_err-check_sign.field-0.0) c.in_err-check_sign.ensures.gives)
+
+pub returns-in_err-at_quotient-clause-gives : goal.returns-in_err-at_quotient-clause-gives
+returns-in_err-at_quotient-clause-gives g c =
+    let p = err_from_is_err_and c.from_residual-in_err-at_quotient.result c.from_residual-in_err-at_quotient.ensures.1 in
+    rw (p.1, p.2) (quotient_stops (g.W.Walker.walker c.args.walker.now) c.args.form.now c.args.den c.args.context.now c.args.depth c.args.work.now c.check_sign.new.work c.check_sign.new.context c.check_sign.ensures.kept c.in_ok-check_sign.ensures.gives (tool_fault c.in_err-at_quotient.field-0.0) (c.in_err-at_quotient.ensures c.check_sign.new.context))
+
+pub returns-in_err-go_below-clause-gives : goal.returns-in_err-go_below-clause-gives
+returns-in_err-go_below-clause-gives g c =
+    let h = visit_of c.check_sign.new.context c.args.depth in
+    let den : to_z w128 (of_z w128 c.args.den) ≡ c.args.den = search rules in
+    let unfit = subst (λ (e : ℤ). IsTrue (is_form_overflow c.in_err-go_below.field-0.0) → IsFalse (all_fit (below_listed h (quotient c.args.form.now e)))) den (c.in_err-go_below.ensures.listed c.args.depth) in
+    let p = err_from_is_err_and c.from_residual-in_err-go_below.result c.from_residual-in_err-go_below.ensures.1 in
+    rw p.1 (bounds_unfit (g.W.Walker.walker c.args.walker.now) c.args.form.now c.args.den c.args.context.now c.args.depth c.args.work.now c.check_sign.new.work c.check_sign.new.context c.check_sign.ensures.kept c.in_ok-check_sign.ensures.gives (c.in_ok-at_quotient.ensures c.check_sign.new.context) c.in_err-go_below.field-0.0 p.0 p.2 unfit)
+
+pub returns-clause-gives : goal.returns-clause-gives
+returns-clause-gives g c =
+    let h = visit_of c.check_sign.new.context c.args.depth in
+    let den : to_z w128 (of_z w128 c.args.den) ≡ c.args.den = search rules in
+    let fit = subst (λ (e : ℤ). IsTrue (all_fit (below_listed h (quotient c.args.form.now e)))) den (c.in_ok-go_below.ensures.listed c.args.depth) in
+    bounds_fit (g.W.Walker.walker c.args.walker.now) c.args.form.now c.args.den c.args.context.now c.args.depth c.args.work.now c.check_sign.new.work c.check_sign.new.context c.check_sign.ensures.kept c.in_ok-check_sign.ensures.gives (c.in_ok-at_quotient.ensures c.check_sign.new.context) fit
+
+pub returns-clause-context : goal.returns-clause-context
+returns-clause-context g c =
+    let den : to_z w128 (of_z w128 c.args.den) ≡ c.args.den = search rules in
+    let below = subst (λ (e : ℤ). IsBelow c.check_sign.new.context (quotient c.args.form.now e) c.go_below.new.context) den c.in_ok-go_below.ensures.below in
+    kept_below c.args.context.now c.check_sign.new.context c.go_below.new.context (quotient c.args.form.now c.args.den) c.check_sign.ensures.kept below

@@ -1,0 +1,30 @@
+-- The class of a form by points, from what the questions for them answered.
+use Rattle.std.proofs.Common.{◌≡◌, ap, refl, ℕ, ℤ, true, List, [], ◌∷◌, ◌++◌, Option, Some, None, is_some}
+use Rattle.std.specs.Prelude.{IfSome}
+use Rattle.pip_model.specs.Forms.{opposite}
+use Rattle.pip_model.specs.Listed.{opposite_listed, all_fit}
+use Rattle.pip_model.specs.Run.{Work, Outcome, Done, Refused, Refusal, go_on, give, point, class_by_points}
+use Rattle.context.specs.Remembered.{has_point}
+use Rattle.sign_split.specs.Classes.{class_if_below}
+
+some_point : (o : Outcome (Option (List ℤ))) (v : Work) → go_on o (λ p. give (is_some p)) ≡ Done true v → (p : List ℤ) × (o ≡ Done (Some p) v)
+some_point (Done None u) v e = absurd cc
+some_point (Done (Some p) u) v e = let same : u ≡ v = cc in (p, ap (λ (x : Work). Done (Some p) x) same)
+some_point (Refused f u) v e = absurd cc
+
+refused_point : (o : Outcome (Option (List ℤ))) (f : Refusal) (v : Work) → go_on o (λ p. give (is_some p)) ≡ Refused f v → o ≡ Refused f v
+refused_point (Done p u) f v e = absurd cc
+refused_point (Refused g u) f v e = let same : g ≡ f = cc in let at : u ≡ v = cc in rw (same, at) refl
+
+-- a refusal of the second question
+pub refused_above : (w : ℕ) (K : List (List ℤ)) (c : List ℤ) (before v : Work) (o : Option Refusal) → IfSome o (λ f. has_point w (K ++ c ∷ []) before ≡ Refused f v)
+    → IfSome o (λ f. class_if_below w K c before ≡ Refused f v)
+refused_above w K c before v None told = told
+refused_above w K c before v (Some f) told = rw (refused_point (point w (K ++ c ∷ []) before) f v told) refl
+
+-- a point at which the form is below 0
+pub goes_above : (w : ℕ) (K : List (List ℤ)) (c : List ℤ) (before between : Work) → all_fit (opposite_listed c) ≡ true
+    → has_point w (K ++ opposite c ∷ []) before ≡ Done true between → class_by_points w K c before ≡ class_if_below w K c between
+goes_above w K c before between fit first =
+    let below = some_point (point w (K ++ opposite c ∷ []) before) between first in
+    rw (fit, below.1) refl
