@@ -1,5 +1,5 @@
 -- How a run of any command ends, also of the one that reads problem by problem, by its status.
-use Rattle.std.proofs.Common.{◌≡◌, ◌≢◌, ◌⊎◌, inl, inr, refl, sym, subst, ◌∙◌, ap, arith, ℕ, ◌≤◌, ◌<◌, List, [], Option, Some, None, Bool, true, false, not, length}
+use Rattle.std.proofs.Common.{◌≡◌, ◌≢◌, ◌⊎◌, inl, inr, refl, sym, subst, ◌∙◌, ap, arith, ℕ, ◌<◌, List, [], Option, Some, None, Bool, true, false, not, length}
 use Rattle.std.specs.Prelude.{Result, Ok, Err, IfSome, MatchBool}
 use Rattle.std.specs.List.{concat}
 use Rattle.std.specs.Io.KnownBytes.{Appends}
@@ -11,11 +11,11 @@ use Rattle.program_model.specs.Output.{IsOutput, IsFirstOutput, MayBeAsked}
 use Rattle.headline.proofs.FirstItems.{first_items-first}
 use Rattle.headline.proofs.OutputRight.{output-right, first_output-right}
 use Rattle.headline.proofs.OutputUnique.{output-unique}
-use Rattle.pip_endings.specs.Endings.{told, or_memory, ending_of, IsOfItem}
+use Rattle.pip_endings.specs.Endings.{told, or_memory}
 use Rattle.pip_endings.specs.declared.ending.Ending.{Ending as Refused}
 use Rattle.pip_endings.specs.declared.ending.Ending.TheVariants as ending
 use Rattle.pip_items.specs.Items.{Gained, GainedFront}
-use Rattle.pip_items.specs.Outputs.{IsWithin, IsRead, WritesOutput, bytes_read}
+use Rattle.pip_items.specs.Outputs.{IsRead, WritesOutput, bytes_read}
 use Rattle.pip_items.specs.ByProblem.{AreEnded, AreBefore, AreAll, ReadsWhole, WritesTillEnd, WritesByProblem, WritesOf}
 use Rattle.pip_items.proofs.Outputs.{all_read}
 use Rattle.pip_cli.specs.Ends.{AreFirst, AreFirstEnded, AreFirstBefore, EndsByProblem, HasEndedByProblem, EndsAs, AnswersRight, Completes, IsShort, IsAfterInput}

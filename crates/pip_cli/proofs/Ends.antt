@@ -4,8 +4,7 @@ use Rattle.std.proofs.lemmas.List.{append-nil}
 use Rattle.std.specs.Prelude.{Result, Ok, Err, IfSome, option_map}
 use Rattle.std.specs.List.{concat}
 use Rattle.std.specs.Io.KnownBytes.{Appends, Keeps}
-use Rattle.pip_outside.specs.Bytes.{WritesAll}
-use Rattle.pip_outside.specs.Faults.{CountsFaults}
+use Rattle.pip_outside.specs.Bytes.{WritesBytes}
 use Rattle.pip_model.specs.Reading.{Fault, Syntax, Wide, Limit, BigParameter, OptionWord, TooNested, Components, Version}
 use Rattle.pip_model.specs.Run.{Refusal, Overflow, Pivots, Cuts, Splits, Nesting}
 use Rattle.program_model.specs.Endings.{Ending, finished, fault_ending, refusal_ending, tool_ending, notes_of}
@@ -120,9 +119,9 @@ write_fault-by (Err e) s k p = absurd (item_write (told e) (item_end e tt) s k p
 
 -- ---- the notes
 
-pub line-gained : {E : Type 0} (a b : Option (List ℕ)) (x y : ℕ) (e : Ending) (r : Result (Unit {0}) E) → WritesAll a b r (notes_of e) → CountsFaults x y r → GainsLine a b x y e
-line-gained a b x y e (Ok u) h k = inl h
-line-gained a b x y e (Err f) h k = inr (h, k.failed)
+pub line-gained : {K E : Type 0} (written : K → Option (List ℕ)) (count : K → ℕ) (a b : K) (e : Ending) (r : Result (Unit {0}) E) → WritesBytes written count a b r (notes_of e) → GainsLine (written a) (written b) (count a) (count b) e
+line-gained written count a b e (Ok u) h = inl h.bytes
+line-gained written count a b e (Err f) h = inr (h.bytes, h.faults.cause refl)
 
 -- why a run ends
 abbrev cause_of : Result (Unit {0}) Refused → Option Refused

@@ -1,14 +1,8 @@
 -- How a run ends where the next problem is not read.
-use Rattle.pip_outside.specs.declared.window.FillRefusal.{FillRefusal}
-use Rattle.pip_outside.specs.declared.window.FillRefusal.TheVariants as fill
 use Rattle.pip_stream.specs.declared.refusal.NextRefusal.{NextRefusal}
 use Rattle.pip_stream.specs.declared.refusal.NextRefusal.TheVariants as next
 use Rattle.pip_endings.specs.declared.ending.Ending.{Ending}
 use Rattle.pip_endings.specs.declared.ending.Ending.TheVariants as ending
-
-abbrev pub unfilled_ending : FillRefusal → Ending
-unfilled_ending fill.Failed = ending.ReadFault
-unfilled_ending fill.WantOfMemory = ending.WantOfMemory
 
 abbrev pub next_ending : NextRefusal → Ending
 next_ending (next.Read e) = ending.Problem e

@@ -4,9 +4,9 @@ use Rattle.std.specs.Fmt.{signed_decimal}
 use Rattle.program_model.specs.Endings.{Ending}
 use Rattle.leaf_check.specs.declared.fault.Spot.{Spot}
 use Rattle.pip_endings.specs.Statuses.{number_of}
-use Rattle.pip_endings.specs.declared.told.Told.{Told}
-use Rattle.pip_endings.specs.declared.told.Line.{Line}
-use Rattle.pip_endings.specs.declared.told.Line.TheVariants as line
+use Rattle.pip_endings.specs.declared.line.Told.{Told}
+use Rattle.pip_endings.specs.declared.line.Line.{Line}
+use Rattle.pip_endings.specs.declared.line.Line.TheVariants as line
 
 -- a number behind words, if there is one
 abbrev pub digits_of : Option ℤ → List ℕ
@@ -33,12 +33,6 @@ second_said b = with_count (codes " and ") b ++ codes " components"
 
 abbrev pub lengths_said : ℕ → ℕ → List ℕ
 lengths_said a b = with_count (codes "lists of ") a ++ second_said b
-
--- the words that a line begins with
-abbrev pub words_of : Line → List ℕ
-words_of (line.Words words z) = words.now
-words_of (line.Place words s) = words.now
-words_of (line.Lengths a b) = codes "lists of "
 
 abbrev pub line_of : Line → List ℕ
 line_of (line.Words words z) = numbered words.now z

@@ -1,20 +1,19 @@
 ghost use Rattle.std.specs.Prelude.{◌≡◌};
 ghost use Rattle.pip_endings.specs.Statuses.{number_of};
-ghost use Rattle.pip_outside.specs.Bytes.{WritesAll};
-ghost use Rattle.pip_outside.specs.Faults.{CountsFaults};
+ghost use Rattle.pip_outside.specs.Bytes.{WritesBytes};
 ghost use Rattle.program_model.specs.Endings.{notes_of};
 ghost use Rattle.pip_endings.specs.Endings.{ending_of, pieces_ending};
 ghost use Rattle.pip_problem.specs.declared.refusal.Refusal.TheVariants as run;
 ghost use Rattle.pip_endings.specs.declared.ending.Ending.TheVariants as ending;
 ghost use Rattle.pip_endings.specs.Words.{words_ending};
-ghost use Rattle.pip_endings.specs.Inputs.{unfilled_ending, next_ending};
+ghost use Rattle.pip_endings.specs.Inputs.{next_ending};
 
 use crate::status::Status;
-use crate::told::tell;
+use crate::told::{tell, write_line};
 use affine_forms::Overflow;
 use certificate_check::Spot;
 use leaf_certificate::CertificateRefusal;
-use pip_outside::{Failed, FillRefusal, Sink};
+use pip_outside::{Failed, Sink};
 use pip_problem::{ReadRefusal, Refusal};
 use pip_stream::NextRefusal;
 use pip_words::WordsRefusal;
@@ -61,10 +60,9 @@ impl Ending {
 
     /// Writes the line of this ending to the notes. It takes no memory.
     pub fn write_line<N: Sink>(self, notes: &mut N) -> Result<(), Failed>
-        ensures bytes { WritesAll (N.written notes.old) (N.written notes.new) result (notes_of (ending_of self)) }
-        ensures cause { CountsFaults (N.faults notes.old) (N.faults notes.new) result }
+        ensures { WritesBytes N.written N.faults notes.old notes.new result (notes_of (ending_of self)) }
     {
-        tell(self).write_line(notes)
+        write_line(notes, &tell(self))
     }
 }
 
@@ -84,17 +82,6 @@ impl From<ReadRefusal> for Ending {
 
     fn from(refusal: ReadRefusal) -> Ending {
         Ending::Problem(refusal)
-    }
-}
-
-impl From<FillRefusal> for Ending {
-    ghost from_gives = { λ e r. r ≡ unfilled_ending e };
-
-    fn from(refusal: FillRefusal) -> Ending {
-        match refusal {
-            FillRefusal::Failed => Ending::ReadFault,
-            FillRefusal::WantOfMemory => Ending::WantOfMemory,
-        }
     }
 }
 

@@ -2,6 +2,7 @@
 #![tactic(auto)]
 
 mod ending;
+mod line;
 mod status;
 mod told;
 

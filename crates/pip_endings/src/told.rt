@@ -1,19 +1,18 @@
 ghost use Rattle.std.specs.Prelude.{◌≡◌, ◌++◌, ◌<◌, Some, None, pos, length, codes, decimal};
-ghost use Rattle.pip_outside.specs.Bytes.{WritesAll};
-ghost use Rattle.pip_outside.specs.Faults.{CountsFaults};
-ghost use Rattle.program_model.specs.Endings.{memory_ending, kind_name, option_name, fault_ending, check_ending, tool_ending, notes_of};
+ghost use Rattle.pip_outside.specs.Bytes.{WritesBytes};
+ghost use Rattle.program_model.specs.Endings.{ending, budget_spent, spot_text, memory_ending, kind_name, option_name, fault_ending, check_ending, tool_ending, notes_of};
 ghost use Rattle.pip_model.specs.Reading.{Syntax, Wide};
-ghost use Rattle.pip_endings.specs.declared.status.Status.TheVariants as statuses;
-ghost use Rattle.pip_endings.specs.declared.told.Line.TheVariants as lines;
+ghost use Rattle.pip_endings.specs.Statuses.{number_of};
 ghost use Rattle.pip_model.specs.Check.{Rejected, Unfit};
 ghost use Rattle.pip_model.specs.Walks.{Lengths};
 ghost use Rattle.pip_endings.specs.Endings.{walk_ending};
 ghost use Rattle.pip_endings.specs.Lines.{second_said, lengths_said};
 ghost use Rattle.certificate_check.specs.Faults.{spot_of};
 ghost use Rattle.pip_endings.specs.Endings.{or_memory, read_ending, text_ending, certificate_ending, run_ending, ending_of};
-ghost use Rattle.pip_endings.specs.Lines.{digits_of, numbered, with_count, front_said, place_said, words_of, line_of, ending_told};
+ghost use Rattle.pip_endings.specs.Lines.{digits_of, numbered, with_count, front_said, place_said, ending_told};
 
 use crate::ending::Ending;
+use crate::line::{Line, Told};
 use crate::status::Status;
 use affine_forms::MOST_NESTING;
 use certificate_check::Spot;
@@ -25,41 +24,18 @@ use pip_stream::MOST_INPUT_BYTES;
 use quast_text::TextRefusal;
 use quast_walk::ToolRefusal;
 
-// What is told of an ending: its status and its line.
-#[derive(Clone, Copy)]
-pub(crate) struct Told {
-    pub(crate) status: Status,
-    pub(crate) line: Line,
-}
-
-// A line as the words that it begins with, and numbers behind them.
-#[derive(Clone, Copy)]
-pub(crate) enum Line {
-    /// A number, if there is one.
-    Words(&'static str, Option<i128>),
-    /// A place in a certificate.
-    Place(&'static str, Spot),
-    /// The lengths of two lists, with words between them and behind them.
-    Lengths(usize, usize),
-}
-
-impl Told {
-    // Writes the line to the notes. It takes no memory.
-    pub(crate) fn write_line<N: Sink>(&self, notes: &mut N) -> Result<(), Failed>
-        requires { 0 < length (words_of self.now.line) }
-        ensures bytes { WritesAll (N.written notes.old) (N.written notes.new) result (notes_of (ending_told self.now)) }
-        ensures cause { CountsFaults (N.faults notes.old) (N.faults notes.new) result }
-    {
-        write_all(notes, b"pip: ")?;
-        write_told(notes, self)?;
-        write_all(notes, b"\n")
-    }
+// Writes the line to the notes. It takes no memory.
+pub(crate) fn write_line<N: Sink>(notes: &mut N, told: &Told) -> Result<(), Failed>
+    ensures { WritesBytes N.written N.faults notes.old notes.new result (notes_of (ending_told told.now)) }
+{
+    write_all(notes, b"pip: ")?;
+    write_text(notes, told)?;
+    write_all(notes, b"\n")
 }
 
 // The digits of a number, if there is one.
 fn write_number<N: Sink>(notes: &mut N, number: Option<i128>) -> Result<(), Failed>
-    ensures bytes { WritesAll (N.written notes.old) (N.written notes.new) result (digits_of number) }
-    ensures cause { CountsFaults (N.faults notes.old) (N.faults notes.new) result }
+    ensures { WritesBytes N.written N.faults notes.old notes.new result (digits_of number) }
 {
     match number {
         Some(number) => write_all(notes, Buffer::new().format(number).as_bytes()),
@@ -69,8 +45,7 @@ fn write_number<N: Sink>(notes: &mut N, number: Option<i128>) -> Result<(), Fail
 
 // Words, and a number behind them if there is one.
 fn write_numbered<N: Sink>(notes: &mut N, words: &str, number: Option<i128>) -> Result<(), Failed>
-    ensures bytes { WritesAll (N.written notes.old) (N.written notes.new) result (numbered words.now number) }
-    ensures cause { CountsFaults (N.faults notes.old) (N.faults notes.new) result }
+    ensures { WritesBytes N.written N.faults notes.old notes.new result (numbered words.now number) }
 {
     write_all(notes, words.as_bytes())?;
     write_number(notes, number)
@@ -78,16 +53,14 @@ fn write_numbered<N: Sink>(notes: &mut N, words: &str, number: Option<i128>) -> 
 
 // The digits of a count.
 fn write_count<N: Sink>(notes: &mut N, count: usize) -> Result<(), Failed>
-    ensures bytes { WritesAll (N.written notes.old) (N.written notes.new) result (decimal count) }
-    ensures cause { CountsFaults (N.faults notes.old) (N.faults notes.new) result }
+    ensures { WritesBytes N.written N.faults notes.old notes.new result (decimal count) }
 {
     write_all(notes, Buffer::new().format(count).as_bytes())
 }
 
 // Words and a count behind them.
 fn write_counted<N: Sink>(notes: &mut N, words: &str, count: usize) -> Result<(), Failed>
-    ensures bytes { WritesAll (N.written notes.old) (N.written notes.new) result (with_count words.now count) }
-    ensures cause { CountsFaults (N.faults notes.old) (N.faults notes.new) result }
+    ensures { WritesBytes N.written N.faults notes.old notes.new result (with_count words.now count) }
 {
     write_all(notes, words.as_bytes())?;
     write_count(notes, count)
@@ -95,8 +68,7 @@ fn write_counted<N: Sink>(notes: &mut N, words: &str, count: usize) -> Result<()
 
 // The leaf and the refutation of a place.
 fn write_front<N: Sink>(notes: &mut N, spot: &Spot) -> Result<(), Failed>
-    ensures bytes { WritesAll (N.written notes.old) (N.written notes.new) result (front_said spot.now) }
-    ensures cause { CountsFaults (N.faults notes.old) (N.faults notes.new) result }
+    ensures { WritesBytes N.written N.faults notes.old notes.new result (front_said spot.now) }
 {
     write_counted(notes, " at leaf ", spot.leaf)?;
     write_counted(notes, " refutation ", spot.refutation)
@@ -104,8 +76,7 @@ fn write_front<N: Sink>(notes: &mut N, spot: &Spot) -> Result<(), Failed>
 
 // A place in a certificate.
 fn write_spot<N: Sink>(notes: &mut N, spot: &Spot) -> Result<(), Failed>
-    ensures bytes { WritesAll (N.written notes.old) (N.written notes.new) result (place_said spot.now) }
-    ensures cause { CountsFaults (N.faults notes.old) (N.faults notes.new) result }
+    ensures { WritesBytes N.written N.faults notes.old notes.new result (place_said spot.now) }
 {
     write_front(notes, spot)?;
     write_counted(notes, " step ", spot.step)
@@ -113,8 +84,7 @@ fn write_spot<N: Sink>(notes: &mut N, spot: &Spot) -> Result<(), Failed>
 
 // Words and a place in a certificate.
 fn write_place<N: Sink>(notes: &mut N, words: &str, spot: &Spot) -> Result<(), Failed>
-    ensures bytes { WritesAll (N.written notes.old) (N.written notes.new) result (words.now ++ place_said spot.now) }
-    ensures cause { CountsFaults (N.faults notes.old) (N.faults notes.new) result }
+    ensures { WritesBytes N.written N.faults notes.old notes.new result (words.now ++ place_said spot.now) }
 {
     write_all(notes, words.as_bytes())?;
     write_spot(notes, spot)
@@ -122,8 +92,7 @@ fn write_place<N: Sink>(notes: &mut N, words: &str, spot: &Spot) -> Result<(), F
 
 // The second length of two lists.
 fn write_second<N: Sink>(notes: &mut N, second: usize) -> Result<(), Failed>
-    ensures bytes { WritesAll (N.written notes.old) (N.written notes.new) result (second_said second) }
-    ensures cause { CountsFaults (N.faults notes.old) (N.faults notes.new) result }
+    ensures { WritesBytes N.written N.faults notes.old notes.new result (second_said second) }
 {
     write_counted(notes, " and ", second)?;
     write_all(notes, b" components")
@@ -131,17 +100,15 @@ fn write_second<N: Sink>(notes: &mut N, second: usize) -> Result<(), Failed>
 
 // The lengths of two lists.
 fn write_lengths<N: Sink>(notes: &mut N, first: usize, second: usize) -> Result<(), Failed>
-    ensures bytes { WritesAll (N.written notes.old) (N.written notes.new) result (lengths_said first second) }
-    ensures cause { CountsFaults (N.faults notes.old) (N.faults notes.new) result }
+    ensures { WritesBytes N.written N.faults notes.old notes.new result (lengths_said first second) }
 {
     write_counted(notes, "lists of ", first)?;
     write_second(notes, second)
 }
 
 // The line.
-fn write_told<N: Sink>(notes: &mut N, told: &Told) -> Result<(), Failed>
-    ensures bytes { WritesAll (N.written notes.old) (N.written notes.new) result (ending_told told.now).line }
-    ensures cause { CountsFaults (N.faults notes.old) (N.faults notes.new) result }
+fn write_text<N: Sink>(notes: &mut N, told: &Told) -> Result<(), Failed>
+    ensures { WritesBytes N.written N.faults notes.old notes.new result (ending_told told.now).line }
 {
     match told.line {
         Line::Words(words, number) => write_numbered(notes, words, number),
@@ -151,15 +118,17 @@ fn write_told<N: Sink>(notes: &mut N, told: &Told) -> Result<(), Failed>
 }
 
 // Words alone.
-fn said(status: Status, words: &'static str) -> Told
-    ensures { result ≡ record { status = status; line = lines.Words words.entry None } }
+fn tell_words(status: Status, words: &'static str) -> Told
+    requires { 0 < length words.now }
+    ensures { ending_told result ≡ ending (number_of status) (numbered words.now None) }
 {
-    counted(status, words, None)
+    tell_number(status, words, None)
 }
 
 // Words and a number behind them.
-fn counted(status: Status, words: &'static str, number: Option<i128>) -> Told
-    ensures { result ≡ record { status = status; line = lines.Words words.entry number } }
+fn tell_number(status: Status, words: &'static str, number: Option<i128>) -> Told
+    requires { 0 < length words.now }
+    ensures { ending_told result ≡ ending (number_of status) (numbered words.now number) }
 {
     Told {
         status,
@@ -168,8 +137,9 @@ fn counted(status: Status, words: &'static str, number: Option<i128>) -> Told
 }
 
 // Words and a place in a certificate.
-fn placed(status: Status, words: &'static str, spot: Spot) -> Told
-    ensures { result ≡ record { status = status; line = lines.Place words.entry spot } }
+fn tell_place(status: Status, words: &'static str, spot: Spot) -> Told
+    requires { 0 < length words.now }
+    ensures { ending_told result ≡ ending (number_of status) (words.now ++ spot_text (spot_of spot)) }
 {
     Told {
         status,
@@ -179,150 +149,139 @@ fn placed(status: Status, words: &'static str, spot: Spot) -> Told
 
 // What is told of an ending.
 pub(crate) fn tell(ending: Ending) -> Told
-    ensures told { ending_told result ≡ ending_of ending }
-    ensures words { 0 < length (words_of result.line) }
+    ensures { ending_told result ≡ ending_of ending }
 {
     match ending {
-        Ending::Usage => said(Status::WrongWords, "usage"),
-        Ending::ReadFault => said(Status::ReadFailed, "read fault"),
-        Ending::WriteFault => said(Status::WriteFailed, "write fault"),
-        Ending::WantOfMemory => want_of_memory(),
-        Ending::InputTooLong => counted(
+        Ending::Usage => tell_words(Status::WrongWords, "usage"),
+        Ending::ReadFault => tell_words(Status::ReadFailed, "read fault"),
+        Ending::WriteFault => tell_words(Status::WriteFailed, "write fault"),
+        Ending::WantOfMemory => tell_want_of_memory(),
+        Ending::InputTooLong => tell_number(
             Status::PastLimit,
             "limit of input bytes ",
             Some(MOST_INPUT_BYTES as i128),
         ),
-        Ending::Problem(refusal) => problem_told(refusal),
-        Ending::Answer(refusal) => answer_told(refusal),
-        Ending::Certificate(refusal) => certificate_told(refusal),
-        Ending::RationalCertificate => said(
+        Ending::Problem(refusal) => tell_problem(refusal),
+        Ending::Answer(refusal) => tell_answer(refusal),
+        Ending::Certificate(refusal) => tell_certificate(refusal),
+        Ending::RationalCertificate => tell_words(
             Status::NotSupported,
             "unsupported rational certificate",
         ),
-        Ending::Rejected(spot) => rejected(spot),
-        Ending::OverflowAt(spot) => overflow_at(spot),
-        Ending::Run(refusal) => run_told(refusal),
-        Ending::Walk(refusal) => walk_told(refusal),
+        Ending::Rejected(spot) => tell_rejection(spot),
+        Ending::OverflowAt(spot) => tell_overflow(spot),
+        Ending::Run(refusal) => tell_run(refusal),
+        Ending::Walk(refusal) => tell_walk(refusal),
     }
 }
 
-fn want_of_memory() -> Told
-    ensures told { ending_told result ≡ memory_ending }
-    ensures words { 0 < length (words_of result.line) }
+fn tell_want_of_memory() -> Told
+    ensures { ending_told result ≡ memory_ending }
 {
-    said(Status::MemoryRefused, "want of memory")
+    tell_words(Status::MemoryRefused, "want of memory")
 }
 
-fn syntax_at(place: usize) -> Told
-    ensures told { ending_told result ≡ fault_ending (Syntax place) }
-    ensures words { 0 < length (words_of result.line) }
+fn tell_syntax(place: usize) -> Told
+    ensures { ending_told result ≡ fault_ending (Syntax place) }
 {
-    counted(Status::WrongText, "syntax at byte ", Some(place as i128))
+    tell_number(Status::WrongText, "syntax at byte ", Some(place as i128))
 }
 
-fn wide_at(place: usize) -> Told
-    ensures told { ending_told result ≡ fault_ending (Wide place) }
-    ensures words { 0 < length (words_of result.line) }
+fn tell_wide(place: usize) -> Told
+    ensures { ending_told result ≡ fault_ending (Wide place) }
 {
-    counted(
+    tell_number(
         Status::PastLimit,
         "number too wide at byte ",
         Some(place as i128),
     )
 }
 
-fn problem_told(refusal: ReadRefusal) -> Told
-    ensures told { ending_told result ≡ or_memory (read_ending refusal) }
-    ensures words { 0 < length (words_of result.line) }
+fn tell_problem(refusal: ReadRefusal) -> Told
+    ensures { ending_told result ≡ or_memory (read_ending refusal) }
 {
     match refusal {
-        ReadRefusal::Syntax(place) => syntax_at(place),
-        ReadRefusal::Wide(place) => wide_at(place),
-        ReadRefusal::Limit(kind, value) => counted(
+        ReadRefusal::Syntax(place) => tell_syntax(place),
+        ReadRefusal::Wide(place) => tell_wide(place),
+        ReadRefusal::Limit(kind, value) => tell_number(
             Status::PastLimit,
             limit_words(kind),
             Some(value),
         ),
-        ReadRefusal::BigParameter(value) => counted(
+        ReadRefusal::BigParameter(value) => tell_number(
             Status::NotSupported,
             "unsupported big parameter ",
             Some(value),
         ),
-        ReadRefusal::OptionWord(word) => said(Status::NotSupported, option_words(word)),
-        ReadRefusal::WantOfMemory => want_of_memory(),
+        ReadRefusal::OptionWord(word) => tell_words(Status::NotSupported, option_words(word)),
+        ReadRefusal::WantOfMemory => tell_want_of_memory(),
     }
 }
 
-fn answer_told(refusal: TextRefusal) -> Told
-    ensures told { ending_told result ≡ or_memory (text_ending refusal) }
-    ensures words { 0 < length (words_of result.line) }
+fn tell_answer(refusal: TextRefusal) -> Told
+    ensures { ending_told result ≡ or_memory (text_ending refusal) }
 {
     match refusal {
-        TextRefusal::Syntax(place) => syntax_at(place),
-        TextRefusal::Wide(place) => wide_at(place),
-        TextRefusal::Nesting => counted(
+        TextRefusal::Syntax(place) => tell_syntax(place),
+        TextRefusal::Wide(place) => tell_wide(place),
+        TextRefusal::Nesting => tell_number(
             Status::PastLimit,
             "limit of nesting ",
             Some(MOST_NESTING as i128),
         ),
-        TextRefusal::Components(count) => counted(
+        TextRefusal::Components(count) => tell_number(
             Status::PastLimit,
             "limit of components ",
             Some(count),
         ),
-        TextRefusal::WantOfMemory => want_of_memory(),
+        TextRefusal::WantOfMemory => tell_want_of_memory(),
     }
 }
 
-fn certificate_told(refusal: CertificateRefusal) -> Told
-    ensures told { ending_told result ≡ or_memory (certificate_ending refusal) }
-    ensures words { 0 < length (words_of result.line) }
+fn tell_certificate(refusal: CertificateRefusal) -> Told
+    ensures { ending_told result ≡ or_memory (certificate_ending refusal) }
 {
     match refusal {
-        CertificateRefusal::Syntax(place) => syntax_at(place),
-        CertificateRefusal::Wide(place) => wide_at(place),
-        CertificateRefusal::Version(version) => counted(
+        CertificateRefusal::Syntax(place) => tell_syntax(place),
+        CertificateRefusal::Wide(place) => tell_wide(place),
+        CertificateRefusal::Version(version) => tell_number(
             Status::NotSupported,
             "unsupported certificate ",
             Some(version),
         ),
-        CertificateRefusal::WantOfMemory => want_of_memory(),
+        CertificateRefusal::WantOfMemory => tell_want_of_memory(),
     }
 }
 
-fn rejected(spot: Spot) -> Told
-    ensures told { ending_told result ≡ check_ending (Rejected (spot_of spot)) }
-    ensures words { 0 < length (words_of result.line) }
+fn tell_rejection(spot: Spot) -> Told
+    ensures { ending_told result ≡ check_ending (Rejected (spot_of spot)) }
 {
-    placed(Status::NotAccepted, "rejected", spot)
+    tell_place(Status::NotAccepted, "rejected", spot)
 }
 
-fn overflow_at(spot: Spot) -> Told
-    ensures told { ending_told result ≡ check_ending (Unfit (spot_of spot)) }
-    ensures words { 0 < length (words_of result.line) }
+fn tell_overflow(spot: Spot) -> Told
+    ensures { ending_told result ≡ check_ending (Unfit (spot_of spot)) }
 {
-    placed(Status::NumberTooLarge, "overflow", spot)
+    tell_place(Status::NumberTooLarge, "overflow", spot)
 }
 
-fn walk_told(refusal: ToolRefusal) -> Told
-    ensures told { ending_told result ≡ or_memory (walk_ending refusal) }
-    ensures words { 0 < length (words_of result.line) }
+fn tell_walk(refusal: ToolRefusal) -> Told
+    ensures { ending_told result ≡ or_memory (walk_ending refusal) }
 {
     match refusal {
-        ToolRefusal::Overflow => said(Status::NumberTooLarge, "overflow"),
-        ToolRefusal::Pivots(limit) => budget("budget of pivots ", limit),
-        ToolRefusal::Cuts(limit) => budget("budget of cuts ", limit),
-        ToolRefusal::Splits(limit) => budget("budget of splits ", limit),
-        ToolRefusal::Nesting(limit) => budget("budget of nesting ", limit),
-        ToolRefusal::Negative => said(Status::QuotientNegative, "negative quotient"),
-        ToolRefusal::Lengths(first, second) => lengths(first, second),
-        ToolRefusal::WantOfMemory => want_of_memory(),
+        ToolRefusal::Overflow => tell_words(Status::NumberTooLarge, "overflow"),
+        ToolRefusal::Pivots(limit) => tell_budget("budget of pivots ", limit),
+        ToolRefusal::Cuts(limit) => tell_budget("budget of cuts ", limit),
+        ToolRefusal::Splits(limit) => tell_budget("budget of splits ", limit),
+        ToolRefusal::Nesting(limit) => tell_budget("budget of nesting ", limit),
+        ToolRefusal::Negative => tell_words(Status::QuotientNegative, "negative quotient"),
+        ToolRefusal::Lengths(first, second) => tell_lengths(first, second),
+        ToolRefusal::WantOfMemory => tell_want_of_memory(),
     }
 }
 
-fn lengths(first: usize, second: usize) -> Told
-    ensures told { ending_told result ≡ tool_ending (Lengths first second) }
-    ensures words { 0 < length (words_of result.line) }
+fn tell_lengths(first: usize, second: usize) -> Told
+    ensures { ending_told result ≡ tool_ending (Lengths first second) }
 {
     Told {
         status: Status::LengthsDiffer,
@@ -356,22 +315,22 @@ fn option_words(word: Option_) -> &'static str
     }
 }
 
-fn run_told(refusal: Refusal) -> Told
-    ensures told { ending_told result ≡ or_memory (run_ending refusal) }
-    ensures words { 0 < length (words_of result.line) }
+fn tell_run(refusal: Refusal) -> Told
+    ensures { ending_told result ≡ or_memory (run_ending refusal) }
 {
     match refusal {
-        Refusal::Overflow => said(Status::NumberTooLarge, "overflow"),
-        Refusal::Pivots(limit) => budget("budget of pivots ", limit),
-        Refusal::Cuts(limit) => budget("budget of cuts ", limit),
-        Refusal::Splits(limit) => budget("budget of splits ", limit),
-        Refusal::Nesting(limit) => budget("budget of nesting ", limit),
-        Refusal::WantOfMemory => want_of_memory(),
+        Refusal::Overflow => tell_words(Status::NumberTooLarge, "overflow"),
+        Refusal::Pivots(limit) => tell_budget("budget of pivots ", limit),
+        Refusal::Cuts(limit) => tell_budget("budget of cuts ", limit),
+        Refusal::Splits(limit) => tell_budget("budget of splits ", limit),
+        Refusal::Nesting(limit) => tell_budget("budget of nesting ", limit),
+        Refusal::WantOfMemory => tell_want_of_memory(),
     }
 }
 
-fn budget(words: &'static str, limit: u64) -> Told
-    ensures { result ≡ record { status = statuses.BudgetSpent; line = lines.Words words.entry (Some (pos limit)) } }
+fn tell_budget(words: &'static str, limit: u64) -> Told
+    requires { 0 < length words.now }
+    ensures { ending_told result ≡ ending budget_spent (numbered words.now (Some (pos limit))) }
 {
-    counted(Status::BudgetSpent, words, Some(i128::from(limit)))
+    tell_number(Status::BudgetSpent, words, Some(i128::from(limit)))
 }

@@ -2,14 +2,14 @@
 use Rattle.std.proofs.Common.{◌≡◌, refl, sym, ap, subst, ◌∙◌, ℕ, ◌+◌, ◌-◌, ◌<◌, ◌≤◌, inl, inr, arith, Bool, true, false, not, List, [], length, length-append, length-drop, take, drop}
 use Rattle.std.proofs.KnownBytes.{Appends-nil}
 use Rattle.std.proofs.lemmas.List.{drop-drop, drop-take}
-use Rattle.std.specs.Prelude.{◌⊎◌, ◌↔◌, Option, Some, None, IfSome, Result, Ok, Err, IsErrOf, MatchBool, if◌then◌else◌}
+use Rattle.std.specs.Prelude.{◌⊎◌, ◌↔◌, Option, Some, None, IfSome, Result, Ok, Err, IfErr, IsErrOf, MatchBool, Vec, if◌then◌else◌}
+use Rattle.std.specs.declared.alloc.Global.{Global}
+use Rattle.pip_items.specs.Inputs.{IsOfInput}
 use Rattle.std.specs.Option.{option_map}
 use Rattle.std.specs.List.{list_all}
 use Rattle.std.specs.Io.KnownBytes.{Appends}
 use Rattle.pip_outside.specs.Bytes.{AppendsFront}
 use Rattle.pip_outside.specs.Windows.{HeldBytes}
-use Rattle.pip_outside.specs.declared.window.FillRefusal.{FillRefusal}
-use Rattle.pip_outside.specs.declared.window.FillRefusal.TheVariants as fill
 use Rattle.pip_model.specs.Limits.{most_input_bytes}
 use Rattle.pip_model.specs.Problem.{Problem}
 use Rattle.pip_model.specs.Reading.{Fault}
@@ -32,11 +32,12 @@ use Rattle.pip_stream.specs.Next.{ReadsNext, ReadsNone, IsSpared, StaysOpen, Hol
 use Rattle.pip_stream.specs.declared.refusal.NextRefusal.{NextRefusal}
 use Rattle.pip_stream.specs.declared.refusal.NextRefusal.TheVariants as next
 use Rattle.pip_endings.specs.Endings.{told, IsOfItem}
-use Rattle.pip_endings.specs.Inputs.{unfilled_ending, next_ending}
+use Rattle.pip_endings.specs.Inputs.{next_ending}
 use Rattle.pip_endings.specs.declared.ending.Ending.{Ending as Refused}
 use Rattle.pip_endings.specs.declared.ending.Ending.TheVariants as ending
 use Rattle.pip_items.specs.Items.{Gained, GainedFront}
-use Rattle.pip_outside.specs.Faults.{HasRisen}
+use Rattle.pip_outside.specs.Faults.{HasRisen, CountsFaults}
+use Rattle.pip_outside.proofs.Faults.{counts-none, counts-as, counts-refused}
 use Rattle.pip_items.specs.Outputs.{TakesInputAtMost, EndsByFaults, WritesOutput}
 use Rattle.pip_items.specs.Answered.{Answers, IsUnread, IsUnanswered, AnswersNext}
 use Rattle.pip_items.specs.ByProblem.{AreEnded, AreBefore, AreAll, WritesTillEnd, WritesByProblem, WritesOf}
@@ -236,9 +237,6 @@ pub if-told : (P : Type 0) (o : Option (List ℕ)) → P → IfSome o (λ _. P)
 if-told P None p = tt
 if-told P (Some x) p = p
 
-pub risen-from : (a b n : ℕ) → a ≡ b → HasRisen a n → HasRisen b n
-risen-from a b n e h = subst (λ k. HasRisen k n) e h
-
 -- ---- refusals
 
 pub next-usage : (e : NextRefusal) → next_ending e ≡ ending.Usage → ⊥
@@ -273,55 +271,61 @@ err-same x y h = cc
 next-same : {T : Type 0} (x y : NextRefusal) → IsErrOf {T = T} (Err x) y → x ≡ y
 next-same x y h = cc
 
+-- a call that failed, and ends the run
+pub counts-failed : {F G : Type 0} (a b c : ℕ) → b ≡ a → CountsFaults F b c → F → G → CountsFaults G a c
+counts-failed a b c e h f g = counts-as a b c e (λ _. f) (λ _. g) h
+
+faults-by : {T : Type 0} (rb ra wb wa : ℕ) (r : Result T Refused) → CountsFaults (IsErrOf r ending.ReadFault) rb ra → CountsFaults (IsErrOf r ending.WriteFault) wb wa → EndsByFaults rb ra wb wa r
+faults-by rb ra wb wa r h k = record { read_fault = h.cause; write_fault = k.cause; read_quiet = h.quiet; write_quiet = k.quiet }
+
 pub faults-ok : {T : Type 0} (rb ra wb wa : ℕ) (x : T) → EndsByFaults {T = T} rb ra wb wa (Ok x) → (ra ≡ rb) × (wa ≡ wb)
 faults-ok rb ra wb wa x h = (h.read_quiet (λ p. cc), h.write_quiet (λ p. cc))
 
 module _ (rb r0 ra wb w0 wa : ℕ) (read : r0 ≡ rb) (write : w0 ≡ wb) where
   pub faults-none : {T : Type 0} (x : T) → EndsByFaults {T = T} rb r0 wb w0 (Ok x)
-  faults-none x = record { read_fault = λ h. absurd cc; write_fault = λ h. absurd cc; read_quiet = λ h. read; write_quiet = λ h. write }
+  faults-none x = faults-by rb r0 wb w0 (Ok x) (counts-none rb r0 (λ h. cc) read) (counts-none wb w0 (λ h. cc) write)
 
-  pub faults-next : {T : Type 0} (e : NextRefusal) → (¬ IsErrOf {T = Option (Problem × ℕ)} (Err e) next.Failed → ra ≡ r0) → (IsErrOf {T = Option (Problem × ℕ)} (Err e) next.Failed → HasRisen r0 ra) → EndsByFaults {T = T} rb ra wb w0 (Err (next_ending e))
-  faults-next e quiet cause = record {
-    read_fault = λ h. risen-from r0 rb ra read (cause (ap Err (next-fault e (err-same _ _ h))));
-    write_fault = λ h. absurd (next-no_write e (err-same _ _ h));
-    read_quiet = λ h. quiet (λ k. h (ap (λ x. Err (next_ending x)) (next-same e next.Failed k))) ∙ read;
-    write_quiet = λ h. write;
-  }
+  pub faults-next : {T : Type 0} (e : NextRefusal) → CountsFaults (IsErrOf {T = Option (Problem × ℕ)} (Err e) next.Failed) r0 ra → EndsByFaults {T = T} rb ra wb w0 (Err (next_ending e))
+  faults-next e h = faults-by rb ra wb w0 (Err (next_ending e))
+      (counts-as rb r0 ra read (λ k. ap Err (next-fault e (err-same _ _ k))) (λ k. ap (λ x. Err (next_ending x)) (next-same e next.Failed k)) h)
+      (counts-none wb w0 (λ k. next-no_write e (err-same _ _ k)) write)
 
   pub faults-own : {T : Type 0} (e : Refused) → IsOfItem e → EndsByFaults {T = T} rb r0 wb w0 (Err e)
   faults-own e own =
       let n = own-not e own in
-      record {
-        read_fault = λ h. absurd (n.1 (err-same _ _ h));
-        write_fault = λ h. absurd (n.2 (err-same _ _ h));
-        read_quiet = λ h. read;
-        write_quiet = λ h. write;
-      }
+      faults-by rb r0 wb w0 (Err e) (counts-none rb r0 (λ h. n.1 (err-same _ _ h)) read) (counts-none wb w0 (λ h. n.2 (err-same _ _ h)) write)
 
-  pub faults-write : {T : Type 0} → HasRisen w0 wa → EndsByFaults {T = T} rb r0 wb wa (Err ending.WriteFault)
-  faults-write risen = record {
-    read_fault = λ h. absurd cc;
-    write_fault = λ h. risen-from w0 wb wa write risen;
-    read_quiet = λ h. read;
-    write_quiet = λ h. absurd (h refl);
-  }
+  pub faults-write : {T : Type 0} {Fails : Type 0} → CountsFaults Fails w0 wa → Fails → EndsByFaults {T = T} rb r0 wb wa (Err ending.WriteFault)
+  faults-write h failed = faults-by rb r0 wb wa (Err ending.WriteFault) (counts-none rb r0 (λ k. cc) read) (counts-failed wb w0 wa write h failed refl)
 
   -- behind calls without a fault
   pub faults-after : {T U : Type 0} (e : Refused) → EndsByFaults {T = T} r0 ra w0 wa (Err e) → EndsByFaults {T = U} rb ra wb wa (Err e)
   faults-after e h = record {
-    read_fault = λ k. risen-from r0 rb ra read (h.read_fault (ap (λ x. Err x) (err-same _ _ k)));
-    write_fault = λ k. risen-from w0 wb wa write (h.write_fault (ap (λ x. Err x) (err-same _ _ k)));
+    read_fault = λ k. subst (λ n. HasRisen n ra) read (h.read_fault (ap (λ x. Err x) (err-same _ _ k)));
+    write_fault = λ k. subst (λ n. HasRisen n wa) write (h.write_fault (ap (λ x. Err x) (err-same _ _ k)));
     read_quiet = λ k. h.read_quiet (λ q. k (ap (λ x. Err x) (err-same _ _ q))) ∙ read;
     write_quiet = λ k. h.write_quiet (λ q. k (ap (λ x. Err x) (err-same _ _ q))) ∙ write;
   }
 
--- no window is made, for want of memory
-unmade_memory : (o : SolveOptions) (input a : Option (List ℕ)) (n : ℕ) → n ≡ 0 → IfSome input (λ bytes. WritesByProblem (Solve o) bytes n a a (Err ending.WantOfMemory))
-unmade_memory o None a n zero = tt
-unmade_memory o (Some bytes) a n zero = record { texts = []; are = record { place = 0; texts = refl; spared = λ q e. omega (arith, zero) }; gained = Appends-nil a }
+-- the input is not read
+not_write : (e : Refused) → IsOfInput (Err e) → e ≡ ending.WriteFault → ⊥
+not_write e own h = subst (λ x. IsOfInput (Err x)) h own
 
-pub unmade : (o : SolveOptions) (input a : Option (List ℕ)) (n : ℕ) → n ≡ 0 → (e : FillRefusal) → e ≡ fill.WantOfMemory → IfSome input (λ bytes. WritesByProblem (Solve o) bytes n a a (Err (unfilled_ending e)))
-unmade o input a n zero e w = subst (λ x. IfSome input (λ bytes. WritesByProblem (Solve o) bytes n a a (Err (unfilled_ending x)))) (sym w) (unmade_memory o input a n zero)
+pub faults-unread : {T : Type 0} (rb ra w : ℕ) (e : Refused) → IsOfInput (Err e) → CountsFaults (IsErrOf {T = Vec ℕ Global} (Err e) ending.ReadFault) rb ra → EndsByFaults {T = T} rb ra w w (Err e)
+faults-unread rb ra w e own h = faults-by rb ra w w (Err e) (counts-refused e ending.ReadFault rb rb ra refl h) (counts-none w w (λ k. not_write e own (err-same _ _ k)) refl)
+
+-- items are written
+not_read : (r : Result (Unit {0}) Refused) → IfErr r (λ e. ¬ (e ≡ ending.WriteFault) → IsOfItem e) → IsErrOf r ending.ReadFault → ⊥
+not_read (Ok u) own h = cc
+not_read (Err e) own h = (subst (λ x. ¬ (x ≡ ending.WriteFault) → IsOfItem x) (err-same _ _ h) own) (λ p. cc)
+
+pub faults-items : (rb ra wb wa : ℕ) (r : Result (Unit {0}) Refused) → IfErr r (λ e. ¬ (e ≡ ending.WriteFault) → IsOfItem e) → ra ≡ rb → CountsFaults (IsErrOf r ending.WriteFault) wb wa → EndsByFaults rb ra wb wa r
+faults-items rb ra wb wa r own e h = faults-by rb ra wb wa r (counts-none rb ra (not_read r own) e) h
+
+-- no window is made, for want of memory
+pub unmade : (o : SolveOptions) (input a : Option (List ℕ)) (n : ℕ) → n ≡ 0 → IfSome input (λ bytes. WritesByProblem (Solve o) bytes n a a (Err ending.WantOfMemory))
+unmade o None a n zero = tt
+unmade o (Some bytes) a n zero = record { texts = []; are = record { place = 0; texts = refl; spared = λ q e. omega (arith, zero) }; gained = Appends-nil a }
 
 pub none-taken : (input : Option (List ℕ)) (i : ℕ) → TakesInputAtMost input i i
 none-taken input i = taken-few input i i 0 (if-told _ input (omega arith)) (omega arith)
@@ -421,13 +425,6 @@ own-not_long e own h = cc
 
 pub err-limit : {T : Type 0} (e : Refused) (n : ℕ) → (IsErrOf {T = T} (Err e) ending.InputTooLong ↔ (most_input_bytes < n)) → (e ≡ ending.InputTooLong) ↔ (most_input_bytes < n)
 err-limit e n h = (λ p. h.0 (ap (λ x. Err x) p), λ q. err-same _ _ (h.1 q))
-
-pub unmade-faults : (r w : ℕ) (e : FillRefusal) → e ≡ fill.WantOfMemory → EndsByFaults {T = Unit {0}} r r w w (Err (unfilled_ending e))
-unmade-faults r w e h = subst (λ x. EndsByFaults {T = Unit {0}} r r w w (Err (unfilled_ending x))) (sym h) (faults-own r r r w w w refl refl ending.WantOfMemory tt)
-
-pub unmade-usage : (e : FillRefusal) → ¬ IsErrOf {T = Unit {0}} (Err (unfilled_ending e)) ending.Usage
-unmade-usage fill.Failed h = cc
-unmade-usage fill.WantOfMemory h = cc
 
 pub next-words : {T : Type 0} (e : NextRefusal) → ¬ IsErrOf {T = T} (Err (next_ending e)) ending.Usage
 next-words e h = next-usage e (err-same _ _ h)

@@ -6,7 +6,9 @@ use Rattle.pip_outside.specs.Calls.{Takes, AsksOn}
 use Rattle.pip_outside.proofs.Calls.{takes-none, takes-more, takes-then, asks-none, asks-once, asks-then}
 use Rattle.pip_outside.specs.Windows.{HeldBytes}
 use Rattle.program_model.specs.Commands.{SolveOptions}
-use Rattle.pip_stream.specs.Asked.{AsksUntil}
+use Rattle.pip_stream.specs.Asked.{AsksUntil, AsksInTurns, AsksWhileOpen, CallsFor}
+use Rattle.pip_stream.specs.Windows.{taken_by}
+use Rattle.pip_stream.proofs.Dropping.{if-map}
 use Rattle.pip_items.proofs.ByProblem.{if-some, Follows}
 
 module _ {S : Type 0} (Calls : S → S → Type 0) (taken : S → ℕ) where
@@ -53,3 +55,15 @@ module _ {S : Type 0} (Calls : S → S → Type 0) (taken : S → ℕ) where
         by_told : (i : Option (List ℕ)) → IfSome i (λ bytes. Follows o bytes w now a b) → IfSome i (λ _. Takes Calls taken s t) → IfSome i (λ _. Takes Calls taken s u)
         by_told None f g = tt
         by_told (Some bytes) f g = takes-then Calls taken s t u g (if-some (λ _. Takes Calls taken t u) now f.left_now f.told h)
+
+-- ---- the calls for the next problem
+
+module _ {S : Type 0} (Calls : S → S → Type 0) (taken : S → ℕ) (s u : S) (a v : HeldBytes) (found : Bool) (o : Option (List ℕ)) (h : IfSome o (λ left. CallsFor Calls taken s u a v left found)) where
+  pub calls-counted : IfSome o (λ _. taken u + taken_by a ≡ taken s + taken_by v)
+  calls-counted = if-map (λ left. CallsFor Calls taken s u a v left found) (λ _. taken u + taken_by a ≡ taken s + taken_by v) o (λ left k. k.counted) h
+
+  pub calls-asked : IfSome o (AsksWhileOpen Calls taken s u a)
+  calls-asked = if-map (λ left. CallsFor Calls taken s u a v left found) (AsksWhileOpen Calls taken s u a) o (λ left k. k.asked) h
+
+  pub calls-turns : IfSome o (λ _. AsksInTurns Calls taken s u found)
+  calls-turns = if-map (λ left. CallsFor Calls taken s u a v left found) (λ _. AsksInTurns Calls taken s u found) o (λ left k. k.turns) h

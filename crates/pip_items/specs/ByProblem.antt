@@ -1,6 +1,6 @@
 -- What `solve` writes of native problems, which it reads one by one.
-use Rattle.std.specs.Prelude.{◌≡◌, ℕ, ◌+◌, ◌<◌, ◌≤◌, Bool, true, false, MatchBool, List, length, take, drop, Option, Some, None, Result, Ok, Err}
-use Rattle.pip_outside.specs.Calls.{CallsWithin}
+use Rattle.std.specs.Prelude.{◌≡◌, ℕ, ◌+◌, ◌<◌, ◌≤◌, Bool, true, false, MatchBool, List, length, take, drop, Option, Some, None, IfSome, Result, Ok, Err}
+use Rattle.pip_outside.specs.Calls.{AsksOn, CallsWithin}
 use Rattle.pip_model.specs.Limits.{most_input_bytes}
 use Rattle.program_model.specs.Commands.{Command, way, item_text}
 use Rattle.program_model.specs.Endings as model
@@ -11,7 +11,7 @@ use Rattle.pip_endings.specs.Endings.{told}
 use Rattle.pip_endings.specs.declared.ending.Ending.{Ending}
 use Rattle.pip_endings.specs.declared.ending.Ending.TheVariants as ending
 use Rattle.pip_items.specs.Items.{Gained, GainedFront}
-use Rattle.pip_items.specs.Outputs.{TakesInput, WritesOutput}
+use Rattle.pip_items.specs.Outputs.{TakesInput, TakesInputAtMost, bytes_read, WritesOutput}
 
 -- whether a command reads problem by problem: each other one that takes an input reads it whole first
 abbrev pub reads_by_problem : Command → Bool
@@ -77,3 +77,11 @@ StopsAtRefused Calls taken old new c bytes =
     reads_by_problem c ≡ true → (place n : ℕ) → IsRefusedAt c bytes place
     → first_group_end (drop place bytes) ≡ Some n →
     CallsWithin Calls taken old new 0 (place + n)
+
+-- What a command's run does to its source, where that tells: when it is called, that each call but the last takes a
+-- byte, and how many are taken.
+pub record CallsBy {S : Type 0} (told : S → Option (List ℕ)) (Calls : S → S → Type 0) (count : S → ℕ) (old new : S)
+    (c : Command) : Type 0 where
+  pub asked : IfSome (bytes_read c (told old)) (StopsAtRefused Calls count old new c)
+  pub turns : IfSome (told old) (λ _. AsksOn Calls count old new)
+  pub taken : TakesInputAtMost (told old) (count old) (count new)

@@ -1,11 +1,12 @@
 -- What is written of the items of an input, in order.
-use Rattle.std.specs.Prelude.{◌≡◌, ℕ, ◌<◌, ◌≤◌, List, Option, Some, None, IfSome, Result, Ok, Err}
+use Rattle.std.specs.Prelude.{◌≡◌, ℕ, ◌<◌, ◌≤◌, List, Option, Some, None, IfSome, Result, Ok, Err, IfOk, IfErr}
 use Rattle.std.specs.List.{concat}
 use Rattle.std.specs.Io.KnownBytes.{Appends}
 use Rattle.pip_outside.specs.Bytes.{AppendsFront}
 use Rattle.program_model.specs.Endings as model
 use Rattle.program_model.specs.Items.{ItemAt, FirstItems, Items, IsItself, NoEnd}
-use Rattle.pip_endings.specs.Endings.{told}
+use Rattle.pip_model.specs.Agreement.{Agrees}
+use Rattle.pip_endings.specs.Endings.{told, IsOfItem}
 use Rattle.pip_endings.specs.declared.ending.Ending.{Ending}
 use Rattle.pip_endings.specs.declared.ending.Ending.TheVariants as ending
 
@@ -28,6 +29,22 @@ IsTextAt wanted (Err e) t = IfSome (told e) (λ f. wanted ≡ Err f)
 -- a place behind this one, the last at most
 abbrev pub IsBehind : ℕ → ℕ → ℕ → Type 0
 IsBehind at last after = (at < after) × (after ≤ last)
+
+-- What is read at a place is what the definition reads there, or its end, and the place behind it is behind this one.
+pub record Finds {A C : Type 0} (seen : A × ℕ → C) (Is : A → Type 0) (wanted : Result C model.Ending) (at last : ℕ)
+    (found : Result (A × ℕ) Ending) : Type 0 where
+  pub agrees : Agrees seen told found wanted
+  pub own : IfErr found IsOfItem
+  pub item : IfOk found (λ x. Is x.0)
+  pub after : IfOk found (λ x. IsBehind at last x.1)
+
+-- the same of an item, or of none
+pub record FindsItem {A B : Type 0} (seen : A → B) (Is : A → Type 0) (wanted : ItemAt B) (at last : ℕ)
+    (found : Result (Option (A × ℕ)) Ending) : Type 0 where
+  pub agrees : Agrees (found_by seen) told found wanted
+  pub own : IfErr found IsOfItem
+  pub item : IfOk found (λ o. IfSome o (λ x. Is x.0))
+  pub after : IfOk found (λ o. IfSome o (λ x. IsBehind at last x.1))
 
 -- the bytes gained are such texts, whole and in order
 pub record Gained (Are : List (List ℕ) → Type 0) (before after : Option (List ℕ)) : Type 0 where

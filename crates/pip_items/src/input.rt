@@ -1,7 +1,7 @@
-ghost use Rattle.std.specs.Prelude.{◌≡◌, ◌≤◌, IfSome, IsErrOf, OnOk};
+ghost use Rattle.std.specs.Prelude.{IfSome, IsErrOf, OnOk};
 ghost use Rattle.std.specs.Io.KnownBytes.{IsAtEnd};
 ghost use Rattle.pip_outside.specs.Calls.{AsksOn};
-ghost use Rattle.pip_outside.specs.Faults.{HasRisen};
+ghost use Rattle.pip_outside.specs.Faults.{CountsFaults};
 ghost use Rattle.pip_items.specs.Inputs.{ReadsInput, IsOfInput};
 ghost use Rattle.pip_items.specs.Outputs.{TakesInputAtMost};
 
@@ -18,9 +18,7 @@ pub(crate) fn read_input<S: Source>(alloc: Global, source: &mut S) -> Result<Vec
     ensures end { OnOk result (IsAtEnd (S.left source.new)) }
     ensures taken { TakesInputAtMost (S.left source.old) (S.taken source.old) (S.taken source.new) }
     ensures turns { IfSome (S.left source.old) (λ _. AsksOn S.calls S.taken source.old source.new) }
-    ensures later { S.faults source.old ≤ S.faults source.new }
-    ensures quiet { ¬ IsErrOf result Ending.ReadFault → S.faults source.new ≡ S.faults source.old }
-    ensures cause { IsErrOf result Ending.ReadFault → HasRisen (S.faults source.old) (S.faults source.new) }
+    ensures faults { CountsFaults (IsErrOf result Ending.ReadFault) (S.faults source.old) (S.faults source.new) }
 {
     let mut bytes = Vec::new(alloc);
     let mut buf = [0u8; 4096];

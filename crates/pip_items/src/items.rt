@@ -1,9 +1,8 @@
 ghost use Rattle.std.specs.Prelude.{◌≡◌, ◌≤◌, ℕ, List, [], IfOk, IfErr, IfSome, IsErrOf};
-ghost use Rattle.pip_model.specs.Agreement.{Agrees};
-ghost use Rattle.pip_outside.specs.Faults.{HasRisen};
+ghost use Rattle.pip_outside.specs.Faults.{CountsFaults};
 ghost use Rattle.program_model.specs.Commands.{Command, Item, item_at, item_text, text_of};
-ghost use Rattle.pip_endings.specs.Endings.{told, IsOfItem};
-ghost use Rattle.pip_items.specs.Items.{found_by, IsTextOfItem, IsTextAt, IsBehind, WritesItems};
+ghost use Rattle.pip_endings.specs.Endings.{IsOfItem};
+ghost use Rattle.pip_items.specs.Items.{FindsItem, IsTextOfItem, IsTextAt, IsBehind, WritesItems};
 
 use pip_endings::Ending;
 use pip_outside::{Sink, write_all};
@@ -34,10 +33,8 @@ pub(crate) trait Items {
         at: usize,
     ) -> Result<Option<(Self::Read, usize)>, Ending>
         requires { at ≤ last_place self.now bytes.now }
-        ensures agrees { Agrees (found_by (seen self.now)) told result (item_at (meaning self.now) bytes.now at) }
-        ensures own { IfErr result IsOfItem }
-        ensures item { IfOk result (λ found. IfSome found (λ x. is_item self.now x.0)) }
-        ensures after { IfOk result (λ found. IfSome found (λ x. IsBehind at (last_place self.now bytes.now) x.1)) };
+        ensures { FindsItem (seen self.now) (is_item self.now) (item_at (meaning self.now) bytes.now at) at
+            (last_place self.now bytes.now) result };
 
     // Puts the text of an item into `text`.
     fn put(&self, alloc: Global, item: Self::Read, text: &mut Vec<u8>) -> Result<(), Ending>
@@ -80,9 +77,7 @@ pub(crate) fn write_items<C: Items, K: Sink>(
     ensures output { WritesItems (item_text (C.meaning command.now) bytes.now) (K.written sink.old) (K.written sink.new)
         result }
     ensures own { IfErr result (λ e. ¬ (e ≡ Ending.WriteFault) → IsOfItem e) }
-    ensures later { K.faults sink.old ≤ K.faults sink.new }
-    ensures quiet { ¬ IsErrOf result Ending.WriteFault → K.faults sink.new ≡ K.faults sink.old }
-    ensures cause { IsErrOf result Ending.WriteFault → HasRisen (K.faults sink.old) (K.faults sink.new) }
+    ensures faults { CountsFaults (IsErrOf result Ending.WriteFault) (K.faults sink.old) (K.faults sink.new) }
 {
     let mut text = Vec::new(alloc);
     let mut at = 0;

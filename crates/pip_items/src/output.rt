@@ -1,9 +1,9 @@
-ghost use Rattle.std.specs.Prelude.{◌≡◌, ◌-◌, false, Ok, IfSome, IsErrOf};
+ghost use Rattle.std.specs.Prelude.{◌≡◌, ◌-◌, Ok, IfSome, IsErrOf};
 ghost use Rattle.std.specs.Io.KnownBytes.{IsAtEnd};
 ghost use Rattle.pip_outside.specs.Calls.{AsksOn};
 ghost use Rattle.pip_words.specs.Words.{meaning_of};
 ghost use Rattle.pip_items.specs.Outputs.{TakesInput, TakesInputAtMost, IsRead, EndsByFaults, bytes_read};
-ghost use Rattle.pip_items.specs.ByProblem.{reads_by_problem, WritesOf, ReadsWhole, StopsAtRefused};
+ghost use Rattle.pip_items.specs.ByProblem.{WritesOf, ReadsWhole, StopsAtRefused, CallsBy};
 
 use crate::commands::check::Check;
 use crate::commands::least::Least;
@@ -26,17 +26,13 @@ fn write_over_input<C: Items, S: Source, K: Sink>(
     source: &mut S,
     sink: &mut K,
 ) -> Result<(), Ending>
-    requires takes { TakesInput (C.meaning command.now) }
-    requires whole { reads_by_problem (C.meaning command.now) ≡ false }
+    requires { ReadsWhole (C.meaning command.now) }
     ensures output { IfSome (bytes_read (C.meaning command.now) (S.left source.old)) (λ bytes.
         WritesOf (C.meaning command.now) bytes (S.taken source.new - S.taken source.old)
         (K.written sink.old) (K.written sink.new) result) }
     ensures words { ¬ IsErrOf result Ending.Usage }
     ensures end { IsRead result → IsAtEnd (S.left source.new) }
-    ensures asked { IfSome (bytes_read (C.meaning command.now) (S.left source.old))
-        (StopsAtRefused S.calls S.taken source.old source.new (C.meaning command.now)) }
-    ensures turns { IfSome (S.left source.old) (λ _. AsksOn S.calls S.taken source.old source.new) }
-    ensures taken { TakesInputAtMost (S.left source.old) (S.taken source.old) (S.taken source.new) }
+    ensures calls { CallsBy S.left S.calls S.taken source.old source.new (C.meaning command.now) }
     ensures faults { EndsByFaults (S.faults source.old) (S.faults source.new) (K.faults sink.old) (K.faults sink.new)
         result }
     ensures unread { IsErrOf result Ending.ReadFault → sink.new ≡ sink.old }

@@ -1,6 +1,5 @@
 ghost use Rattle.std.specs.Prelude.{◌≡◌, ◌+◌, ◌-◌, ◌<◌, ◌≤◌, ◌↔◌, true, false, Ok, length, IfOk, IfSome, IsErrOf};
 ghost use Rattle.std.specs.Io.KnownBytes.{IsAtEnd};
-ghost use Rattle.pip_outside.specs.Calls.{AsksOn};
 ghost use Rattle.pip_model.specs.Limits.{most_input_bytes};
 ghost use Rattle.program_model.specs.Commands.{Solve};
 ghost use Rattle.pip_words.specs.Words.{options_of};
@@ -8,8 +7,8 @@ ghost use Rattle.pip_stream.specs.Asked.{AsksWhileOpen, AsksUntil};
 ghost use Rattle.pip_stream.specs.Windows.{taken_by};
 ghost use Rattle.pip_stream.specs.Next.{IsReady};
 ghost use Rattle.pip_items.specs.Answered.{AnswersNext};
-ghost use Rattle.pip_items.specs.Outputs.{TakesInputAtMost, EndsByFaults};
-ghost use Rattle.pip_items.specs.ByProblem.{WritesByProblem, StopsAtRefused};
+ghost use Rattle.pip_items.specs.Outputs.{EndsByFaults};
+ghost use Rattle.pip_items.specs.ByProblem.{WritesByProblem, CallsBy};
 
 use crate::commands::solve::write_solution;
 use pip_endings::Ending;
@@ -82,10 +81,7 @@ pub(crate) fn write_problems<S: Source, K: Sink>(
         (S.taken source.new - S.taken source.old) (K.written sink.old) (K.written sink.new) result) }
     ensures words { ¬ IsErrOf result Ending.Usage }
     ensures end { result ≡ Ok tt → IsAtEnd (S.left source.new) }
-    ensures asked { IfSome (S.left source.old)
-        (StopsAtRefused S.calls S.taken source.old source.new (Solve (options_of options.now))) }
-    ensures turns { IfSome (S.left source.old) (λ _. AsksOn S.calls S.taken source.old source.new) }
-    ensures taken { TakesInputAtMost (S.left source.old) (S.taken source.old) (S.taken source.new) }
+    ensures calls { CallsBy S.left S.calls S.taken source.old source.new (Solve (options_of options.now)) }
     ensures faults { EndsByFaults (S.faults source.old) (S.faults source.new) (K.faults sink.old) (K.faults sink.new)
         result }
 {

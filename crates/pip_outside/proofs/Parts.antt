@@ -1,11 +1,12 @@
 -- Fronts of bytes, and bytes that are written in parts.
-use Rattle.std.proofs.Common.{◌≡◌, ℕ, ◌+◌, ◌<◌, List, [], ◌++◌, length, take, drop, Option, Some, sym, subst, ap, ◌∙◌, arith, length-append}
+use Rattle.std.proofs.Common.{◌≡◌, refl, ℕ, ◌+◌, ◌<◌, List, [], ◌++◌, length, take, drop, Option, Some, sym, subst, ap, ◌∙◌, arith, length-append}
 use Rattle.std.proofs.lemmas.List.{take-append-le, take-append-drop, drop-drop}
 use Rattle.std.proofs.Math.Seq.{take-add, take-append-add}
 use Rattle.std.proofs.KnownBytes.{Appends-trans}
-use Rattle.std.specs.Prelude.{Result, Ok, Err}
+use Rattle.std.specs.Prelude.{Result, Ok, Err, IsErr}
 use Rattle.std.specs.Io.KnownBytes.{Appends, Consumes, IsAtEnd}
-use Rattle.pip_outside.specs.Bytes.{AppendsFront, WritesAll}
+use Rattle.pip_outside.specs.Bytes.{AppendsFront, WritesAll, WritesBytes}
+use Rattle.pip_outside.proofs.Faults.{counts-after}
 
 -- a front of the bytes, and then a front of the rest
 pub front_more : (a b c : Option (List ℕ)) (bytes : List ℕ) (at n : ℕ) → Appends a b (take at bytes) → Appends b c (take n (drop at bytes)) → Appends a c (take (at + n) bytes)
@@ -25,6 +26,22 @@ front_after a b c xs ys p q =
 pub writes_after : {E : Type 0} (a b c : Option (List ℕ)) (xs ys : List ℕ) (r : Result (Unit {0}) E) → Appends a b xs → WritesAll b c r ys → WritesAll a c r (xs ++ ys)
 writes_after a b c xs ys (Ok u) p q = Appends-trans a b c xs ys p q
 writes_after a b c xs ys (Err e) p q = front_after a b c xs ys p q
+
+module _ {K E : Type 0} (written : K → Option (List ℕ)) (count : K → ℕ) where
+  pub writes-then : (a b c : K) (xs ys : List ℕ) (r : Result (Unit {0}) E) (u : Unit {0}) → WritesBytes {E = E} written count a b (Ok u) xs → WritesBytes written count b c r ys → WritesBytes written count a c r (xs ++ ys)
+  writes-then a b c xs ys r u h k = record {
+    bytes = writes_after (written a) (written b) (written c) xs ys r h.bytes k.bytes;
+    faults = counts-after (count a) (count b) (count c) (h.faults.quiet (λ e. cc)) k.faults;
+  }
+
+  -- a write that fails before these
+  pub writes-failed : (a b : K) (xs ys : List ℕ) (p r : Result (Unit {0}) E) → IsErr p → IsErr r → WritesBytes written count a b p xs → WritesBytes written count a b r (xs ++ ys)
+  writes-failed a b xs ys (Ok u) r e f h = absurd cc
+  writes-failed a b xs ys (Err x) (Ok u) e f h = absurd cc
+  writes-failed a b xs ys (Err x) (Err y) e f h = record {
+    bytes = front_longer (written a) (written b) xs ys h.bytes;
+    faults = record { later = h.faults.later; cause = λ _. h.faults.cause refl; quiet = λ never. absurd (never refl) };
+  }
 
 -- a read of n bytes at a place leaves those after them
 pub read_at : (at n : ℕ) (bytes buf : List ℕ) → take n buf ≡ take n (drop at bytes) → (n ≡ 0 → 0 < length buf → drop at bytes ≡ [])

@@ -1,8 +1,7 @@
-ghost use Rattle.std.specs.Prelude.{◌≡◌, ◌<◌, min, Some, [], length, OnOk, IfOk, IsErr};
-ghost use Rattle.std.specs.Io.{WritesAtMost};
+ghost use Rattle.std.specs.Prelude.{◌≡◌, ◌<◌, min, Some, [], length, IfOk, IsErr};
 ghost use Rattle.std.specs.Io.KnownBytes.{WriteAppends};
 ghost use Rattle.pip_outside.specs.Faults.{CountsFaults};
-ghost use Rattle.pip_outside.specs.Bytes.{TakesSome};
+ghost use Rattle.pip_outside.specs.Bytes.{TakesPiece, IsUnwritten};
 ghost use Rattle.pip_outside.specs.Plans.{first_plan, FailsNext, after_call};
 
 use crate::failed::Failed;
@@ -34,8 +33,7 @@ impl MemorySink {
     pub fn new(room: Vec<u8>, piece: usize, fails: Vec<u64>) -> MemorySink
         requires piece { 0 < piece }
         requires room { room.items ≡ [] }
-        ensures written { ⟦<MemorySink as Sink>⟧.written result ≡ Some [] }
-        ensures faults { ⟦<MemorySink as Sink>⟧.faults result ≡ 0 }
+        ensures empty { IsUnwritten ⟦<MemorySink as Sink>⟧.written ⟦<MemorySink as Sink>⟧.faults result (Some []) }
         ensures plan { result.plan ≡ first_plan piece fails.items }
     {
         MemorySink {
@@ -59,11 +57,9 @@ impl Sink for MemorySink {
     ghost faults = { λ s. s.faults };
 
     fn write(&mut self, piece: &[u8]) -> Result<usize, Failed>
-        ensures bound { WritesAtMost result piece.now }
-        ensures some { TakesSome result piece.now }
+        ensures takes { TakesPiece result piece.now }
         ensures bytes { WriteAppends (Some self.old.written) (Some self.new.written) result piece.now }
-        ensures cause { CountsFaults self.old.faults self.new.faults result }
-        ensures quiet { OnOk result (self.new.faults ≡ self.old.faults) }
+        ensures faults { CountsFaults (IsErr result) self.old.faults self.new.faults }
 
         // the plan: which calls fail at least, and how much the others take
         ensures planned { FailsNext self.old.plan → IsErr result }

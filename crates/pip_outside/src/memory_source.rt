@@ -1,8 +1,8 @@
-ghost use Rattle.std.specs.Prelude.{◌≡◌, ◌+◌, ◌<◌, ◌≤◌, ◌↔◌, min, Some, length, OnOk, IfOk, IsErr};
+ghost use Rattle.std.specs.Prelude.{◌≡◌, ◌+◌, ◌<◌, ◌≤◌, ◌↔◌, min, Some, length, IfOk, IsErr};
 ghost use Rattle.std.specs.Io.{ReadsAtMost};
 ghost use Rattle.std.specs.Io.KnownBytes.{ReadConsumes};
 ghost use Rattle.pip_outside.specs.Faults.{CountsFaults};
-ghost use Rattle.pip_outside.specs.Bytes.{count_of};
+ghost use Rattle.pip_outside.specs.Bytes.{count_of, IsUnread};
 ghost use Rattle.pip_outside.specs.Plans.{first_plan, FailsNext, after_call};
 
 use crate::copy::copy_front;
@@ -39,9 +39,8 @@ impl MemorySource {
     /// `fails` fail.
     pub fn new(bytes: Vec<u8>, piece: usize, fails: Vec<u64>) -> MemorySource
         requires { 0 < piece }
-        ensures left { ⟦<MemorySource as Source>⟧.left result ≡ Some bytes.items }
-        ensures taken { ⟦<MemorySource as Source>⟧.taken result ≡ 0 }
-        ensures faults { ⟦<MemorySource as Source>⟧.faults result ≡ 0 }
+        ensures unread { IsUnread ⟦<MemorySource as Source>⟧.left ⟦<MemorySource as Source>⟧.taken
+            ⟦<MemorySource as Source>⟧.faults result (Some bytes.items) }
         ensures plan { result.plan ≡ first_plan piece fails.items }
     {
         MemorySource {
@@ -66,8 +65,7 @@ impl Source for MemorySource {
         ensures bound { ReadsAtMost result buf.new }
         ensures bytes { ReadConsumes (Some self.old.left) (Some self.new.left) result buf.new }
         ensures counted { self.new.taken ≡ self.old.taken + count_of result }
-        ensures cause { CountsFaults self.old.faults self.new.faults result }
-        ensures quiet { OnOk result (self.new.faults ≡ self.old.faults) }
+        ensures faults { CountsFaults (IsErr result) self.old.faults self.new.faults }
 
         // the plan: which calls fail, and how much the others give
         ensures planned { IsErr result ↔ FailsNext self.old.plan }

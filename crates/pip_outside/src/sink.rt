@@ -1,8 +1,7 @@
-ghost use Rattle.std.specs.Prelude.{◌≡◌, ◌+◌, ℕ, List, Option, IfSome, OnOk};
-ghost use Rattle.std.specs.Io.{WritesAtMost};
+ghost use Rattle.std.specs.Prelude.{ℕ, List, Option, IsErr};
 ghost use Rattle.std.specs.Io.KnownBytes.{WriteAppends};
 ghost use Rattle.pip_outside.specs.Faults.{CountsFaults};
-ghost use Rattle.pip_outside.specs.Bytes.{WritesAll, TakesSome};
+ghost use Rattle.pip_outside.specs.Bytes.{WritesBytes, TakesPiece};
 
 use crate::failed::Failed;
 
@@ -18,18 +17,14 @@ pub trait Sink {
     ///
     /// A failed write appends nothing, and is counted; a write that answers counts nothing.
     fn write(&mut self, piece: &[u8]) -> Result<usize, Failed>
-        ensures bound { WritesAtMost result piece.now }
-        ensures some { TakesSome result piece.now }
+        ensures takes { TakesPiece result piece.now }
         ensures bytes { WriteAppends (written self.old) (written self.new) result piece.now }
-        ensures cause { CountsFaults (faults self.old) (faults self.new) result }
-        ensures quiet { OnOk result (faults self.new ≡ faults self.old) };
+        ensures faults { CountsFaults (IsErr result) (faults self.old) (faults self.new) };
 }
 
 /// Appends all bytes, or a front of them where a write fails. It takes no memory.
 pub fn write_all<K: Sink>(sink: &mut K, bytes: &[u8]) -> Result<(), Failed>
-    ensures bytes { WritesAll (K.written sink.old) (K.written sink.new) result bytes.now }
-    ensures cause { CountsFaults (K.faults sink.old) (K.faults sink.new) result }
-    ensures quiet { OnOk result (K.faults sink.new ≡ K.faults sink.old) }
+    ensures { WritesBytes K.written K.faults sink.old sink.new result bytes.now }
 {
     let mut at = 0;
     while at < bytes.len() {

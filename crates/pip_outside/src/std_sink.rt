@@ -1,7 +1,6 @@
-ghost use Rattle.std.specs.Prelude.{◌≡◌, None, OnOk};
-ghost use Rattle.std.specs.Io.{WritesAtMost};
+ghost use Rattle.std.specs.Prelude.{◌≡◌, None, IsErr};
 ghost use Rattle.pip_outside.specs.Faults.{CountsFaults};
-ghost use Rattle.pip_outside.specs.Bytes.{TakesSome, WriterTakes};
+ghost use Rattle.pip_outside.specs.Bytes.{TakesPiece, WriterTakes, IsUnwritten};
 
 use crate::failed::Failed;
 use crate::sink::Sink;
@@ -29,8 +28,7 @@ impl<W: Write> Model for StdSink<W> {
 impl<W: Write> StdSink<W> {
     /// A sink that hands its pieces to the writer.
     pub fn new(writer: W) -> StdSink<W>
-        ensures written { ⟦<StdSink<W> as Sink>⟧.written result ≡ None }
-        ensures faults { ⟦<StdSink<W> as Sink>⟧.faults result ≡ 0 }
+        ensures empty { IsUnwritten ⟦<StdSink<W> as Sink>⟧.written ⟦<StdSink<W> as Sink>⟧.faults result None }
         ensures writer { result.contents ≡ W.contents writer }
     {
         StdSink { writer, faults: 0 }
@@ -43,11 +41,9 @@ impl<W: Write> Sink for StdSink<W> {
     ghost faults = { λ s. s.faults };
 
     fn write(&mut self, piece: &[u8]) -> Result<usize, Failed>
-        ensures bound { WritesAtMost result piece.now }
-        ensures some { TakesSome result piece.now }
+        ensures takes { TakesPiece result piece.now }
         ensures writer { WriterTakes self.old.contents self.new.contents result piece.now }
-        ensures cause { CountsFaults self.old.faults self.new.faults result }
-        ensures quiet { OnOk result (self.new.faults ≡ self.old.faults) }
+        ensures faults { CountsFaults (IsErr result) self.old.faults self.new.faults }
     {
         match self.writer.write(piece) {
             Ok(count) if (0 < count || piece.is_empty()) && self.writer.flush().is_ok() => Ok(

@@ -1,7 +1,8 @@
-ghost use Rattle.std.specs.Prelude.{◌≡◌, None, OnOk};
+ghost use Rattle.std.specs.Prelude.{◌≡◌, None, IsErr};
 ghost use Rattle.std.specs.Io.{ReadsAtMost};
 ghost use Rattle.std.specs.Io.KnownBytes.{ReadConsumes};
 ghost use Rattle.pip_outside.specs.Faults.{CountsFaults};
+ghost use Rattle.pip_outside.specs.Bytes.{IsUnread};
 
 use crate::failed::Failed;
 use crate::source::Source;
@@ -28,8 +29,8 @@ impl<R: Read> Model for StdSource<R> {
 impl<R: Read> StdSource<R> {
     /// A source of what the reader gives.
     pub fn new(reader: R) -> StdSource<R>
-        ensures left { ⟦<StdSource<R> as Source>⟧.left result ≡ None }
-        ensures faults { ⟦<StdSource<R> as Source>⟧.faults result ≡ 0 }
+        ensures unread { IsUnread ⟦<StdSource<R> as Source>⟧.left ⟦<StdSource<R> as Source>⟧.taken
+            ⟦<StdSource<R> as Source>⟧.faults result None }
         ensures reader { result.remaining ≡ R.remaining reader }
     {
         StdSource { reader, faults: 0 }
@@ -46,8 +47,7 @@ impl<R: Read> Source for StdSource<R> {
     fn read(&mut self, buf: &mut [u8]) -> Result<usize, Failed>
         ensures bound { ReadsAtMost result buf.new }
         ensures reader { ReadConsumes self.old.remaining self.new.remaining result buf.new }
-        ensures cause { CountsFaults self.old.faults self.new.faults result }
-        ensures quiet { OnOk result (self.new.faults ≡ self.old.faults) }
+        ensures faults { CountsFaults (IsErr result) self.old.faults self.new.faults }
     {
         match self.reader.read(buf) {
             Ok(count) => Ok(count),

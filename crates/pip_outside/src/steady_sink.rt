@@ -1,4 +1,5 @@
 ghost use Rattle.std.specs.Prelude.{◌≡◌, None, Ok, length};
+ghost use Rattle.pip_outside.specs.Bytes.{IsUnwritten};
 
 use crate::failed::Failed;
 use crate::sink::Sink;
@@ -10,8 +11,7 @@ pub struct SteadySink {}
 impl SteadySink {
     /// A sink that tells nothing of what it takes.
     pub fn new() -> SteadySink
-        ensures written { ⟦<SteadySink as Sink>⟧.written result ≡ None }
-        ensures faults { ⟦<SteadySink as Sink>⟧.faults result ≡ 0 }
+        ensures { IsUnwritten ⟦<SteadySink as Sink>⟧.written ⟦<SteadySink as Sink>⟧.faults result None }
     {
         SteadySink {}
     }

@@ -1,4 +1,5 @@
-ghost use Rattle.std.specs.Prelude.{◌≡◌, ◌≤◌, Some, drop, vec_len};
+ghost use Rattle.std.specs.Prelude.{◌≤◌, Some, drop, vec_len};
+ghost use Rattle.pip_outside.specs.Bytes.{IsUnread};
 
 use crate::copy::copy_front;
 use crate::failed::Failed;
@@ -15,9 +16,8 @@ pub struct SteadySource {
 impl SteadySource {
     /// A source of these bytes.
     pub fn new(bytes: Vec<u8>) -> SteadySource
-        ensures left { ⟦<SteadySource as Source>⟧.left result ≡ Some bytes.items }
-        ensures taken { ⟦<SteadySource as Source>⟧.taken result ≡ 0 }
-        ensures faults { ⟦<SteadySource as Source>⟧.faults result ≡ 0 }
+        ensures { IsUnread ⟦<SteadySource as Source>⟧.left ⟦<SteadySource as Source>⟧.taken
+            ⟦<SteadySource as Source>⟧.faults result (Some bytes.items) }
     {
         SteadySource { bytes, at: 0 }
     }

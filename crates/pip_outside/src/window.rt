@@ -1,7 +1,8 @@
-ghost use Rattle.std.specs.Prelude.{◌≡◌, ◌+◌, ◌<◌, ◌≤◌, ◌^◌, [], length, drop, IfOk, IfErr, IfSome, OnErr};
+ghost use Rattle.std.specs.Prelude.{◌≡◌, ◌+◌, ◌-◌, ◌<◌, ◌≤◌, ◌^◌, [], length, drop, take, IfOk, IfSome, IsErrOf};
 ghost use Rattle.pip_outside.specs.Bytes.{count_of};
 ghost use Rattle.pip_outside.specs.Calls.{CallsOnce};
-ghost use Rattle.pip_outside.specs.Windows.{FillsFrom, IsFilled, IsWant};
+ghost use Rattle.pip_outside.specs.Faults.{CountsFaults};
+ghost use Rattle.pip_outside.specs.Windows.{FillsFrom};
 
 use crate::failed::Failed;
 use crate::source::Source;
@@ -40,6 +41,17 @@ impl From<AllocError> for FillRefusal {
     }
 }
 
+// Moves the bytes from a place on to the front, where no more of them stand there than before it.
+fn move_to_front(bytes: &mut [u8], start: usize)
+    requires within { start ≤ length bytes.old }
+    requires few { length bytes.old ≤ start + start }
+    ensures { take (length bytes.old - start) bytes.new ≡ drop start bytes.old }
+{
+    let (front, moved) = bytes.split_at_mut(start);
+    let (target, _) = front.split_at_mut(moved.len());
+    target.copy_from_slice(moved);
+}
+
 /// The bytes of an input that are held: those that came behind the ones that were dropped.
 ///
 /// Contracts see the held bytes, how many were dropped before them, and the most that were held at once since the last
@@ -66,10 +78,9 @@ impl Model for Window {
 }
 
 impl Window {
-    /// A window that holds nothing. It never answers Failed.
-    pub fn try_new(alloc: Global) -> Result<Window, FillRefusal>
-        ensures ok { IfOk result (λ w. w ≡ record { held = []; base = 0; peak = 0 }) }
-        ensures err { IfErr result IsWant }
+    /// A window that holds nothing.
+    pub fn try_new(alloc: Global) -> Result<Window, AllocError>
+        ensures { IfOk result (λ w. w ≡ record { held = []; base = 0; peak = 0 }) }
     {
         let bytes = Vec::with_capacity(alloc, PIECE)?;
         Ok(Window {
@@ -107,7 +118,7 @@ impl Window {
         self.start += n;
         let left = self.bytes.len() - self.start;
         if left <= self.start {
-            self.bytes.copy_within(self.start.., 0);
+            move_to_front(&mut self.bytes, self.start);
             self.bytes.truncate(left);
             self.start = 0;
         }
@@ -125,13 +136,11 @@ impl Window {
     /// was.
     pub fn fill<S: Source>(&mut self, source: &mut S, most: usize) -> Result<usize, FillRefusal>
         requires { 1 ≤ most }
-        ensures bound { IfOk result (λ n. (n ≤ most) × (n ≤ 4096)) }
-        ensures bytes { FillsFrom (S.left source.old) (S.left source.new) result self.old self.new }
-        ensures err { OnErr result (self.new ≡ self.old) }
+        ensures bytes { FillsFrom most (S.left source.old) (S.left source.new) result self.old self.new }
 
         // the source
         ensures counted { IfSome (S.left source.old) (λ _. S.taken source.new ≡ S.taken source.old + count_of result) }
-        ensures cause { IsFilled (S.faults source.old) (S.faults source.new) result }
+        ensures faults { CountsFaults (IsErrOf result FillRefusal.Failed) (S.faults source.old) (S.faults source.new) }
         ensures asked { CallsOnce S.calls source.old source.new result }
     {
         self.bytes.reserve(PIECE)?;

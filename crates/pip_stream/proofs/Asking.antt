@@ -12,21 +12,17 @@ use Rattle.pip_model.specs.Reading.{next_open}
 use Rattle.pip_reader.specs.Groups.{group_behind, first_group_end, place_behind}
 use Rattle.text_laws.proofs.Items.{next_open-closed}
 use Rattle.pip_model.specs.Problem.{Problem}
-use Rattle.pip_stream.specs.Asked.{AsksWhileOpen, AsksUntil, AsksForEnd, AsksForNext}
+use Rattle.pip_stream.specs.Asked.{AsksWhileOpen, AsksInTurns, CallsFor, Seeks, TakesMore, is_ended, is_there}
 use Rattle.pip_stream.specs.Ended.{IsRead}
 use Rattle.pip_stream.specs.declared.refusal.NextRefusal.{NextRefusal}
-use Rattle.pip_stream.specs.Windows.{taken_by, bytes_from, Drops, Skips}
+use Rattle.pip_stream.specs.Windows.{taken_by, bytes_from, Skips}
 use Rattle.pip_stream.specs.Open.{DropsClosed}
-use Rattle.pip_stream.proofs.Dropping.{if-some}
+use Rattle.pip_stream.proofs.Dropping.{if-map, if-some, skipped, skips-nothing, skips-more, skips-closed, skips-restart, taken-closed}
 use Rattle.pip_stream.proofs.Finding.{group-behind, stays}
 use Rattle.pip_stream.proofs.Groups.{group_end-behind}
 use Rattle.pip_stream.proofs.Scanned.{ends-later}
 
 -- ---- a window whose source tells
-
-pub drops-skips : (a b : HeldBytes) (o m : Option (List ℕ)) → IfSome o (λ left. Drops a left b m 0) → IfSome o (λ left. Skips a left b m)
-drops-skips a b None m h = tt
-drops-skips a b (Some left) m h = record { count = 0; drops = h; closed = refl }
 
 module _ (a : HeldBytes) (left : List ℕ) (w : HeldBytes) (m : Option (List ℕ)) (s : Skips a left w m) (n : ℕ) (ends : first_group_end (bytes_from a left) ≡ Some n) where
   -- a group that is open in the held bytes ends behind them
@@ -52,71 +48,17 @@ module _ (a : HeldBytes) (left : List ℕ) (w : HeldBytes) (m : Option (List ℕ
           record { place = k; ended = e; is = let same : n ≡ s.count + k = cc in same }
 
 module _ {S : Type 0} (Calls : S → S → Type 0) (taken : S → ℕ) where
-  pub takes-start : (s : S) (o : Option (List ℕ)) → IfSome o (λ _. Takes Calls taken s s)
-  takes-start s None = tt
-  takes-start s (Some left) = takes-none Calls taken s
+  -- ---- searches one after the other
 
-  -- a call that takes bytes
-  pub takes-told : (s t u : S) (o : Option (List ℕ)) (a w x : ℕ) → IfSome o (λ _. Takes Calls taken s t) → IfSome o (λ _. taken t + a ≡ taken s + w) → IfSome o (λ _. taken u + a ≡ taken s + x) → w < x → (u ≡ t) ⊎ Calls t u → IfSome o (λ _. Takes Calls taken s u)
-  takes-told s t u None a w x h before now some called = tt
-  takes-told s t u (Some left) a w x h before now some called = takes-more Calls taken s t u h called (omega (arith, before, now, some))
+  turns-then : (s t u : S) (found : Bool) → Takes Calls taken s t → AsksInTurns Calls taken t u found → AsksInTurns Calls taken s u found
+  turns-then s t u true h k = takes-then Calls taken s t u h k
+  turns-then s t u false h k = asks-then Calls taken s t u h k
 
-  -- the last call
-  pub asks-told : (s t u : S) (o : Option (List ℕ)) → IfSome o (λ _. Takes Calls taken s t) → (u ≡ t) ⊎ Calls t u → IfSome o (λ _. AsksOn Calls taken s u)
-  asks-told s t u None h called = tt
-  asks-told s t u (Some left) h called = asks-once Calls taken s t u h called
-
-  -- a `(` is found
-  pub asks-open : (s t : S) (o : Option (List ℕ)) (b found : Bool) → b ≡ found → IfSome o (λ _. AsksUntil Calls taken s t {E = NextRefusal} (Ok b)) → IfSome o (λ _. AsksUntil Calls taken s t {E = NextRefusal} (Ok found))
-  asks-open s t o b found e h = subst (λ x. IfSome o (λ _. AsksUntil Calls taken s t {E = NextRefusal} (Ok x))) e h
-
-  pub ended-asks : (s u : S) (o : Option (List ℕ)) (n end : ℕ) (g : Option ℕ) → g ≡ Some end → IfSome o (λ _. Takes Calls taken s u) → IfSome o (λ _. AsksForEnd Calls taken s u (Ok n) g)
-  ended-asks s u o n end g e h = subst (λ x. IfSome o (λ _. AsksForEnd Calls taken s u (Ok n) x)) (sym e) h
-
-  pub open-asks : (s u : S) (o : Option (List ℕ)) (n : ℕ) (g : Option ℕ) → g ≡ None → IfSome o (λ _. AsksOn Calls taken s u) → IfSome o (λ _. AsksForEnd Calls taken s u (Ok n) g)
-  open-asks s u o n g e h = subst (λ x. IfSome o (λ _. AsksForEnd Calls taken s u (Ok n) x)) (sym e) h
-
-  end-then : (s t u : S) (r : Result ℕ NextRefusal) (g : Option ℕ) → Takes Calls taken s t → AsksForEnd Calls taken t u r g → AsksForEnd Calls taken s u r g
-  end-then s t u (Ok n) (Some end) h k = takes-then Calls taken s t u h k
-  end-then s t u (Ok n) None h k = asks-then Calls taken s t u h k
-  end-then s t u (Err e) g h k = asks-then Calls taken s t u h k
-
-  -- a search for the end after one for the beginning
-  pub asks-end : (s t u : S) (r : Result ℕ NextRefusal) (g : Option ℕ) (o m : Option (List ℕ)) → IfSome o (λ _. (l : List ℕ) × (m ≡ Some l)) → IfSome o (λ _. Takes Calls taken s t) → IfSome m (λ _. AsksForEnd Calls taken t u r g) → IfSome o (λ _. AsksForEnd Calls taken s u r g)
-  asks-end s t u r g None m told h k = tt
-  asks-end s t u r g (Some left) m told h k = end-then s t u r g h (if-some (λ _. AsksForEnd Calls taken t u r g) m told.0 told.1 k)
-
-  asks-at_end : (s u : S) (n : ℕ) (g : Option ℕ) → AsksForEnd Calls taken s u (Ok n) g → AsksOn Calls taken s u
-  asks-at_end s u n (Some end) h = asks-none Calls taken s u h
-  asks-at_end s u n None h = h
-
-  asks-item : (s u : S) (w v : HeldBytes) (n : ℕ) (r : Result (Option (Problem × ℕ)) NextRefusal) → IsRead w v n r → AsksForEnd Calls taken s u (Ok n) (first_group_end w.held) → AsksForNext Calls taken s u r
-  asks-item s u w v n (Ok (Some x)) k h = subst (AsksForEnd Calls taken s u (Ok n)) k.1 h
-  asks-item s u w v n (Ok None) k h = absurd k
-  asks-item s u w v n (Err e) k h = asks-at_end s u n (first_group_end w.held) h
-
-  -- the item is read
-  pub asks-read : (s u : S) (w v : HeldBytes) (n : ℕ) (r : Result (Option (Problem × ℕ)) NextRefusal) (o : Option (List ℕ)) → IsRead w v n r → IfSome o (λ _. AsksForEnd Calls taken s u (Ok n) (first_group_end w.held)) → IfSome o (λ _. AsksForNext Calls taken s u r)
-  asks-read s u w v n r None k h = tt
-  asks-read s u w v n r (Some left) k h = asks-item s u w v n r k h
-
-  pub asked-start : (s : S) (a : HeldBytes) (o : Option (List ℕ)) → IfSome o (AsksWhileOpen Calls taken s s a)
-  asked-start s a None = tt
-  asked-start s a (Some left) = λ n e. inl refl
-
-  -- the peak does not matter
-  pub asked-restart : (s t : S) (a start : HeldBytes) (p : ℕ) (o : Option (List ℕ)) → start ≡ record a { peak = p } → IfSome o (AsksWhileOpen Calls taken s t start) → IfSome o (AsksWhileOpen Calls taken s t a)
-  asked-restart s t a start p o e h = subst (λ w. IfSome o (AsksWhileOpen Calls taken s t w)) e h
-
+  -- more is asked for while the group is open
   asks-more : (s t u : S) (a w : HeldBytes) (left : List ℕ) (m : Option (List ℕ)) → Skips a left w m → first_group_end w.held ≡ None → taken t + taken_by a ≡ taken s + taken_by w → Takes Calls taken s t → AsksWhileOpen Calls taken s t a left → (u ≡ t) ⊎ Calls t u → AsksWhileOpen Calls taken s u a left
   asks-more s t u a w left m k open_still counted led asked (inl same) = λ n e. subst (λ x. CallsWithin Calls taken s x (length a.held) n) (sym same) (asked n e)
   asks-more s t u a w left m k open_still counted led asked (inr called) = λ n e.
       let behind = ends-behind a left w m k n e open_still in inr (t, led, called, omega (arith, counted, behind))
-
-  -- more is asked for while the group is open
-  pub asked-more : (s t u : S) (a w : HeldBytes) (o m : Option (List ℕ)) → IfSome o (λ left. Skips a left w m) → first_group_end w.held ≡ None → IfSome o (λ _. taken t + taken_by a ≡ taken s + taken_by w) → IfSome o (λ _. Takes Calls taken s t) → IfSome o (AsksWhileOpen Calls taken s t a) → (u ≡ t) ⊎ Calls t u → IfSome o (AsksWhileOpen Calls taken s u a)
-  asked-more s t u a w None m k open_still counted led asked more = tt
-  asked-more s t u a w (Some left) m k open_still counted led asked more = asks-more s t u a w left m k open_still counted led asked more
 
   asks-while : (s t u : S) (a w : HeldBytes) (left : List ℕ) (m : Option (List ℕ)) (k : Skips a left w m) → taken t + taken_by a ≡ taken s + taken_by w → Takes Calls taken s t → AsksWhileOpen Calls taken s t a left → AsksWhileOpen Calls taken t u w k.drops.left_now → AsksWhileOpen Calls taken s u a left
   asks-while s t u a w left m k counted led asked then = λ n e.
@@ -127,11 +69,106 @@ module _ {S : Type 0} (Calls : S → S → Type 0) (taken : S → ℕ) where
       by_call n e q is (inl same) = subst (λ x. CallsWithin Calls taken s x (length a.held) n) (sym same) (asked n e)
       by_call n e q is (inr c) = inr (c.0, takes-then Calls taken s t c.0 led c.1, c.2, omega (arith, is, c.3, counted, k.drops.base))
 
-  -- one search after the other
-  pub asked-then : (s t u : S) (a w : HeldBytes) (o m : Option (List ℕ)) → IfSome o (λ left. Skips a left w m) → IfSome o (λ _. taken t + taken_by a ≡ taken s + taken_by w) → IfSome o (λ _. Takes Calls taken s t) → IfSome o (AsksWhileOpen Calls taken s t a) → IfSome m (AsksWhileOpen Calls taken t u w) → IfSome o (AsksWhileOpen Calls taken s u a)
-  asked-then s t u a w None m k counted led asked then = tt
-  asked-then s t u a w (Some left) m k counted led asked then =
-      asks-while s t u a w left m k counted led asked (if-some (AsksWhileOpen Calls taken t u w) m k.drops.left_now k.drops.told then)
+  pub seeks-start : (s : S) (a : HeldBytes) (o : Option (List ℕ)) → IfSome o (λ left. Seeks Calls taken s s a a left o true)
+  seeks-start s a None = tt
+  seeks-start s a (Some left) = record {
+    skips = skips-nothing a left;
+    calls = record { counted = refl; asked = λ n e. inl refl; turns = takes-none Calls taken s };
+  }
+
+  module _ (s t : S) (a w : HeldBytes) (o m : Option (List ℕ)) where
+    -- what is sought is found, or not, by another test
+    pub seeks-as : (b found : Bool) → b ≡ found → IfSome o (λ left. Seeks Calls taken s t a w left m b) → IfSome o (λ left. Seeks Calls taken s t a w left m found)
+    seeks-as b found e h = subst (λ x. IfSome o (λ left. Seeks Calls taken s t a w left m x)) e h
+
+    pub seeks-ended : (n end : ℕ) (g : Option ℕ) → g ≡ Some end → IfSome o (λ left. Seeks Calls taken s t a w left m true) → IfSome o (λ left. Seeks Calls taken s t a w left m (is_ended {E = NextRefusal} (Ok n) g))
+    seeks-ended n end g e h = seeks-as true (is_ended {E = NextRefusal} (Ok n) g) (sym (ap (is_ended {E = NextRefusal} (Ok n)) e)) h
+
+    pub seeks-open : (n : ℕ) (g : Option ℕ) → g ≡ None → IfSome o (λ left. Seeks Calls taken s t a w left m false) → IfSome o (λ left. Seeks Calls taken s t a w left m (is_ended {E = NextRefusal} (Ok n) g))
+    seeks-open n g e h = seeks-as false (is_ended {E = NextRefusal} (Ok n) g) (sym (ap (is_ended {E = NextRefusal} (Ok n)) e)) h
+
+    pub seeks-skips : (found : Bool) → IfSome o (λ left. Seeks Calls taken s t a w left m found) → IfSome o (λ left. Skips a left w m)
+    seeks-skips found h = if-map (λ left. Seeks Calls taken s t a w left m found) (λ left. Skips a left w m) o (λ left k. k.skips) h
+
+    pub seeks-calls : (found : Bool) → IfSome o (λ left. Seeks Calls taken s t a w left m found) → IfSome o (λ left. CallsFor Calls taken s t a w left found)
+    seeks-calls found h = if-map (λ left. Seeks Calls taken s t a w left m found) (λ left. CallsFor Calls taken s t a w left found) o (λ left k. k.calls) h
+
+  -- the peak does not matter
+  pub seeks-restart : (s t : S) (a start w : HeldBytes) (p : ℕ) (o m : Option (List ℕ)) (found : Bool) → start ≡ record a { peak = p } → IfSome o (λ left. Seeks Calls taken s t start w left m found) → IfSome o (λ left. Seeks Calls taken s t a w left m found)
+  seeks-restart s t a start w p None m found e h = tt
+  seeks-restart s t a start w p (Some left) m found e h =
+      let k = subst (λ x. Seeks Calls taken s t x w left m found) e h in
+      record {
+        skips = skips-restart a w p left m k.skips;
+        calls = record { counted = k.calls.counted; asked = k.calls.asked; turns = k.calls.turns };
+      }
+
+  -- bytes are dropped before a `(`
+  pub seeks-closed : (s t : S) (a w v : HeldBytes) (o m : Option (List ℕ)) (b found : Bool) → IfSome o (λ left. Seeks Calls taken s t a w left m b) → DropsClosed w v found → IfSome o (λ left. Seeks Calls taken s t a v left m b)
+  seeks-closed s t a w v None m b found h d = tt
+  seeks-closed s t a w v (Some left) m b found h d = record {
+    skips = skips-closed a w v found left m h.skips d;
+    calls = record { counted = omega (arith, h.calls.counted, taken-closed w v found d); asked = h.calls.asked; turns = h.calls.turns };
+  }
+
+  -- one call more
+  module _ (s t u : S) (a w v : HeldBytes) (m l : Option (List ℕ)) (open_still : first_group_end w.held ≡ None) (more : IfSome m (λ left. TakesMore taken t u w v left l)) (called : (u ≡ t) ⊎ Calls t u) where
+    more-told : (left : List ℕ) (h : Seeks Calls taken s t a w left m true) → TakesMore taken t u w v h.skips.drops.left_now l
+    more-told left h = if-some (λ x. TakesMore taken t u w v x l) m h.skips.drops.left_now h.skips.drops.told more
+
+    seeks-by : (left : List ℕ) (h : Seeks Calls taken s t a w left m true) (found : Bool) → AsksInTurns Calls taken s u found → Seeks Calls taken s u a v left l found
+    seeks-by left h found turns =
+        let k = more-told left h in
+        record {
+          skips = skips-more a w v left m l h.skips k.drops;
+          calls = record {
+            counted = omega (arith, h.calls.counted, k.counted);
+            asked = asks-more s t u a w left m h.skips open_still h.calls.counted h.calls.turns h.calls.asked called;
+            turns = turns;
+          };
+        }
+
+    pub seeks-last : (o : Option (List ℕ)) → IfSome o (λ left. Seeks Calls taken s t a w left m true) → IfSome o (λ left. Seeks Calls taken s u a v left l false)
+    seeks-last None h = tt
+    seeks-last (Some left) h = seeks-by left h false (asks-once Calls taken s t u h.calls.turns called)
+
+    pub seeks-more : (o : Option (List ℕ)) → taken_by w < taken_by v → IfSome o (λ left. Seeks Calls taken s t a w left m true) → IfSome o (λ left. Seeks Calls taken s u a v left l true)
+    seeks-more None some h = tt
+    seeks-more (Some left) some h =
+        let k = more-told left h in
+        seeks-by left h true (takes-more Calls taken s t u h.calls.turns called (omega (arith, k.counted, some)))
+
+  pub seeks-then : (s t u : S) (a w v : HeldBytes) (o m l : Option (List ℕ)) (found : Bool) → IfSome o (λ left. Seeks Calls taken s t a w left m true) → IfSome m (λ left. Seeks Calls taken t u w v left l found) → IfSome o (λ left. Seeks Calls taken s u a v left l found)
+  seeks-then s t u a w v None m l found h then = tt
+  seeks-then s t u a w v (Some left) m l found h then =
+      let k = if-some (λ x. Seeks Calls taken t u w v x l found) m h.skips.drops.left_now h.skips.drops.told then in
+      record {
+        skips = skipped a w v left m l h.skips k.skips.count k.skips.drops k.skips.closed;
+        calls = record {
+          counted = omega (arith, h.calls.counted, k.calls.counted);
+          asked = asks-while s t u a w left m h.skips h.calls.counted h.calls.turns h.calls.asked k.calls.asked;
+          turns = turns-then s t u found h.calls.turns k.calls.turns;
+        };
+      }
+
+  -- ---- the item is read
+
+  turns-any : (s u : S) (b : Bool) → AsksInTurns Calls taken s u b → AsksOn Calls taken s u
+  turns-any s u true h = asks-none Calls taken s u h
+  turns-any s u false h = h
+
+  turns-item : (s u : S) (w v : HeldBytes) (n : ℕ) (r : Result (Option (Problem × ℕ)) NextRefusal) → IsRead w v n r → AsksInTurns Calls taken s u (is_ended {E = NextRefusal} (Ok n) (first_group_end w.held)) → AsksInTurns Calls taken s u (is_there r)
+  turns-item s u w v n (Ok (Some x)) k h = subst (λ g. AsksInTurns Calls taken s u (is_ended {E = NextRefusal} (Ok n) g)) k.1 h
+  turns-item s u w v n (Ok None) k h = absurd k
+  turns-item s u w v n (Err e) k h = turns-any s u (is_ended {E = NextRefusal} (Ok n) (first_group_end w.held)) h
+
+  pub calls-item : (s u : S) (a w v : HeldBytes) (n : ℕ) (r : Result (Option (Problem × ℕ)) NextRefusal) (o m : Option (List ℕ)) → IsRead w v n r → taken_by v ≡ taken_by w → IfSome o (λ left. Seeks Calls taken s u a w left m (is_ended {E = NextRefusal} (Ok n) (first_group_end w.held))) → IfSome o (λ left. CallsFor Calls taken s u a v left (is_there r))
+  calls-item s u a w v n r None m k same h = tt
+  calls-item s u a w v n r (Some left) m k same h = record {
+    counted = omega (arith, h.calls.counted, same);
+    asked = h.calls.asked;
+    turns = turns-item s u w v n r k h.calls.turns;
+  }
 
 -- ---- a group that is held
 

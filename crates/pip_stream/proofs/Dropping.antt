@@ -8,37 +8,51 @@ use Rattle.std.specs.List.{list_all}
 use Rattle.std.specs.Io.KnownBytes.{Consumes, Keeps}
 use Rattle.pip_outside.specs.Windows.{HeldBytes}
 use Rattle.pip_model.specs.Moved.{is_closed}
+use Rattle.pip_stream.specs.Asked.{TakesMore}
 use Rattle.pip_stream.specs.Windows.{taken_by, bytes_from, Drops, Skips, Grows}
 use Rattle.pip_stream.specs.Open.{DropsClosed}
 
 abbrev Bytes : Type 0
 Bytes = List ℕ
 
+pub if-map : {X : Type 0} (P Q : X → Type 0) (o : Option X) → ((x : X) → P x → Q x) → IfSome o P → IfSome o Q
+if-map P Q (Some x) f h = f x h
+if-map P Q None f h = tt
+
 pub if-some : {X : Type 0} (P : X → Type 0) (o : Option X) (x : X) → o ≡ Some x → IfSome o P → P x
 if-some P (Some y) x e h = let same : y ≡ x = cc in subst P same h
 if-some P None x e h = absurd cc
+
+pub taken-grown : (a b : HeldBytes) (n : ℕ) → Grows a b n → taken_by b ≡ taken_by a + n
+taken-grown a b n g =
+    let held : length b.held ≡ length a.held + n = ap length g.held ∙ length-append a.held g.piece ∙ ap (λ k. length a.held + k) g.count in
+    omega (arith, held, g.base)
 
 -- ---- a step that drops nothing
 
 pub drops-none : (w : HeldBytes) (left : Bytes) (o : Option Bytes) → o ≡ Some left → Drops w left w o 0
 drops-none w left o e = record { few = omega arith; base = omega arith; left_now = left; told = e; rest = refl }
 
-pub kept-drops : (w : HeldBytes) (o m : Option Bytes) → Keeps o m → IfSome o (λ left. Drops w left w m 0)
-kept-drops w None m h = tt
-kept-drops w (Some xs) None h = absurd h
-kept-drops w (Some xs) (Some ys) h = drops-none w xs (Some ys) (ap Some h)
+module _ {S : Type 0} (taken : S → ℕ) (s t : S) where
+  pub kept-takes : (w : HeldBytes) (o m : Option Bytes) → Keeps o m → IfSome o (λ _. taken t ≡ taken s + 0) → IfSome o (λ left. TakesMore taken s t w w left m)
+  kept-takes w None m h k = tt
+  kept-takes w (Some xs) None h k = absurd h
+  kept-takes w (Some xs) (Some ys) h k = record { drops = drops-none w xs (Some ys) (ap Some h); counted = omega (arith, k) }
 
--- what comes is held
-pub grown-drops : (a b : HeldBytes) (n : ℕ) (o m : Option Bytes) (g : Grows a b n) → Consumes o m g.piece → IfSome o (λ left. Drops a left b m 0)
-grown-drops a b n None m g h = tt
-grown-drops a b n (Some xs) None g h = absurd h
-grown-drops a b n (Some xs) (Some ys) g h = record {
-  few = omega arith;
-  base = g.base ∙ omega arith;
-  left_now = ys;
-  told = refl;
-  rest = ap (λ s. s ++ ys) g.held ∙ append_assoc a.held g.piece ys ∙ ap (λ s. a.held ++ s) (sym h);
-}
+  -- what comes is held
+  pub grown-takes : (a b : HeldBytes) (n : ℕ) (o m : Option Bytes) (g : Grows a b n) → Consumes o m g.piece → IfSome o (λ _. taken t ≡ taken s + n) → IfSome o (λ left. TakesMore taken s t a b left m)
+  grown-takes a b n None m g h k = tt
+  grown-takes a b n (Some xs) None g h k = absurd h
+  grown-takes a b n (Some xs) (Some ys) g h k = record {
+    drops = record {
+      few = omega arith;
+      base = g.base ∙ omega arith;
+      left_now = ys;
+      told = refl;
+      rest = ap (λ s. s ++ ys) g.held ∙ append_assoc a.held g.piece ys ∙ ap (λ s. a.held ++ s) (sym h);
+    };
+    counted = omega (arith, k, taken-grown a b n g);
+  }
 
 -- ---- one step after the other
 
@@ -53,15 +67,10 @@ drops-then a b c left o m n k d e =
       rest = e.rest ∙ ap (drop k) d.rest ∙ drop-drop k n (bytes_from a left) ∙ ap (λ i. drop i (bytes_from a left)) (omega arith);
     }
 
-pub drops-drops : (a b c : HeldBytes) (o m l : Option Bytes) → IfSome o (λ left. Drops a left b m 0) → IfSome m (λ left. Drops b left c l 0) → IfSome o (λ left. Drops a left c l 0)
-drops-drops a b c None m l h k = tt
-drops-drops a b c (Some left) m l h k = drops-then a b c left m l 0 0 h (if-some (λ x. Drops b x c l 0) m h.left_now h.told k)
+pub skips-nothing : (w : HeldBytes) (left : Bytes) → Skips w left w (Some left)
+skips-nothing w left = record { count = 0; drops = drops-none w left (Some left) refl; closed = refl }
 
-pub skips-nothing : (w : HeldBytes) (o : Option Bytes) → IfSome o (λ left. Skips w left w o)
-skips-nothing w None = tt
-skips-nothing w (Some left) = record { count = 0; drops = drops-none w left (Some left) refl; closed = refl }
-
-skipped : (a b c : HeldBytes) (left : Bytes) (m l : Option Bytes) (s : Skips a left b m) (k : ℕ) → Drops b s.drops.left_now c l k → list_all is_closed (take k (bytes_from b s.drops.left_now)) ≡ true → Skips a left c l
+pub skipped : (a b c : HeldBytes) (left : Bytes) (m l : Option Bytes) (s : Skips a left b m) (k : ℕ) → Drops b s.drops.left_now c l k → list_all is_closed (take k (bytes_from b s.drops.left_now)) ≡ true → Skips a left c l
 skipped a b c left m l s k d h =
     let all : take (s.count + k) (bytes_from a left) ≡ take s.count (bytes_from a left) ++ take k (bytes_from b s.drops.left_now) =
     take-add s.count k (bytes_from a left) ∙ ap (λ x. take s.count (bytes_from a left) ++ take k x) (sym s.drops.rest) in
@@ -72,9 +81,8 @@ skipped a b c left m l s k d h =
     }
 
 -- more bytes come, none is dropped
-pub skips-more : (a b c : HeldBytes) (o m l : Option Bytes) → IfSome o (λ left. Skips a left b m) → IfSome m (λ left. Drops b left c l 0) → IfSome o (λ left. Skips a left c l)
-skips-more a b c None m l h k = tt
-skips-more a b c (Some left) m l h k = skipped a b c left m l h 0 (if-some (λ x. Drops b x c l 0) m h.drops.left_now h.drops.told k) refl
+pub skips-more : (a b c : HeldBytes) (left : Bytes) (m l : Option Bytes) (s : Skips a left b m) → Drops b s.drops.left_now c l 0 → Skips a left c l
+skips-more a b c left m l s d = skipped a b c left m l s 0 d refl
 
 -- held bytes are dropped among which no item begins
 closed-drops : (b c : HeldBytes) (found : Bool) (left : Bytes) (m : Option Bytes) → m ≡ Some left → (d : DropsClosed b c found) → Drops b left c m d.count
@@ -86,9 +94,8 @@ closed-drops b c found left m e d = record {
   rest = ap (λ (w : HeldBytes). w.held ++ left) d.is ∙ sym (drop-append-le d.count b.held left d.few);
 }
 
-pub skips-closed : (a b c : HeldBytes) (found : Bool) (o m : Option Bytes) → IfSome o (λ left. Skips a left b m) → DropsClosed b c found → IfSome o (λ left. Skips a left c m)
-skips-closed a b c found None m h d = tt
-skips-closed a b c found (Some left) m h d =
+pub skips-closed : (a b c : HeldBytes) (found : Bool) (left : Bytes) (m : Option Bytes) → Skips a left b m → DropsClosed b c found → Skips a left c m
+skips-closed a b c found left m h d =
     skipped a b c left m m h d.count (closed-drops b c found h.drops.left_now m h.drops.told d) (ap (list_all is_closed) (take-append-le d.count b.held h.drops.left_now d.few) ∙ d.closed)
 
 -- ---- how many are taken
@@ -99,7 +106,10 @@ taken-closed b c found d =
     let base : c.base ≡ b.base + d.count = ap (λ (w : HeldBytes). w.base) d.is in
     omega (arith, held, base, d.few)
 
-pub taken-grown : (a b : HeldBytes) (n : ℕ) → Grows a b n → taken_by b ≡ taken_by a + n
-taken-grown a b n g =
-    let held : length b.held ≡ length a.held + n = ap length g.held ∙ length-append a.held g.piece ∙ ap (λ k. length a.held + k) g.count in
-    omega (arith, held, g.base)
+-- ---- the peak does not matter
+
+drops-restart : (old w : HeldBytes) (p : ℕ) (left : Bytes) (m : Option Bytes) (n : ℕ) → Drops (record old { peak = p }) left w m n → Drops old left w m n
+drops-restart old w p left m n d = record { few = d.few; base = d.base; left_now = d.left_now; told = d.told; rest = d.rest }
+
+pub skips-restart : (old w : HeldBytes) (p : ℕ) (left : Bytes) (m : Option Bytes) → Skips (record old { peak = p }) left w m → Skips old left w m
+skips-restart old w p left m s = record { count = s.count; drops = drops-restart old w p left m s.count s.drops; closed = s.closed }

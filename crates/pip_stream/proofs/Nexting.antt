@@ -1,7 +1,7 @@
 -- What a call for the next problem finds, by the step that ends it.
-use Rattle.std.proofs.Common.{◌≡◌, refl, sym, ap, subst, ◌∙◌, ℕ, ◌+◌, ◌-◌, ◌<◌, ◌≤◌, arith, List, [], length, length-drop, drop}
+use Rattle.std.proofs.Common.{◌≡◌, refl, sym, ap, subst, ◌∙◌, ℕ, ◌+◌, ◌-◌, ◌<◌, ◌≤◌, arith, false, List, [], length, length-drop, drop}
 use Rattle.std.proofs.Math.Seq.{take-length}
-use Rattle.std.specs.Prelude.{◌↔◌, Option, Some, None, IfOk, IfSome, Result, Ok, Err, IsErrOf}
+use Rattle.std.specs.Prelude.{Option, Some, None, IfOk, IfSome, Result, Ok, Err}
 use Rattle.std.specs.Io.KnownBytes.{IsAtEnd}
 use Rattle.pip_outside.specs.Windows.{HeldBytes}
 use Rattle.pip_model.specs.Limits.{most_input_bytes}
@@ -11,7 +11,7 @@ use Rattle.pip_reader.specs.Groups.{first_group_end}
 use Rattle.pip_stream.specs.Windows.{taken_by, Drops, Skips}
 use Rattle.pip_stream.specs.Open.{IsOpened}
 use Rattle.pip_stream.specs.Ended.{HoldsItem, IsEnded, IsRead}
-use Rattle.pip_stream.specs.Next.{ReadsNext, IsSpared, RefusesNext, FindsNext, IsReady, IsPeak}
+use Rattle.pip_stream.specs.Next.{ReadsNext, IsSpared, RefusesNext, FindsNext, LeavesWindow, IsReady, IsPeak}
 use Rattle.pip_stream.specs.declared.refusal.NextRefusal.{NextRefusal}
 use Rattle.pip_stream.specs.declared.refusal.NextRefusal.TheVariants as next
 use Rattle.pip_stream.proofs.Groups.{group_end-ends}
@@ -20,16 +20,6 @@ use Rattle.pip_stream.proofs.Finding.{stays, open-spared, item-spared, reads-non
 
 abbrev Found : Type 0
 Found = Option (Problem × ℕ)
-
--- the peak does not matter to what is dropped
-drops-restart : (old w : HeldBytes) (p : ℕ) (left : List ℕ) (m : Option (List ℕ)) (n : ℕ) → Drops (record old { peak = p }) left w m n → Drops old left w m n
-drops-restart old w p left m n d = record { few = d.few; base = d.base; left_now = d.left_now; told = d.told; rest = d.rest }
-
-pub skips-restart : (old start w : HeldBytes) (p : ℕ) (o m : Option (List ℕ)) → start ≡ record old { peak = p } → IfSome o (λ left. Skips start left w m) → IfSome o (λ left. Skips old left w m)
-skips-restart old start w p None m e h = tt
-skips-restart old start w p (Some left) m e h =
-    let s = subst (λ x. Skips x left w m) e h in
-    record { count = s.count; drops = drops-restart old w p left m s.count s.drops; closed = s.closed }
 
 -- a source that tells is at its end
 at-end : (old w : HeldBytes) (left : List ℕ) (m : Option (List ℕ)) → Skips old left w m → IsAtEnd m → m ≡ Some []
@@ -52,18 +42,48 @@ pub finds-none : (old w : HeldBytes) (o m : Option (List ℕ)) → IfSome o (λ 
 finds-none old w None m s h e = tt
 finds-none old w (Some left) m s h e = reads-none old left w m s h (at-end old w left m s e)
 
--- the limit
-abbrev pub AtLimit : NextRefusal → HeldBytes → Type 0
+-- ---- the window behind a refusal, or the input's end
+
+abbrev AtLimit : NextRefusal → HeldBytes → Type 0
 AtLimit e w = (taken_by w ≤ most_input_bytes + 1) × (e ≡ next.InputBytes → most_input_bytes < taken_by w) × (most_input_bytes < taken_by w → e ≡ next.InputBytes)
 
-pub opened-limit : (w : HeldBytes) (e : NextRefusal) → IsOpened w (Err e) → AtLimit e w
+leaves-by : (old w : HeldBytes) (e : NextRefusal) → old.base ≤ w.base → AtLimit e w → LeavesWindow old w (Err e)
+leaves-by old w e base h = record {
+  ready = tt;
+  peak = tt;
+  dropped = tt;
+  base = base;
+  bound = h.0;
+  limit = (λ p. h.1 (let same : e ≡ next.InputBytes = cc in same), λ p. ap (λ x. Err x) (h.2 p));
+}
+
+opened-limit : (w : HeldBytes) (e : NextRefusal) → IsOpened w (Err e) → AtLimit e w
 opened-limit w next.InputBytes h = (omega (arith, h.1), λ _. omega (arith, h.1), λ _. refl)
 opened-limit w next.Failed h = (omega (arith, h.1), λ p. absurd cc, λ p. absurd (omega (arith, h.1, p)))
 opened-limit w next.WantOfMemory h = (omega (arith, h.1), λ p. absurd cc, λ p. absurd (omega (arith, h.1, p)))
 opened-limit w (next.Read e) h = absurd h
 
-pub limit-of : {T : Type 0} (w : HeldBytes) (e : NextRefusal) → AtLimit e w → IsErrOf {T = T} (Err e) next.InputBytes ↔ (most_input_bytes < taken_by w)
-limit-of w e h = (λ p. h.1 (let same : e ≡ next.InputBytes = cc in same), λ p. ap (λ x. Err x) (h.2 p))
+ended-limit : (w : HeldBytes) (e : NextRefusal) → IsEnded w (Err e) → AtLimit e w
+ended-limit w next.InputBytes h = (omega (arith, h.1), λ _. omega (arith, h.1), λ _. refl)
+ended-limit w next.Failed h = (omega (arith, h.1), λ p. absurd cc, λ p. absurd (omega (arith, h.1, p)))
+ended-limit w next.WantOfMemory h = (omega (arith, h.1), λ p. absurd cc, λ p. absurd (omega (arith, h.1, p)))
+ended-limit w (next.Read e) h = absurd h
+
+pub opened-leaves : (old w : HeldBytes) (e : NextRefusal) → old.base ≤ w.base → IsOpened w (Err e) → LeavesWindow old w (Err e)
+opened-leaves old w e base h = leaves-by old w e base (opened-limit w e h)
+
+pub ended-leaves : (old w : HeldBytes) (e : NextRefusal) → old.base ≤ w.base → IsEnded w (Err e) → LeavesWindow old w (Err e)
+ended-leaves old w e base h = leaves-by old w e base (ended-limit w e h)
+
+pub none-leaves : (old w : HeldBytes) → old.base ≤ w.base → IsOpened w (Ok false) → LeavesWindow old w (Ok None)
+none-leaves old w base h = record {
+  ready = record { few = omega (arith, ap length h.0); within = h.1.within };
+  peak = h.1.peak;
+  dropped = tt;
+  base = base;
+  bound = omega (arith, h.1.within);
+  limit = (λ e. absurd cc, λ p. absurd (omega (arith, h.1.within, p)));
+}
 
 -- ---- the group does not end
 
@@ -77,12 +97,6 @@ ended-finds old w left m (next.Read e) s first h = absurd h
 pub finds-unended : (old w : HeldBytes) (o m : Option (List ℕ)) (e : NextRefusal) → IfSome o (λ left. Skips old left w m) → next_open 0 w.held ≡ Some 0 → IsEnded w (Err e) → IfSome o (λ left. FindsNext old left w m (Err e))
 finds-unended old w None m e s first h = tt
 finds-unended old w (Some left) m e s first h = ended-finds old w left m e s first h
-
-pub ended-limit : (w : HeldBytes) (e : NextRefusal) → IsEnded w (Err e) → AtLimit e w
-ended-limit w next.InputBytes h = (omega (arith, h.1), λ _. omega (arith, h.1), λ _. refl)
-ended-limit w next.Failed h = (omega (arith, h.1), λ p. absurd cc, λ p. absurd (omega (arith, h.1, p)))
-ended-limit w next.WantOfMemory h = (omega (arith, h.1), λ p. absurd cc, λ p. absurd (omega (arith, h.1, p)))
-ended-limit w (next.Read e) h = absurd h
 
 -- ---- the item is read
 
@@ -124,32 +138,42 @@ module _ (w v : HeldBytes) (n : ℕ) (h : HoldsItem w n) where
   item-taken (Err next.Failed) k = absurd k
   item-taken (Err next.InputBytes) k = absurd k
 
-  pub item-ready : (r : Result Found NextRefusal) → IsRead w v n r → IfOk r (λ _. IsReady v)
-  item-ready (Ok (Some x)) k =
-      let d = dropped k.3 in
-      let t = item-taken (Ok (Some x)) k in
-      record { few = omega (arith, d.held, h.behind); within = omega (arith, t.0, h.within) }
-  item-ready (Ok None) k = absurd k
-  item-ready (Err e) k = tt
+  -- the window, for the next call
+  pub item-leaves : (old : HeldBytes) → old.base ≤ w.base → (r : Result Found NextRefusal) → IsRead w v n r → LeavesWindow old v r
+  item-leaves old low r k =
+      let t = item-taken r k in
+      record {
+        ready = ready r k;
+        peak = peak r k;
+        dropped = gone r k;
+        base = omega (arith, low, t.1);
+        bound = omega (arith, t.0, h.within);
+        limit = (λ e. absurd (subst (IsRead w v n) e k), λ p. absurd (omega (arith, p, t.0, h.within)));
+      }
+    where
+      ready : (r : Result Found NextRefusal) → IsRead w v n r → IfOk r (λ _. IsReady v)
+      ready (Ok (Some x)) k =
+          let d = dropped k.3 in
+          let t = item-taken (Ok (Some x)) k in
+          record { few = omega (arith, d.held, h.behind); within = omega (arith, t.0, h.within) }
+      ready (Ok None) k = absurd k
+      ready (Err e) k = tt
 
-  pub item-peak : (r : Result Found NextRefusal) → IsRead w v n r → IfOk r (IsPeak v)
-  item-peak (Ok (Some x)) k = let d = dropped k.3 in omega (arith, d.peak, h.peak, k.0)
-  item-peak (Ok None) k = absurd k
-  item-peak (Err e) k = tt
+      peak : (r : Result Found NextRefusal) → IsRead w v n r → IfOk r (IsPeak v)
+      peak (Ok (Some x)) k = let d = dropped k.3 in omega (arith, d.peak, h.peak, k.0)
+      peak (Ok None) k = absurd k
+      peak (Err e) k = tt
 
-  pub item-dropped : (b : ℕ) → b ≤ w.base → (r : Result Found NextRefusal) → IsRead w v n r → IfOk r (λ o. IfSome o (λ x. (0 < x.1) × (b + x.1 ≤ v.base)))
-  item-dropped b low (Ok (Some x)) k =
-      let d = dropped k.3 in
-      let e = group_end-ends w.held n k.1 in
-      (omega (arith, k.0, e.low), omega (arith, k.0, d.base, low))
-  item-dropped b low (Ok None) k = absurd k
-  item-dropped b low (Err e) k = tt
+      gone : (r : Result Found NextRefusal) → IsRead w v n r → IfOk r (λ o. IfSome o (λ x. (0 < x.1) × (old.base + x.1 ≤ v.base)))
+      gone (Ok (Some x)) k =
+          let d = dropped k.3 in
+          let e = group_end-ends w.held n k.1 in
+          (omega (arith, k.0, e.low), omega (arith, k.0, d.base, low))
+      gone (Ok None) k = absurd k
+      gone (Err e) k = tt
 
   pub item-not_none : (r : Result Found NextRefusal) → IsRead w v n r → r ≡ Ok None → ⊥
   item-not_none r k e = subst (IsRead w v n) e k
 
   pub item-not_failed : (r : Result Found NextRefusal) → IsRead w v n r → r ≡ Err next.Failed → ⊥
   item-not_failed r k e = subst (IsRead w v n) e k
-
-  pub item-limit : (r : Result Found NextRefusal) → IsRead w v n r → IsErrOf r next.InputBytes ↔ (most_input_bytes < taken_by v)
-  item-limit r k = (λ e. absurd (subst (IsRead w v n) e k), λ p. absurd (omega (arith, p, (item-taken r k).0, h.within)))

@@ -1,10 +1,13 @@
 -- Facts of a step that asks for more bytes, or drops some, as the loops need them.
 use Rattle.std.proofs.Common.{◌≡◌, refl, sym, ap, subst, ℕ, ◌+◌, ◌≤◌, arith, true, false, Bool, List, [], ◌∷◌, length, length-append, length-drop}
-use Rattle.std.specs.Prelude.{Option, Some, None, IfSome, Ok, Err, IsErrOf}
-use Rattle.pip_outside.specs.Faults.{HasRisen}
+use Rattle.std.specs.Prelude.{Ok, Err, IsErrOf}
+use Rattle.pip_outside.specs.Faults.{CountsFaults}
+use Rattle.pip_outside.specs.declared.window.FillRefusal.{FillRefusal}
+use Rattle.pip_outside.specs.declared.window.FillRefusal.TheVariants as fill
 use Rattle.pip_outside.specs.Windows.{HeldBytes}
 use Rattle.pip_model.specs.Limits.{most_input_bytes}
-use Rattle.pip_stream.specs.Windows.{taken_by, Drops, Skips, IsMore}
+use Rattle.pip_stream.specs.Refusals.{not_filled}
+use Rattle.pip_stream.specs.Windows.{taken_by, IsMore}
 use Rattle.pip_stream.specs.Open.{DropsClosed, IsOpened}
 use Rattle.pip_stream.specs.declared.refusal.NextRefusal.{NextRefusal}
 use Rattle.pip_stream.specs.declared.refusal.NextRefusal.TheVariants as next
@@ -13,40 +16,10 @@ use Rattle.pip_stream.proofs.Dropping.{taken-grown}
 pub not_true : {P : Type 0} → true ≡ false → P
 not_true h = absurd cc
 
-pub if-told : (P : Type 0) (o : Option (List ℕ)) → P → IfSome o (λ _. P)
-if-told P None p = tt
-if-told P (Some x) p = p
-
-pub risen-from : (a b n : ℕ) → a ≡ b → HasRisen a n → HasRisen b n
-risen-from a b n e h = subst (λ k. HasRisen k n) e h
-
--- the source failed, whatever else would be answered
-pub failed-as : {A B : Type 0} (x : NextRefusal) → IsErrOf {T = A} (Err x) next.Failed → IsErrOf {T = B} (Err x) next.Failed
-failed-as x e = let same : x ≡ next.Failed = cc in ap (λ y. Err y) same
-
--- ---- how many were taken
-
--- from another window that took as many
-pub counted-start : (o : Option (List ℕ)) (i k a c d : ℕ) → c ≡ a → IfSome o (λ _. k + c ≡ i + d) → IfSome o (λ _. k + a ≡ i + d)
-counted-start None i k a c d e h = tt
-counted-start (Some x) i k a c d e h = omega (arith, e, h)
-
-pub counted-same : (o : Option (List ℕ)) (i j a b c : ℕ) → IfSome o (λ _. j + a ≡ i + b) → c ≡ b → IfSome o (λ _. j + a ≡ i + c)
-counted-same None i j a b c h e = tt
-counted-same (Some x) i j a b c h e = omega (arith, h, e)
-
-pub counted-more : (o m : Option (List ℕ)) (i j k a b c d : ℕ) → IfSome o (λ _. (l : List ℕ) × (m ≡ Some l)) → IfSome o (λ _. j + a ≡ i + b) → c ≡ b → IfSome m (λ _. k + c ≡ j + d) → IfSome o (λ _. k + a ≡ i + d)
-counted-more None m i j k a b c d t h e f = tt
-counted-more (Some x) None i j k a b c d t h e f = absurd cc
-counted-more (Some x) (Some y) i j k a b c d t h e f = omega (arith, h, e, f)
-
-pub skips-told : (old new : HeldBytes) (o m : Option (List ℕ)) → IfSome o (λ left. Skips old left new m) → IfSome o (λ _. (l : List ℕ) × (m ≡ Some l))
-skips-told old new None m h = tt
-skips-told old new (Some x) m h = (h.drops.left_now, h.drops.told)
-
-pub drops-told : (old new : HeldBytes) (o m : Option (List ℕ)) → IfSome o (λ left. Drops old left new m 0) → IfSome o (λ _. (l : List ℕ) × (m ≡ Some l))
-drops-told old new None m h = tt
-drops-told old new (Some x) m h = (h.left_now, h.told)
+-- only a source that failed is a fault
+pub filled-faults : (e : FillRefusal) (a b : ℕ) → CountsFaults (IsErrOf {T = ℕ} (Err e) fill.Failed) a b → CountsFaults (IsErrOf {T = ℕ} (Err (not_filled e)) next.Failed) a b
+filled-faults fill.Failed a b h = record { later = h.later; cause = λ _. h.cause refl; quiet = λ other. absurd (other refl) }
+filled-faults fill.WantOfMemory a b h = record { later = h.later; cause = λ e. absurd cc; quiet = λ _. h.quiet (λ e. cc) }
 
 -- ---- dropped bytes before a `(`
 
@@ -105,4 +78,4 @@ pub opened-end : (v u : HeldBytes) (n : ℕ) → v.held ≡ [] → v.peak ≤ 40
 opened-end v u n none peak h zero =
     let s = some_more v u n h in
     let empty : length u.held ≡ 0 = omega (arith, s.held, ap length none, zero) in
-    (no_held u.held empty, omega (arith, empty), s.peak_high 4096 peak (omega (arith, empty)), s.within)
+    (no_held u.held empty, record { few = omega (arith, empty); peak = s.peak_high 4096 peak (omega (arith, empty)); within = s.within })

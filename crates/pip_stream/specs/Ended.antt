@@ -3,6 +3,7 @@ use Rattle.std.specs.Prelude.{◌≡◌, ◌⊎◌, ℕ, ◌+◌, ◌-◌, ◌�
 use Rattle.pip_outside.specs.Windows.{HeldBytes}
 use Rattle.pip_model.specs.Limits.{most_input_bytes}
 use Rattle.pip_model.specs.Problem.{Problem}
+use Rattle.pip_model.specs.Reading.{next_open}
 use Rattle.pip_model.specs.NativeText.{read_native}
 use Rattle.pip_model.specs.Moved.{moved}
 use Rattle.pip_problem.specs.Faults.{read_fault}
@@ -31,6 +32,12 @@ IsEnded w (Err next.InputBytes) =
 IsEnded w (Err next.Failed) = (first_group_end w.held ≡ None) × (taken_by w ≤ most_input_bytes)
 IsEnded w (Err next.WantOfMemory) = (first_group_end w.held ≡ None) × (taken_by w ≤ most_input_bytes)
 IsEnded w (Err (next.Read e)) = ⊥
+
+-- A search for the end of a group drops nothing, and leaves a group that the held bytes begin with.
+pub record EndsGroup (old new : HeldBytes) (r : Result ℕ NextRefusal) : Type 0 where
+  pub place : IsEnded new r
+  pub open_still : next_open 0 new.held ≡ Some 0
+  pub base : new.base ≡ old.base
 
 -- What is read of the first n bytes, which are dropped where they are a problem.
 abbrev pub IsRead : HeldBytes → HeldBytes → ℕ → Result (Option (Problem × ℕ)) NextRefusal → Type 0

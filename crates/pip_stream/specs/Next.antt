@@ -1,5 +1,5 @@
 -- The problem that is next in an input, of which a window holds the bytes that were taken and not yet dropped.
-use Rattle.std.specs.Prelude.{◌≡◌, ℕ, ◌+◌, ◌-◌, ◌≤◌, List, [], length, take, Option, Some, None, IfSome, Result, Ok, Err}
+use Rattle.std.specs.Prelude.{◌≡◌, ◌↔◌, ℕ, ◌+◌, ◌-◌, ◌<◌, ◌≤◌, List, [], length, take, Option, Some, None, IfSome, Result, Ok, Err, IfOk, IsErrOf}
 use Rattle.pip_outside.specs.Windows.{HeldBytes}
 use Rattle.pip_model.specs.Limits.{most_input_bytes}
 use Rattle.pip_model.specs.Problem.{Problem}
@@ -63,7 +63,16 @@ abbrev pub IsPeak : HeldBytes → Option (Problem × ℕ) → Type 0
 IsPeak w (Some x) = w.peak ≤ 4095 + x.1
 IsPeak w None = w.peak ≤ 4096
 
--- the window is as it was before the call, for the next one
+-- A window is ready for a call.
 pub record IsReady (w : HeldBytes) : Type 0 where
   pub few : length w.held ≤ 4095
   pub within : taken_by w ≤ most_input_bytes
+
+-- The window behind a call, whatever the source tells.
+pub record LeavesWindow (old new : HeldBytes) (r : Result (Option (Problem × ℕ)) NextRefusal) : Type 0 where
+  pub ready : IfOk r (λ _. IsReady new)
+  pub peak : IfOk r (IsPeak new)
+  pub dropped : IfOk r (λ o. IfSome o (λ x. (0 < x.1) × (old.base + x.1 ≤ new.base)))
+  pub base : old.base ≤ new.base
+  pub bound : taken_by new ≤ most_input_bytes + 1
+  pub limit : IsErrOf r next.InputBytes ↔ (most_input_bytes < taken_by new)

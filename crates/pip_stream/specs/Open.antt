@@ -5,7 +5,7 @@ use Rattle.pip_outside.specs.Windows.{HeldBytes}
 use Rattle.pip_model.specs.Limits.{most_input_bytes}
 use Rattle.pip_model.specs.Moved.{is_closed}
 use Rattle.pip_model.specs.Reading.{next_open}
-use Rattle.pip_stream.specs.Windows.{taken_by}
+use Rattle.pip_stream.specs.Windows.{taken_by, HoldsPiece}
 use Rattle.pip_stream.specs.declared.refusal.NextRefusal.{NextRefusal}
 use Rattle.pip_stream.specs.declared.refusal.NextRefusal.TheVariants as next
 
@@ -24,7 +24,7 @@ pub record DropsClosed (old new : HeldBytes) (found : Bool) : Type 0 where
 
 -- the window where the search for a `(` ends
 abbrev pub IsOpened : HeldBytes → Result Bool NextRefusal → Type 0
-IsOpened w (Ok found) = BeginsOpen w found × (length w.held ≤ 4096) × (w.peak ≤ 4096) × (taken_by w ≤ most_input_bytes)
+IsOpened w (Ok found) = BeginsOpen w found × HoldsPiece w
 IsOpened w (Err next.InputBytes) = (length w.held ≡ 1) × (taken_by w ≡ most_input_bytes + 1)
 IsOpened w (Err next.Failed) = (w.held ≡ []) × (taken_by w ≤ most_input_bytes)
 IsOpened w (Err next.WantOfMemory) = (w.held ≡ []) × (taken_by w ≤ most_input_bytes)

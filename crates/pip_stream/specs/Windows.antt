@@ -29,6 +29,12 @@ pub record Skips (old : HeldBytes) (left : List ℕ) (new : HeldBytes) (now : Op
   pub drops : Drops old left new now count
   pub closed : list_all is_closed (take count (bytes_from old left)) ≡ true
 
+-- No more than a piece is held, or was held, within the limit of the input.
+pub record HoldsPiece (w : HeldBytes) : Type 0 where
+  pub few : length w.held ≤ 4096
+  pub peak : w.peak ≤ 4096
+  pub within : taken_by w ≤ most_input_bytes
+
 -- n bytes came behind the held ones
 pub record Grows (old new : HeldBytes) (n : ℕ) : Type 0 where
   pub piece : List ℕ

@@ -1,8 +1,9 @@
-ghost use Rattle.std.specs.Prelude.{◌≡◌, ◌⊎◌, ◌+◌, ◌≤◌, IfOk, IfSome, IsErrOf};
+ghost use Rattle.std.specs.Prelude.{◌≡◌, ◌⊎◌, ◌≤◌, IfOk, IfSome, IsErrOf};
 ghost use Rattle.std.specs.Io.KnownBytes.{IsAtEnd};
 ghost use Rattle.pip_model.specs.Limits.{most_input_bytes};
-ghost use Rattle.pip_outside.specs.Faults.{HasRisen};
-ghost use Rattle.pip_stream.specs.Windows.{taken_by, Drops, IsMore};
+ghost use Rattle.pip_outside.specs.Faults.{CountsFaults};
+ghost use Rattle.pip_stream.specs.Asked.{TakesMore};
+ghost use Rattle.pip_stream.specs.Windows.{taken_by, IsMore};
 
 use crate::next::MOST_INPUT_BYTES;
 use crate::refusal::NextRefusal;
@@ -13,15 +14,12 @@ use pip_outside::{Source, Window};
 pub(crate) fn more<S: Source>(window: &mut Window, source: &mut S) -> Result<usize, NextRefusal>
     requires { taken_by window.old ≤ most_input_bytes }
     ensures window { IsMore window.old window.new result }
-    ensures bytes { IfSome (S.left source.old) (λ left. Drops window.old left window.new (S.left source.new) 0) }
     ensures end { IfOk result (λ n. n ≡ 0 → IsAtEnd (S.left source.new)) }
 
     // the source
-    ensures counted { IfSome (S.left source.old) (λ _.
-        S.taken source.new + taken_by window.old ≡ S.taken source.old + taken_by window.new) }
-    ensures later { S.faults source.old ≤ S.faults source.new }
-    ensures quiet { ¬ IsErrOf result NextRefusal.Failed → S.faults source.new ≡ S.faults source.old }
-    ensures cause { IsErrOf result NextRefusal.Failed → HasRisen (S.faults source.old) (S.faults source.new) }
+    ensures told { IfSome (S.left source.old) (λ left.
+        TakesMore S.taken source.old source.new window.old window.new left (S.left source.new)) }
+    ensures faults { CountsFaults (IsErrOf result NextRefusal.Failed) (S.faults source.old) (S.faults source.new) }
     ensures asked { (source.new ≡ source.old) ⊎ S.calls source.old source.new }
 {
     let taken = window.base() + window.held().len();

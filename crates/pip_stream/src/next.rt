@@ -1,13 +1,11 @@
-ghost use Rattle.std.specs.Prelude.{◌≡◌, ◌≢◌, ◌+◌, ◌<◌, ◌≤◌, ◌↔◌, Some, None, Ok, length, IfOk, IfSome, IsErrOf};
+ghost use Rattle.std.specs.Prelude.{◌≡◌, ◌≢◌, Some, None, Ok, IfSome, IsErrOf};
 ghost use Rattle.std.specs.Io.KnownBytes.{IsAtEnd};
-ghost use Rattle.pip_model.specs.Limits.{most_input_bytes};
 ghost use Rattle.pip_model.specs.Reading.{next_open};
-ghost use Rattle.pip_outside.specs.Faults.{HasRisen};
+ghost use Rattle.pip_outside.specs.Faults.{CountsFaults};
 ghost use Rattle.pip_reader.specs.Groups.{first_group_end};
-ghost use Rattle.pip_stream.specs.Asked.{AsksWhileOpen, AsksForNext};
-ghost use Rattle.pip_stream.specs.Windows.{taken_by};
+ghost use Rattle.pip_stream.specs.Asked.{CallsFor, is_there};
 ghost use Rattle.pip_stream.specs.Ended.{HoldsItem, IsRead};
-ghost use Rattle.pip_stream.specs.Next.{FindsNext, IsPeak, IsReady};
+ghost use Rattle.pip_stream.specs.Next.{FindsNext, LeavesWindow, IsReady};
 
 use crate::end::find_end;
 use crate::open::find_open;
@@ -54,8 +52,7 @@ pub fn next_problem<S: Source>(
     window: &mut Window,
     source: &mut S,
 ) -> Result<Option<(Problem, usize)>, NextRefusal>
-    requires held { length window.old.held ≤ 4095 }
-    requires taken { window.old.base + length window.old.held ≤ most_input_bytes }
+    requires { IsReady window.old }
 
     // what is found, where the source tells its bytes
     ensures finds { IfSome (S.left source.old) (λ left.
@@ -64,25 +61,12 @@ pub fn next_problem<S: Source>(
     ensures end { result ≡ Ok None → IsAtEnd (S.left source.new) }
 
     // the window, whatever the source tells
-    ensures ready { IfOk result (λ _. IsReady window.new) }
-    ensures peak { IfOk result (IsPeak window.new) }
-    ensures dropped { IfOk result (λ o. IfSome o (λ x. (0 < x.1) × (window.old.base + x.1 ≤ window.new.base))) }
-    ensures base { window.old.base ≤ window.new.base }
-    ensures bound { taken_by window.new ≤ most_input_bytes + 1 }
-    ensures limit { IsErrOf result NextRefusal.InputBytes ↔ (most_input_bytes < taken_by window.new) }
+    ensures window { LeavesWindow window.old window.new result }
 
-    // the source
-    ensures counted { IfSome (S.left source.old) (λ _.
-        S.taken source.new + taken_by window.old ≡ S.taken source.old + taken_by window.new) }
-    ensures later { S.faults source.old ≤ S.faults source.new }
-    ensures quiet { ¬ IsErrOf result NextRefusal.Failed → S.faults source.new ≡ S.faults source.old }
-    ensures cause { IsErrOf result NextRefusal.Failed → HasRisen (S.faults source.old) (S.faults source.new) }
-
-    // it is not called again once the group has ended, and not at all where that is held, nor at the input's end
-    ensures asked { IfSome (S.left source.old)
-        (AsksWhileOpen S.calls S.taken source.old source.new window.old) }
-    ensures turns { IfSome (S.left source.old) (λ _.
-        AsksForNext S.calls S.taken source.old source.new result) }
+    // the source is not called again once the group has ended, and not at all where that is held, nor at the input's end
+    ensures calls { IfSome (S.left source.old) (λ left.
+        CallsFor S.calls S.taken source.old source.new window.old window.new left (is_there result)) }
+    ensures faults { CountsFaults (IsErrOf result NextRefusal.Failed) (S.faults source.old) (S.faults source.new) }
     ensures untouched { first_group_end window.old.held ≢ None → source.new ≡ source.old }
 {
     window.restart();

@@ -1,10 +1,9 @@
-ghost use Rattle.std.specs.Prelude.{◌≡◌, ◌≢◌, ◌+◌, ◌<◌, ◌≤◌, ◌^◌, true, false, None, length, IfOk, IfSome, IsErrOf};
+ghost use Rattle.std.specs.Prelude.{◌≡◌, ◌≢◌, ◌<◌, ◌≤◌, ◌^◌, true, false, None, IfOk, IfSome, IsErrOf};
 ghost use Rattle.std.specs.Io.KnownBytes.{IsAtEnd};
-ghost use Rattle.pip_model.specs.Limits.{most_input_bytes};
 ghost use Rattle.pip_model.specs.Reading.{next_open};
-ghost use Rattle.pip_outside.specs.Faults.{HasRisen};
-ghost use Rattle.pip_stream.specs.Asked.{AsksWhileOpen, AsksUntil};
-ghost use Rattle.pip_stream.specs.Windows.{taken_by, Skips};
+ghost use Rattle.pip_outside.specs.Faults.{CountsFaults};
+ghost use Rattle.pip_stream.specs.Asked.{Seeks, is_found};
+ghost use Rattle.pip_stream.specs.Windows.{taken_by, HoldsPiece};
 ghost use Rattle.pip_stream.specs.Open.{DropsClosed, IsOpened};
 
 use crate::more::more;
@@ -33,24 +32,15 @@ fn skip_closed(window: &mut Window) -> bool
 // Drops the bytes before the next `(`, and asks for more as long as there is none; false at the input's end.
 #[tactic(none)]
 pub(crate) fn find_open<S: Source>(window: &mut Window, source: &mut S) -> Result<bool, NextRefusal>
-    requires few { length window.old.held ≤ 4096 }
-    requires peak { window.old.peak ≤ 4096 }
-    requires within { taken_by window.old ≤ most_input_bytes }
+    requires { HoldsPiece window.old }
     ensures window { IsOpened window.new result }
     ensures base { window.old.base ≤ window.new.base }
-    ensures bytes { IfSome (S.left source.old) (λ left. Skips window.old left window.new (S.left source.new)) }
     ensures end { IfOk result (λ found. found ≡ false → IsAtEnd (S.left source.new)) }
 
     // the source
-    ensures counted { IfSome (S.left source.old) (λ _.
-        S.taken source.new + taken_by window.old ≡ S.taken source.old + taken_by window.new) }
-    ensures later { S.faults source.old ≤ S.faults source.new }
-    ensures quiet { ¬ IsErrOf result NextRefusal.Failed → S.faults source.new ≡ S.faults source.old }
-    ensures cause { IsErrOf result NextRefusal.Failed → HasRisen (S.faults source.old) (S.faults source.new) }
-    ensures asked { IfSome (S.left source.old)
-        (AsksWhileOpen S.calls S.taken source.old source.new window.old) }
-    ensures turns { IfSome (S.left source.old) (λ _.
-        AsksUntil S.calls S.taken source.old source.new result) }
+    ensures told { IfSome (S.left source.old) (λ left. Seeks S.calls S.taken source.old source.new window.old window.new
+        left (S.left source.new) (is_found result)) }
+    ensures faults { CountsFaults (IsErrOf result NextRefusal.Failed) (S.faults source.old) (S.faults source.new) }
     ensures untouched { next_open 0 window.old.held ≢ None →
         (source.new ≡ source.old) × DropsClosed window.old window.new true }
 {

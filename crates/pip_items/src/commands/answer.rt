@@ -1,11 +1,9 @@
-ghost use Rattle.std.specs.Prelude.{◌≤◌, length, IfOk, IfErr, IfSome};
-ghost use Rattle.pip_model.specs.Agreement.{Agrees};
+ghost use Rattle.std.specs.Prelude.{◌≤◌, length};
 ghost use Rattle.pip_model.specs.Limits.{most_params};
 ghost use Rattle.program_model.specs.ItemKinds as kinds;
 ghost use Rattle.quast.specs.Answers.{IsOver};
 ghost use Rattle.quast_text.specs.Spoken.{spoken_of};
-ghost use Rattle.pip_endings.specs.Endings.{told, IsOfItem};
-ghost use Rattle.pip_items.specs.Items.{found_by, IsBehind};
+ghost use Rattle.pip_items.specs.Items.{FindsItem};
 
 use pip_endings::Ending;
 use quast_text::{Spoken, read_answer};
@@ -21,10 +19,7 @@ pub(super) fn answer_at(
 ) -> Result<Option<(Spoken, usize)>, Ending>
     requires place { at ≤ length bytes.now }
     requires few { params ≤ most_params }
-    ensures agrees { Agrees (found_by spoken_of) told result (kinds.answer_item bytes.now params at) }
-    ensures own { IfErr result IsOfItem }
-    ensures scope { IfOk result (λ found. IfSome found (λ x. IsOver params x.0.answer)) }
-    ensures after { IfOk result (λ found. IfSome found (λ x. IsBehind at (length bytes.now) x.1)) }
+    ensures { FindsItem spoken_of (λ s. IsOver params s.answer) (kinds.answer_item bytes.now params at) at (length bytes.now) result }
 {
     Ok(read_answer(alloc, bytes, at, params)?)
 }

@@ -17,7 +17,7 @@ use solve_certified::solve_with_certificate;
 use std::alloc::Global;
 
 // The answer of a problem and its certificate. A rational problem is refused before its run.
-fn certified(
+fn certify(
     alloc: Global,
     limits: &Limits,
     problem: &Problem,
@@ -46,7 +46,7 @@ pub(super) fn write_certified(
     ensures own { IfErr result IsOfItem }
     ensures text { IsTextOfItem (certified_text limits.now problem.now) result text.new.items }
 {
-    let (answer, certificate) = certified(alloc, limits, problem)?;
+    let (answer, certificate) = certify(alloc, limits, problem)?;
     print_answer(problem.comment(), &answer, text)?;
     print_certificate(&certificate, text)?;
     Ok(())

@@ -1,9 +1,7 @@
-ghost use Rattle.std.specs.Prelude.{◌≤◌, length, IfOk, IfErr, IfSome};
-ghost use Rattle.pip_model.specs.Agreement.{Agrees};
+ghost use Rattle.std.specs.Prelude.{◌≤◌, length};
 ghost use Rattle.pip_model.specs.Limits.{most_params};
 ghost use Rattle.program_model.specs.ItemKinds as kinds;
-ghost use Rattle.pip_endings.specs.Endings.{told, IsOfItem};
-ghost use Rattle.pip_items.specs.Items.{found_by, IsBehind};
+ghost use Rattle.pip_items.specs.Items.{FindsItem};
 ghost use Rattle.pip_items.specs.Pairs.{IsPair, pair_of};
 
 use super::needed::needed_answer;
@@ -30,10 +28,7 @@ pub(super) fn pair_at(
 ) -> Result<Option<(Pair, usize)>, Ending>
     requires place { at ≤ length bytes.now }
     requires few { params ≤ most_params }
-    ensures agrees { Agrees (found_by pair_of) told result (kinds.pair bytes.now params at) }
-    ensures own { IfErr result IsOfItem }
-    ensures pair { IfOk result (λ found. IfSome found (λ x. IsPair params x.0)) }
-    ensures after { IfOk result (λ found. IfSome found (λ x. IsBehind at (length bytes.now) x.1)) }
+    ensures { FindsItem pair_of (IsPair params) (kinds.pair bytes.now params at) at (length bytes.now) result }
 {
     match read_context(alloc, bytes, at, params)? {
         Some((rows, at)) => {

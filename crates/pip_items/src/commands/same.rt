@@ -2,7 +2,7 @@ ghost use Rattle.std.specs.Prelude.{length};
 ghost use Rattle.program_model.specs.Commands.{Same as model_same};
 ghost use Rattle.program_model.specs.ItemTexts.{sameness_text};
 ghost use Rattle.quast_tools.specs.Samenesses.{sameness_of};
-ghost use Rattle.text_parts.specs.Printing.{Appends};
+ghost use Rattle.text_printing.specs.Printing.{Appends};
 ghost use Rattle.pip_items.specs.Trios.{IsTrio, trio_of};
 
 use super::trio::{Trio, trio_at};
@@ -11,7 +11,7 @@ use pip_endings::Ending;
 use pip_words::WalkOptions;
 use quast_tools::{Sameness, same};
 use std::alloc::{AllocError, Global};
-use text_parts::{put, put_row};
+use text_printing::{put, put_row};
 
 // Says whether two answers have the same values under a context, or where they differ.
 #[derive(Drop)]

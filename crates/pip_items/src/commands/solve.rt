@@ -21,7 +21,7 @@ use quast_text::print_answer;
 use std::alloc::Global;
 
 // The answer, simplified where that is asked for.
-fn simplified_if(simplify: bool, answer: Answer) -> Answer
+fn simplify_if(simplify: bool, answer: Answer) -> Answer
     ensures { answer_of result ≡ (if simplify then simplified_by simplified (answer_of answer) else answer_of answer) }
 {
     if simplify {
@@ -44,7 +44,7 @@ fn write_answer(
         result text.new.items }
 {
     let answer = solve(alloc, problem, &options.limits)?;
-    let answer = simplified_if(options.simplify, answer);
+    let answer = simplify_if(options.simplify, answer);
     print_answer(problem.comment(), &answer, text)?;
     Ok(())
 }

@@ -1,9 +1,7 @@
-ghost use Rattle.std.specs.Prelude.{◌≡◌, ◌≤◌, length, IfOk, IfErr, IfSome, Some};
-ghost use Rattle.pip_model.specs.Agreement.{Agrees};
+ghost use Rattle.std.specs.Prelude.{◌≡◌, ◌≤◌, length, Some};
 ghost use Rattle.pip_model.specs.Limits.{most_params};
 ghost use Rattle.program_model.specs.ItemKinds as kinds;
-ghost use Rattle.pip_endings.specs.Endings.{told, IsOfItem};
-ghost use Rattle.pip_items.specs.Items.{found_by, IsBehind};
+ghost use Rattle.pip_items.specs.Items.{Finds, FindsItem};
 ghost use Rattle.pip_items.specs.Trios.{IsTrio, trio_of};
 
 use super::needed::needed_answer;
@@ -32,11 +30,8 @@ fn rest_of_trio(
     requires place { at ≤ length bytes.now }
     requires few { params ≤ most_params }
     requires width { rows.width ≡ params }
-    ensures agrees { Agrees (λ x. Some (trio_of x.0, x.1)) told result
-        (kinds.trio_by bytes.now params (Some (rows.forms, at))) }
-    ensures own { IfErr result IsOfItem }
-    ensures trio { IfOk result (λ x. IsTrio params x.0) }
-    ensures after { IfOk result (λ x. IsBehind at (length bytes.now) x.1) }
+    ensures { Finds (λ x. Some (trio_of x.0, x.1)) (IsTrio params)
+        (kinds.trio_by bytes.now params (Some (rows.forms, at))) at (length bytes.now) result }
 {
     let (first, at) = needed_answer(alloc, bytes, at, params)?;
     let (second, after) = needed_answer(alloc, bytes, at, params)?;
@@ -58,10 +53,7 @@ pub(super) fn trio_at(
 ) -> Result<Option<(Trio, usize)>, Ending>
     requires place { at ≤ length bytes.now }
     requires few { params ≤ most_params }
-    ensures agrees { Agrees (found_by trio_of) told result (kinds.trio bytes.now params at) }
-    ensures own { IfErr result IsOfItem }
-    ensures trio { IfOk result (λ found. IfSome found (λ x. IsTrio params x.0)) }
-    ensures after { IfOk result (λ found. IfSome found (λ x. IsBehind at (length bytes.now) x.1)) }
+    ensures { FindsItem trio_of (IsTrio params) (kinds.trio bytes.now params at) at (length bytes.now) result }
 {
     match read_context(alloc, bytes, at, params)? {
         Some((rows, at)) => Ok(Some(rest_of_trio(alloc, bytes, rows, at, params)?)),

@@ -1,10 +1,9 @@
-ghost use Rattle.std.specs.Prelude.{◌≡◌, ◌≤◌, length, IfOk, IfErr, IfSome, Some};
-ghost use Rattle.pip_model.specs.Agreement.{Agrees};
+ghost use Rattle.std.specs.Prelude.{◌≤◌, length, IfErr, Some};
 ghost use Rattle.pip_model.specs.Check as model;
 ghost use Rattle.program_model.specs.ItemKinds as kinds;
 ghost use Rattle.quast.specs.Answers.{answer_of};
-ghost use Rattle.pip_endings.specs.Endings.{told, IsOfItem};
-ghost use Rattle.pip_items.specs.Items.{found_by, IsBehind};
+ghost use Rattle.pip_endings.specs.Endings.{IsOfItem};
+ghost use Rattle.pip_items.specs.Items.{Finds, FindsItem};
 ghost use Rattle.pip_items.specs.Triples.{IsTriple, triple_of, IsFound};
 
 use super::needed::{needed_answer, needed_certificate};
@@ -32,11 +31,8 @@ fn rest_of_triple(
     at: usize,
 ) -> Result<(Triple, usize), Ending>
     requires { at ≤ length bytes.now }
-    ensures agrees { Agrees (λ x. Some (triple_of x.0, x.1)) told result
-        (kinds.rest_of_triple bytes.now (problem, at)) }
-    ensures own { IfErr result IsOfItem }
-    ensures triple { IfOk result (λ x. IsTriple x.0) }
-    ensures place { IfOk result (λ x. IsBehind at (length bytes.now) x.1) }
+    ensures { Finds (λ x. Some (triple_of x.0, x.1)) IsTriple (kinds.rest_of_triple bytes.now (problem, at)) at
+        (length bytes.now) result }
 {
     if !problem.integer() {
         return Err(Ending::RationalCertificate);
@@ -59,10 +55,7 @@ pub(super) fn triple_at(
     at: usize,
 ) -> Result<Option<(Triple, usize)>, Ending>
     requires { at ≤ length bytes.now }
-    ensures agrees { Agrees (found_by triple_of) told result (kinds.triple bytes.now at) }
-    ensures own { IfErr result IsOfItem }
-    ensures triple { IfOk result (λ found. IfSome found (λ x. IsTriple x.0)) }
-    ensures place { IfOk result (λ found. IfSome found (λ x. IsBehind at (length bytes.now) x.1)) }
+    ensures { FindsItem triple_of IsTriple (kinds.triple bytes.now at) at (length bytes.now) result }
 {
     match read_problem(alloc, bytes, at)? {
         Some((problem, after)) => Ok(Some(rest_of_triple(alloc, bytes, problem, after)?)),

@@ -34,7 +34,7 @@ returns-in-Err-clause-right g c =
 
 pub returns-in-Err-clause-output : goal.returns-in-Err-clause-output
 returns-in-Err-clause-output g c =
-    let gained = line-gained _ _ _ _ (ending_of c.in-Err.ending) c.write_line.result c.write_line.ensures.bytes c.write_line.ensures.cause in
+    let gained = line-gained g.N.Sink.written g.N.Sink.faults _ _ (ending_of c.in-Err.ending) c.write_line.result c.write_line.ensures in
     where_told (λ c' bytes. WritesOf c' bytes (g.S.Source.taken c.run.new.source - g.S.Source.taken c.args.source.now) (g.K.Sink.written c.args.sink.now) (g.K.Sink.written c.run.new.sink) (Err c.in-Err.ending)) _ _ (g.S.Source.left c.args.source.now)
     (command-asked (map string_bytes c.args.words.now.items))
     (λ c' bytes asked h. ends-of c' asked bytes _ _ _ _ c.number-in-Err.result (Err c.in-Err.ending) (c.number-in-Err.ensures ∙ c.status.ensures) gained h) c.in-Err.ensures.output
@@ -42,7 +42,7 @@ returns-in-Err-clause-output g c =
 pub returns-in-Err-clause-notes : goal.returns-in-Err-clause-notes
 returns-in-Err-clause-notes g c =
     is-noted _ (Err c.in-Err.ending) c.number-in-Err.result (c.number-in-Err.ensures ∙ c.status.ensures)
-    (line-gained _ _ _ _ (ending_of c.in-Err.ending) c.write_line.result c.write_line.ensures.bytes c.write_line.ensures.cause)
+    (line-gained g.N.Sink.written g.N.Sink.faults _ _ (ending_of c.in-Err.ending) c.write_line.result c.write_line.ensures)
 
 pub returns-in-Err-clause-complete : goal.returns-in-Err-clause-complete
 returns-in-Err-clause-complete g c read_well written_well =

@@ -1,5 +1,7 @@
-use Rattle.std.proofs.Common.{rules, arith}
+use Rattle.std.proofs.Common.{rules, refl, ◌∙◌}
 use Rattle.std.proofs.lemmas.Result.{err_from_is_err_and}
+use Rattle.pip_outside.proofs.Faults.{counts-none}
+use Rattle.pip_items.proofs.ByProblem.{own-not, err-same, counts-failed}
 use Rattle.pip_items.proofs.Written.{one_more, front_of_one, at_none, at_refusal}
 use Rattle.pip_items.proofs.items.write_items.Goals as goal
 
@@ -18,8 +20,21 @@ loop-text-preserved g c = (
   search rules,
   search rules,
   one_more _ _ _ _ c.loop-text.at _ _ c.loop-text.invariant.2 (rw c.in-Some.is at c.in_ok-after.ensures.text) (rw c.deref.ensures.value at c.in_ok-write_all.ensures.bytes),
-  omega (arith, c.loop-text.invariant.3, c.in_ok-write_all.ensures.quiet),
+  c.in_ok-write_all.ensures.faults.quiet (λ e. cc) ∙ c.loop-text.invariant.3,
 )
 
 pub returns-clause-output : goal.returns-clause-output
 returns-clause-output g c = at_none _ _ _ c.loop-text.at c.loop-text.invariant.2 (search rules)
+
+pub returns-in_err-after-clause-faults : goal.returns-in_err-after-clause-faults
+returns-in_err-after-clause-faults g c =
+    let p = err_from_is_err_and c.from_residual.result c.from_residual.ensures.1 in
+    rw (p.1, p.2) (counts-none _ _ (λ h. (own-not _ c.in_err-after.ensures.own).2 (err-same _ _ h)) c.loop-text.invariant.3)
+
+pub returns-in_err-write_all-clause-faults : goal.returns-in_err-write_all-clause-faults
+returns-in_err-write_all-clause-faults g c =
+    let p = err_from_is_err_and c.from_residual-in_err-write_all.result c.from_residual-in_err-write_all.ensures.1 in
+    rw (p.1, p.2) (counts-failed _ _ _ c.loop-text.invariant.3 c.in_err-write_all.ensures.faults refl refl)
+
+pub returns-clause-faults : goal.returns-clause-faults
+returns-clause-faults g c = counts-none _ _ (λ h. cc) c.loop-text.invariant.3

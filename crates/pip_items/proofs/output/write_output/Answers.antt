@@ -1,5 +1,6 @@
 use Rattle.std.proofs.Common.{refl, [], Some}
 use Rattle.program_model.specs.Commands.{Trial}
+use Rattle.pip_items.proofs.ByProblem.{faults-items}
 use Rattle.pip_items.proofs.Asked.{stops-whole}
 use Rattle.pip_items.proofs.Turns.{asks-start}
 use Rattle.pip_items.proofs.Outputs.{output-trial}
@@ -11,7 +12,7 @@ returns-in-Trial-clause-output g c =
 
 pub returns-else-options-clause-asked : goal.returns-else-options-clause-asked
 returns-else-options-clause-asked g c =
-    rw c.in-Solve.is c.write_problems.ensures.asked
+    rw c.in-Solve.is c.write_problems.ensures.calls.asked
 
 pub returns-in-Trial-clause-asked : goal.returns-in-Trial-clause-asked
 returns-in-Trial-clause-asked g c =
@@ -19,3 +20,6 @@ returns-in-Trial-clause-asked g c =
 
 pub returns-in-Trial-clause-turns : goal.returns-in-Trial-clause-turns
 returns-in-Trial-clause-turns g c = asks-start g.S.Source.calls g.S.Source.taken c.args.source.now (g.S.Source.left c.args.source.now)
+
+pub returns-in-Trial-clause-faults : goal.returns-in-Trial-clause-faults
+returns-in-Trial-clause-faults g c = faults-items _ _ _ _ c.write_items.result c.write_items.ensures.own refl c.write_items.ensures.faults

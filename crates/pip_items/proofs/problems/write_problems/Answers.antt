@@ -4,7 +4,8 @@ use Rattle.pip_outside.specs.Windows.{HeldBytes}
 use Rattle.program_model.specs.Commands.{Solve}
 use Rattle.pip_words.specs.Words.{options_of}
 use Rattle.pip_stream.specs.Windows.{taken_by}
-use Rattle.pip_items.proofs.ByProblem.{starts, if-told, none-taken, unmade, unmade-faults, unmade-usage, err-same, err-limit, err-not_ok, counts, taken-at_most, err-output, none-output, answered-follows, faults-none, faults-ok, faults-after}
+use Rattle.pip_items.proofs.ByProblem.{starts, if-told, none-taken, unmade, faults-own, err-same, err-limit, err-not_ok, counts, taken-at_most, err-output, none-output, answered-follows, faults-none, faults-ok, faults-after}
+use Rattle.pip_endings.specs.declared.ending.Ending.TheVariants as ending
 use Rattle.pip_items.proofs.Asked.{stops-start, stops-next}
 use Rattle.pip_items.proofs.Turns.{takes-start, asks-start, asks-next, takes-next}
 use Rattle.pip_items.proofs.problems.write_problems.Goals as goal
@@ -12,29 +13,27 @@ use Rattle.pip_items.proofs.problems.write_problems.Goals as goal
 -- ---- no window is made
 
 pub returns-in_err-window-clause-output : goal.returns-in_err-window-clause-output
-returns-in_err-window-clause-output g c = let p = err_from_is_err_and c.from_residual.result c.from_residual.ensures.1 in rw (p.1, p.2) (unmade (options_of c.args.options.now) (g.S.Source.left c.args.source.now) (g.K.Sink.written c.args.sink.now) ((g.S.Source.taken c.args.source.now) - (g.S.Source.taken c.args.source.now)) (omega arith) _ c.in_err-window.ensures.err)
+returns-in_err-window-clause-output g c = let p = err_from_is_err_and c.from_residual.result c.from_residual.ensures.1 in rw (p.1, p.2) (unmade (options_of c.args.options.now) (g.S.Source.left c.args.source.now) (g.K.Sink.written c.args.sink.now) ((g.S.Source.taken c.args.source.now) - (g.S.Source.taken c.args.source.now)) (omega arith))
 
 pub returns-in_err-window-clause-words : goal.returns-in_err-window-clause-words
-returns-in_err-window-clause-words g c = let p = err_from_is_err_and c.from_residual.result c.from_residual.ensures.1 in rw (p.1, p.2) (unmade-usage _)
+returns-in_err-window-clause-words g c = let p = err_from_is_err_and c.from_residual.result c.from_residual.ensures.1 in rw (p.1, p.2) (λ h. cc)
 
 pub returns-in_err-window-clause-end : goal.returns-in_err-window-clause-end
 returns-in_err-window-clause-end g c h = let p = err_from_is_err_and c.from_residual.result c.from_residual.ensures.1 in err-not_ok _ _ tt p.1 h
 
-pub returns-in_err-window-clause-asked : goal.returns-in_err-window-clause-asked
-returns-in_err-window-clause-asked g c = stops-start g.S.Source.calls g.S.Source.taken c.args.source.now (Solve (options_of c.args.options.now)) (g.S.Source.left c.args.source.now)
-
-pub returns-in_err-window-clause-turns : goal.returns-in_err-window-clause-turns
-returns-in_err-window-clause-turns g c = asks-start g.S.Source.calls g.S.Source.taken c.args.source.now (g.S.Source.left c.args.source.now)
-
-pub returns-in_err-window-clause-taken : goal.returns-in_err-window-clause-taken
-returns-in_err-window-clause-taken g c = none-taken (g.S.Source.left c.args.source.now) _
+pub returns-in_err-window-clause-calls : goal.returns-in_err-window-clause-calls
+returns-in_err-window-clause-calls g c = record {
+  asked = stops-start g.S.Source.calls g.S.Source.taken c.args.source.now (Solve (options_of c.args.options.now)) (g.S.Source.left c.args.source.now);
+  turns = asks-start g.S.Source.calls g.S.Source.taken c.args.source.now (g.S.Source.left c.args.source.now);
+  taken = none-taken (g.S.Source.left c.args.source.now) _;
+}
 
 pub returns-in_err-window-clause-faults : goal.returns-in_err-window-clause-faults
-returns-in_err-window-clause-faults g c = let p = err_from_is_err_and c.from_residual.result c.from_residual.ensures.1 in rw (p.1, p.2) (unmade-faults _ _ _ c.in_err-window.ensures.err)
+returns-in_err-window-clause-faults g c = let p = err_from_is_err_and c.from_residual.result c.from_residual.ensures.1 in rw (p.1, p.2) (faults-own _ _ 0 _ _ 0 refl refl ending.WantOfMemory tt)
 
 pub loop-window-init : goal.loop-window-init
 loop-window-init g c =
-    let is = c.in_ok-window.ensures.ok in
+    let is = c.in_ok-window.ensures in
     record {
       ready = record { few = omega (arith, ap (λ (x : HeldBytes). length x.held) is); within = omega (arith, ap (λ (x : HeldBytes). taken_by x) is) };
       follows = starts (options_of c.args.options.now) c.requires (g.S.Source.left c.args.source.now) c.in_ok-window.window (g.K.Sink.written c.args.sink.now) is;
@@ -64,14 +63,12 @@ returns-in_err-answer_next-clause-words g c = let p = err_from_is_err_and c.from
 pub returns-in_err-answer_next-clause-end : goal.returns-in_err-answer_next-clause-end
 returns-in_err-answer_next-clause-end g c h = let p = err_from_is_err_and c.from_residual-in_err-answer_next.result c.from_residual-in_err-answer_next.ensures.1 in err-not_ok _ _ tt p.1 h
 
-pub returns-in_err-answer_next-clause-asked : goal.returns-in_err-answer_next-clause-asked
-returns-in_err-answer_next-clause-asked g c = stops-next g.S.Source.calls g.S.Source.taken (options_of c.args.options.now) c.requires c.args.source.now c.loop-window.source c.answer_next.new.source c.loop-window.window (g.S.Source.left c.loop-window.source) (g.K.Sink.written c.args.sink.now) (g.K.Sink.written c.loop-window.sink) (g.S.Source.left c.args.source.now) c.loop-window.invariant.follows c.loop-window.invariant.counted c.loop-window.invariant.takes c.loop-window.invariant.asked c.answer_next.ensures.asked
-
-pub returns-in_err-answer_next-clause-turns : goal.returns-in_err-answer_next-clause-turns
-returns-in_err-answer_next-clause-turns g c = asks-next g.S.Source.calls g.S.Source.taken (options_of c.args.options.now) (g.S.Source.left c.args.source.now) c.loop-window.window (g.S.Source.left c.loop-window.source) (g.K.Sink.written c.args.sink.now) (g.K.Sink.written c.loop-window.sink) c.loop-window.invariant.follows c.args.source.now c.loop-window.source c.answer_next.new.source c.loop-window.invariant.takes c.answer_next.result c.answer_next.ensures.turns
-
-pub returns-in_err-answer_next-clause-taken : goal.returns-in_err-answer_next-clause-taken
-returns-in_err-answer_next-clause-taken g c = taken-at_most (options_of c.args.options.now) c.requires (g.S.Source.left c.args.source.now) c.loop-window.window (g.S.Source.left c.loop-window.source) (g.K.Sink.written c.args.sink.now) (g.K.Sink.written c.loop-window.sink) (g.S.Source.taken c.args.source.now) (g.S.Source.taken c.loop-window.source) c.loop-window.invariant.follows c.loop-window.invariant.counted c.answer_next.new.window (g.S.Source.left c.answer_next.new.source) (g.S.Source.taken c.answer_next.new.source) c.answer_next.ensures.counted c.answer_next.ensures.bound
+pub returns-in_err-answer_next-clause-calls : goal.returns-in_err-answer_next-clause-calls
+returns-in_err-answer_next-clause-calls g c = record {
+  asked = stops-next g.S.Source.calls g.S.Source.taken (options_of c.args.options.now) c.requires c.args.source.now c.loop-window.source c.answer_next.new.source c.loop-window.window (g.S.Source.left c.loop-window.source) (g.K.Sink.written c.args.sink.now) (g.K.Sink.written c.loop-window.sink) (g.S.Source.left c.args.source.now) c.loop-window.invariant.follows c.loop-window.invariant.counted c.loop-window.invariant.takes c.loop-window.invariant.asked c.answer_next.ensures.asked;
+  turns = asks-next g.S.Source.calls g.S.Source.taken (options_of c.args.options.now) (g.S.Source.left c.args.source.now) c.loop-window.window (g.S.Source.left c.loop-window.source) (g.K.Sink.written c.args.sink.now) (g.K.Sink.written c.loop-window.sink) c.loop-window.invariant.follows c.args.source.now c.loop-window.source c.answer_next.new.source c.loop-window.invariant.takes c.answer_next.result c.answer_next.ensures.turns;
+  taken = taken-at_most (options_of c.args.options.now) c.requires (g.S.Source.left c.args.source.now) c.loop-window.window (g.S.Source.left c.loop-window.source) (g.K.Sink.written c.args.sink.now) (g.K.Sink.written c.loop-window.sink) (g.S.Source.taken c.args.source.now) (g.S.Source.taken c.loop-window.source) c.loop-window.invariant.follows c.loop-window.invariant.counted c.answer_next.new.window (g.S.Source.left c.answer_next.new.source) (g.S.Source.taken c.answer_next.new.source) c.answer_next.ensures.counted c.answer_next.ensures.bound;
+}
 
 pub returns-in_err-answer_next-clause-faults : goal.returns-in_err-answer_next-clause-faults
 returns-in_err-answer_next-clause-faults g c = let p = err_from_is_err_and c.from_residual-in_err-answer_next.result c.from_residual-in_err-answer_next.ensures.1 in rw (p.1, p.2) (faults-after _ _ _ _ _ _ c.loop-window.invariant.read_quiet c.loop-window.invariant.write_quiet _ c.in_err-answer_next.ensures.faults)
@@ -112,14 +109,12 @@ returns-clause-words g c = λ h. cc
 pub returns-clause-end : goal.returns-clause-end
 returns-clause-end g c h = c.in_ok-answer_next.ensures.end (ap (λ x. Ok x) c.if-branch.false)
 
-pub returns-clause-asked : goal.returns-clause-asked
-returns-clause-asked g c = stops-next g.S.Source.calls g.S.Source.taken (options_of c.args.options.now) c.requires c.args.source.now c.loop-window.source c.answer_next.new.source c.loop-window.window (g.S.Source.left c.loop-window.source) (g.K.Sink.written c.args.sink.now) (g.K.Sink.written c.loop-window.sink) (g.S.Source.left c.args.source.now) c.loop-window.invariant.follows c.loop-window.invariant.counted c.loop-window.invariant.takes c.loop-window.invariant.asked c.answer_next.ensures.asked
-
-pub returns-clause-turns : goal.returns-clause-turns
-returns-clause-turns g c = asks-next g.S.Source.calls g.S.Source.taken (options_of c.args.options.now) (g.S.Source.left c.args.source.now) c.loop-window.window (g.S.Source.left c.loop-window.source) (g.K.Sink.written c.args.sink.now) (g.K.Sink.written c.loop-window.sink) c.loop-window.invariant.follows c.args.source.now c.loop-window.source c.answer_next.new.source c.loop-window.invariant.takes c.answer_next.result c.answer_next.ensures.turns
-
-pub returns-clause-taken : goal.returns-clause-taken
-returns-clause-taken g c = taken-at_most (options_of c.args.options.now) c.requires (g.S.Source.left c.args.source.now) c.loop-window.window (g.S.Source.left c.loop-window.source) (g.K.Sink.written c.args.sink.now) (g.K.Sink.written c.loop-window.sink) (g.S.Source.taken c.args.source.now) (g.S.Source.taken c.loop-window.source) c.loop-window.invariant.follows c.loop-window.invariant.counted c.answer_next.new.window (g.S.Source.left c.answer_next.new.source) (g.S.Source.taken c.answer_next.new.source) c.answer_next.ensures.counted c.answer_next.ensures.bound
+pub returns-clause-calls : goal.returns-clause-calls
+returns-clause-calls g c = record {
+  asked = stops-next g.S.Source.calls g.S.Source.taken (options_of c.args.options.now) c.requires c.args.source.now c.loop-window.source c.answer_next.new.source c.loop-window.window (g.S.Source.left c.loop-window.source) (g.K.Sink.written c.args.sink.now) (g.K.Sink.written c.loop-window.sink) (g.S.Source.left c.args.source.now) c.loop-window.invariant.follows c.loop-window.invariant.counted c.loop-window.invariant.takes c.loop-window.invariant.asked c.answer_next.ensures.asked;
+  turns = asks-next g.S.Source.calls g.S.Source.taken (options_of c.args.options.now) (g.S.Source.left c.args.source.now) c.loop-window.window (g.S.Source.left c.loop-window.source) (g.K.Sink.written c.args.sink.now) (g.K.Sink.written c.loop-window.sink) c.loop-window.invariant.follows c.args.source.now c.loop-window.source c.answer_next.new.source c.loop-window.invariant.takes c.answer_next.result c.answer_next.ensures.turns;
+  taken = taken-at_most (options_of c.args.options.now) c.requires (g.S.Source.left c.args.source.now) c.loop-window.window (g.S.Source.left c.loop-window.source) (g.K.Sink.written c.args.sink.now) (g.K.Sink.written c.loop-window.sink) (g.S.Source.taken c.args.source.now) (g.S.Source.taken c.loop-window.source) c.loop-window.invariant.follows c.loop-window.invariant.counted c.answer_next.new.window (g.S.Source.left c.answer_next.new.source) (g.S.Source.taken c.answer_next.new.source) c.answer_next.ensures.counted c.answer_next.ensures.bound;
+}
 
 pub returns-clause-faults : goal.returns-clause-faults
 returns-clause-faults g c =

@@ -1,11 +1,10 @@
-use Rattle.std.proofs.Common.{◌≡◌, ◌+◌, ◌-◌, ◌<◌, ◌≤◌, length, take}
+use Rattle.std.proofs.Common.{◌≡◌, ◌+◌, ◌-◌, ◌<◌, ◌≤◌, length, take, true}
 use Rattle.std.specs.Prelude.{IfSome, Some, None}
-use Rattle.pip_outside.specs.Calls.{Takes}
 use Rattle.pip_model.specs.Limits.{most_input_bytes}
 use Rattle.pip_model.specs.Reading.{next_open}
 use Rattle.pip_reader.specs.Groups.{IsScanned, first_group_end}
-use Rattle.pip_stream.specs.Asked.{AsksWhileOpen}
-use Rattle.pip_stream.specs.Windows.{taken_by, Drops}
+use Rattle.pip_stream.specs.Asked.{Seeks}
+use Rattle.pip_stream.specs.Windows.{taken_by}
 use Rattle.pip_stream.proofs.end.find_end.Given as goal
 
 abbrev pub invariant-loop-scan : goal.invariant-loop-scan
@@ -18,10 +17,7 @@ invariant-loop-scan g l = record {
   within : taken_by l.window ≤ most_input_bytes;
   base : l.window.base ≡ l.fn.window.base;
   open_still : next_open 0 l.window.held ≡ Some 0;
-  drops : IfSome (g.S.Source.left l.fn.source) (λ left. Drops l.fn.window left l.window (g.S.Source.left l.source) 0);
-  counted : IfSome (g.S.Source.left l.fn.source) (λ _. g.S.Source.taken l.source + taken_by l.fn.window ≡ g.S.Source.taken l.fn.source + taken_by l.window);
-  takes : IfSome (g.S.Source.left l.fn.source) (λ _. Takes g.S.Source.calls g.S.Source.taken l.fn.source l.source);
-  asked : IfSome (g.S.Source.left l.fn.source) (AsksWhileOpen g.S.Source.calls g.S.Source.taken l.fn.source l.source l.fn.window);
+  told : IfSome (g.S.Source.left l.fn.source) (λ left. Seeks g.S.Source.calls g.S.Source.taken l.fn.source l.source l.fn.window l.window left (g.S.Source.left l.source) true);
   untouched : ¬ (first_group_end l.fn.window.held ≡ None) → (l.source ≡ l.fn.source) × (l.window ≡ l.fn.window);
   quiet : g.S.Source.faults l.source ≡ g.S.Source.faults l.fn.source;
 }

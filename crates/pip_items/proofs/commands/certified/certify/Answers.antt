@@ -1,7 +1,7 @@
 use Rattle.std.proofs.Common.{rules}
 use Rattle.std.proofs.lemmas.Result.{err_from_is_err_and}
 use Rattle.pip_items.proofs.Certified.{certified_ok, certified_none, certified_refused}
-use Rattle.pip_items.proofs.commands.certified.certified.Goals as goal
+use Rattle.pip_items.proofs.commands.certified.certify.Goals as goal
 
 pub returns-in_err-made-clause-gives : goal.returns-in_err-made-clause-gives
 returns-in_err-made-clause-gives c =
