@@ -37,6 +37,7 @@ use Rattle.certificate_laws.proofs.FitSteps.{most_index, UpTo, AllUpTo, fits_up_
 use Rattle.certificate_laws.proofs.Accepted.{void_whole, void_none, void_known, tree_shaped, answer_of, done_by, fitting_done, certified_by, certified-answer}
 use Rattle.certificate_laws.proofs.FitForms.{places_fit, narrowed_fit, row_forms_fit, opposite_fits, put_in_fits, smaller_fit, ListFits, QuotientsFit, MaybeListFits, FitFacts, fit_facts}
 use Rattle.check_laws.proofs.ShareReadable.{length-places}
+use Rattle.std.proofs.lemmas.List.Folds.{list_all-append}
 
 -- ---- parts that begin with at most n left
 
@@ -90,6 +91,9 @@ quotient_steps_fit front next places path q k (x ∷ ks) m up room few all fit =
 pub record KnownFits (most : ℕ) (s : Premises) : Type 0 where
   pub fit : all_fit s.listed ≡ true → AllFit s.known
   pub few : length s.known ≤ most
+
+abbrev pub AllStepsFit : List Refutation → Type 0
+AllStepsFit rs = list_all (list_all step_fits) rs ≡ true
 
 module _ (P : Problem) (L : LeafCase) (ks : List PathQuotient) (n W limit most : ℕ) (quotients : QuotientsFit ks) (room : most + length ks + suc limit ≤ most_index) where
   module _ (s : Premises) (from : IsPremises P L ks n W s.known) (known : KnownFits most s) where
@@ -150,9 +154,6 @@ module _ (P : Problem) (L : LeafCase) (ks : List PathQuotient) (n W limit most :
         (λ e. within-bind limit (IfSteps StepsFit) StepsFit (refute w (map (narrow_to w) s.known) places (pos (count + length ks))) (λ found. give (first ++ steps_or_none found)) (refuted_fits e)
         (λ found h. within-give limit StepsFit (first ++ steps_or_none found) (with_first found h)))
 
-  abbrev pub AllStepsFit : List Refutation → Type 0
-  AllStepsFit rs = list_all (list_all step_fits) rs ≡ true
-
   pub refutations_fit : (ss : List Premises) → AllByRecursion (Ready P L ks n W) ss → AllByRecursion (KnownFits most) ss → Within limit AllStepsFit (made_refutations P L ks n ss)
   refutations_fit [] h k = within-give limit AllStepsFit [] refl
   refutations_fit (s ∷ ss) h k =
@@ -166,14 +167,8 @@ module _ (P : Problem) (L : LeafCase) (ks : List PathQuotient) (n W limit most :
 abbrev most_known : ℕ
 most_known = 100000
 
-abbrev AllRefutationsFit : List Refutation → Type 0
-AllRefutationsFit rs = list_all (list_all step_fits) rs ≡ true
-
-fit_both : (xs ys : List Refutation) → AllRefutationsFit xs → AllRefutationsFit ys → AllRefutationsFit (xs ++ ys)
-fit_both [] ys h k = k
-fit_both (x ∷ xs) ys h k =
-    let parts = both (list_all step_fits x) (list_all (list_all step_fits) xs) h in
-    both_true (list_all step_fits x) (list_all (list_all step_fits) (xs ++ ys)) parts.0 (fit_both xs ys parts.1 k)
+fit_both : (xs ys : List Refutation) → AllStepsFit xs → AllStepsFit ys → AllStepsFit (xs ++ ys)
+fit_both xs ys h k = list_all-append (list_all step_fits) xs ys ∙ both_true (list_all (list_all step_fits) xs) (list_all (list_all step_fits) ys) h k
 
 module _ (P : Problem) (formed : IsProblem P) (t : Tree) (shallow : nesting t ≤ most_nesting) (L : LeafCase) (ks : List PathQuotient) (facts : LeafFacts P.unknowns P.params P.params [] [] t L ks) (fit : FitFacts (2 * nesting t) (nesting t) L ks) where
   abbrev nu : ℕ
@@ -277,7 +272,7 @@ module _ (P : Problem) (formed : IsProblem P) (t : Tree) (shallow : nesting t �
     few_quotients : most_known + length ks + suc limit ≤ most_index
     few_quotients = omega (arith, room, fit.few_quotients, shallow)
 
-    leaf_numbers : (o : Option (List Component)) → L.list ≡ o → Within limit AllRefutationsFit (made_leaf P L ks o)
+    leaf_numbers : (o : Option (List Component)) → L.list ≡ o → Within limit AllStepsFit (made_leaf P L ks o)
     leaf_numbers None e =
         let s : Premises = whole_of (record { known = unknown_forms P L; listed = [] }) in
         let known : KnownFits most_known s = record {
@@ -294,13 +289,13 @@ module _ (P : Problem) (formed : IsProblem P) (t : Tree) (shallow : nesting t �
         let rows = map whole_of (map (row_premises P L cs) P.rows) in
         let signs = map whole_of (map (sign_premises P L) cs) in
         let least = map whole_of (map (least_premises P L) (fronts_from [] cs)) in
-        within-bind limit AllRefutationsFit AllRefutationsFit (made_refutations P L ks 0 rows) (λ a. made_refutations P L ks 0 signs >>= λ b. made_refutations P L ks nu least >>= λ c. give (a ++ b ++ c))
+        within-bind limit AllStepsFit AllStepsFit (made_refutations P L ks 0 rows) (λ a. made_refutations P L ks 0 signs >>= λ b. made_refutations P L ks nu least >>= λ c. give (a ++ b ++ c))
         (refutations_fit P L ks 0 W limit most_known fit.quotients few_quotients rows ready.0 (rows_fit cs sized numbers count P.rows (fitting_rows (nu + P.params) P.rows formed.rows)))
-        (λ a ha. within-bind limit AllRefutationsFit AllRefutationsFit (made_refutations P L ks 0 signs) (λ b. made_refutations P L ks nu least >>= λ c. give (a ++ b ++ c))
+        (λ a ha. within-bind limit AllStepsFit AllStepsFit (made_refutations P L ks 0 signs) (λ b. made_refutations P L ks nu least >>= λ c. give (a ++ b ++ c))
         (refutations_fit P L ks 0 W limit most_known fit.quotients few_quotients signs ready.1 (signs_fit cs sized numbers count cs sized numbers))
-        (λ b hb. within-bind limit AllRefutationsFit AllRefutationsFit (made_refutations P L ks nu least) (λ c. give (a ++ b ++ c))
+        (λ b hb. within-bind limit AllStepsFit AllStepsFit (made_refutations P L ks nu least) (λ c. give (a ++ b ++ c))
         (refutations_fit P L ks nu W limit most_known fit.quotients few_quotients least ready.2 (least_fit cs sized numbers count [] cs refl))
-        (λ c hc. within-give limit AllRefutationsFit (a ++ b ++ c) (fit_both (a ++ b) c (fit_both a b ha hb) hc))))
+        (λ c hc. within-give limit AllStepsFit (a ++ b ++ c) (fit_both (a ++ b) c (fit_both a b ha hb) hc))))
 
 -- ---- all leaves, and the certificate
 
@@ -311,7 +306,7 @@ module _ (P : Problem) (formed : IsProblem P) (integer : P.integer ≡ true) (t 
   leaves_fit : (Ls : List LeafCase) (kss : List (List PathQuotient)) → AllPairs (LeafFacts P.unknowns P.params P.params [] [] t) Ls kss → AllPairs (FitFacts (2 * nesting t) (nesting t)) Ls kss → Within limit LeavesFit (made_leaves P Ls kss)
   leaves_fit [] [] h k = within-give limit LeavesFit [] refl
   leaves_fit (L ∷ Ls) (ks ∷ kss) h k =
-      within-bind limit AllRefutationsFit LeavesFit (made_leaf P L ks L.list) (λ p. made_leaves P Ls kss >>= λ ps. give (unshared p ∷ ps)) (leaf_numbers P formed t shallow L ks h.0 k.0 integer right limit room L.list refl)
+      within-bind limit AllStepsFit LeavesFit (made_leaf P L ks L.list) (λ p. made_leaves P Ls kss >>= λ ps. give (unshared p ∷ ps)) (leaf_numbers P formed t shallow L ks h.0 k.0 integer right limit room L.list refl)
       (λ p g. within-bind limit LeavesFit LeavesFit (made_leaves P Ls kss) (λ ps. give (unshared p ∷ ps)) (leaves_fit Ls kss h.1 k.1)
       (λ ps e. within-give limit LeavesFit (unshared p ∷ ps) (both_true (leaf_fits false (unshared p)) (list_all (leaf_fits false) ps) g e)))
   leaves_fit _ _ h k = absurd h
@@ -376,7 +371,7 @@ module _ (P : Problem) (formed : IsProblem P) (limit : ℕ) (room : most_known +
         few = omega (arith, length-append (A ++ B) [], length-append A B, length-places m 0 m, length_map (widen_to m) P.context, formed.few_params, formed.few_context_rows);
       } in
       let few : most_known + 0 + suc limit ≤ most_index = omega (arith, room) in
-      (within-bind limit AllRefutationsFit Q (made_refutations P L [] 0 (s ∷ [])) (λ rs. give (record { shares = false; vector = None; leaves = unshared rs ∷ [] }))
+      (within-bind limit AllStepsFit Q (made_refutations P L [] 0 (s ∷ [])) (λ rs. give (record { shares = false; vector = None; leaves = unshared rs ∷ [] }))
       (refutations_fit P L [] 0 m limit most_known tt few (s ∷ []) (record { premises = void_known P formed; none = void_none P formed right }, tt) (known, tt))
       (λ rs h. within-give limit Q (record { shares = false; vector = None; leaves = unshared rs ∷ [] }) (both_true (leaf_fits false (unshared rs)) true h refl))).within v l
 

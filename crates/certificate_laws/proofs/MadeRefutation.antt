@@ -1,8 +1,8 @@
 -- A refutation that is made succeeds, where no whole vector makes its known forms >= 0.
-use Rattle.std.proofs.Common.{◌≡◌, refl, ap, ap₂, sym, subst, ◌∙◌, ℕ, zero, suc, ◌+◌, ◌<◌, ◌≤◌, arith, Option, Some, None, List, [], ◌∷◌, ◌++◌, append_assoc, length, length-append, Bool, true, false, ℤ, pos}
+use Rattle.std.proofs.Common.{◌≡◌, refl, ap, ap₂, sym, subst, ◌∙◌, ℕ, zero, suc, ◌+◌, ◌<◌, ◌≤◌, arith, Option, Some, None, List, [], ◌∷◌, ◌++◌, append_assoc, length, length-append, true, ℤ, pos}
 use Rattle.std.proofs.Math.ListN.{get_or-append}
 use Rattle.std.proofs.Math.Seq.{get_or-append_seam}
-use Rattle.std.proofs.lemmas.List.{get_or-append-add}
+use Rattle.std.proofs.lemmas.List.{get_or-append-add, get_or-map}
 use Rattle.std.specs.Prelude.{map, slice_index_or, if◌then◌else◌}
 use Rattle.pip_model.specs.Forms.{entry, unit_form, widen_to}
 use Rattle.pip_model.specs.Problem.{Problem}
@@ -11,14 +11,13 @@ use Rattle.pip_model.specs.Check.{LeafCase, places_from, Premises}
 use Rattle.pip_model.specs.Conditions.{named, known_at_end}
 use Rattle.pip_model.specs.Contexts.{IsPointRefusal}
 use Rattle.pip_model.specs.Listed.{all_fit}
-use Rattle.pip_model.specs.Run.{Work, Refusal, Overflow, Outcome, Done, Refused, ◌>>=◌, give, listed, point}
+use Rattle.pip_model.specs.Run.{Work, Refusal, Outcome, Done, Refused, ◌>>=◌, give, listed, point}
 use Rattle.pip_model.specs.Refuting.{indices, refute}
 use Rattle.pip_model.specs.Made.{PathQuotient, quotient_steps, narrow_to, steps_or_none, made_refutation}
 use Rattle.pip_model.proofs.Tests.{every-append}
 use Rattle.run_laws.proofs.ContextRight.{context_of}
-use Rattle.run_laws.proofs.Ensured.{OnDone, Ensures}
+use Rattle.run_laws.proofs.Ensured.{OnDone, Ensures, OnMade, Makes, ensures-bind, ensures-give, ends-listed}
 use Rattle.run_laws.proofs.PointRefusals.{point-refusal}
-use Rattle.run_laws.proofs.Making.{OnMade, Makes, makes-bind, makes-then, makes-give}
 use Rattle.run_laws.proofs.Scopes.{Narrow, InScope}
 use Rattle.run_laws.proofs.PointRight.{IsPointOf, point_right}
 use Rattle.run_laws.proofs.Lengths.{length_map}
@@ -26,13 +25,14 @@ use Rattle.certificate_laws.proofs.Deriving.{Names, GoodSteps, Refutes, refutes-
 use Rattle.certificate_laws.proofs.Totals.{AllWide, AllNamed, entries_at, entries-more, entries-append, all_named_more}
 use Rattle.certificate_laws.proofs.Tracing.{one_at}
 use Rattle.refutation_laws.proofs.Traces.{IfSteps}
-use Rattle.certificate_laws.proofs.FirstTrace.{units_from, units-append, AllWithin, length_narrow, indices_named, Starts, refute_right}
+use Rattle.certificate_laws.proofs.FirstTrace.{units_from, units-append, Within, AllWithin, length_narrow, indices_named, Starts, refute_right}
 use Rattle.pip_model.specs.RefutedPoint.{IsRefutedPoint}
 use Rattle.refutation_laws.proofs.SameRun.{refute-same}
 use Rattle.certificate_laws.proofs.LeafFacts.{AllQuotients}
 use Rattle.certificate_laws.proofs.QuotientSteps.{entry-unit_form, Places, Stands, quotient_steps_good, length-quotient_steps}
 use Rattle.pip_model.proofs.RingLaws.{one-*ℤ}
 use Rattle.check_laws.proofs.ShareReadable.{length-places}
+use Rattle.check_laws.proofs.StartingForms.{every-kept}
 
 -- ---- places among the known forms
 
@@ -46,27 +46,18 @@ places_entries known pre post W i (suc n) first j is e =
     ap₂ (λ (x : ℤ) (xs : List ℤ). x ∷ xs) (ap (λ (x : List ℤ). entry x j) here ∙ entry-unit_form W i (pos 1) j ∙ one-*ℤ (one_at i j))
     (places_entries known (pre ++ c ∷ []) post W (i + 1) n (first + 1) j next (length-append pre (c ∷ []) ∙ omega (arith, e)))
 
-at_map : (f : List ℤ → List ℤ) (xs : List (List ℤ)) (b : ℕ) → b < length xs → slice_index_or (map f xs) b [] ≡ f (slice_index_or xs b [])
-at_map f [] b h = absurd (omega arith)
-at_map f (x ∷ xs) zero h = refl
-at_map f (x ∷ xs) (suc b) h = at_map f xs b (omega arith)
+length_indices : (i n : ℕ) → length (indices i n) ≡ n
+length_indices i zero = refl
+length_indices i (suc n) = ap suc (length_indices (i + 1) n)
 
 all_wide : (w W : ℕ) (known : List (List ℤ)) → AllWithin w W known → AllWide W known
-all_wide w W [] h = tt
-all_wide w W (c ∷ known) h = (h.0.0, all_wide w W known h.1)
+all_wide w W known h = every-kept (Within w W) (λ (c : List ℤ). length c ≡ suc W) known (λ c within. within.0) h
 
 pub narrow_context : (w W : ℕ) (known : List (List ℤ)) → w ≤ W → AllWithin w W known → Narrow w (map (narrow_to w) known)
 narrow_context w W [] l h = tt
 narrow_context w W (c ∷ known) l h =
     let e = length_narrow w W c l h.0.0 in
     (omega (arith, e), omega (arith, e), narrow_context w W known l h.1)
-
-listed_made : (zs : List ℤ) → Makes (λ (u : Unit {0}). Unit {0}) (listed zs)
-listed_made zs = record { makes = λ w. go w (all_fit zs) }
-  where
-    go : (w : Work) (b : Bool) → OnMade (λ (u : Unit {0}). Unit {0}) (if b then Done tt w else Refused Overflow w)
-    go w true = tt
-    go w false = tt
 
 -- ---- the known forms of a refutation, over W places, of which the first are the leaf's scope and n unknowns
 
@@ -128,10 +119,6 @@ module _ (P : Problem) (L : LeafCase) (ks : List PathQuotient) (n W : ℕ) (s : 
     named = indices_named known 0 m (omega (arith, known_long));
     units = λ j h. places_entries known [] (B ++ (C ++ D)) W 0 m 0 j (from.is ∙ append_assoc (A ++ B) C D ∙ append_assoc A B (C ++ D)) refl;
   }
-    where
-      length_indices : (i n : ℕ) → length (indices i n) ≡ n
-      length_indices i zero = refl
-      length_indices i (suc n) = ap suc (length_indices (i + 1) n)
 
   stands : Stands W front L.path known
   stands = record {
@@ -140,7 +127,7 @@ module _ (P : Problem) (L : LeafCase) (ks : List PathQuotient) (n W : ℕ) (s : 
         let few : b < length C = omega (arith, below, length_map (widen_to W) L.path) in
         ap (λ (k : List (List ℤ)). slice_index_or k (front + b) []) (from.is ∙ append_assoc (A ++ B) C D)
         ∙ ap (λ (i : ℕ). slice_index_or ((A ++ B) ++ (C ++ D)) (i + b) []) (sym front_long)
-        ∙ get_or-append-add (A ++ B) (C ++ D) b [] ∙ get_or-append C D [] b few ∙ at_map (widen_to W) L.path b below;
+        ∙ get_or-append-add (A ++ B) (C ++ D) b [] ∙ get_or-append C D [] b few ∙ get_or-map (widen_to W) L.path b [] [] below;
   }
 
   made : GoodSteps W known first × Places W now (m + length ks) (indices 0 m ++ indices count (length ks))
@@ -179,10 +166,6 @@ module _ (P : Problem) (L : LeafCase) (ks : List PathQuotient) (n W : ℕ) (s : 
             entries-append now j before unknowns ∙ ap₂ (λ (us vs : List ℤ). us ++ vs) front_units (back_units ∙ ap (λ (i : ℕ). units_from i n j) at)
             ∙ units-append 0 (m + length ks) n j ∙ ap (λ (i : ℕ). units_from 0 (i + n) j) scope;
       }
-    where
-      length_indices : (i n : ℕ) → length (indices i n) ≡ n
-      length_indices i zero = refl
-      length_indices i (suc n) = ap suc (length_indices (i + 1) n)
 
   abbrev K : List (List ℤ)
   K = map (narrow_to w) known
@@ -204,7 +187,7 @@ module _ (P : Problem) (L : LeafCase) (ks : List PathQuotient) (n W : ℕ) (s : 
         let narrow = narrow_context w W known from.narrow from.within in
         let right : Ensures (IfSteps (Refutes W now)) (refute w K places (pos (count + length ks))) = subst (λ (i : ℕ). Ensures (IfSteps (Refutes W now)) (refute w K places (pos i))) now_long (refute_right w W now known places starts) in
         record {
-          makes = λ v. made_of (point w K v) (refute w K places (pos (count + length ks)) v) (refute-same w K places (pos (count + length ks)) v narrow) ((point_right w K narrow).ensures v)
+          ensures = λ v. made_of (point w K v) (refute w K places (pos (count + length ks)) v) (refute-same w K places (pos (count + length ks)) v narrow) ((point_right w K narrow).ensures v)
               (λ e u is. point-refusal w K e v u (context_of w K narrow) is) (right.ensures v);
         }
 
@@ -215,6 +198,6 @@ module _ (P : Problem) (L : LeafCase) (ks : List PathQuotient) (n W : ℕ) (s : 
     -- the refutation that is made succeeds from the known forms
     pub made_refutes : Makes (Refutes W known) (made_refutation P L ks n s)
     made_refutes =
-        makes-then (Refutes W known) (listed s.listed) (refute w K places (pos (count + length ks)) >>= λ found. give (first ++ steps_or_none found)) (listed_made s.listed)
-        (makes-bind IsMade (Refutes W known) (refute w K places (pos (count + length ks))) (λ found. give (first ++ steps_or_none found)) refuted
-        (λ found h. makes-give (Refutes W known) (first ++ steps_or_none found) (with_first found h)))
+        ensures-bind (λ (done : Unit {0}). all_fit s.listed ≡ true) (Refutes W known) (listed s.listed) (λ done. refute w K places (pos (count + length ks)) >>= λ found. give (first ++ steps_or_none found)) (ends-listed IsPointRefusal tt s.listed)
+        (λ done fit. ensures-bind IsMade (Refutes W known) (refute w K places (pos (count + length ks))) (λ found. give (first ++ steps_or_none found)) refuted
+        (λ found h. ensures-give (Refutes W known) (first ++ steps_or_none found) (with_first found h)))

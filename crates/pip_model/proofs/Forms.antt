@@ -1,7 +1,7 @@
 -- Forms that are made of others: their lengths, entries and products.
 use Rattle.std.proofs.Common.{◌≡◌, ◌∙◌, refl, ap, sym, ℕ, zero, suc, ◌+◌, ◌-◌, ◌<◌, ◌≤◌, ℤ, pos, ◌+ℤ◌, ◌-ℤ◌, ◌*ℤ◌, neg_ℤ, arith, Bool, true, false, List, [], ◌∷◌, ◌++◌, length, append-nil, length-append, eqb-true, ltb-true, ltb-false}
 use Rattle.std.proofs.lemmas.Int.{ints}
-use Rattle.std.proofs.Math.ListN.{get_or-append}
+use Rattle.std.proofs.Math.ListN.{get_or-append, get_or-map}
 use Rattle.std.proofs.lemmas.List.{length-map, length-replicate, length-take, get_or-take}
 use Rattle.std.specs.Prelude.{take, replicate, nat_lt}
 use Rattle.pip_model.specs.Forms.{dot, width, entry, coefficients, constant, add, negate, plus, opposite, scale, combine, constant_form, widen_to}
@@ -43,9 +43,7 @@ entry-zeros (suc n) zero = refl
 entry-zeros (suc n) (suc k) = entry-zeros n k
 
 pub entry-negate : (c : List ℤ) (k : ℕ) → entry (negate c) k ≡ neg_ℤ (entry c k)
-entry-negate [] k = refl
-entry-negate (x ∷ c) zero = refl
-entry-negate (x ∷ c) (suc k) = entry-negate c k
+entry-negate c k = get_or-map neg_ℤ c k (pos 0)
 
 entry-plus : (c : List ℤ) (n : ℕ) (z : ℤ) → length c ≡ suc n → entry (add c (replicate n (pos 0) ++ z ∷ [])) n ≡ entry c n +ℤ z
 entry-plus [] n z e = absurd (omega arith)

@@ -11,10 +11,9 @@ use Rattle.pip_model.specs.Certificate.{Refutation}
 use Rattle.pip_model.specs.Run.{Counted, ◌>>=◌, ◌>>◌, give, listed, count_pivot, count_cut, Node, Turn, Closed, Again, Signs, AllPlus, MinusAt, UnknownBy, scan, pivot_turn, last_turn, quotient_cut, leaf, turn_by, point_setting}
 use Rattle.pip_model.specs.Refuting.{Trace, last_step, pivot_trace, cut_trace, traced, refute_run}
 use Rattle.pip_model.proofs.Forms.{no_coefficients}
-use Rattle.run_laws.proofs.Ensured.{Ensures, ensures-bind, ensures-then, ensures-give}
-use Rattle.run_laws.proofs.FitRun.{after_listed}
+use Rattle.run_laws.proofs.Ensured.{Ensures, ensures-bind, ensures-then, ensures-give, after_listed}
 use Rattle.run_laws.proofs.RowsAt.{FormsWide, wide_form_at}
-use Rattle.run_laws.proofs.RunRight.{fraction_some, below_take}
+use Rattle.run_laws.proofs.Fractions.{fraction_some, below_take}
 use Rattle.refutation_laws.proofs.Signs.{IsSigns, scan_signs}
 
 -- Q of the steps, if there are any
