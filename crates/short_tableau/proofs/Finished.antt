@@ -15,7 +15,7 @@ use Rattle.pip_model.specs.Rows.{Row, divided}
 use Rattle.pip_model.proofs.Gcd.{gcd_assoc, gcd_zero, gcd_exchanged}
 use Rattle.affine_forms.proofs.Divisors.{gcd_step}
 use Rattle.tableau_row.proofs.Places.{take_combine, drop_combine}
-use Rattle.tableau_row.proofs.Quotients.{quotient_short}
+use Rattle.short_numbers.proofs.Quotients.{quotient_short}
 use Rattle.tableau_row.proofs.RowLaws.{divided_row}
 use Rattle.tableau.proofs.Combining.{combined}
 use Rattle.tableau.specs.Short.{is_short}

@@ -1,26 +1,8 @@
 -- Short numbers that are put together, and what is made of them.
-use Rattle.std.specs.Prelude.{◌≡◌, ◌^◌, ◌<◌, ℤ, pos, ◌≤ℤ◌, unsigned_abs, Bool, false, IsTrue, IsFalse, Option, IfSome, IfNone, List, length, All}
+use Rattle.std.specs.Prelude.{◌≡◌, ℤ, pos, ◌≤ℤ◌, Bool, false, IsTrue, IsFalse, Option, IfSome, IfNone, List, length, All}
 use Rattle.std.specs.List.{list_all}
 use Rattle.affine_forms.specs.Checks.{Fits}
-use Rattle.tableau.specs.Short.{is_short, IsShort}
-
--- z lies from -(2^31 - 1) to 2^31 - 1
-abbrev pub IsHalf : ℤ → Type 0
-IsHalf z = unsigned_abs z < 2 ^ 31
-
--- the terms of a*x - b*y have 32 bits
-pub record AreHalf (a x b y : ℤ) : Type 0 where
-  pub row_factor : IsHalf a
-  pub row_entry : IsHalf x
-  pub pivot_factor : IsHalf b
-  pub pivot_entry : IsHalf y
-
--- the terms of a*x - b*y are short
-pub record AreShort (a x b y : ℤ) : Type 0 where
-  pub row_factor : IsShort a
-  pub row_entry : IsShort x
-  pub pivot_factor : IsShort b
-  pub pivot_entry : IsShort y
+use Rattle.short_numbers.specs.Short.{is_short, IsShort}
 
 -- the terms of a*r - b*s are short, and r has as many entries as s
 pub record AreTerms (a : ℤ) (r : List ℤ) (b : ℤ) (s : List ℤ) : Type 0 where

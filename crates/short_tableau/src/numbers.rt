@@ -1,71 +1,23 @@
-ghost use Rattle.std.specs.Prelude.{◌≡◌, ◌<◌, ◌≤◌, ◌^◌, pos, ◌-ℤ◌, ◌*ℤ◌, ◌≤ℤ◌, unsigned_abs, length, All, IsTrue};
+ghost use Rattle.std.specs.Prelude.{◌≡◌, ◌≤◌, pos, ◌-ℤ◌, ◌*ℤ◌, ◌≤ℤ◌, length, All};
 ghost use Rattle.pip_model.specs.Numbers.{gcd as gcd_of_two, gcd_of, floor_mod as floor_mod_of};
 ghost use Rattle.pip_model.specs.Forms.{combine as combine_of, floor_divided};
 ghost use Rattle.affine_forms.specs.Checks.{Fits};
-ghost use Rattle.tableau.specs.Short.{IsShort};
+ghost use Rattle.short_numbers.specs.Short.{IsShort, AreShort};
 ghost use Rattle.short_tableau.specs.Begun.{finished};
-ghost use Rattle.short_tableau.specs.Terms.{IsHalf, AreHalf, AreShort, AreTerms, IsShortDivisor, IsNarrowed};
+ghost use Rattle.short_tableau.specs.Terms.{AreTerms, IsShortDivisor, IsNarrowed};
 
-use tableau::{short_floor_div, short_gcd};
-
-// Whether the number lies from -(2^31 - 1) to 2^31 - 1.
-fn is_half(z: i64) -> bool
-    ensures { IsTrue result → IsHalf z }
-{
-    -2147483647 <= z && z <= 2147483647
-}
-
-// The product of numbers of 32 bits.
-#[tactic(auto, using(tableau_row::proofs::ShortRows::half_bound))]
-fn exact_half_product(a: i64, b: i64) -> i64
-    requires a { IsHalf a }
-    requires b { IsHalf b }
-    ensures { result ≡ a *ℤ b }
-{
-    a * b
-}
-
-// The product of numbers of 32 bits, and its bound.
-#[tactic(auto, using(tableau_row::proofs::ShortRows::half_bound))]
-fn half_product(a: i64, b: i64) -> i64
-    requires a { IsHalf a }
-    requires b { IsHalf b }
-    ensures value { result ≡ a *ℤ b }
-    ensures bound { unsigned_abs result < 2 ^ 62 }
-{
-    exact_half_product(a, b)
-}
-
-// The difference of numbers that are far from the ends, which is short.
-fn half_difference(a: i64, b: i64) -> i64
-    requires a { unsigned_abs a < 2 ^ 62 }
-    requires b { unsigned_abs b < 2 ^ 62 }
-    ensures value { result ≡ a -ℤ b }
-    ensures short { IsShort result }
-{
-    a - b
-}
+use short_numbers::{
+    half_difference, is_half, short_difference, short_floor_div, short_gcd, short_product,
+};
 
 // The product of short numbers.
-#[tactic(auto, using(tableau_row::proofs::ShortRows::product_bound))]
-fn exact_product(a: i64, b: i64) -> i128
-    requires a { IsShort a }
-    requires b { IsShort b }
-    ensures { result ≡ a *ℤ b }
-{
-    (a as i128) * (b as i128)
-}
-
-// The product of short numbers, and its bound.
-#[tactic(auto, using(tableau_row::proofs::ShortRows::product_bound))]
 pub(crate) fn product(a: i64, b: i64) -> i128
     requires a { IsShort a }
     requires b { IsShort b }
     ensures value { result ≡ a *ℤ b }
-    ensures bound { unsigned_abs result < 2 ^ 126 }
     ensures fits { Fits result }
 {
-    exact_product(a, b)
+    short_product(a as i128, b as i128)
 }
 
 // The number in 64 bits, where it is short.
@@ -79,49 +31,33 @@ pub(crate) fn narrow(z: i128) -> Option<i64>
     }
 }
 
-// The difference of numbers that are far from the ends.
-fn wide_difference(a: i128, b: i128) -> i128
-    requires a { unsigned_abs a < 2 ^ 126 }
-    requires b { unsigned_abs b < 2 ^ 126 }
-    ensures value { result ≡ a -ℤ b }
-    ensures fits { Fits result }
-{
-    a - b
-}
-
 // `a*x - b*y` for short numbers.
 pub(crate) fn wide_entry(a: i64, x: i64, b: i64, y: i64) -> i128
-    requires { AreShort a x b y }
+    requires first { AreShort a x }
+    requires second { AreShort b y }
     ensures value { result ≡ a *ℤ x -ℤ b *ℤ y }
     ensures fits { Fits result }
 {
-    wide_difference(product(a, x), product(b, y))
+    short_difference(a as i128, x as i128, b as i128, y as i128)
 }
 
 // `a*x - b*y` for short numbers, where it is short.
 fn narrow_entry(a: i64, x: i64, b: i64, y: i64) -> Option<i64>
-    requires { AreShort a x b y }
+    requires first { AreShort a x }
+    requires second { AreShort b y }
     ensures { IsNarrowed (a *ℤ x -ℤ b *ℤ y) result }
 {
     narrow(wide_entry(a, x, b, y))
 }
 
-// `a*x - b*y` for numbers of 32 bits.
-fn half_entry(a: i64, x: i64, b: i64, y: i64) -> i64
-    requires { AreHalf a x b y }
-    ensures value { result ≡ a *ℤ x -ℤ b *ℤ y }
-    ensures short { IsShort result }
-{
-    half_difference(half_product(a, x), half_product(b, y))
-}
-
 // `a*x - b*y` for short numbers, where it is short: by 64 bits where they have 32.
 fn entry(a: i64, x: i64, b: i64, y: i64) -> Option<i64>
-    requires { AreShort a x b y }
+    requires first { AreShort a x }
+    requires second { AreShort b y }
     ensures { IsNarrowed (a *ℤ x -ℤ b *ℤ y) result }
 {
     if is_half(a) && is_half(x) && is_half(b) && is_half(y) {
-        return Some(half_entry(a, x, b, y));
+        return Some(half_difference(a, x, b, y));
     }
     narrow_entry(a, x, b, y)
 }

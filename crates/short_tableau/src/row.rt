@@ -9,7 +9,7 @@ ghost use Rattle.short_tableau.specs.Turned.{IsDenominatorOf, IsTurned};
 
 use crate::begun::{begin, finish, short_ends};
 use crate::numbers::{divide_all, gcd_with};
-use tableau::short_floor_div;
+use short_numbers::short_floor_div;
 
 // A row: its denominator, its coefficients, and its constant form, which is a constant.
 #[derive(Clone, Copy)]

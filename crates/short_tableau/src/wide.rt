@@ -102,7 +102,7 @@ fn divide_entries(by: Factors, r: &mut [i64], s: &[i64], d: i128) -> bool
 }
 
 // The quotient of a short number, rounded down.
-#[tactic(auto, using(tableau_row::proofs::Quotients::quotient_short))]
+#[tactic(auto, using(short_numbers::proofs::Quotients::quotient_short))]
 fn made_quotient(z: i64, d: i128) -> i64
     requires positive { pos 1 ≤ℤ d }
     requires short { IsShort z }

@@ -1,10 +1,8 @@
 pub mod Combining
 pub mod Contents
-pub mod Dividing
 pub mod Lent
 pub mod Numbers
 pub mod Places
-pub mod Quotients
 pub mod Rounding
 pub mod RowLaws
 pub mod ShortHeld

@@ -1,13 +1,12 @@
 -- A list without one of its places.
-use Rattle.std.proofs.Common.{◌≡◌, refl, ap, sym, ◌∙◌, ℕ, zero, suc, ◌+◌, ◌<◌, ℤ, ◌*ℤ◌, pos, ◌&&◌, List, [], ◌∷◌, ◌++◌, length, take, drop, arith, append_assoc}
+use Rattle.std.proofs.Common.{◌≡◌, refl, ap, sym, ◌∙◌, ℕ, zero, suc, ◌+◌, ◌<◌, ℤ, ◌*ℤ◌, pos, ◌&&◌, List, [], ◌∷◌, ◌++◌, length, take, drop, arith}
 use Rattle.std.proofs.lemmas.List.{length-take, drop_more}
 use Rattle.std.proofs.lemmas.List.Folds.{list_all-append}
 use Rattle.pip_model.proofs.Forms.{length-combine}
 use Rattle.pip_model.specs.Numbers.{fits}
 use Rattle.std.specs.Prelude.{slice_set}
 use Rattle.pip_model.specs.Forms.{combine, entry, remove}
-use Rattle.pip_model.specs.Rows.{Row, eliminated_listed, substituted}
-use Rattle.tableau_row.specs.Rows.{row_from}
+use Rattle.pip_model.specs.Rows.{Row, eliminated_listed}
 use Rattle.pip_model.specs.Listed.{all_fit, combine_listed}
 
 listed_append : (a b : ℤ) (r s more rest : List ℤ) → length r ≡ length s → combine_listed a (r ++ more) b (s ++ rest) ≡ combine_listed a r b s ++ combine_listed a more b rest
@@ -26,10 +25,6 @@ listed_but a b r s c e =
 
 pub drop_two : (r : List ℤ) (c : ℕ) → c < length r → drop 1 (drop c r) ≡ drop (c + 1) r
 drop_two r c h = rw (drop_more r c (pos 0) h) refl
-
--- a list that is made in three steps
-pub joined : (out x y one two three : List ℤ) (e : ℤ) → one ≡ out ++ x → two ≡ one ++ e ∷ [] → three ≡ two ++ y → three ≡ out ++ x ++ e ∷ y
-joined out x y one two three e p q r = rw (r, q, p) (append_assoc (out ++ x) (e ∷ []) y)
 
 -- ---- a row with another put in
 
@@ -80,11 +75,3 @@ pub eliminated_parts : (p : Row) (c : ℕ) (r : Row) → all_fit (eliminated_lis
 eliminated_parts p c r =
     let parts = list_all-append fits (combine_listed (top p c) (remove c r.coefs) (top r c) (remove c p.coefs)) (combine_listed (top p c) r.constant (top r c) p.constant) in
     rw (parts, remove_parts c r.coefs, remove_parts c p.coefs) refl
-
-pub substituted_parts : (p : Row) (c : ℕ) (r : Row) (den : ℤ) (coefs constant : List ℤ) → length r.coefs ≡ length p.coefs → c < length p.coefs
-    → den ≡ r.den *ℤ top p c
-    → coefs ≡ combine (top p c) (take c r.coefs) (top r c) (take c p.coefs) ++ (top r c *ℤ p.den) ∷ combine (top p c) (drop (c + 1) r.coefs) (top r c) (drop (c + 1) p.coefs)
-    → constant ≡ combine (top p c) r.constant (top r c) p.constant
-    → row_from den coefs constant ≡ substituted p c r
-substituted_parts p c r den coefs constant same h e f g =
-    rw (e, f, g, set_combine (top p c) (top r c) (top r c *ℤ p.den) r.coefs p.coefs c same h) refl

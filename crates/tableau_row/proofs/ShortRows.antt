@@ -1,17 +1,15 @@
 -- Rows whose numbers are short.
-use Rattle.std.proofs.Common.{◌≡◌, refl, ℕ, ◌+◌, ◌-◌, ◌^◌, ◌<◌, ℤ, pos, ◌*ℤ◌, arith, unsigned_abs, List, [], ◌∷◌, ◌++◌, replicate, length, take, drop, get_or}
+use Rattle.std.proofs.Common.{◌≡◌, refl, ℕ, ◌+◌, ◌^◌, ◌<◌, ℤ, pos, arith, unsigned_abs, List, [], ◌∷◌, ◌++◌, replicate, length, take, drop, get_or}
 use Rattle.std.specs.Prelude.{IsTrue, All}
 use Rattle.std.specs.List.{list_all}
 use Rattle.std.proofs.lemmas.Bool.{ltb-true, lt-ltb}
-use Rattle.std.proofs.lemmas.Int.{unsigned_abs-mul}
-use Rattle.std.proofs.lemmas.Nat.{mul-le}
 use Rattle.std.proofs.lemmas.List.Sums.{AllPass-from_list_all, list_all-from_AllPass}
 use Rattle.std.proofs.lemmas.List.Elements.{All-append, All-take, All-drop, All-replicate, All-cons, All-nil}
 use Rattle.pip_model.specs.Forms.{entry, width, coefficients, constant}
 use Rattle.pip_model.specs.Listed.{all_fit, combine_listed}
 use Rattle.pip_model.specs.Rows.{Row, widened, eliminated_listed}
 use Rattle.affine_forms.specs.Checks.{Fits}
-use Rattle.affine_forms.proofs.Short.{product_fits, short_fits}
+use Rattle.affine_forms.proofs.Short.{short_fits}
 use Rattle.tableau_row.specs.Short.{is_short, IsShort, IsShortRow}
 use Rattle.tableau_row.proofs.Combining.{short_listed}
 use Rattle.tableau_row.proofs.Places.{eliminated_parts}
@@ -24,9 +22,6 @@ short_list xs e k d h = ltb-true _ (2 ^ 63) (AllPass-from_list_all is_short xs e
 
 list_short : (xs : List ℤ) → All IsShort xs → IsTrue (list_all is_short xs)
 list_short xs h = list_all-from_AllPass is_short xs (λ k d lt. passes (get_or xs k d) (h k d lt))
-
-pub product_bound : (a b : ℤ) → IsShort a → IsShort b → unsigned_abs (a *ℤ b) < 2 ^ 126
-product_bound a b x y = product_fits a b x y
 
 pub short_fit : (z : ℤ) → IsShort z → Fits z
 short_fit z h = lt-ltb (unsigned_abs z) (2 ^ 127) (omega (arith, h))
@@ -66,10 +61,3 @@ short_eliminated p c r hp hr lt same =
       combined_fit (entry p.coefs c) (entry r.coefs c) (take c r.coefs ++ drop (c + 1) r.coefs) (take c p.coefs ++ drop (c + 1) p.coefs) a_short b_short (but r.coefs c hr.coefs) (but p.coefs c hp.coefs),
       combined_fit (entry p.coefs c) (entry r.coefs c) r.constant p.constant a_short b_short hr.constant hp.constant,
     ) refl
-
--- ---- numbers of 32 bits
-
-pub half_bound : (a b : ℤ) → unsigned_abs a < 2 ^ 31 → unsigned_abs b < 2 ^ 31 → unsigned_abs (a *ℤ b) < 2 ^ 62
-half_bound a b x y =
-    let small = mul-le (unsigned_abs a) (unsigned_abs b) (2 ^ 31 - 1) (2 ^ 31 - 1) (omega arith) (omega arith) in
-    rw (unsigned_abs-mul a b) (omega (arith, small))

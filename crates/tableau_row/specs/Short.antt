@@ -1,28 +1,9 @@
--- Numbers of 64 bits, and of 32.
-use Rattle.std.specs.Prelude.{◌≡◌, ◌^◌, ◌<◌, ℤ, unsigned_abs, Bool, nat_lt, List, length, All, IsTrue}
+-- Rows whose numbers have 64 bits.
+use Rattle.std.specs.Prelude.{◌≡◌, ℤ, Bool, List, length, All, IsTrue}
 use Rattle.pip_model.specs.Forms.{combine}
 use Rattle.pip_model.specs.Rows.{Row}
 use Rattle.affine_forms.specs.Checks.{Fits}
-
--- z lies from -(2^63 - 1) to 2^63 - 1
-abbrev pub is_short : ℤ → Bool
-is_short z = nat_lt (unsigned_abs z) (2 ^ 63)
-
-abbrev pub IsShort : ℤ → Type 0
-IsShort z = unsigned_abs z < 2 ^ 63
-
--- z lies from -(2^31 - 1) to 2^31 - 1
-abbrev pub IsHalf : ℤ → Type 0
-IsHalf z = unsigned_abs z < 2 ^ 31
-
--- two numbers of 64 bits, and of 32
-pub record AreShort (a b : ℤ) : Type 0 where
-  pub first : IsShort a
-  pub second : IsShort b
-
-pub record AreHalf (a b : ℤ) : Type 0 where
-  pub first : IsHalf a
-  pub second : IsHalf b
+pub use Rattle.short_numbers.specs.Short.{is_short, IsShort, IsHalf, AreShort, AreHalf}
 
 -- as many short numbers in one list as in the other
 pub record AreShortLists (r s : List ℤ) : Type 0 where

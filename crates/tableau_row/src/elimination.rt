@@ -9,13 +9,11 @@ ghost use Rattle.tableau_row.specs.Rows.{IsRow, IsOwnRow, row_from};
 ghost use Rattle.tableau_row.specs.Steps.{IsElimination, MakesRow};
 ghost use Rattle.tableau_row.specs.Views.{row_of};
 
-use crate::divisor::divisor_with;
 use crate::narrow::{divide_all_short, short_divisor_with, short_quotient};
-use crate::short::{
-    all_short, both, combine_short, is_short, is_short_row, narrow, short_product, with_entry,
-};
+use crate::short::{all_short, both, combine_short, is_short, is_short_row, with_entry};
 use crate::view::RowView;
-use affine_forms::{Overflow, difference, divide_all, floor_div, times};
+use affine_forms::{Overflow, difference, divide_all, floor_div, gcd_with, times};
+use short_numbers::{narrow, short_product};
 
 // Checks `a*r - b*s`, entry by entry.
 fn check_each(a: i128, r: &[i128], b: i128, s: &[i128]) -> Result<(), Overflow>
@@ -153,7 +151,7 @@ fn divide_long_parts(den: i128, coefs: &mut [i128], constant: &mut [i128]) -> (i
     ensures { let r = row_from den coefs.old constant.old in
         MakesRow r (model.divided r) result.1 (row_from result.0 coefs.new constant.new) }
 {
-    let divisor = divisor_with(divisor_with(den, coefs), constant);
+    let divisor = gcd_with(gcd_with(den, coefs), constant);
     if divisor == 1 {
         return (den, false);
     }

@@ -2,7 +2,6 @@
 #![tactic(auto)]
 
 mod append;
-mod divisor;
 mod elimination;
 mod narrow;
 mod row;
@@ -14,7 +13,7 @@ pub use append::{
     append_widened,
 };
 pub use elimination::check_eliminated;
-pub use narrow::{short_floor_div, short_gcd};
-pub use row::{unit_column, view_of};
+pub use row::{eliminate, unit_column, view_of};
 pub use short::is_short_row;
+pub use short_numbers::{short_floor_div, short_gcd};
 pub use view::RowView;

@@ -99,9 +99,9 @@ pub(crate) fn divide(numbers: &mut [i128], unknowns: usize, short: bool) -> bool
     made_short
 }
 
-// Makes of a row's numbers those of what the row is after the pivot on row p and column c; whether they are short.
-// Those of both rows may be known to be.
-pub(crate) fn eliminate(numbers: &mut [i128], p: &RowView<'_>, c: usize, short: bool) -> bool
+/// Makes of a row's numbers those of what the row is after the pivot on row p and column c; whether they are known to
+/// be short. Those of both rows may be known to be.
+pub fn eliminate(numbers: &mut [i128], p: &RowView<'_>, c: usize, short: bool) -> bool
     requires length { length p.now.coefs.now < length numbers.old }
     requires step { IsElimination (row_of p.now) c (row_of_numbers (length p.now.coefs.now) numbers.old) }
     requires listed { IsTrue (all_fit

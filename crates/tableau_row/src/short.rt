@@ -1,8 +1,10 @@
-ghost use Rattle.std.specs.Prelude.{◌≡◌, ◌<◌, ◌^◌, pos, ◌*ℤ◌, ◌-ℤ◌, neg_ℤ, ◌&&◌, unsigned_abs, IsTrue};
+ghost use Rattle.std.specs.Prelude.{◌≡◌, pos, ◌*ℤ◌, ◌-ℤ◌, neg_ℤ, ◌&&◌, IsTrue, IsFalse};
 ghost use Rattle.std.specs.List.{list_all};
 ghost use Rattle.affine_forms.specs.Checks.{Fits};
-ghost use Rattle.tableau_row.specs.Short.{is_short as is_short_number, IsShort, IsShortRow, IsHalf, AreShort, AreHalf, AreShortLists, IsCombined};
+ghost use Rattle.tableau_row.specs.Short.{is_short as is_short_number, IsShort, IsShortRow, AreShort, AreHalf, AreShortLists, IsCombined};
 ghost use Rattle.tableau_row.specs.Rows.{row_from};
+
+use short_numbers::{half_difference, is_half, narrow, short_difference};
 
 // Whether the number lies from -(2^63 - 1) to 2^63 - 1.
 pub(crate) fn is_short(z: i128) -> bool
@@ -28,45 +30,6 @@ pub fn is_short_row(den: i128, coefs: &[i128], constant: &[i128]) -> bool
     is_short(den) && all_short(coefs) && all_short(constant)
 }
 
-// The product of short numbers, in one multiplication.
-#[tactic(auto, using(crate::proofs::ShortRows::product_bound))]
-fn exact_product(a: i128, b: i128) -> i128
-    requires { AreShort a b }
-    ensures { result ≡ a *ℤ b }
-{
-    (a as i64 as i128) * (b as i64 as i128)
-}
-
-// The product of short numbers, and its bound.
-pub(crate) fn short_product(a: i128, b: i128) -> i128
-    requires { AreShort a b }
-    ensures value { result ≡ a *ℤ b }
-    ensures bound { unsigned_abs result < 2 ^ 126 }
-    ensures fits { Fits result }
-{
-    exact_product(a, b)
-}
-
-// The difference of numbers that are far from the ends.
-fn exact_difference(a: i128, b: i128) -> i128
-    requires a { unsigned_abs a < 2 ^ 126 }
-    requires b { unsigned_abs b < 2 ^ 126 }
-    ensures value { result ≡ a -ℤ b }
-    ensures fits { Fits result }
-{
-    a - b
-}
-
-// `a*x - b*y` for short numbers.
-fn short_difference(a: i128, x: i128, b: i128, y: i128) -> i128
-    requires first { AreShort a x }
-    requires second { AreShort b y }
-    ensures value { result ≡ a *ℤ x -ℤ b *ℤ y }
-    ensures fits { Fits result }
-{
-    exact_difference(short_product(a, x), short_product(b, y))
-}
-
 // Whether both hold.
 pub(crate) fn both(first: bool, second: bool) -> bool
     ensures first { IsTrue result → IsTrue first }
@@ -83,66 +46,12 @@ pub(crate) fn with_entry(short: bool, entry: i128) -> bool
     short && is_short(entry)
 }
 
-// Whether the number lies from -(2^31 - 1) to 2^31 - 1.
-pub(crate) fn is_half(z: i64) -> bool
-    ensures { IsTrue result → IsHalf z }
-{
-    -2147483647 <= z && z <= 2147483647
-}
-
-// The short number in 64 bits.
-pub(crate) fn narrow(z: i128) -> i64
-    requires { IsShort z }
-    ensures { result ≡ z }
-{
-    z as i64
-}
-
 // The opposite of a short number.
 pub(crate) fn short_opposite(z: i128) -> i128
     requires { IsShort z }
     ensures { result ≡ neg_ℤ z }
 {
     -(narrow(z) as i128)
-}
-
-// The product of numbers of 32 bits.
-#[tactic(auto, using(crate::proofs::ShortRows::half_bound))]
-fn exact_half_product(a: i64, b: i64) -> i64
-    requires { AreHalf a b }
-    ensures { result ≡ a *ℤ b }
-{
-    a * b
-}
-
-// The product of numbers of 32 bits, and its bound.
-#[tactic(auto, using(crate::proofs::ShortRows::half_bound))]
-fn half_product(a: i64, b: i64) -> i64
-    requires { AreHalf a b }
-    ensures value { result ≡ a *ℤ b }
-    ensures bound { unsigned_abs result < 2 ^ 62 }
-{
-    exact_half_product(a, b)
-}
-
-// The difference of numbers that are far from the ends, which is short.
-fn narrow_difference(a: i64, b: i64) -> i64
-    requires a { unsigned_abs a < 2 ^ 62 }
-    requires b { unsigned_abs b < 2 ^ 62 }
-    ensures value { result ≡ a -ℤ b }
-    ensures short { IsShort result }
-{
-    a - b
-}
-
-// `a*x - b*y` for numbers of 32 bits, which is short.
-fn half_difference(a: i64, x: i64, b: i64, y: i64) -> i64
-    requires first { AreHalf a x }
-    requires second { AreHalf b y }
-    ensures value { result ≡ a *ℤ x -ℤ b *ℤ y }
-    ensures short { IsShort result }
-{
-    narrow_difference(half_product(a, x), half_product(b, y))
 }
 
 // `a*x - b*y` for short numbers, a and b being of 32 bits; whether it is known to be short.
@@ -179,17 +88,25 @@ fn combine_by_short(a: i128, r: &mut [i128], b: i128, s: &[i128]) -> bool
     short
 }
 
-// The same where a is 1, and b of 32 bits: the entries of r at which s is 0 stay.
+// Whether `a*x - b*y` may be another number than x, where y is the entry.
+fn changes(a: i64, entry: i64) -> bool
+    ensures one { IsFalse result → a ≡ pos 1 }
+    ensures none { IsFalse result → entry ≡ pos 0 }
+{
+    a != 1 || entry != 0
+}
+
+// The same for an a and a b of 32 bits. Under an a of 1 the entries of r stay at which s is 0.
 #[tactic(auto, using(crate::proofs::ShortRows::fits_short))]
-fn combine_by_one(r: &mut [i128], b: i64, s: &[i128]) -> bool
-    requires factor { IsHalf b }
+fn combine_by_half(a: i64, r: &mut [i128], b: i64, s: &[i128]) -> bool
+    requires factors { AreHalf a b }
     requires lists { AreShortLists r.old s.now }
-    ensures { IsCombined (pos 1) r.old b s.now result r.new }
+    ensures { IsCombined a r.old b s.now result r.new }
 {
     let mut short = true;
     for i in 0..r.len() {
-        if narrow(s[i]) != 0 {
-            let (entry, entry_short) = half_entry(1, r[i], b, s[i]);
+        if changes(a, narrow(s[i])) {
+            let (entry, entry_short) = half_entry(a, r[i], b, s[i]);
             short = both(short, entry_short);
             r[i] = entry;
         }
@@ -203,9 +120,10 @@ pub(crate) fn combine_short(a: i128, r: &mut [i128], b: i128, s: &[i128]) -> boo
     requires lists { AreShortLists r.old s.now }
     ensures { IsCombined a r.old b s.now result r.new }
 {
+    let narrow_a = narrow(a);
     let narrow_b = narrow(b);
-    if narrow(a) == 1 && is_half(narrow_b) {
-        combine_by_one(r, narrow_b, s)
+    if is_half(narrow_a) && is_half(narrow_b) {
+        combine_by_half(narrow_a, r, narrow_b, s)
     } else {
         combine_by_short(a, r, b, s)
     }

@@ -4,8 +4,8 @@ ghost use Rattle.affine_forms.specs.Checks.{IsFitted};
 ghost use Rattle.tableau_row.specs.Short.{IsShortRow};
 ghost use Rattle.tableau_row.specs.Rows.{row_from};
 
-use crate::short::short_product;
 use affine_forms::{Overflow, times};
+use short_numbers::short_product;
 
 /// A row `(D, a, t)`: D times its quantity is the sum of the a_k times the columns' quantities, plus the form t.
 #[derive(Clone, Copy)]

@@ -7,7 +7,7 @@ use Rattle.tableau_row.proofs.elimination.divide_long_parts.Goals as goal
 
 pub returns : goal.returns
 returns c = record {
-  value = divided_row c.args.den c.args.coefs.now c.args.constant.now c.divisor_with-divisor.result _ _ _ (search rules) (search rules) (search rules) (search rules);
+  value = divided_row c.args.den c.args.coefs.now c.args.constant.now c.gcd_with-divisor.result _ _ _ (search rules) (search rules) (search rules) (search rules);
   row = search rules;
   short = search rules;
 }

@@ -1,29 +1,29 @@
-use Rattle.std.proofs.Common.{pos, arith, rules, refl, subst}
+use Rattle.std.proofs.Common.{arith, rules, subst}
 use Rattle.std.specs.Prelude.{IsTrue}
 use Rattle.std.proofs.lemmas.List.Elements.{All-set}
 use Rattle.affine_forms.specs.Checks.{Fits}
 use Rattle.tableau_row.specs.Short.{IsShort}
 use Rattle.tableau_row.proofs.Combining.{combined_step, combined_all, kept_at, kept_step}
-use Rattle.tableau_row.proofs.short.combine_by_one.Goals as goal
-use Rattle.tableau_row.proofs.short.combine_by_one.Goals.{then-narrow-ne0, else-narrow-ne0}
+use Rattle.tableau_row.proofs.short.combine_by_half.Goals as goal
+use Rattle.tableau_row.proofs.short.combine_by_half.Goals.{then-changes, else-changes}
 
 pub half_entry-entry-requires-clause-entries : goal.half_entry-entry-requires-clause-entries
 half_entry-entry-requires-clause-entries c =
-    let now = kept_at (pos 1) c.args.b c.args.r.now c.args.s.now c.requires.lists.lengths c.loop-i.i (omega arith) IsShort c.loop-i.r (search rules) c.requires.lists.first in
+    let now = kept_at c.args.a c.args.b c.args.r.now c.args.s.now c.requires.lists.lengths c.loop-i.i (omega arith) IsShort c.loop-i.r (search rules) c.requires.lists.first in
     record { first = search (rules, now); second = search rules }
 
 pub loop-i-preserved : goal.loop-i-preserved
-loop-i-preserved c = elim c.if-narrow-ne0.branch [
-  | then-narrow-ne0 w ↦ record {
-    value = let made = combined_step (pos 1) c.args.b c.args.r.now c.args.s.now c.requires.lists.lengths c.loop-i.i (omega arith) c.loop-i.r w.half_entry-entry.result.0 (search rules) (search rules) in search (rules, made);
+loop-i-preserved c = elim c.if-changes.branch [
+  | then-changes w ↦ record {
+    value = let made = combined_step c.args.a c.args.b c.args.r.now c.args.s.now c.requires.lists.lengths c.loop-i.i (omega arith) c.loop-i.r w.half_entry-entry.result.0 (search rules) (search rules) in search (rules, made);
     fits = let made = All-set Fits c.loop-i.r c.loop-i.i w.half_entry-entry.result.0 w.half_entry-entry.ensures.fits c.loop-i.invariant.fits in search (rules, made);
     short = λ all.
         let now = subst IsTrue w.short-is all in
         let made = All-set IsShort c.loop-i.r c.loop-i.i w.half_entry-entry.result.0 (w.half_entry-entry.ensures.short (w.both-short.ensures.second now)) (c.loop-i.invariant.short (w.both-short.ensures.first now)) in
         search (rules, made);
   }
-  | else-narrow-ne0 w ↦ record {
-    value = let made = kept_step (pos 1) c.args.b c.args.r.now c.args.s.now c.requires.lists.lengths c.loop-i.i (omega arith) c.loop-i.r (search rules) refl (search rules) in search (rules, made);
+  | else-changes w ↦ record {
+    value = let made = kept_step c.args.a c.args.b c.args.r.now c.args.s.now c.requires.lists.lengths c.loop-i.i (omega arith) c.loop-i.r (search rules) (search rules) (search rules) in search (rules, made);
     fits = search rules;
     short = search rules;
   }
@@ -31,5 +31,5 @@ loop-i-preserved c = elim c.if-narrow-ne0.branch [
 
 pub returns : goal.returns
 returns c =
-    let whole = combined_all (pos 1) c.args.b c.args.r.now c.args.s.now c.loop-i.i c.requires.lists.lengths (omega arith) in
+    let whole = combined_all c.args.a c.args.b c.args.r.now c.args.s.now c.loop-i.i c.requires.lists.lengths (omega arith) in
     record { value = search (rules, whole); fits = search rules; short = search rules }

@@ -1,8 +1,8 @@
 use Rattle.std.proofs.Common.{arith, ◌*ℤ◌}
 use Rattle.std.specs.Int.{w64}
 use Rattle.std.proofs.lemmas.Int.{to_z-of_z, fits_signed_from_abs}
-use Rattle.tableau_row.proofs.ShortRows.{half_bound}
-use Rattle.tableau_row.proofs.short.exact_half_product.Goals as goal
+use Rattle.short_numbers.proofs.Bounds.{half_bound}
+use Rattle.short_numbers.proofs.products.exact_half_product.Goals as goal
 
 pub returns : goal.returns
 returns c =

@@ -1,0 +1,8 @@
+//! Arithmetic on numbers of 64 bits: what rows whose numbers are so short are made by.
+#![tactic(auto)]
+
+mod division;
+mod products;
+
+pub use division::{short_floor_div, short_gcd};
+pub use products::{half_difference, is_half, narrow, short_difference, short_product};
