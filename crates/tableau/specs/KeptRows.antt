@@ -53,9 +53,6 @@ kept_short (kept.At p) = p.short
 abbrev pub IsKnown : ℕ → ℕ → List ℤ → Kept → Type 0
 IsKnown n w numbers k = IsTrue (kept_short k) → IsShortRow (row_kept n w numbers k)
 
-abbrev pub IsKnownLent : Lent → Kept → Type 0
-IsKnownLent v k = IsKnown v.unknowns v.width v.numbers.now k
-
 -- a row that is kept by its numbers is not that of a column
 abbrev pub IsPlain : ℕ → ℕ → List ℤ → Kept → Type 0
 IsPlain n w numbers (kept.Unit c) = Unit {0}

@@ -1,3 +1,4 @@
+pub mod Along
 pub mod KeptRows
 pub mod Tableaus
 pub use Rattle.tableau_row.specs.Flat

@@ -5,6 +5,7 @@
 mod copying;
 mod exchange;
 mod flat_rows;
+mod in_place;
 mod kept;
 mod pushing;
 mod row_rounding;

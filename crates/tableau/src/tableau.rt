@@ -249,7 +249,11 @@ impl Tableau {
         ensures ok { OnOk result (self.new ≡ record self.old { rows = model.pivot self.old.rows r c }) }
         ensures err { OnErr result (self.new ≡ self.old) }
     {
-        self.rows.turn(self.units.as_slice(), r, c, &mut self.next)?;
+        let units = self.units.as_slice();
+        if self.rows.turn_in_place(units, r, c, &mut self.next) {
+            return Ok(());
+        }
+        self.rows.turn(units, r, c, &mut self.next)?;
         swap(&mut self.rows, &mut self.next);
         Ok(())
     }

@@ -1,0 +1,5 @@
+use Rattle.std.proofs.Common.{length}
+use Rattle.tableau.proofs.in_place.+is_ready_middle.Given as goal
+
+abbrev pub decreases-is_ready_middle : goal.decreases-is_ready_middle
+decreases-is_ready_middle l = length l.kept.now

@@ -1,0 +1,5 @@
+use Rattle.std.proofs.Common.{length}
+use Rattle.tableau.proofs.in_place.+turn_middle.Given as goal
+
+abbrev pub decreases-turn_middle : goal.decreases-turn_middle
+decreases-turn_middle l = length l.kept.now

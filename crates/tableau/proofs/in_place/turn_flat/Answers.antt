@@ -1,0 +1,52 @@
+use Rattle.std.proofs.Common.{rules, ap, ◌∙◌, ◌≡◌, List, length}
+use Rattle.pip_model.specs.Rows.{Row}
+use Rattle.tableau_row.specs.Flat.{row_of_numbers}
+use Rattle.tableau_row.specs.Views.{row_of}
+use Rattle.tableau.specs.Along.{ArePair}
+use Rattle.tableau.proofs.Along.{flat_along}
+use Rattle.tableau.proofs.InPlace.{made_here, made_rows, spliced}
+use Rattle.tableau.proofs.in_place.turn_flat.Goals as goal
+
+pub turn_front-plain-requires-clause-along : goal.turn_front-plain-requires-clause-along
+turn_front-plain-requires-clause-along c =
+    rw (c.unknowns-unknowns.ensures, c.width-width.ensures, c.as_mut_slice.ensures.value, c.as_mut_slice-2.ensures.value)
+    (flat_along c.args.next.now.unknowns c.args.next.now.width c.args.numbers.now.items c.args.kept.now.items c.requires.flat).along
+
+pub returns-then-not-plain-clause-next : goal.returns-then-not-plain-clause-next
+returns-then-not-plain-clause-next c = λ none.
+    let t = c.args.next.now in
+    let zs = c.args.numbers.now.items in
+    let ks = c.args.kept.now.items in
+    let first = c.in_ok-solved.solved.now in
+    let second = c.in_ok-solved.row.now in
+    let p = row_of c.view_of-p.result in
+    let pair : ArePair c.args.next.now c.in_ok-solved.solved.now c.in_ok-solved.row.now = search rules in
+    let is : row_of c.view_of-p.result ≡ row_of_numbers c.args.next.now.unknowns c.in_ok-solved.row.now = search rules in
+    let made = rw (c.unknowns-unknowns.ensures, c.width-width.ensures, c.as_mut_slice.ensures.value, c.as_mut_slice-2.ensures.value) at c.turn_front-plain.ensures.made in
+    let numbers_long : length c.turn_front-plain.new.numbers ≡ length c.args.numbers.now.items = search rules in
+    let kept_long : length c.turn_front-plain.new.kept ≡ length c.args.kept.now.items = search rules in
+    let numbers_are = spliced c.args.numbers.now.len c.turn_front-plain.new.numbers zs numbers_long (search rules) in
+    let kept_are = spliced c.args.kept.now.len c.turn_front-plain.new.kept ks kept_long (search rules) in
+    record {
+      rows = rw (numbers_are, kept_are) at c.lay_again.ensures.rows ∙ ap (λ (rs : List Row). record t { rows = rs }) (made_rows t zs ks c.args.r c.args.c first second c.requires.flat c.requires.pair pair p is c.turn_front-plain.result c.turn_front-plain.new.numbers c.turn_front-plain.new.kept made);
+      numbers = c.lay_again.ensures.numbers;
+      kept = c.lay_again.ensures.kept;
+    }
+
+pub returns-else-not-plain-clause-here : goal.returns-else-not-plain-clause-here
+returns-else-not-plain-clause-here c = λ all.
+    let t = c.args.next.now in
+    let zs = c.args.numbers.now.items in
+    let ks = c.args.kept.now.items in
+    let first = c.in_ok-solved.solved.now in
+    let second = c.in_ok-solved.row.now in
+    let p = row_of c.view_of-p.result in
+    let pair : ArePair c.args.next.now c.in_ok-solved.solved.now c.in_ok-solved.row.now = search rules in
+    let is : row_of c.view_of-p.result ≡ row_of_numbers c.args.next.now.unknowns c.in_ok-solved.row.now = search rules in
+    let made = rw (c.unknowns-unknowns.ensures, c.width-width.ensures, c.as_mut_slice.ensures.value, c.as_mut_slice-2.ensures.value) at c.turn_front-plain.ensures.made in
+    let numbers_long : length c.turn_front-plain.new.numbers ≡ length c.args.numbers.now.items = search rules in
+    let kept_long : length c.turn_front-plain.new.kept ≡ length c.args.kept.now.items = search rules in
+    let numbers_are = spliced c.args.numbers.now.len c.turn_front-plain.new.numbers zs numbers_long (search rules) in
+    let kept_are = spliced c.args.kept.now.len c.turn_front-plain.new.kept ks kept_long (search rules) in
+    rw (numbers_are, kept_are)
+    (made_here t zs ks c.args.r c.args.c first second c.requires.flat c.requires.pair pair p is c.turn_front-plain.result c.turn_front-plain.new.numbers c.turn_front-plain.new.kept made all)
