@@ -68,22 +68,6 @@ pub fn divide_all(entries: &mut [i128], d: i128)
     }
 }
 
-/// Each entry over a d of at least 1, rounded down.
-#[tactic(auto, using(pip_model::proofs::Gcd::floor_divided_one))]
-pub fn divided(alloc: Global, d: i128, entries: &[i128]) -> Result<Vec<i128>, WantOfMemory>
-    requires positive { pos 1 ≤ℤ d }
-    requires fits { All Fits entries.now }
-    ensures value { IfOk result (λ v. v.items ≡ floor_divided d entries.now) }
-    ensures fits { IfOk result (λ v. All Fits v.items) }
-{
-    let mut made = Vec::from_slice(alloc, entries)?;
-    if d == 1 {
-        return Ok(made);
-    }
-    divide_all(&mut made, d);
-    Ok(made)
-}
-
 /// Whether d divides each entry.
 pub fn is_whole(d: i128, entries: &[i128]) -> bool
     requires positive { pos 1 ≤ℤ d }

@@ -51,6 +51,13 @@ impl Form {
         Form { entries }
     }
 
+    /// The entries, which are not copied.
+    pub fn into_entries(self) -> Vec<i128>
+        ensures { result.items ≡ self }
+    {
+        self.entries
+    }
+
     /// The same form again.
     pub fn try_clone(&self, alloc: Global) -> Result<Form, WantOfMemory>
         ensures { IfOk result (λ form. form ≡ self.now) }

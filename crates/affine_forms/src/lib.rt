@@ -17,7 +17,7 @@ mod numbers;
 pub use bounds::{lower_bound, negate_around, rounding, upper_bound};
 pub use bytes::Bytes;
 pub use combination::{add_combined, difference};
-pub use division::{divide_all, divided, gcd_with, is_whole, remainders, residues};
+pub use division::{divide_all, gcd_with, is_whole, remainders, residues};
 pub use entries::negate_all;
 pub use form::Form;
 pub use forms::Forms;

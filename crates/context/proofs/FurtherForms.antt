@@ -1,12 +1,12 @@
 -- The kept run of some forms with others behind them.
-use Rattle.std.proofs.Common.{◌≡◌, ◌∙◌, refl, ap, ap₂, sym, subst, ℕ, zero, suc, ◌+◌, ◌<◌, ◌≤◌, arith, ℤ, Bool, false, List, [], ◌∷◌, ◌++◌, All, length, length-append, map, get_or, take, drop, Option, Some, None}
+use Rattle.std.proofs.Common.{◌≡◌, ◌∙◌, refl, ap, ap₂, sym, subst, ℕ, zero, suc, ◌+◌, ◌<◌, arith, ℤ, Bool, false, List, [], ◌∷◌, ◌++◌, All, length, length-append, map, get_or, take, drop, Option, Some, None}
 use Rattle.std.specs.Prelude.{IfSome, nat_eq}
-use Rattle.std.proofs.lemmas.List.{map-append, length-map, length-take-le, drop_more, drop_all, take-append-drop}
+use Rattle.std.proofs.lemmas.List.{map-append, length-map, length-take-le, take-append-drop}
 use Rattle.std.proofs.lemmas.List.Elements.{All-head, All-tail}
 use Rattle.pip_model.specs.Contexts.{IsContext}
 use Rattle.pip_model.specs.Made.{narrow_to}
 use Rattle.pip_model.specs.Certificate.{Refutation}
-use Rattle.pip_model.specs.Forms.{constant, entry, widen_to}
+use Rattle.pip_model.specs.Forms.{constant, widen_to}
 use Rattle.pip_model.specs.Rows.{Row, form_row, unit_row, count_from}
 use Rattle.pip_model.specs.Run.{Work, Outcome, Done, Refused, Refusal, go_on}
 use Rattle.pip_model.specs.Refuting.{Trace, refute, refute_from, refute_by, first_trace}
@@ -43,14 +43,6 @@ pub exchanges-columns : (rs cs : List ℕ) (T : Trace) → length (exchanges rs 
 exchanges-columns [] cs T = refl
 exchanges-columns (r ∷ rs) [] T = refl
 exchanges-columns (r ∷ rs) (c ∷ cs) T = exchanges-columns rs cs (exchanged T r c) ∙ length_slice_set T.columns c _
-
--- one more of them, and no more
-pub exchanges-on : (rs cs : List ℕ) (i : ℕ) (T : Trace) → length rs ≡ length cs → i < length cs
-    → exchanges (drop i rs) (drop i cs) T ≡ exchanges (drop (i + 1) rs) (drop (i + 1) cs) (exchanged T (get_or rs i 0) (get_or cs i 0))
-exchanges-on rs cs i T e h = rw (drop_more rs i 0 (omega (arith, e, h)), drop_more cs i 0 h) refl
-
-pub exchanges-end : (rs cs : List ℕ) (i : ℕ) (T : Trace) → length rs ≡ length cs → length cs ≤ i → exchanges (drop i rs) (drop i cs) T ≡ T
-exchanges-end rs cs i T e h = rw (drop_all i rs (omega (arith, e, h))) refl
 
 -- ---- the run
 
@@ -107,17 +99,6 @@ narrow-context w (suc i) [] all = tt
 narrow-context w (suc i) (c ∷ forms) all =
     let long = narrow-length w c (All-head (λ c. w < length c) c forms all) in
     (record { some = omega (arith, long); most = omega (arith, long) }, narrow-context w i forms (All-tail (λ c. w < length c) c forms all))
-
--- a form of so many places is its front and its constant
-unsplit : (w : ℕ) (x : List ℤ) → length x ≡ w + 1 → x ≡ take w x ++ entry x w ∷ []
-unsplit zero [] h = absurd (omega (arith, h))
-unsplit zero (a ∷ []) h = refl
-unsplit zero (a ∷ b ∷ x) h = absurd (omega (arith, h))
-unsplit (suc w) [] h = absurd (omega (arith, h))
-unsplit (suc w) (a ∷ x) h = ap (λ (l : List ℤ). a ∷ l) (unsplit w x (omega (arith, h)))
-
-pub same-narrow : (w : ℕ) (x c : List ℤ) → length x ≡ w + 1 → take w x ≡ take w c → entry x w ≡ constant c → x ≡ narrow_to w c
-same-narrow w x c h front last = unsplit w x h ∙ ap₂ (λ (l : List ℤ) z. l ++ z ∷ []) front last
 
 module _ (places : List ℤ) (known front rest : List (List ℤ)) (first : ℤ) (W : ℕ) (F M : List (List ℤ)) (T : Trace)
     (parts : known ≡ front ++ rest) (wide : W ≡ length places) (fronts : F ≡ map (narrow_to (length places)) front) (rests : M ≡ map (narrow_to (length places)) rest)

@@ -1,7 +1,7 @@
 -- A run remembered goes on with further rows behind its first ones: they are turned by its pivots, and stand behind its last rows.
-use Rattle.std.proofs.Common.{◌≡◌, ◌∙◌, refl, ap, sym, subst, ℕ, ◌+◌, ◌-◌, ◌<◌, ◌≤◌, ℤ, arith, List, [], ◌∷◌, ◌++◌, length, map, take, get_or, drop, Bool, true, false}
+use Rattle.std.proofs.Common.{◌≡◌, ◌∙◌, refl, ap, sym, subst, ℕ, ◌+◌, ◌-◌, ◌<◌, ℤ, arith, List, [], ◌∷◌, ◌++◌, length, map, take, get_or, drop, Bool, true, false}
 use Rattle.std.specs.Prelude.{flat_map, if◌then◌else◌, ◌&&◌, IsTrue, Result, Ok, Err, OnOk, is_ok}
-use Rattle.std.proofs.lemmas.List.{map-append, drop_more, drop_all, take_all, take_rest, take-append-drop}
+use Rattle.std.proofs.lemmas.List.{map-append, drop_more, take_all, take_rest, take-append-drop}
 use Rattle.std.proofs.lemmas.Grind.{flat_map-append}
 use Rattle.pip_model.specs.Contexts.{IsContext}
 use Rattle.pip_model.specs.Listed.{all_fit}
@@ -68,10 +68,6 @@ turned_at ps cs i R now e h fit is =
     rw (drop_more ps i (form_row 0 []) (omega (arith, e, h)), drop_more cs i 0 h)
     (turns_more (row_at ps i) (get_or cs i 0) (drop (i + 1) ps) (drop (i + 1) cs) R now fit is)
 
--- no more of them
-pub turned_end : (ps : List Row) (cs : List ℕ) (i : ℕ) (R : List Row) → length ps ≡ length cs → length cs ≤ i → IsTurned (drop i ps) (drop i cs) R R
-turned_end ps cs i R e h = rw (drop_all i ps (omega (arith, e, h))) (record { turns = λ F w. refl })
-
 -- the further rows stand behind the first ones, and what the pivots made of them behind the last ones
 pub reaches_further : (n : ℕ) (first : List Row) (ps : List Row) (cs : List ℕ) (E R now : List Row) → Reaches n first ps cs E → IsTurned ps cs R now → Reaches n (first ++ R) ps cs (E ++ now)
 reaches_further n first ps cs E R now run is F w =
@@ -101,9 +97,12 @@ retraces_further n first ps rs cs E R now run is T F w =
 
 -- ---- a context's run, known of its first forms and then of all
 
-pub known_all : (n number : ℕ) (K : List (List ℤ)) (is_known : Bool) (m : Remembered) → IsContext n K → number ≡ length K → (IsTrue is_known → IsRemembered n K m) → IsKnown n K is_known number m
-known_all n number K is_known m narrow e is = record {
-  context = narrow;
+pub known_all : (n number : ℕ) (K : List (List ℤ)) (is_known : Bool) (m : Remembered) (before : Bool) (known : ℕ) (old : Remembered) (is_earlier : Bool) (fewer : ℕ) (earlier : Remembered)
+    → IsKnown n K before known old is_earlier fewer earlier → number ≡ length K → (IsTrue is_known → IsRemembered n K m) → IsKnown n K is_known number m is_earlier fewer earlier
+known_all n number K is_known m before known old is_earlier fewer earlier was e is = record {
+  context = was.context;
+  earlier_within = was.earlier_within;
+  earlier_run = was.earlier_run;
   within = λ h. omega (arith, e);
   remembered = λ h. subst (λ (l : List (List ℤ)). IsRemembered n l m) (sym (take_all number K (omega (arith, e)))) (is h);
 }

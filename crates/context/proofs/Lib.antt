@@ -14,3 +14,5 @@ pub mod Ending
 pub mod EndingBehind
 pub mod AtOnce
 pub mod PointMeaning
+pub mod KeptFirst
+pub mod Copying

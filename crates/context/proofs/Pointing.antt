@@ -3,7 +3,7 @@ use Rattle.std.proofs.Common.{◌≡◌, refl, ap, sym, ◌∙◌, ℕ, zero, su
 use Rattle.std.specs.Prelude.{IfSome, Result, Ok, Err}
 use Rattle.std.proofs.lemmas.List.{length-map}
 use Rattle.pip_model.specs.Forms.{constant}
-use Rattle.pip_model.specs.Tree.{Tree, Bottom, Component}
+use Rattle.pip_model.specs.Tree.{Tree, Component}
 use Rattle.pip_model.specs.Rows.{Row, start}
 use Rattle.pip_model.specs.Run.{Work, Outcome, Done, Refused, Refusal, Turn, Again, Closed, go_on, give, left, leaf, turn, run_from, numbers_of, point, point_run, point_setting, row_component}
 use Rattle.pip_model.specs.Agreement.{AgreesCounted}
@@ -45,16 +45,9 @@ module _ (n : ℕ) (first : List Row) (before : Work) (rows : List Row) (w : Wor
 -- ---- what it answers
 
 module _ (n : ℕ) (forms : List (List ℤ)) (before v : Work) where
-  pub point_none : run_from (point_setting n) (node_of (first_rows n forms)) before ≡ Done Bottom v → point_run n forms before ≡ Done None v
-  point_none e = ap (λ o. go_on o (λ t. give (numbers_of t))) e
-
   pub point_some : (now : List Row) → run_from (point_setting n) (node_of (first_rows n forms)) before ≡ Done (leaf (point_setting n) (node_of now)) v
       → point_run n forms before ≡ Done (Some (map (λ (c : Component). constant c.form) (map row_component (take n now)))) v
   point_some now e = ap (λ o. go_on o (λ t. give (numbers_of t))) e
-
-  pub point_refused : (o : Option Refusal) → IfSome o (λ f. run_from (point_setting n) (node_of (first_rows n forms)) before ≡ Refused f v) → IfSome o (λ f. point_run n forms before ≡ Refused f v)
-  point_refused None e = e
-  point_refused (Some f) e = ap (λ o. go_on o (λ t. give (numbers_of t))) e
 
 module _ (n : ℕ) (rows now : List Row) (before v : Work) where
   refused : (o : Option Refusal) → IfSome o (λ f. run_from (point_setting n) (node_of rows) before ≡ Refused f v) → IfSome o (λ f. finds_point n rows before ≡ Refused f v)

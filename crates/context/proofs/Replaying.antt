@@ -1,13 +1,13 @@
 -- A run remembered: from one pivot to the next.
-use Rattle.std.proofs.Common.{◌≡◌, ◌∙◌, refl, ap, sym, ℕ, zero, suc, ◌+◌, ◌<◌, ◌≤◌, arith, Option, Some, None, List, [], ◌∷◌, ◌++◌, length, map, get_or, drop, Bool, true, false}
-use Rattle.std.specs.Prelude.{IfSome, flat_map, if◌then◌else◌}
-use Rattle.std.proofs.lemmas.List.{drop_more, drop_all}
+use Rattle.std.proofs.Common.{◌≡◌, ◌∙◌, refl, ap, sym, ℕ, ◌+◌, ◌<◌, arith, List, [], ◌∷◌, ◌++◌, length, map, get_or, drop, Bool, true, false}
+use Rattle.std.specs.Prelude.{flat_map, if◌then◌else◌}
+use Rattle.std.proofs.lemmas.List.{drop_more}
 use Rattle.pip_model.specs.Listed.{all_fit}
 use Rattle.pip_model.specs.Rows.{Row, row_at, form_row, pivot, eliminated, eliminated_listed}
-use Rattle.pip_model.specs.Run.{Work, Outcome, Done, Refused, Refusal, Overflow, Counted, ◌>>◌, go_on, give, listed, count_pivot, run_from, point_setting}
+use Rattle.pip_model.specs.Run.{Work, Outcome, Done, Refused, Overflow, Counted, ◌>>◌, go_on, give, listed, count_pivot, run_from, point_setting}
 use Rattle.tableau.specs.Tableaus.{TableauRows}
 use Rattle.context.specs.Turns.{node_of}
-use Rattle.context.specs.Remembered.{turned, replayed, IsPivot}
+use Rattle.context.specs.Remembered.{turned, replayed}
 use Rattle.context.proofs.FurtherRows.{IsStep, step-front}
 
 -- the two parts of a replay
@@ -44,15 +44,6 @@ reaches_more n first ps cs E r c e run is rows w =
     each (Done F v) = step-front n E F r c v is ∙ sym (given (turned (row_at E r) c F v) (λ now. run_from (point_setting n) (node_of (pivot E r c ++ now))))
     each (Refused f v) = refl
 
-pub each_more : (n : ℕ) (ps : List Row) (cs : List ℕ) (p : Row) (c : ℕ) → length ps ≡ length cs → ((i : ℕ) → i < length cs → IsPivot n (row_at ps i) (get_or cs i 0)) → IsPivot n p c
-    → (i : ℕ) → i < length (cs ++ c ∷ []) → IsPivot n (row_at (ps ++ p ∷ []) i) (get_or (cs ++ c ∷ []) i 0)
-each_more n [] [] p c e all is zero h = is
-each_more n [] [] p c e all is (suc i) h = absurd (omega arith)
-each_more n [] (d ∷ cs) p c e all is i h = absurd (omega arith)
-each_more n (q ∷ ps) [] p c e all is i h = absurd (omega arith)
-each_more n (q ∷ ps) (d ∷ cs) p c e all is zero h = all 0 (omega arith)
-each_more n (q ∷ ps) (d ∷ cs) p c e all is (suc i) h = each_more n ps cs p c (omega (arith, e)) (λ j k. all (suc j) (omega (arith, k))) is i (omega (arith, h))
-
 abbrev counted_on : Work → Outcome (Unit {0})
 counted_on v = Done tt v
 
@@ -73,15 +64,7 @@ pub replayed-at : (ps : List Row) (cs : List ℕ) (i : ℕ) (F : List Row) (w : 
     → replayed (drop i ps) (drop i cs) F w ≡ go_on (turned (row_at ps i) (get_or cs i 0) F w) (λ now. replayed (drop (i + 1) ps) (drop (i + 1) cs) now)
 replayed-at ps cs i F w e h = rw (drop_more ps i (form_row 0 []) (omega (arith, e, h)), drop_more cs i 0 h) refl
 
--- no more of them
-pub replayed-end : (ps : List Row) (cs : List ℕ) (i : ℕ) (F : List Row) (w : Work) → length ps ≡ length cs → length cs ≤ i → replayed (drop i ps) (drop i cs) F w ≡ Done F w
-replayed-end ps cs i F w e h = rw (drop_all i ps (omega (arith, e, h))) refl
-
--- one more of them, made or refused
+-- one more of them, made
 module _ (ps : List Row) (cs : List ℕ) (i : ℕ) (F : List Row) (w : Work) (e : length ps ≡ length cs) (h : i < length cs) where
   pub replayed-on : (G : List Row) (v : Work) → turned (row_at ps i) (get_or cs i 0) F w ≡ Done G v → replayed (drop i ps) (drop i cs) F w ≡ replayed (drop (i + 1) ps) (drop (i + 1) cs) G v
   replayed-on G v t = replayed-at ps cs i F w e h ∙ ap (λ o. go_on o (λ now. replayed (drop (i + 1) ps) (drop (i + 1) cs) now)) t
-
-  pub replayed-refused : (o : Option Refusal) (v : Work) → IfSome o (λ f. turned (row_at ps i) (get_or cs i 0) F w ≡ Refused f v) → IfSome o (λ f. replayed (drop i ps) (drop i cs) F w ≡ Refused f v)
-  replayed-refused None v t = t
-  replayed-refused (Some f) v t = replayed-at ps cs i F w e h ∙ ap (λ o. go_on o (λ now. replayed (drop (i + 1) ps) (drop (i + 1) cs) now)) t

@@ -1,6 +1,6 @@
 -- The trace of the run without parameters, from one turn to the next, and what it gives.
 use Rattle.std.proofs.Common.{◌≡◌, refl, ap, sym, ◌∙◌, ℕ, zero, suc, ◌+◌, ◌<◌, ℤ, Bool, true, false, Option, Some, None, List, [], ◌∷◌, ◌++◌, length, slice_set, length-append}
-use Rattle.std.specs.Prelude.{if◌then◌else◌, IfSome, map}
+use Rattle.std.specs.Prelude.{if◌then◌else◌, map}
 use Rattle.std.proofs.lemmas.List.{get_or_append_left, length-map}
 use Rattle.pip_model.specs.Numbers.{is_nonneg}
 use Rattle.pip_model.specs.Forms.{constant, entry, widen_to}
@@ -8,12 +8,12 @@ use Rattle.pip_model.specs.Tree.{Bottom}
 use Rattle.pip_model.specs.Rows.{Row, row_at, form_row, entering, first_fraction, start}
 use Rattle.pip_model.specs.Cuts.{constant_cut}
 use Rattle.pip_model.specs.Certificate.{Refutation}
-use Rattle.pip_model.specs.Run.{Work, Outcome, Done, Refused, Refusal, Turn, Again, Closed, MinusAt, left, leaf, turn, point_setting}
+use Rattle.pip_model.specs.Run.{Work, Outcome, Done, Turn, Again, Closed, MinusAt, left, turn, point_setting}
 use Rattle.pip_model.specs.Refuting.{Trace, traced, pivot_trace, cut_trace, with_step, last_step, refute_from, refute_by, refute, first_trace, indices}
 use Rattle.pip_model.proofs.Forms.{length-count}
 use Rattle.pip_model.proofs.Fuel.{again_less, falls-constant_class}
 use Rattle.run_laws.proofs.RowsAt.{length_slice_set}
-use Rattle.refutation_laws.proofs.RefuteSteps.{signs_from, next_trace, refute-again, refute-closed, refute-refused}
+use Rattle.refutation_laws.proofs.RefuteSteps.{signs_from, next_trace, refute-again, refute-closed}
 use Rattle.tableau.specs.Tableaus.{TableauRows}
 use Rattle.context.specs.Turns.{negative_from, node_of}
 use Rattle.context.specs.Traces.{with_cut, steps_if, IsTraced}
@@ -87,13 +87,6 @@ module _ (n : ℕ) (whole : Outcome (Option Refutation)) (rows : List Row) (T : 
 
   pub refutes-bottom : (U : Trace) (v : Work) → next_trace n (node_of rows) T ≡ U → one_turn ≡ Done (Closed Bottom) v → whole ≡ Done (steps_if true U) v
   refutes-bottom U v next e = sym same ∙ refute-closed n T (node_of rows) Bottom w v e ∙ ap (λ (X : Trace). Done (steps_if true X) v) next
-
-  pub refutes-list : (U : Trace) (now : List Row) (v : Work) → one_turn ≡ Done (Closed (leaf (point_setting n) (node_of now))) v → whole ≡ Done (steps_if false U) v
-  refutes-list U now v e = sym same ∙ refute-closed n T (node_of rows) (leaf (point_setting n) (node_of now)) w v e
-
-  pub refutes-refused : (o : Option Refusal) (v : Work) → IfSome o (λ f. one_turn ≡ Refused f v) → IfSome o (λ f. whole ≡ Refused f v)
-  refutes-refused None v e = e
-  refutes-refused (Some f) v e = sym same ∙ refute-refused n T (node_of rows) f w v e
 
 -- ---- from the first rows
 

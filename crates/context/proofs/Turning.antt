@@ -1,10 +1,9 @@
 -- The turns of the run without parameters.
-use Rattle.std.proofs.Common.{◌≡◌, refl, ap, ℕ, ◌+◌, ◌<◌, ℤ, Bool, true, false, not, Option, Some, None, List, [], ◌∷◌, ◌++◌, length, drop, arith}
+use Rattle.std.proofs.Common.{◌≡◌, refl, ap, ℕ, ◌+◌, ℤ, Bool, true, false, Option, Some, None, List, [], ◌∷◌, ◌++◌, length, arith}
 use Rattle.std.specs.Prelude.{if◌then◌else◌, IfSome}
-use Rattle.std.proofs.lemmas.List.{drop_more}
 use Rattle.pip_model.specs.Numbers.{is_nonneg, floor_div, gcd, gcd_of}
 use Rattle.pip_model.specs.Forms.{constant, coefficients, entry, floor_divided}
-use Rattle.pip_model.specs.Rows.{Row, row_at, form_row, first_fraction, is_whole}
+use Rattle.pip_model.specs.Rows.{Row, row_at, first_fraction, is_whole}
 use Rattle.pip_model.specs.Cuts.{constant_cut}
 use Rattle.pip_model.specs.Run.{Work, Outcome, Done, Refused, Refusal, Node, Setting, Plus, Minus, Signs, AllPlus, MinusAt, go_on, scan, scan_on, turn, turn_by, last_turn, cut_turn, count_cut, give, row_component, Again, point_setting}
 use Rattle.context.specs.Turns.{negative_from, node_of, counted_cut}
@@ -24,21 +23,6 @@ scan_is n N i (r ∷ rs) w = by (is_nonneg (constant r.constant)) (scan_is n N (
 -- a turn, by the first row below 0
 pub turn_is : (n : ℕ) (rows : List Row) (w : Work) → turn (point_setting n) (node_of rows) w ≡ turn_by (point_setting n) (node_of rows) (signs_of (negative_from 0 rows)) w
 turn_is n rows w = ap (λ o. go_on o (λ signs. turn_by (point_setting n) (node_of rows) signs)) (scan_is n (node_of rows) 0 rows w)
-
-module _ (i : ℕ) (rows : List Row) (h : i < length rows) where
-  pub negative_here : not (is_nonneg (constant (row_at rows i).constant)) ≡ true → negative_from i (drop i rows) ≡ Some i
-  negative_here e = rw (drop_more rows i (form_row 0 []) h) (by (is_nonneg (constant (row_at rows i).constant)) e)
-    where
-      by : (t : Bool) → not t ≡ true → (if t then negative_from (i + 1) (drop (i + 1) rows) else Some i) ≡ Some i
-      by true e = absurd cc
-      by false e = refl
-
-  pub negative_later : not (is_nonneg (constant (row_at rows i).constant)) ≡ false → negative_from i (drop i rows) ≡ negative_from (i + 1) (drop (i + 1) rows)
-  negative_later e = rw (drop_more rows i (form_row 0 []) h) (by (is_nonneg (constant (row_at rows i).constant)) e)
-    where
-      by : (t : Bool) → not t ≡ false → (if t then negative_from (i + 1) (drop (i + 1) rows) else Some i) ≡ negative_from (i + 1) (drop (i + 1) rows)
-      by true e = refl
-      by false e = absurd cc
 
 -- ---- a cut
 
@@ -65,13 +49,3 @@ cut_again n rows i w e one =
 pub cut_refused : (rows : List Row) (i : ℕ) (w u : Work) (o : Option Refusal) → IfSome o (λ f. counted_cut rows i w ≡ Refused f u) → IfSome o (λ f. go_on (counted_cut rows i w) (λ now. give (Again (node_of now))) ≡ Refused f u)
 cut_refused rows i w u None h = h
 cut_refused rows i w u (Some f) h = rw h refl
-
--- ---- the values of a list
-
-pub value_is : (r : Row) → length r.constant ≡ 1 → constant (row_component r).form ≡ floor_div (entry r.constant 0) (gcd r.den (gcd_of r.constant))
-value_is r e = by r.den r.constant e
-  where
-    by : (d : ℤ) (c : List ℤ) → length c ≡ 1 → constant (floor_divided (gcd d (gcd_of c)) c) ≡ floor_div (entry c 0) (gcd d (gcd_of c))
-    by d [] e = absurd (omega arith)
-    by d (x ∷ []) e = refl
-    by d (x ∷ y ∷ c) e = absurd (omega arith)

@@ -1,11 +1,12 @@
 -- The run without parameters of some rows, remembered, and what it makes of further rows behind them.
-use Rattle.std.specs.Prelude.{◌≡◌, ℕ, ◌<◌, ◌≤◌, ℤ, pos, ◌≤ℤ◌, Bool, true, false, ◌&&◌, is_none, is_some, IsTrue, List, [], ◌∷◌, ◌++◌, length, take, map, flat_map, get_or}
+use Rattle.std.specs.Prelude.{◌≡◌, ℕ, ◌<◌, ◌≤◌, ℤ, Bool, true, false, ◌&&◌, is_none, is_some, IsTrue, List, [], ◌∷◌, ◌++◌, length, take, map, flat_map, get_or}
 use Rattle.pip_model.specs.Contexts.{IsContext}
-use Rattle.pip_model.specs.Forms.{entry, widen_to}
+use Rattle.pip_model.specs.Forms.{widen_to}
 use Rattle.pip_model.specs.Tree.{Tree, Bottom}
 use Rattle.pip_model.specs.Rows.{Row, row_at, start, eliminated, eliminated_listed, first_fraction}
 use Rattle.pip_model.specs.Run.{Work, Counted, Done, ◌>>=◌, ◌>>◌, go_on, give, listed, count_pivot, leaf, run_from, numbers_of, point, point_setting}
 use Rattle.pip_model.specs.Refuting.{Trace, refute_from}
+use Rattle.dual_pivot.specs.Choices.{IsCandidate}
 use Rattle.context.specs.Traces.{exchanges}
 use Rattle.context.specs.Turns.{negative_from, node_of}
 use Rattle.context.specs.declared.remembered.Replay.{Replay}
@@ -47,11 +48,6 @@ replayed (p ∷ ps) (c ∷ cs) rows = do
 pub record IsTurned (ps : List Row) (cs : List ℕ) (rows now : List Row) : Type 0 where
   pub turns : (further : List Row) (w : Work) → replayed ps cs (rows ++ further) w ≡ go_on (replayed ps cs further w) (λ more. give (now ++ more))
 
--- row p may be solved for the quantity of column c, one of n
-pub record IsPivot (n : ℕ) (p : Row) (c : ℕ) : Type 0 where
-  pub column : c < n
-  pub positive : pos 1 ≤ℤ entry p.coefs c
-
 -- a row and a column for each pivot, and the rows of a run without parameters
 pub record IsFormed (m : Replay) : Type 0 where
   pub unknowns : m.pivots.unknowns ≡ m.end.unknowns
@@ -60,7 +56,7 @@ pub record IsFormed (m : Replay) : Type 0 where
   pub rows : m.end.unknowns ≤ length m.end.rows
   pub lengths : length m.pivots.rows ≡ length m.columns.items
   pub each : (i : ℕ) → i < length m.columns.items
-      → IsPivot m.end.unknowns (row_at m.pivots.rows i) (get_or m.columns.items i 0)
+      → IsCandidate m.end.unknowns (row_at m.pivots.rows i) (get_or m.columns.items i 0)
 
 -- with further rows behind them the first rows make these pivots, and go on from the rows E; so with a trace
 abbrev pub RetracesTo : ℕ → List Row → List Row → List ℕ → List ℕ → List Row → Type 0
@@ -76,6 +72,13 @@ pub record IsReplay (first : List Row) (m : Replay) : Type 0 where
       ≡ go_on (replayed m.pivots.rows m.columns.items rows w)
       (λ now. run_from (point_setting m.end.unknowns) (node_of (m.end.rows ++ now)))
   pub traced : RetracesTo m.end.unknowns first m.pivots.rows m.rows.items m.columns.items m.end.rows
+
+-- the same pivots and rows
+pub record IsSameReplay (m copy : Replay) : Type 0 where
+  pub pivots : copy.pivots ≡ m.pivots
+  pub rows : copy.rows.items ≡ m.rows.items
+  pub columns : copy.columns.items ≡ m.columns.items
+  pub end : copy.end ≡ m.end
 
 -- the run of these rows ends at them with a point: no row is below 0, and those of the unknowns are whole
 abbrev pub is_end : ℕ → List Row → Bool
@@ -107,11 +110,14 @@ pub record IsKnownWhole (n : ℕ) (K : List (List ℤ)) (is_known : Bool) (run :
   pub context : IsContext n K
   pub remembered : IsTrue is_known → IsRemembered n K run
 
--- narrow forms, and the run of the first so many of them where one is known
-pub record IsKnown (n : ℕ) (K : List (List ℤ)) (is_known : Bool) (known : ℕ) (run : Remembered) : Type 0 where
+-- narrow forms, the run of the first so many of them where one is known, and one over some places where it is kept
+pub record IsKnown (n : ℕ) (K : List (List ℤ)) (is_known : Bool) (known : ℕ) (run : Remembered) (is_earlier : Bool)
+    (fewer : ℕ) (earlier : Remembered) : Type 0 where
   pub context : IsContext n K
   pub within : IsTrue is_known → known ≤ length K
   pub remembered : IsTrue is_known → IsRemembered n (take known K) run
+  pub earlier_within : IsTrue is_earlier → fewer ≤ length K
+  pub earlier_run : IsTrue is_earlier → IsRemembered earlier.run.end.unknowns (take fewer K) earlier
 
 -- where a run shows a point, it ends at once with these rows behind its own, with a point or without one
 abbrev pub EndsWith : List Row → Bool → Type 0

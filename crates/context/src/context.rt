@@ -1,10 +1,11 @@
-ghost use Rattle.std.specs.Prelude.{◌≡◌, ◌+◌, ◌-◌, ◌^◌, ◌<◌, ◌≤◌, pos, ◌≤ℤ◌, ◌<ℤ◌, [], ◌∷◌, ◌++◌, length, take, All, IfOk, OnOk, IfErr, IfSome, IfNone};
+ghost use Rattle.std.specs.Prelude.{◌≡◌, ◌+◌, ◌-◌, ◌^◌, ◌<◌, ◌≤◌, pos, ◌≤ℤ◌, ◌<ℤ◌, [], ◌∷◌, ◌++◌, length, take, All, IfOk, OnOk, IfErr, IfSome, IfNone, IsTrue};
 ghost use Rattle.pip_model.specs.Contexts.{IsContext, PointTells, IsPointRefusal};
 ghost use Rattle.pip_model.specs.RefutedPoint.{IsRefutedPoint};
 ghost use Rattle.pip_model.specs.Refuting as refuting;
 ghost use Rattle.pip_model.specs.Run as model;
 ghost use Rattle.pip_model.specs.Run.{Work as Counts, Done};
 ghost use Rattle.affine_forms.specs.Checks.{Fits};
+ghost use Rattle.affine_forms.specs.Forms.{IsForm};
 ghost use Rattle.pip_problem.specs.Faults.{run_fault};
 ghost use Rattle.run_counts.specs.Counts.{IsCountedRun};
 ghost use Rattle.context.specs.Remembered.{has_point};
@@ -25,15 +26,16 @@ use pip_problem::Refusal;
 use run_counts::Work;
 use std::alloc::Global;
 use std::marker::Model;
+use std::mem::{replace, swap};
 
 /// A context: forms over the parameters and quotients in scope, which it takes to be at least 0. Its width is their
 /// number; a form that is narrower reads 0 at the missing places. It stands for the whole vectors of numbers from 0 on
 /// at which no form is below 0. Contracts see the width, the forms in order, and the room that is left for more.
 ///
 /// From one question with a form more to the next a context keeps the first pivots of its own forms' run, no more
-/// than it has places and forms, and the rows that they made. It goes on from them where forms were added, and begins
-/// again after its width changed or one of these forms was dropped. Their room stays, and so does that of a question's
-/// rows.
+/// than it has places and forms, and the rows that they made. It goes on from them where forms were added, and keeps
+/// those from which it went on last; it goes back to these where the forms added were dropped, and begins again where
+/// more were dropped, or its width changed. Their room stays, and so does that of a question's rows and form.
 #[derive(Drop)]
 pub struct Context {
     width: usize,
@@ -43,9 +45,15 @@ pub struct Context {
     is_known: bool,
     // How many forms' run it is.
     known: usize,
+    // The run of the first forms, of fewer, where it is kept, and how many.
+    earlier: Remembered,
+    is_earlier: bool,
+    earlier_known: usize,
     // Whether it was tried to make the run of all forms.
     is_tried: bool,
     question: Question,
+    // Room for the form of a question. What it holds tells nothing.
+    entries: Vec<i128>,
 }
 
 /// How many forms a context had, and its width: where it can go back to.
@@ -53,6 +61,13 @@ pub struct Context {
 pub struct ContextMark {
     pub forms: usize,
     pub width: usize,
+}
+
+// Whether a run is known, of no more forms than the mark has, and over as many places.
+fn stays(is_known: bool, known: usize, width: usize, mark: ContextMark) -> bool
+    ensures { IsTrue result → IsTrue is_known × (known ≤ mark.forms) × (width ≡ mark.width) }
+{
+    is_known && known <= mark.forms && width == mark.width
 }
 
 impl Model for Context {
@@ -66,7 +81,8 @@ impl Model for Context {
     ghost view = { λ k.
         record { width = k.width; forms = k.forms.items; spare = vec_capacity k.forms - vec_len k.forms } };
 
-    ghost invariant = { λ k. IsKnown k.width k.forms.items k.is_known k.known k.run };
+    ghost invariant = { λ k.
+        IsKnown k.width k.forms.items k.is_known k.known k.run k.is_earlier k.earlier_known k.earlier };
 }
 
 impl Context {
@@ -81,8 +97,12 @@ impl Context {
             run: Remembered::new(alloc),
             is_known: false,
             known: 0,
+            earlier: Remembered::new(alloc),
+            is_earlier: false,
+            earlier_known: 0,
             is_tried: false,
             question: Question::new(alloc),
+            entries: Vec::new(alloc),
         })
     }
 
@@ -143,9 +163,23 @@ impl Context {
         ensures spare { self.old.spare + (length self.old.forms - mark.forms) ≤ self.new.spare }
     {
         self.forms.truncate(mark.forms);
-        self.is_known = self.is_known && self.known <= mark.forms && self.width == mark.width;
+        self.is_known = stays(self.is_known, self.known, self.width, mark);
+        self.is_earlier = stays(self.is_earlier, self.earlier_known, mark.width, mark);
         self.width = mark.width;
         self.is_tried = false;
+        self.take_earlier();
+    }
+
+    // Where no run is known, that of fewer forms is, if it is kept and has the context's width.
+    fn take_earlier(&mut self)
+        ensures kept { IsKeptContext self.old self.new }
+    {
+        if !self.is_known && self.is_earlier && self.earlier.run.end.unknowns() == self.width {
+            swap(&mut self.run, &mut self.earlier);
+            self.known = self.earlier_known;
+            self.is_known = true;
+            self.is_earlier = false;
+        }
     }
 
     /// A whole vector of numbers from 0 on at which no form is below 0; None exactly where there is none. It is found
@@ -181,6 +215,47 @@ impl Context {
         ensures refusal { IfErr result (λ e. IfSome (run_fault e) IsPointRefusal) }
     {
         refute_forms(alloc, &self.forms, places, first, work)
+    }
+
+    /// The form of these entries, in the room that was kept for it if there is one.
+    pub fn copy_form(&mut self, entries: &[i128]) -> Result<Form, WantOfMemory>
+        requires { IsForm entries.now }
+        ensures value { IfOk result (λ form. form ≡ entries.now) }
+        ensures kept { IsKeptContext self.old self.new }
+    {
+        let none = Vec::new(*self.forms.allocator());
+        let mut copy = replace(&mut self.entries, none);
+        copy.clear();
+        copy.extend_from_slice(entries)?;
+        Ok(Form::from_entries(copy))
+    }
+
+    /// Keeps the room of a form for the next one that is copied.
+    pub fn keep_room(&mut self, form: Form)
+        ensures { IsKeptContext self.old self.new }
+    {
+        self.entries = form.into_entries();
+    }
+
+    // Keeps a copy of the run, where it is one of fewer forms than there are.
+    #[tactic(auto, using(crate::proofs::Copying::earlier_kept))]
+    fn keep_earlier(&mut self)
+        ensures kept { IsKeptContext self.old self.new }
+    {
+        if self.is_known && self.known < self.forms.len() {
+            self.is_earlier = self.earlier.copy_from(&self.run).is_ok();
+            self.earlier_known = self.known;
+        }
+    }
+
+    // Makes the run of all forms alone, where that was not tried before, and keeps that of the first of them.
+    fn prepare(&mut self)
+        ensures kept { IsKeptContext self.old self.new }
+    {
+        if !self.is_tried {
+            self.keep_earlier();
+            self.recall();
+        }
     }
 
     // Makes the run of all forms alone, where that was not tried before.
@@ -253,7 +328,7 @@ impl Context {
         if let Some(found) = self.point_at_once() {
             return Ok(found);
         }
-        self.recall();
+        self.prepare();
         if let Some(answer) = self.find_known(work) {
             return answer;
         }
@@ -276,7 +351,7 @@ impl Context {
             (has_point self.old.width (self.old.forms ++ form.now ∷ [])) }
         ensures kept { IsKeptContext self.old self.new }
     {
-        self.recall();
+        self.prepare();
         if let Some(answer) = self.ask_known(form, work) {
             return answer;
         }

@@ -1,4 +1,4 @@
-ghost use Rattle.std.specs.Prelude.{◌≡◌, ◌^◌, ◌<◌, [], ◌∷◌, ◌++◌, pos, ◌≤ℤ◌, ◌<ℤ◌, length, map, All, OnOk};
+ghost use Rattle.std.specs.Prelude.{◌≡◌, ◌^◌, ◌<◌, [], ◌∷◌, ◌++◌, pos, ◌≤ℤ◌, ◌<ℤ◌, List, ℤ, length, map, All, IsTrue, IfOk, OnOk};
 ghost use Rattle.pip_model.specs.Contexts.{IsContext};
 ghost use Rattle.pip_model.specs.Made.{narrow_to};
 ghost use Rattle.pip_model.specs.Refuting as model;
@@ -7,6 +7,7 @@ ghost use Rattle.affine_forms.specs.Checks.{Fits};
 ghost use Rattle.pip_problem.specs.Faults.{run_fault};
 ghost use Rattle.run_counts.specs.Counts.{IsCountedRun};
 ghost use Rattle.context.specs.Remembered.{first_rows};
+ghost use Rattle.context.specs.Scoped.{AreFirst, AreFirstWithin, AreFirstOver};
 ghost use Rattle.context.specs.Stops.{stop_fault};
 ghost use Rattle.context.specs.Traces.{IsTraced, steps_if};
 ghost use Rattle.context.specs.Turns.{node_of};
@@ -14,7 +15,7 @@ ghost use Rattle.context.specs.Turns.{node_of};
 use crate::behind::{exchange_all, rows_behind};
 use crate::closing::refute_with;
 use crate::further::goes_further;
-use crate::narrowed::{are_narrowed, narrow_all, narrowed};
+use crate::narrowed::{narrow_all, narrowed};
 use crate::question::Question;
 use crate::refute::refute_forms;
 use crate::remembered::{Remembered, remember};
@@ -28,8 +29,8 @@ use std::alloc::Global;
 use std::marker::Model;
 
 /// Makes refutations of known forms, one after the other. From one to the next it keeps the first pivots of the run of
-/// so many first forms as it is told. It goes on from them where the next first forms begin with these, over as many
-/// places, and else begins again. What it was asked before changes no answer.
+/// so many first forms as it is told. It goes on from them where it is told that the next first forms begin with these,
+/// and they are over as many places, and else begins again. What it was asked before changes no answer.
 #[derive(Drop)]
 pub struct Refuter {
     alloc: Global,
@@ -116,9 +117,21 @@ impl Refuter {
         Ok(())
     }
 
-    // Has the run of these forms, over so many places. It goes on from its own where they begin with its forms.
+    // Keeps its forms only where they are no more than so many.
+    fn keep_within(&mut self, most: usize)
+        ensures { (known : List (List ℤ)) → AreFirstWithin self.old known most → AreFirst self.new known }
+    {
+        if self.forms.len() <= most {
+            return;
+        }
+        self.is_known = false;
+        self.forms.clear();
+    }
+
+    // Has the run of these forms, over so many places. It goes on from its own where that is over as many.
     fn recall_others(&mut self, known: &[Form], width: usize) -> Result<(), WantOfMemory>
-        requires { All (λ c. width < length c) known.now }
+        requires wide { All (λ c. width < length c) known.now }
+        requires first { AreFirstWithin self.old known.now (length known.now) }
         ensures width { OnOk result (self.new.width ≡ width) }
         ensures forms { OnOk result (self.new.forms ≡ map (narrow_to width) known.now) }
     {
@@ -126,11 +139,23 @@ impl Refuter {
         if self.width != width || kept == 0 || known.len() < kept {
             return self.recall(known, width);
         }
-        let (front, more) = known.split_at(kept);
-        if are_narrowed(&self.forms, front, width) {
-            return self.recall_further(more);
+        let (_, more) = known.split_at(kept);
+        self.recall_further(more)
+    }
+
+    // Has the run of so many of the first known forms as it was told to keep, over so many places; whether it keeps any.
+    fn recall_first(&mut self, known: &[Form], width: usize) -> Result<bool, WantOfMemory>
+        requires wide { All (λ c. width < length c) known.now }
+        requires first { AreFirst self.old known.now }
+        ensures first { OnOk result (AreFirst self.new known.now) }
+        ensures width { IfOk result (λ kept. IsTrue kept → self.new.width ≡ width) }
+    {
+        if known.len() < self.kept || self.kept == 0 {
+            return Ok(false);
         }
-        self.recall(known, width)
+        let (front, _) = known.split_at(self.kept);
+        self.recall_others(front, width)?;
+        Ok(true)
     }
 
     // The kept run with further forms behind its own, with its trace: whether it found no point.
@@ -146,6 +171,7 @@ impl Refuter {
         ensures gives { IsCountedRun (λ b. steps_if b trace.new) stop_fault result work.old work.new
             (refute_from self.old.width trace.old
             (node_of (first_rows self.old.width (self.old.forms ++ more.now)))) }
+        ensures kept { self.new ≡ self.old }
     {
         if !self.is_known {
             return Err(Stop::Long);
@@ -155,7 +181,7 @@ impl Refuter {
         refute_with(self.alloc, &self.run, &mut self.question, trace, work)
     }
 
-    // The steps by which known forms have no point, by the run of those that are kept; `Long` where none are.
+    // The steps by which known forms have no point, by the run of its own; `Long` where it has none.
     fn refute_kept(
         &mut self,
         known: &[Form],
@@ -167,14 +193,12 @@ impl Refuter {
         requires places { All Fits places.now }
         requires some { pos 0 ≤ℤ first }
         requires few { first <ℤ pos (2 ^ 64) }
+        requires first { AreFirstOver (length places.now) self.old known.now }
         ensures gives { IsCountedRun (λ o. o) stop_fault result work.old work.new
             (refute_by (length places.now) (map (narrow_to (length places.now)) known.now) places.now first) }
+        ensures kept { self.new ≡ self.old }
     {
-        if known.len() < self.kept || self.kept == 0 {
-            return Err(Stop::Long);
-        }
-        let (front, more) = known.split_at(self.kept);
-        self.recall_others(front, places.len())?;
+        let (_, more) = known.split_at(self.forms.len());
         let more = narrow_all(self.alloc, more, places.len())?;
         let mut trace = Trace::start(self.alloc, places, known.len(), first)?;
         if !self.refute_behind(&more, &mut trace, work)? {
@@ -202,10 +226,9 @@ impl Refuter {
         refute_forms(self.alloc, &forms, places, first, work)
     }
 
-    /// The steps by which the known forms, each over its first places alone and its constant, have no point, as
-    /// `Context::refute` gives them of these forms, with its counts and its refusals.
+    // The same, from the run that is kept where its numbers are short.
     #[tactic(auto, using(crate::proofs::Tracing::refute_by_run))]
-    pub fn refute(
+    fn refute_first(
         &mut self,
         known: &[Form],
         places: &[i128],
@@ -216,8 +239,10 @@ impl Refuter {
         requires places { All Fits places.now }
         requires some { pos 0 ≤ℤ first }
         requires few { first <ℤ pos (2 ^ 64) }
+        requires first { AreFirstOver (length places.now) self.old known.now }
         ensures gives { IsCountedRun (λ o. o) run_fault result work.old work.new
             (model.refute (length places.now) (map (narrow_to (length places.now)) known.now) places.now first) }
+        ensures kept { self.new ≡ self.old }
     {
         if known.is_empty() {
             return self.refute_all(known, places, first, work);
@@ -231,5 +256,32 @@ impl Refuter {
                 self.refute_all(known, places, first, work)
             }
         }
+    }
+
+    /// The steps by which the known forms, each over its first places alone and its constant, have no point, as
+    /// `Context::refute` gives them of these forms, with its counts and its refusals. So many of the first known forms
+    /// are those that it was asked before.
+    pub fn refute(
+        &mut self,
+        known: &[Form],
+        same: usize,
+        places: &[i128],
+        first: i128,
+        work: &mut Work,
+    ) -> Result<Option<Refutation>, Refusal>
+        requires wide { All (λ c. length places.now < length c) known.now }
+        requires places { All Fits places.now }
+        requires some { pos 0 ≤ℤ first }
+        requires few { first <ℤ pos (2 ^ 64) }
+        requires same { AreFirstWithin self.old known.now same }
+        ensures gives { IsCountedRun (λ o. o) run_fault result work.old work.new
+            (model.refute (length places.now) (map (narrow_to (length places.now)) known.now) places.now first) }
+        ensures first { OnOk result (AreFirst self.new known.now) }
+    {
+        self.keep_within(same);
+        if !self.recall_first(known, places.len())? {
+            return self.refute_all(known, places, first, work);
+        }
+        self.refute_first(known, places, first, work)
     }
 }

@@ -47,7 +47,8 @@ fn with_forms(alloc: Global, places: &[i128], count: usize) -> Result<Vec<i128>,
     ensures value { IfOk result (λ v. v.items ≡ places.now ++ indices 0 count) }
     ensures fits { IfOk result (λ v. All Fits v.items) }
 {
-    let mut made = Vec::from_slice(alloc, places)?;
+    let mut made = Vec::with_capacity(alloc, places.len().saturating_add(count))?;
+    made.extend_from_slice(places)?;
     for i in 0..count {
         made.push(i as i128)?;
     }

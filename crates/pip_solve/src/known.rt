@@ -7,13 +7,25 @@ use std::marker::Model;
 // More forms are not remembered, so that the search for one stays short.
 const MOST_KNOWN: usize = 64;
 
-// Where the entries of a form that was found at least 0 on a context stand among the numbers, and what was counted for
-// that.
+// How many have room from the first on.
+const FIRST_ROOM: usize = 8;
+
+// Where the entries of a form that was found at least 0 on a context stand among the numbers, the last of them, by which
+// most others are told from it, and what was counted for that.
 #[derive(Clone, Copy)]
 struct KnownPlace {
     start: usize,
     end: usize,
+    last: i128,
     counts: Counts,
+}
+
+// The last entry, 0 where there is none.
+fn last_of(entries: &[i128]) -> i128 {
+    match entries.last() {
+        Some(entry) => *entry,
+        None => 0,
+    }
 }
 
 // The forms that were found at least 0 on a context, up to some number: their entries behind one another.
@@ -37,6 +49,17 @@ impl Model for KnownForms {
     ghost invariant = { λ known. All (IsPlaceIn known.numbers.items) known.places.items };
 }
 
+// Makes room for some forms of so many entries before the first, where there is memory for it.
+fn make_room(numbers: &mut Vec<i128>, places: &mut Vec<KnownPlace>, entries: usize)
+    ensures numbers { numbers.new.items ≡ numbers.old.items }
+    ensures places { places.new.items ≡ places.old.items }
+{
+    if places.is_empty() {
+        let _ = numbers.reserve(entries.saturating_mul(FIRST_ROOM));
+        let _ = places.reserve(FIRST_ROOM);
+    }
+}
+
 impl KnownForms {
     // None is known.
     pub(crate) fn new(alloc: Global) -> KnownForms
@@ -52,8 +75,9 @@ impl KnownForms {
     pub(crate) fn find(&self, entries: &[i128]) -> Option<Counts>
         ensures { IfSome result (λ counts. Contains self.now (record { form = entries.now; counts = counts })) }
     {
+        let last = last_of(entries);
         for place in &self.places {
-            if &self.numbers[place.start..place.end] == entries {
+            if place.last == last && &self.numbers[place.start..place.end] == entries {
                 return Some(place.counts);
             }
         }
@@ -68,10 +92,16 @@ impl KnownForms {
         if self.places.len() >= MOST_KNOWN {
             return;
         }
+        make_room(&mut self.numbers, &mut self.places, entries.len());
         let start = self.numbers.len();
         if self.numbers.extend_from_slice(entries).is_ok() {
             let end = self.numbers.len();
-            let _ = self.places.push(KnownPlace { start, end, counts });
+            let _ = self.places.push(KnownPlace {
+                start,
+                end,
+                last: last_of(entries),
+                counts,
+            });
         }
     }
 

@@ -43,6 +43,7 @@ fn class_above(
     ensures condition { IfOk result (ConditionIs (length form)) }
 {
     if !context.point_with(alloc, &form, work)? {
+        context.keep_room(form);
         return Ok(Class::Minus);
     }
     Ok(Class::Unknown(form))
@@ -65,6 +66,7 @@ fn class_by_points(
     let mut below = form;
     below.opposite()?;
     if !context.point_with(alloc, &below, work)? {
+        context.keep_room(below);
         return Ok(Class::Plus);
     }
     class_above(alloc, context, turned(below), work)
@@ -90,7 +92,7 @@ fn class_at(
     if is_everywhere_below(entries) {
         return Ok(Class::Minus);
     }
-    let mut form = Form::try_new(alloc, entries)?;
+    let mut form = context.copy_form(entries)?;
     form.tighten();
     class_by_points(alloc, context, form, work)
 }

@@ -13,7 +13,7 @@ invariant_of-self c = elim c.if-self-2.branch [
       let number : c.len-self-inside.result ≡ length c.self.inside.forms.items
       = c.len-self-inside.ensures ∙ ap (λ (s : Inside). vec_len s.forms) w.self-inside-is ∙ sym w.deref.ensures.len ∙ ap length w.deref.ensures.value in
       rw (w.self-is, w.self-inside-is)
-      (known_all n c.len-self-inside.result K w.is_ok-self-inside.result w.go_further.new.m c.self.invariant.context number
+      (known_all n c.len-self-inside.result K w.is_ok-self-inside.result w.go_further.new.m c.self.inside.is_known c.self.inside.known c.self.inside.run c.self.inside.is_earlier c.self.inside.earlier_known c.self.inside.earlier c.self.invariant number
       (λ h. of_all n c.self.inside.known K w.deref.result.now c.self.inside.run w.go_further.new.m w.deref.ensures.value (c.self.invariant.remembered w.if-self-2.true)
       (ok_tells w.go_further.result w.is_ok-self-inside.result w.is_ok-self-inside.ensures.value w.go_further.ensures h)))
   | else-self-2 w ↦
@@ -23,6 +23,6 @@ invariant_of-self c = elim c.if-self-2.branch [
       = c.len-self-inside.ensures ∙ ap (λ (s : Inside). vec_len s.forms) w.self-inside-is ∙ sym w.deref-else-self-2.ensures.len ∙ ap length w.deref-else-self-2.ensures.value in
       let is = ok_tells w.remember.result w.is_ok-self-inside-else-self-2.result w.is_ok-self-inside-else-self-2.ensures.value w.remember.ensures in
       rw (w.self-is, w.self-inside-is)
-      (known_all n c.len-self-inside.result K w.is_ok-self-inside-else-self-2.result w.remember.new.m c.self.invariant.context number
+      (known_all n c.len-self-inside.result K w.is_ok-self-inside-else-self-2.result w.remember.new.m c.self.inside.is_known c.self.inside.known c.self.inside.run c.self.inside.is_earlier c.self.inside.earlier_known c.self.inside.earlier c.self.invariant number
       (λ h. rw (← w.deref-else-self-2.ensures.value) (is h)))
 ]

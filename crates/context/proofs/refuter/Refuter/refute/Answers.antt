@@ -1,27 +1,14 @@
-use Rattle.std.proofs.Common.{rules, arith, ◌≡◌, ◌∙◌, nat_eq, length, map, false}
-use Rattle.std.proofs.lemmas.Grind.{common_steps}
-use Rattle.pip_model.specs.Made.{narrow_to}
-use Rattle.pip_model.specs.Refuting.{refute_by}
-use Rattle.pip_model.specs.Run.{Done}
-use Rattle.pip_problem.specs.Faults.{run_fault}
-use Rattle.context.proofs.FurtherForms.{known-run, known-fault}
+use Rattle.std.proofs.Common.{rules, ◌≡◌, sym, subst, true}
+use Rattle.context.specs.Scoped.{KeptForms, AreFirst}
+use Rattle.context.proofs.KeptFirst.{on_ok}
 use Rattle.context.proofs.refuter.Refuter.refute.Goals as goal
 
-pub returns-in-Ok : goal.returns-in-Ok
-returns-in-Ok c =
-    let some : nat_eq (length c.args.known.now) 0 ≡ false = search rules in
-    let made : refute_by (length c.args.places.now) (map (narrow_to (length c.args.places.now)) c.args.known.now) c.args.places.now c.args.first c.args.work.now ≡ Done c.in-Ok.found c.refute_kept.new.work
-    = search (rules, c.in-Ok.ensures.gives.agrees) in
-    record {
-      gives = record {
-        agrees = known-run c.args.places.now c.args.known.now c.args.first c.args.work.now some ∙ made;
-        counted = c.refute_kept.ensures.gives.counted;
-      };
-    }
+pub refute_first-requires-clause-first : goal.refute_first-requires-clause-first
+refute_first-requires-clause-first c =
+    let kept : c.in_ok-recall_first.field-0 ≡ true = search rules in
+    record { width = c.in_ok-recall_first.ensures.width kept; first = c.in_ok-recall_first.ensures.first }
 
-pub returns-in-Err-Refused : goal.returns-in-Err-Refused
-returns-in-Err-Refused c =
-    let some : nat_eq (length c.args.known.now) 0 ≡ false = search rules in
-    let fault = known-fault c.args.places.now c.args.known.now c.args.first c.args.work.now c.refute_kept.new.work (run_fault c.in-Err-Refused.refusal) some
-    (search (rules, c.in-Err-Refused.ensures.gives.agrees)) in
-    record { gives = record { agrees = grind (arith, common_steps, fault); counted = c.in-Err-Refused.ensures.gives.counted } }
+pub returns-clause-first : goal.returns-clause-first
+returns-clause-first c =
+    on_ok c.refute_first.result (AreFirst c.refute_first.new.self c.args.known.now)
+    (subst (λ (k : KeptForms). AreFirst k c.args.known.now) (sym c.refute_first.ensures.kept) c.in_ok-recall_first.ensures.first)

@@ -36,17 +36,17 @@ refute_with-requires-clause-traced c =
     rw c.exchange_all.ensures
     (traced-end c.self.inside.width c.self.inside.forms.items c.args.more.now c.self.inside.run is c.args.trace.now c.args.work.now traced c.rows_behind.new.rows.rows c.in_ok-rows_behind.ensures.number)
 
-pub returns-in_err-rows_behind : goal.returns-in_err-rows_behind
-returns-in_err-rows_behind c =
+pub returns-in_err-rows_behind-clause-gives : goal.returns-in_err-rows_behind-clause-gives
+returns-in_err-rows_behind-clause-gives c =
     let width : c.self.inside.width ≡ c.args.self.now.width = search rules in
     let forms : c.self.inside.forms.items ≡ c.args.self.now.forms = search rules in
     let is : IsRemembered c.self.inside.width c.self.inside.forms.items c.self.inside.run = search rules in
     let fault = behind-refused c.self.inside.width c.self.inside.forms.items c.args.more.now c.self.inside.run is c.args.trace.now c.args.work.now
     (stop_fault c.in_err-rows_behind.field-0.0) c.rows_behind.new.work c.in_err-rows_behind.ensures.gives.agrees in
-    rw (← width, ← forms) (record { gives = record { agrees = grind (arith, common_steps, fault); counted = c.rows_behind.ensures.gives.counted } })
+    rw (← width, ← forms) (record { agrees = grind (arith, common_steps, fault); counted = c.rows_behind.ensures.gives.counted })
 
-pub returns : goal.returns
-returns c =
+pub returns-clause-gives : goal.returns-clause-gives
+returns-clause-gives c =
     let width : c.self.inside.width ≡ c.args.self.now.width = search rules in
     let forms : c.self.inside.forms.items ≡ c.args.self.now.forms = search rules in
     let is : IsRemembered c.self.inside.width c.self.inside.forms.items c.self.inside.run = search rules in
@@ -55,8 +55,6 @@ returns c =
     let told = rw c.exchange_all.ensures at c.refute_with.ensures.gives in
     rw (← width, ← forms)
     (record {
-      gives = record {
-        agrees = rw made told.agrees;
-        counted = counted_on c.args.work.now c.rows_behind.new.work c.refute_with.new.work c.in_ok-rows_behind.ensures.gives.counted told.counted;
-      };
+      agrees = rw made told.agrees;
+      counted = counted_on c.args.work.now c.rows_behind.new.work c.refute_with.new.work c.in_ok-rows_behind.ensures.gives.counted told.counted;
     })

@@ -1,0 +1,10 @@
+use Rattle.std.proofs.Common.{rules, arith, ◌≡◌, ◌+◌, ◌≤◌, [], ◌∷◌, ◌++◌, length}
+use Rattle.context.proofs.Copying.{known_longer}
+use Rattle.context.proofs.context.Context.add.Goals as goal
+
+pub invariant_of-self : goal.invariant_of-self
+invariant_of-self c =
+    let k = c.self.inside in
+    let forms : c.push.new.self.items ≡ k.forms.items ++ c.args.f ∷ [] = search rules in
+    let narrow : length c.args.f ≤ k.width + 1 = search rules in
+    rw forms (known_longer k.width k.forms.items k.is_known k.known k.run k.is_earlier k.earlier_known k.earlier c.self.invariant c.args.f (omega (arith, c.width.ensures.entries)) narrow)
