@@ -8,8 +8,7 @@ use Rattle.pip_model.specs.Check.{Premises}
 use Rattle.pip_model.specs.Share.{lowered, renumbered, moved_index, shareable, same_terms, common_front, shared_by, after_shared, IsCommon}
 use Rattle.pip_model.proofs.Tests.{same_number_yes, same_number_no}
 use Rattle.check_laws.proofs.Fronts.{shared-fronts, shareable-short}
-use Rattle.certificate_check.specs.Sharing.{sized, counts_from, index_of}
-use Rattle.certificate_check.specs.declared.numbering.Renumbering.TheVariants as by
+use Rattle.certificate_check.specs.Sharing.{sized, counts_from}
 
 -- ---- pairs
 
@@ -154,14 +153,6 @@ pub shared_step : (b : ℕ) (sizes : List ℕ) (xs : List Refutation) (k d : ℕ
     → own ≡ shareable b (get_or sizes k d) (get_or xs k x) → old ≡ shared_by b (drop (k + 1) (map sized sizes)) (drop (k + 1) xs) → now ≡ common_front own old
     → now ≡ shared_by b (drop k (map sized sizes)) (drop k xs)
 shared_step b sizes xs k d x own old now h f e g i = i ∙ ap₂ common_front e g ∙ sym (shared_before b sizes xs k d x h (sym f))
-
-same_pairs : (ts : List (ℤ × ℤ)) → map (λ (t : ℤ × ℤ). (index_of by.Same t.0, t.1)) ts ≡ ts
-same_pairs [] = refl
-same_pairs (t ∷ ts) = ap (λ (rest : List (ℤ × ℤ)). t ∷ rest) (same_pairs ts)
-
-pub copy_same : (ss : Refutation) → map (renumbered (index_of by.Same)) ss ≡ ss
-copy_same [] = refl
-copy_same (s ∷ ss) = ap₂ (λ (ts : List (ℤ × ℤ)) (rest : Refutation). let t : Step = record { divisor = s.divisor; terms = ts } in t ∷ rest) (same_pairs s.terms) (copy_same ss)
 
 pub moved_step : (b n : ℕ) (sizes : List ℕ) (xs : List Refutation) (r d : ℕ) (x : Refutation) (old now : LeafProofs) (y front : Refutation) → length sizes ≡ length xs → r < length xs
     → now ≡ record old { refutations = old.refutations ++ y ∷ [] } → old ≡ record { shared = front; refutations = take r (after_shared b n (map sized sizes) xs) }

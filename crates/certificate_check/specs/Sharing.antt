@@ -12,7 +12,6 @@ use Rattle.certificate_check.specs.declared.numbering.Renumbering.TheVariants as
 
 -- the index that a form has then
 abbrev pub index_of : Renumbering → ℤ → ℤ
-index_of by.Same i = i
 index_of (by.Lowered n) i = lowered n.leaf n.own i
 index_of (by.Moved n shared) i = moved_index n.leaf n.own shared i
 

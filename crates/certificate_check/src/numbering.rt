@@ -10,11 +10,10 @@ pub(crate) struct Numbering {
     pub(crate) own: usize,
 }
 
-// How the indices of steps change: not at all; the refutation's own forms are left out; or so many of its first steps
-// stand before its own forms.
+// How the indices of steps change: the refutation's own forms are left out; or so many of its first steps stand before
+// its own forms.
 #[derive(Clone, Copy)]
 pub(crate) enum Renumbering {
-    Same,
     Lowered(Numbering),
     Moved(Numbering, usize),
 }
@@ -80,7 +79,6 @@ impl Renumbering {
         ensures fits { Fits result }
     {
         match self {
-            Renumbering::Same => index,
             Renumbering::Lowered(numbering) => numbering.lowered(index),
             Renumbering::Moved(numbering, n) => numbering.moved(n, index),
         }

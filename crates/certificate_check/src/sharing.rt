@@ -1,10 +1,9 @@
-ghost use Rattle.std.specs.Prelude.{◌≡◌, ◌+◌, ◌*◌, ◌<◌, ◌≤◌, ◌^◌, ◌++◌, true, false, Some, length, slice_index_or, map, drop, replicate, option_copied, IfOk, OnOk};
+ghost use Rattle.std.specs.Prelude.{◌≡◌, ◌+◌, ◌*◌, ◌<◌, ◌≤◌, ◌^◌, ◌++◌, true, false, Some, length, map, drop, replicate, option_copied, IfOk, OnOk};
 ghost use Rattle.pip_model.specs.Tree.{nesting};
 ghost use Rattle.pip_model.specs.Check.{Accepted};
 ghost use Rattle.pip_model.specs.Share as model;
 ghost use Rattle.quast.specs.Answers.{answer_of};
 ghost use Rattle.quast.specs.Trees.{tree_of};
-ghost use Rattle.certificate_check.specs.Paths.{no_proofs};
 ghost use Rattle.certificate_check.specs.Sharing.{counts_from, own_sizes as own_sizes_of, share_sized, share_at, share_below, IsCounted, IsCountedAt};
 
 use crate::common::shared_steps;
@@ -16,24 +15,14 @@ use pip_problem::Problem;
 use quast::{Answer, Component, Node};
 use std::alloc::Global;
 
-// A copy of a refutation.
-#[tactic(auto, using(crate::proofs::Commons::copy_same))]
-fn copied(alloc: Global, steps: &Refutation) -> Result<Refutation, WantOfMemory>
-    ensures { IfOk result (λ made. made ≡ steps.now) }
-{
-    let copies = renumbered_steps(alloc, steps.as_slice(), Renumbering::Same)?;
-    let made = refutation(alloc, copies)?;
-    Ok(made)
-}
-
 // A copy of the proofs of a leaf.
 fn copied_proofs(alloc: Global, proofs: &LeafProofs) -> Result<LeafProofs, WantOfMemory>
     ensures { IfOk result (λ made. made ≡ proofs.now) }
 {
-    let mut made = LeafProofs::with_shared(alloc, copied(alloc, proofs.shared())?);
+    let mut made = LeafProofs::with_shared(alloc, proofs.shared().try_clone(alloc)?);
     let refutations = proofs.as_slice();
     for steps in refutations {
-        made.push(copied(alloc, steps)?)?;
+        made.push(steps.try_clone(alloc)?)?;
     }
     Ok(made)
 }

@@ -1,10 +1,9 @@
-ghost use Rattle.std.specs.Prelude.{◌≡◌, ◌^◌, ◌+◌, ◌<◌, ◌≤◌, Some, None, ⊤, length, slice_index_or, option_copied, IfOk, OnOk, MatchOption, if◌then◌else◌};
+ghost use Rattle.std.specs.Prelude.{◌≡◌, ◌^◌, ◌+◌, ◌<◌, ◌≤◌, Some, None, length, slice_index_or, option_copied, IfOk, OnOk, MatchOption, if◌then◌else◌};
 ghost use Rattle.pip_model.specs.Tree as tree;
 ghost use Rattle.pip_model.specs.Agreement.{Agrees};
 ghost use Rattle.affine_forms.specs.Checks.{is_form_overflow};
 ghost use Rattle.quast.specs.Trees.{tree_of};
 ghost use Rattle.leaf_check.specs.Faults.{fault_of};
-ghost use Rattle.leaf_check.specs.Leaves.{AreWide};
 ghost use Rattle.certificate_check.specs.Paths.{first_list as first_list_of, no_proofs, path_fault};
 ghost use Rattle.certificate_check.specs.Walks.{below, leaf_tree, IsAt};
 

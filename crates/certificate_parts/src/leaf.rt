@@ -1,4 +1,4 @@
-ghost use Rattle.std.specs.Prelude.{◌≡◌, [], ◌∷◌, ◌++◌, true, IsTrue, OnOk, OnErr};
+ghost use Rattle.std.specs.Prelude.{◌≡◌, [], ◌∷◌, ◌++◌, true, IsTrue, IfOk, OnOk, OnErr};
 ghost use Rattle.pip_model.specs.Printed.{steps_fit, leaf_fits};
 
 use crate::step::Step;
@@ -43,6 +43,28 @@ impl Refutation {
         let _divisor = item.divisor;
         self.items.push(item)?;
         Ok(())
+    }
+
+    /// Puts these steps behind the others. A refusal leaves those as they were.
+    pub fn append(&mut self, more: Refutation) -> Result<(), WantOfMemory>
+        ensures ok { OnOk result (self.new ≡ self.old ++ more) }
+        ensures err { OnErr result (self.new ≡ self.old) }
+    {
+        let mut more = more;
+        self.items.append(&mut more.items)?;
+        Ok(())
+    }
+
+    /// The same steps.
+    pub fn try_clone(&self, alloc: Global) -> Result<Refutation, WantOfMemory>
+        ensures { IfOk result (λ made. made ≡ self.now) }
+    {
+        let mut made = Refutation::new(alloc);
+        let steps = self.as_slice();
+        for step in steps {
+            made.push(step.try_clone(alloc)?)?;
+        }
+        Ok(made)
     }
 
     /// The steps in order.

@@ -1,4 +1,4 @@
-ghost use Rattle.std.specs.Prelude.{◌≡◌, [], ◌∷◌, ◌++◌, IsTrue, OnOk, OnErr};
+ghost use Rattle.std.specs.Prelude.{◌≡◌, [], ◌∷◌, ◌++◌, IsTrue, IfOk, OnOk, OnErr};
 ghost use Rattle.affine_forms.specs.Checks.{Fits};
 ghost use Rattle.certificate_parts.specs.Fitting.{terms_fit};
 
@@ -45,6 +45,14 @@ impl Terms {
         Ok(())
     }
 
+    /// The same pairs.
+    pub fn try_clone(&self, alloc: Global) -> Result<Terms, WantOfMemory>
+        ensures { IfOk result (λ made. made ≡ self.now) }
+    {
+        let items = Vec::from_slice(alloc, &self.items)?;
+        Ok(Terms { items })
+    }
+
     /// The pairs in order.
     pub fn as_slice(&self) -> &[(i128, i128)]
         ensures value { result.now ≡ self.now }
@@ -74,4 +82,17 @@ impl Model for Step {
     ghost view = { λ s. record { divisor = s.divisor; terms = s.terms } };
 
     ghost invariant = { λ s. IsTrue (step_fits (record { divisor = s.divisor; terms = s.terms })) };
+}
+
+impl Step {
+    /// The same step.
+    pub fn try_clone(&self, alloc: Global) -> Result<Step, WantOfMemory>
+        ensures { IfOk result (λ made. made ≡ self.now) }
+    {
+        let terms = self.terms.try_clone(alloc)?;
+        Ok(Step {
+            divisor: self.divisor,
+            terms,
+        })
+    }
 }

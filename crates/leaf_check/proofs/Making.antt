@@ -28,6 +28,19 @@ places_more w first (suc n) =
 pub places_step : (old now : List (List ℤ)) (w first n : ℕ) (form : List ℤ) → now ≡ (old ++ places_from w first n) ++ form ∷ [] → form ≡ unit_form w (first + n) (pos 1) → now ≡ old ++ places_from w first (n + 1)
 places_step old now w first n form e same = rw (e, same) (append_assoc old (places_from w first n) (unit_form w (first + n) (pos 1) ∷ []) ∙ ap (λ (zs : List (List ℤ)). old ++ zs) (sym (places_more w first n)))
 
+last_entry : (form : List ℤ) → 0 < length form → drop (length form - 1) form ≡ constant form ∷ []
+last_entry form some =
+    ap (drop (length form - 1)) (form-parts (width form) form (omega arith)).0
+    ∙ drop_at (coefficients form) (constant form ∷ []) (length form - 1) (length-coefficients form)
+
+-- a form read over so many places: its coefficients, zeros, and its constant
+pub widened_made : (w : ℕ) (form made : List ℤ) → 0 < length form → length form ≤ w + 1
+    → made ≡ (take w (coefficients form) ++ replicate (w - length (coefficients form)) (pos 0)) ++ drop (length form - 1) form → made ≡ widen_to w form
+widened_made w form made some narrow e =
+    let front : length (coefficients form) ≡ width form = length-coefficients form in
+    let whole : take w (coefficients form) ≡ coefficients form = take_all w (coefficients form) (omega (arith, front)) in
+    e ∙ rw (whole, front, last_entry form some) refl
+
 -- the parts of a row that is turned: the other places, and zeros up to the scope; the unknowns; the constant
 module _ (n w : ℕ) (row : List ℤ) (some : n < length row) (within : length row ≤ n + w + 1) where
   abbrev rest : List ℤ
@@ -46,7 +59,7 @@ module _ (n w : ℕ) (row : List ℤ) (some : n < length row) (within : length r
   length-places = let e : length rest ≡ length row - n = length-drop n row in simp (length-append, length-replicate, front) (omega arith)
 
   last : drop (length rest - 1) rest ≡ constant rest ∷ []
-  last = ap (drop (length rest - 1)) (form-parts (width rest) rest (omega (arith, long))).0 ∙ drop_at (coefficients rest) (constant rest ∷ []) (length rest - 1) (front)
+  last = last_entry rest (omega (arith, long))
 
   turned : row_form n w row ≡ (places ++ take n row) ++ constant rest ∷ []
   turned =

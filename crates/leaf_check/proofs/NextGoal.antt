@@ -6,6 +6,7 @@ use Rattle.pip_model.specs.Forms.{constant, plus}
 use Rattle.pip_model.specs.Problem.{Problem}
 use Rattle.pip_model.specs.Tree.{Component}
 use Rattle.pip_model.specs.Check.{LeafCase, Premises, leaf_premises, unknown_forms, row_premises, sign_premises, least_premises, fronts_from, not_above, smaller_from}
+use Rattle.leaf_check.specs.Known.{KnownForms}
 use Rattle.leaf_check.specs.Leaves.{nothing}
 use Rattle.leaf_check.specs.Goals.{without_last}
 use Rattle.leaf_check.proofs.Owned.{own_least}
@@ -16,6 +17,14 @@ pub without_one : (F xs : List (List ℤ)) → length xs ≡ 1 → without_last 
 without_one F xs h =
     let e : length (F ++ xs) - 1 ≡ length F = omega (arith, length-append F xs, h) in
     ap (λ (k : ℕ). take k (F ++ xs)) e ∙ take_at F xs (length F) refl
+
+-- what stands behind all forms but the last leaves them as they are
+pub still : (old dropped now : KnownForms) → dropped ≡ record old { forms = without_last old.forms } → take (length dropped.forms) now.forms ≡ dropped.forms
+    → take (length old.forms - 1) now.forms ≡ without_last old.forms
+still old dropped now e h =
+    let forms : dropped.forms ≡ without_last old.forms = ap (λ (k : KnownForms). k.forms) e in
+    let long : length dropped.forms ≡ length old.forms - 1 = ap length forms ∙ simp length-take (omega arith) in
+    ap (λ (k : ℕ). take k now.forms) (sym long) ∙ h ∙ forms
 
 -- ---- goals of one form
 

@@ -1,4 +1,4 @@
-ghost use Rattle.std.specs.Prelude.{◌≡◌, ◌+◌, ◌-◌, ◌≤◌, ◌<◌, ◌++◌, [], ◌∷◌, pos, length, map, All, IfOk};
+ghost use Rattle.std.specs.Prelude.{◌≡◌, ◌+◌, ◌≤◌, ◌<◌, pos, length, map, All, IfOk};
 ghost use Rattle.pip_model.specs.Forms.{unit_form, widen_to};
 ghost use Rattle.pip_model.specs.Check as model;
 ghost use Rattle.affine_forms.specs.Checks.{Fits};
@@ -20,15 +20,37 @@ fn unit(alloc: Global, width: usize, place: usize) -> Result<Form, WantOfMemory>
     Ok(Form::from_entries(made))
 }
 
+// The entries of a form, read over so many places.
+pub(crate) fn widened_entries(
+    alloc: Global,
+    width: usize,
+    form: &[i128],
+) -> Result<Vec<i128>, WantOfMemory>
+    requires form { IsForm form.now }
+    requires narrow { length form.now ≤ width + 1 }
+    ensures value { IfOk result (λ made. made.items ≡ widen_to width form.now) }
+    ensures long { IfOk result (λ made. length made.items ≡ width + 1) }
+    ensures fits { IfOk result (λ made. All Fits made.items) }
+{
+    let (front, constant) = form.split_at(form.len() - 1);
+    let Some(entries) = width.checked_add(1) else {
+        return Err(WantOfMemory);
+    };
+    let mut made = Vec::with_capacity(alloc, entries)?;
+    made.extend_from_slice(front)?;
+    made.resize(width, 0)?;
+    made.extend_from_slice(constant)?;
+    Ok(made)
+}
+
 // The form read over so many places.
 pub(crate) fn widened(alloc: Global, width: usize, form: &Form) -> Result<Form, WantOfMemory>
     requires { length form.now ≤ width + 1 }
     ensures value { IfOk result (λ made. made ≡ widen_to width form.now) }
     ensures long { IfOk result (λ made. length made ≡ width + 1) }
 {
-    let mut made = form.try_clone(alloc)?;
-    made.widen(width - form.width())?;
-    Ok(made)
+    let entries = widened_entries(alloc, width, form.as_slice())?;
+    Ok(Form::from_entries(entries))
 }
 
 // A tableau row over the parameters and quotients in scope, and then the unknowns.

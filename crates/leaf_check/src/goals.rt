@@ -1,4 +1,4 @@
-ghost use Rattle.std.specs.Prelude.{◌≡◌, ◌+◌, ◌-◌, ◌≤◌, ◌<◌, ◌++◌, [], ◌∷◌, pos, negsuc, slice_index_or, length, map, take, drop, All, IfOk, OnOk};
+ghost use Rattle.std.specs.Prelude.{◌≡◌, ◌+◌, ◌-◌, ◌≤◌, ◌<◌, ◌++◌, [], ◌∷◌, pos, negsuc, slice_index_or, length, drop, All, IfOk, OnOk};
 ghost use Rattle.pip_model.specs.Forms.{widen_to, opposite, constant, plus as plus_of};
 ghost use Rattle.pip_model.specs.Cuts.{rounding as rounding_of};
 ghost use Rattle.pip_model.specs.Listed.{opposite_listed};
@@ -7,10 +7,9 @@ ghost use Rattle.pip_model.specs.Agreement.{IsChecked};
 ghost use Rattle.pip_model.specs.Check as model;
 ghost use Rattle.affine_forms.specs.Checks.{Fits, is_overflow, is_form_overflow};
 ghost use Rattle.affine_forms.specs.Forms.{IsForm};
-ghost use Rattle.quast.specs.Components.{IsComponent};
 ghost use Rattle.leaf_check.specs.Known.{ArePushed};
 
-use crate::forms::widened;
+use crate::forms::widened_entries;
 use crate::known::Known;
 use crate::sum::add_multiple;
 use affine_forms::{Form, FormRefusal, Overflow, WantOfMemory, lower_bound, rounding};
@@ -44,7 +43,7 @@ fn put_in(sum: &mut [i128], row: &[i128], components: &[Component]) -> Result<()
 }
 
 // The opposite of the form, over so many places.
-fn opposite_over(alloc: Global, width: usize, form: Form) -> Result<Form, FormRefusal>
+fn opposite_over(width: usize, form: Form) -> Result<Form, FormRefusal>
     requires { length form ≤ width + 1 }
     ensures listed { IsChecked is_form_overflow (opposite_listed form) result }
     ensures value { IfOk result (λ made. made ≡ widen_to width (opposite form)) }
@@ -52,8 +51,9 @@ fn opposite_over(alloc: Global, width: usize, form: Form) -> Result<Form, FormRe
 {
     let mut form = form;
     form.opposite()?;
-    let made = widened(alloc, width, &form)?;
-    Ok(made)
+    let more = width - form.width();
+    form.widen(more)?;
+    Ok(form)
 }
 
 // The row over the scope, with the components put for the unknowns.
@@ -75,8 +75,7 @@ fn row_at(
     ensures long { IfOk result (λ r. length r ≡ scope + 1) }
 {
     let (_, rest) = row.as_slice().split_at(unknowns);
-    let first = widened(alloc, scope, &Form::try_new(alloc, rest)?)?;
-    let mut sum = Vec::from_slice(alloc, first.as_slice())?;
+    let mut sum = widened_entries(alloc, scope, rest)?;
     put_in(&mut sum, row.as_slice(), components)?;
     Ok(Form::from_entries(sum))
 }
@@ -106,7 +105,7 @@ pub(crate) fn row_goal(
         None => return Err(FormRefusal::WantOfMemory),
     };
     let r = row_at(alloc, unknowns, scope, row, components)?;
-    opposite_over(alloc, width, r)
+    opposite_over(width, r)
 }
 
 // The goal of the refutation of a component's sign: it is below 0.
@@ -121,7 +120,7 @@ pub(crate) fn sign_goal(
     ensures long { IfOk result (λ made. length made ≡ width + 1) }
 {
     let form = component.form().try_clone(alloc)?;
-    opposite_over(alloc, width, form)
+    opposite_over(width, form)
 }
 
 // That the unknown at a place is not above a component.
@@ -216,10 +215,8 @@ impl Known {
         requires widths { All (λ (c : Component). length c.form ≡ scope + 1) front.now }
         ensures listed { let goal = model.smaller_from self.old.width scope front.now in
             IsChecked is_form_overflow (constant (slice_index_or goal (length goal - 1) []) ∷ []) result }
-        ensures ok { OnOk result (self.new ≡ record self.old {
-          forms = self.old.forms
-              ++ drop (length front.now - 2) (model.smaller_from self.old.width scope front.now);
-        }) }
+        ensures pushed { ArePushed result
+            (drop (length front.now - 2) (model.smaller_from self.old.width scope front.now)) self.old self.new }
     {
         let width = self.width();
         let last = front.len() - 1;

@@ -1,12 +1,12 @@
-ghost use Rattle.std.specs.Prelude.{◌≡◌, ◌^◌, ◌+◌, ◌-◌, ◌≤◌, ◌<◌, ◌++◌, [], ◌∷◌, true, pos, Some, length, map, take, All, IfOk, OnOk, OnErr, IsTrue, slice_index_or, option_copied};
+ghost use Rattle.std.specs.Prelude.{◌≡◌, ◌^◌, ◌+◌, ◌≤◌, ◌<◌, ◌++◌, [], true, pos, Some, length, map, IfOk, OnOk, OnErr, IsTrue, slice_index_or, option_copied};
 ghost use Rattle.std.specs.List.{list_all};
 ghost use Rattle.pip_model.specs.Numbers.{same_number};
 ghost use Rattle.pip_model.specs.Tree.{Component};
 ghost use Rattle.pip_model.specs.Agreement.{IsChecked, Agrees};
 ghost use Rattle.pip_model.specs.Check as model;
 ghost use Rattle.affine_forms.specs.Checks.{is_form_overflow};
-ghost use Rattle.leaf_check.specs.Faults.{fault_of, spot_of};
-ghost use Rattle.leaf_check.specs.Leaves.{case_of, own_premises, AreWide, IsLeaf, nothing, goal_forms, goal_count, has_shape as has_shape_of};
+ghost use Rattle.leaf_check.specs.Faults.{fault_of};
+ghost use Rattle.leaf_check.specs.Leaves.{case_of, own_premises, AreWide, IsLeaf, nothing, goal_count, IsGoal, AreTurned, has_shape as has_shape_of};
 ghost use Rattle.leaf_check.specs.Known.{ArePushed};
 
 use crate::fault::{Fault, Spot};
@@ -261,12 +261,11 @@ impl Leaf<'_> {
         requires leaf { IsLeaf self.now.problem.now (case_of self.now) }
         requires list { option_copied self.now.list ≡ Some components.now }
         requires count { length components.now ≡ self.now.problem.now.unknowns }
-        requires width { known.old.width ≡ self.now.scope + self.now.problem.now.unknowns }
-        requires known { known.old.forms ≡ goal_forms self.now r }
+        requires goal { IsGoal self.now r known.old }
         requires place { r + 1 < length (own_premises self.now) }
         ensures listed { IsChecked is_form_overflow (slice_index_or (own_premises self.now) (r + 1) nothing).listed
             result }
-        ensures ok { OnOk result (known.new ≡ record known.old { forms = goal_forms self.now (r + 1) }) }
+        ensures turned { AreTurned result self.now r known.old known.new }
     {
         let single = self.problem.rows().len() + components.len();
         known.drop_last();
@@ -277,16 +276,17 @@ impl Leaf<'_> {
         known.push_next_smaller(alloc, self.scope, front)
     }
 
-    /// Turns the forms of a refutation, from 0, into those of the next one, from which they differ at their end.
+    /// Turns the forms of a refutation, from 0, into those of the next one, from which they differ at their end. It
+    /// overflows exactly where a number of the next one's own forms does not fit. After a refusal the last form is lost,
+    /// and the next one's that were made may stand behind the others, which stay.
     pub fn next_goal(&self, alloc: Global, known: &mut Known, r: usize) -> Result<(), FormRefusal>
         requires leaf { IsLeaf self.now.problem.now (case_of self.now) }
         requires whole { IsTrue (model.is_whole_list self.now.problem.now.unknowns (option_copied self.now.list)) }
-        requires width { known.old.width ≡ self.now.scope + self.now.problem.now.unknowns }
-        requires known { known.old.forms ≡ goal_forms self.now r }
+        requires goal { IsGoal self.now r known.old }
         requires place { r + 1 < length (own_premises self.now) }
         ensures listed { IsChecked is_form_overflow (slice_index_or (own_premises self.now) (r + 1) nothing).listed
             result }
-        ensures ok { OnOk result (known.new ≡ record known.old { forms = goal_forms self.now (r + 1) }) }
+        ensures turned { AreTurned result self.now r known.old known.new }
     {
         match self.list {
             None => unreachable!(),

@@ -1,20 +1,16 @@
 -- A leaf at the end of a trail.
-use Rattle.std.proofs.Common.{◌≡◌, refl, ap, ap₂, sym, subst, ◌∙◌, ℕ, List, [], ◌∷◌, ◌++◌}
-use Rattle.std.specs.Prelude.{Option, Some, None, IfSome, IsTrue}
+use Rattle.std.proofs.Common.{◌≡◌, refl, ap, ap₂, sym, subst, ◌∙◌, List, [], ◌∷◌, ◌++◌}
+use Rattle.std.specs.Prelude.{Option, Some, None, IfSome}
 use Rattle.pip_model.specs.Problem.{Problem}
 use Rattle.pip_model.specs.Tree.{Component}
 use Rattle.pip_model.specs.Certificate.{Refutation, LeafProofs, Certificate}
-use Rattle.pip_model.specs.Check.{LeafCase, is_whole_list}
+use Rattle.pip_model.specs.Check.{LeafCase}
 use Rattle.pip_model.specs.Run.{Work, Outcome, Done, Refused, Refusal, Counted, go_on, give}
 use Rattle.pip_model.specs.Made.{PathQuotient, made_leaf, unshared}
 use Rattle.certificate_check.specs.Walks.{leaf_tree}
 use Rattle.solve_certified.specs.Leaves.{made_proofs}
 use Rattle.solve_certified.specs.Trails.{TrailForms}
-use Rattle.solve_certified.specs.Walks.{made_below, are_whole}
-
-pub whole_leaf : (n : ℕ) (list : Option (List Component)) → IsTrue (are_whole n (leaf_tree list)) → IsTrue (is_whole_list n list)
-whole_leaf n None h = refl
-whole_leaf n (Some cs) h = h
+use Rattle.solve_certified.specs.Walks.{made_below}
 
 module _ (P : Problem) (q : TrailForms) (c : Certificate) (w : Work) where
   abbrev pub here : Option (List Component) → LeafCase

@@ -5,6 +5,5 @@ pub mod MadeGoals
 pub mod QuotientLists
 pub mod Refuting
 pub mod Whole
-pub mod Certifying
 pub mod AtNode
 pub mod GoalsBefore

@@ -16,6 +16,7 @@ use Rattle.pip_model.specs.Made.{PathQuotient, path_quotients, made_refutation, 
 use Rattle.pip_model.proofs.Fitting.{fit_behind, fit_never}
 use Rattle.pip_model.proofs.Tests.{both}
 use Rattle.check_laws.proofs.Paths.{length-leaf_cases}
+use Rattle.pip_solve.proofs.Running.{grouped, same_after}
 use Rattle.solve_certified.specs.Trails.{TrailForms, below_quotient}
 use Rattle.solve_certified.specs.Walks.{made_below, are_whole}
 
@@ -30,25 +31,15 @@ made_leaves-append : (P : Problem) (Ls Ms : List LeafCase) (kss jss : List (List
 made_leaves-append P [] Ms [] jss w e = sym (given (made_leaves P Ms jss w))
 made_leaves-append P [] Ms (ks ∷ kss) jss w e = absurd (omega arith)
 made_leaves-append P (L ∷ Ls) Ms [] jss w e = absurd (omega arith)
-made_leaves-append P (L ∷ Ls) Ms (ks ∷ kss) jss w e = at_first (λ v. made_leaves-append P Ls Ms kss jss v (omega arith)) (made_leaf P L ks L.list w)
-  where
-    at_last : (p : List Refutation) (xs : List LeafProofs) (o : Outcome (List LeafProofs)) → go_on (go_on o (λ (ys : List LeafProofs). give (xs ++ ys))) (λ (ps : List LeafProofs). give (unshared p ∷ ps)) ≡ go_on o (λ (ys : List LeafProofs). give (unshared p ∷ (xs ++ ys)))
-    at_last p xs (Done ys v) = refl
-    at_last p xs (Refused f v) = refl
-
-    at_rest : (p : List Refutation) (o : Outcome (List LeafProofs))
-        → go_on (go_on o (λ (xs : List LeafProofs). made_leaves P Ms jss >>= λ ys. give (xs ++ ys))) (λ (ps : List LeafProofs). give (unshared p ∷ ps))
-        ≡ go_on (go_on o (λ (ps : List LeafProofs). give (unshared p ∷ ps))) (λ (xs : List LeafProofs). made_leaves P Ms jss >>= λ ys. give (xs ++ ys))
-    at_rest p (Done xs v) = at_last p xs (made_leaves P Ms jss v)
-    at_rest p (Refused f v) = refl
-
-    at_first : ((v : Work) → made_leaves P (Ls ++ Ms) (kss ++ jss) v ≡ go_on (made_leaves P Ls kss v) (λ (xs : List LeafProofs). made_leaves P Ms jss >>= λ ys. give (xs ++ ys)))
-        → (o : Outcome (List Refutation)) → go_on o (λ (p : List Refutation). made_leaves P (Ls ++ Ms) (kss ++ jss) >>= λ ps. give (unshared p ∷ ps))
-        ≡ go_on (go_on o (λ (p : List Refutation). made_leaves P Ls kss >>= λ ps. give (unshared p ∷ ps))) (λ (xs : List LeafProofs). made_leaves P Ms jss >>= λ ys. give (xs ++ ys))
-    at_first again (Done p v) =
-        ap (λ (o : Outcome (List LeafProofs)). go_on o (λ (ps : List LeafProofs). give (unshared p ∷ ps))) (again v)
-        ∙ at_rest p (made_leaves P Ls kss v)
-    at_first again (Refused f v) = refl
+made_leaves-append P (L ∷ Ls) Ms (ks ∷ kss) jss w e =
+    let rest = λ (xs : List LeafProofs). made_leaves P Ms jss >>= λ ys. give (xs ++ ys) in
+    let put = λ (p : List Refutation) (ps : List LeafProofs). let qs : List LeafProofs = unshared p ∷ ps in give qs in
+    same_after (made_leaf P L ks L.list w) (λ p. made_leaves P (Ls ++ Ms) (kss ++ jss) >>= put p) (λ p. made_leaves P Ls kss >>= put p >>= rest) (λ p v.
+        ap (λ (o : Outcome (List LeafProofs)). go_on o (put p)) (made_leaves-append P Ls Ms kss jss v (omega arith))
+        ∙ grouped (made_leaves P Ls kss v) rest (put p)
+        ∙ same_after (made_leaves P Ls kss v) (λ xs. rest xs >>= put p) (λ xs. put p xs >>= rest) (λ xs u. grouped (made_leaves P Ms jss u) (λ ys. give (xs ++ ys)) (put p))
+        ∙ sym (grouped (made_leaves P Ls kss v) (put p) rest))
+    ∙ sym (grouped (made_leaf P L ks L.list w) (λ p. made_leaves P Ls kss >>= put p) rest)
 
 pub length-path_quotients : (n : ℕ) (ks : List PathQuotient) (t : Tree) → length (path_quotients n ks t) ≡ leaves t
 length-path_quotients n ks Bottom = refl
@@ -104,30 +95,15 @@ module _ (P : Problem) (s : ℕ) (path : List (List ℤ)) (list : Option (List C
     refutations_same n (o ∷ os) w =
         let first = then_same (zs ++ o.listed) (ys ++ o.listed) _ w (alike o.listed) in
         ap (λ (x : Outcome Refutation). go_on x (λ (r : Refutation). made_refutations P (case_by zs) ks n (map (joined (leaf_forms P (case_by zs))) os) >>= λ rs. give (r ∷ rs))) first
-        ∙ then_rest (λ v. refutations_same n os v) (made_refutation P (case_by ys) ks n (joined (leaf_forms P (case_by ys)) o) w)
-      where
-        then_rest : ((v : Work) → made_refutations P (case_by zs) ks n (map (joined (leaf_forms P (case_by zs))) os) v ≡ made_refutations P (case_by ys) ks n (map (joined (leaf_forms P (case_by ys))) os) v)
-            → (x : Outcome Refutation) → go_on x (λ (r : Refutation). made_refutations P (case_by zs) ks n (map (joined (leaf_forms P (case_by zs))) os) >>= λ rs. give (r ∷ rs))
-            ≡ go_on x (λ (r : Refutation). made_refutations P (case_by ys) ks n (map (joined (leaf_forms P (case_by ys))) os) >>= λ rs. give (r ∷ rs))
-        then_rest again (Done r v) = ap (λ (x : Outcome (List Refutation)). go_on x (λ (rs : List Refutation). give (r ∷ rs))) (again v)
-        then_rest again (Refused f v) = refl
+        ∙ same_after (made_refutation P (case_by ys) ks n (joined (leaf_forms P (case_by ys)) o) w) _ _ (λ r v. ap (λ (x : Outcome (List Refutation)). go_on x (λ (rs : List Refutation). give (r ∷ rs))) (refutations_same n os v))
 
     leaf_same : (o : Option (List Component)) (w : Work) → made_leaf P (case_by zs) ks o w ≡ made_leaf P (case_by ys) ks o w
     leaf_same None w = refutations_same P.unknowns (leaf_premises P (case_by ys) None) w
-    leaf_same (Some cs) w = rows (made_refutations P (case_by zs) ks 0 (map (joined (leaf_forms P (case_by zs))) (map (row_premises P (case_by zs) cs) P.rows)) w) (refutations_same 0 (map (row_premises P (case_by ys) cs) P.rows) w)
-      where
-        signs : (a : List Refutation) (x : Outcome (List Refutation)) → go_on x (λ (b : List Refutation). least_by cs zs >>= λ c. give (a ++ b ++ c)) ≡ go_on x (λ (b : List Refutation). least_by cs ys >>= λ c. give (a ++ b ++ c))
-        signs a (Done b v) = ap (λ (x : Outcome (List Refutation)). go_on x (λ (c : List Refutation). give (a ++ b ++ c))) (refutations_same P.unknowns (map (least_premises P (case_by ys)) (fronts_from [] cs)) v)
-        signs a (Refused f v) = refl
-
-        then_all : (x : Outcome (List Refutation)) → go_on x (all_by cs zs) ≡ go_on x (all_by cs ys)
-        then_all (Done a v) =
+    leaf_same (Some cs) w =
+        ap (λ (x : Outcome (List Refutation)). go_on x (all_by cs zs)) (refutations_same 0 (map (row_premises P (case_by ys) cs) P.rows) w)
+        ∙ same_after (made_refutations P (case_by ys) ks 0 (map (joined (leaf_forms P (case_by ys))) (map (row_premises P (case_by ys) cs) P.rows)) w) (all_by cs zs) (all_by cs ys) (λ a v.
             ap (λ (x : Outcome (List Refutation)). go_on x (λ (b : List Refutation). least_by cs zs >>= λ c. give (a ++ b ++ c))) (refutations_same 0 (map (sign_premises P (case_by ys)) cs) v)
-            ∙ signs a (signs_by cs ys v)
-        then_all (Refused f v) = refl
-
-        rows : (x : Outcome (List Refutation)) {y : Outcome (List Refutation)} → x ≡ y → go_on x (all_by cs zs) ≡ go_on y (all_by cs ys)
-        rows x e = then_all x ∙ ap (λ (z : Outcome (List Refutation)). go_on z (all_by cs ys)) e
+            ∙ same_after (signs_by cs ys v) _ _ (λ b u. ap (λ (x : Outcome (List Refutation)). go_on x (λ (c : List Refutation). give (a ++ b ++ c))) (refutations_same P.unknowns (map (least_premises P (case_by ys)) (fronts_from [] cs)) u)))
 
   -- where a number of the path does not fit
   module _ (zs : List ℤ) (unfit : all_fit zs ≡ false) where
@@ -165,13 +141,9 @@ leaves_same P s path zs ys n ks (Leaf cs) w h = one_same P s path (Some cs) ks z
 leaves_same P s path zs ys n ks (If v a b) w h =
     leaves-if P s path zs n ks v a b w
     ∙ ap (λ (x : Outcome (List LeafProofs)). go_on x (both_by P s path n ks v b zs)) (leaves_same P s (path ++ v ∷ []) zs ys (n + 1) ks a w h)
-    ∙ second (λ u. leaves_same P s (path ++ opposite v ∷ []) (zs ++ opposite_listed v) (ys ++ opposite_listed v) (n + 1) ks b u (alike_more zs ys (opposite_listed v) h)) (made_leaves P (leaf_cases s (path ++ v ∷ []) ys a) (path_quotients (n + 1) ks a) w)
+    ∙ same_after (made_leaves P (leaf_cases s (path ++ v ∷ []) ys a) (path_quotients (n + 1) ks a) w) (both_by P s path n ks v b zs) (both_by P s path n ks v b ys)
+    (λ xs u. ap (λ (x : Outcome (List LeafProofs)). go_on x (λ (ls : List LeafProofs). give (xs ++ ls))) (leaves_same P s (path ++ opposite v ∷ []) (zs ++ opposite_listed v) (ys ++ opposite_listed v) (n + 1) ks b u (alike_more zs ys (opposite_listed v) h)))
     ∙ sym (leaves-if P s path ys n ks v a b w)
-  where
-    second : ((u : Work) → made_leaves P (leaf_cases s (path ++ opposite v ∷ []) (zs ++ opposite_listed v) b) (path_quotients (n + 1) ks b) u ≡ made_leaves P (leaf_cases s (path ++ opposite v ∷ []) (ys ++ opposite_listed v) b) (path_quotients (n + 1) ks b) u)
-        → (x : Outcome (List LeafProofs)) → go_on x (both_by P s path n ks v b zs) ≡ go_on x (both_by P s path n ks v b ys)
-    second again (Done xs u) = ap (λ (x : Outcome (List LeafProofs)). go_on x (λ (ls : List LeafProofs). give (xs ++ ls))) (again u)
-    second again (Refused f u) = refl
 leaves_same P s path zs ys n ks (NewParm v d a) w h =
     let k : Quotient = record { form = v; den = d } in
     let high = upper_bound (s + 1) s k in
@@ -200,27 +172,6 @@ first_unfit P s path zs n ks (NewParm v d a) w some whole h =
 abbrev adds : Certificate → List LeafProofs → Counted Certificate
 adds c ls = give (record c { leaves = c.leaves ++ ls })
 
-abbrev value_in : Certificate → Outcome Certificate → Certificate
-value_in d (Done x w) = x
-value_in d (Refused e w) = d
-
-abbrev work_in : Outcome Certificate → Work
-work_in (Done x w) = w
-work_in (Refused e w) = w
-
--- the second tree's leaves behind those of the first
-both_added : (c d : Certificate) (u : Work) (x : Outcome (List LeafProofs)) (second : Counted (List LeafProofs)) → go_on x (adds c) ≡ Done d u
-    → go_on (go_on x (λ (xs : List LeafProofs). second >>= λ ys. give (xs ++ ys))) (adds c) ≡ go_on (second u) (adds d)
-both_added c d u (Refused f v) second e = cc
-both_added c d u (Done xs v) second e =
-    let now : v ≡ u = ap work_in e in
-    let longer : record c { leaves = c.leaves ++ xs } ≡ d = ap (value_in c) e in
-    at_last (second v) ∙ ap₂ (λ (m : Work) (f : Certificate). go_on (second m) (adds f)) now longer
-  where
-    at_last : (y : Outcome (List LeafProofs)) → go_on (go_on y (λ (ys : List LeafProofs). give (xs ++ ys))) (adds c) ≡ go_on y (adds (record c { leaves = c.leaves ++ xs }))
-    at_last (Done ys m) = ap (λ (ls : List LeafProofs). let f : Certificate = record c { leaves = ls } in give f m) (sym (append_assoc c.leaves xs ys))
-    at_last (Refused f m) = refl
-
 module _ (P : Problem) (q : TrailForms) (c : Certificate) (w : Work) where
   -- a choice
   module _ (v : List ℤ) (a b : Tree) where
@@ -239,22 +190,30 @@ module _ (P : Problem) (q : TrailForms) (c : Certificate) (w : Work) where
     abbrev second_leaves : List ℤ → Counted (List LeafProofs)
     second_leaves zs = made_leaves P (leaf_cases q.scope (q.forms ++ opposite v ∷ []) zs b) (path_quotients (length q.forms + 1) q.quotients b)
 
-    parts : made_below P q c (If v a b) w ≡ go_on (go_on first_leaves (λ (xs : List LeafProofs). second_leaves (opposite_listed v) >>= λ ys. give (xs ++ ys))) (adds c)
-    parts = ap (λ (x : Outcome (List LeafProofs)). go_on x (adds c)) (leaves-if P q.scope q.forms [] (length q.forms) q.quotients v a b w)
-
     first_is : go_on first_leaves (adds c) ≡ made_below P first c a w
     first_is = ap (λ (n : ℕ). go_on (made_leaves P (leaf_cases q.scope (q.forms ++ v ∷ []) [] a) (path_quotients n q.quotients a) w) (adds c)) (one_more v)
 
+    -- the second tree's leaves behind those of the first
+    parts : made_below P q c (If v a b) w ≡ go_on (made_below P first c a w) (λ (d : Certificate). second_leaves (opposite_listed v) >>= adds d)
+    parts =
+        let second = second_leaves (opposite_listed v) in
+        let more = λ (xs : List LeafProofs). second >>= λ ys. give (xs ++ ys) in
+        let later = λ (d : Certificate). second >>= adds d in
+        ap (λ (x : Outcome (List LeafProofs)). go_on x (adds c)) (leaves-if P q.scope q.forms [] (length q.forms) q.quotients v a b w)
+        ∙ grouped first_leaves more (adds c)
+        ∙ same_after first_leaves (λ xs. more xs >>= adds c) (λ xs. adds c xs >>= later) (λ xs u.
+            grouped (second u) (λ ys. give (xs ++ ys)) (adds c)
+            ∙ same_after (second u) (λ ys. adds c (xs ++ ys)) (adds (record c { leaves = c.leaves ++ xs }))
+            (λ ys m. ap (λ (ls : List LeafProofs). let f : Certificate = record c { leaves = ls } in give f m) (sym (append_assoc c.leaves xs ys))))
+        ∙ sym (grouped first_leaves (adds c) later)
+        ∙ ap (λ (x : Outcome Certificate). go_on x later) first_is
+
     pub choice_stop : (f : Refusal) (u : Work) → made_below P first c a w ≡ Refused f u → made_below P q c (If v a b) w ≡ Refused f u
-    choice_stop f u e = parts ∙ at first_leaves (first_is ∙ e)
-      where
-        at : (x : Outcome (List LeafProofs)) → go_on x (adds c) ≡ Refused f u → go_on (go_on x (λ (xs : List LeafProofs). second_leaves (opposite_listed v) >>= λ ys. give (xs ++ ys))) (adds c) ≡ Refused f u
-        at (Done xs m) e = cc
-        at (Refused g m) e = e
+    choice_stop f u e = rw e at parts
 
     module _ (d : Certificate) (u : Work) (done : made_below P first c a w ≡ Done d u) where
       goes_on : made_below P q c (If v a b) w ≡ go_on (second_leaves (opposite_listed v) u) (adds d)
-      goes_on = parts ∙ both_added c d u first_leaves (second_leaves (opposite_listed v)) (first_is ∙ done)
+      goes_on = rw done at parts
 
       pub choice_next : all_fit (opposite_listed v) ≡ true → made_below P q c (If v a b) w ≡ made_below P other d b u
       choice_next h =

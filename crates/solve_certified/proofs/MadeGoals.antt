@@ -1,7 +1,7 @@
 -- The refutations of a leaf, one after another.
-use Rattle.std.proofs.Common.{◌≡◌, refl, ap, sym, ◌∙◌, ℕ, zero, suc, ◌+◌, ◌<◌, ◌≤◌, List, [], ◌∷◌, ◌++◌, length, map, drop, get_or, append_assoc, append-nil, length-append, arith}
+use Rattle.std.proofs.Common.{◌≡◌, refl, ap, sym, ◌∙◌, ℕ, ◌+◌, ◌<◌, ◌≤◌, List, [], ◌∷◌, ◌++◌, length, map, drop, get_or, append_assoc, append-nil, length-append, arith}
 use Rattle.std.specs.Prelude.{Option, Some, None, IfSome}
-use Rattle.std.proofs.lemmas.List.{length-map, drop_more, get_or-map}
+use Rattle.std.proofs.lemmas.List.{length-map, map-append, drop_more, drop_all, get_or-map}
 use Rattle.std.proofs.lemmas.Bool.Decides.{nat_tests}
 use Rattle.pip_model.specs.Problem.{Problem}
 use Rattle.pip_model.specs.Tree.{Component}
@@ -10,8 +10,10 @@ use Rattle.pip_model.specs.Check.{LeafCase, Premises, joined, leaf_forms, leaf_p
 use Rattle.pip_model.specs.Run.{Work, Outcome, Done, Refused, Refusal, Counted, go_on, ◌>>=◌, give}
 use Rattle.pip_model.specs.Made.{PathQuotient, made_refutation, made_refutations, made_leaf, unshared}
 use Rattle.certificate_check.specs.Leaves.{nothing}
+use Rattle.pip_solve.proofs.Running.{grouped, same_after}
 use Rattle.solve_certified.specs.Goals.{unknowns_at}
 use Rattle.solve_certified.specs.Leaves.{made_at, made_proofs}
+use Rattle.solve_certified.proofs.MadeBelow.{given}
 
 module _ (P : Problem) (L : LeafCase) (ks : List PathQuotient) (f : ℕ → ℕ) where
   -- refutations, of which the first has place r; each is over as many unknowns as f has for its place
@@ -23,44 +25,27 @@ module _ (P : Problem) (L : LeafCase) (ks : List PathQuotient) (f : ℕ → ℕ)
     give (x ∷ xs)
 
   made_from-append : (r : ℕ) (ss ts : List Premises) (w : Work) → made_from r (ss ++ ts) w ≡ go_on (made_from r ss w) (λ (xs : List Refutation). made_from (r + length ss) ts >>= λ ys. give (xs ++ ys))
-  made_from-append r [] ts w = given (made_from r ts w) ∙ ap (λ (n : ℕ). go_on (made_from n ts w) (λ (ys : List Refutation). give ys)) (let e : r ≡ r + 0 = omega arith in e)
-    where
-      given : (o : Outcome (List Refutation)) → o ≡ go_on o (λ (ys : List Refutation). give ys)
-      given (Done x v) = refl
-      given (Refused e v) = refl
-  made_from-append r (s ∷ ss) ts w = at_first (λ v. made_from-append (r + 1) ss ts v) (made_refutation P L ks (f r) s w)
-    where
-      at_last : (x : Refutation) (xs : List Refutation) (o : Outcome (List Refutation)) → go_on (go_on o (λ (ys : List Refutation). give (xs ++ ys))) (λ (zs : List Refutation). give (x ∷ zs)) ≡ go_on o (λ (ys : List Refutation). give (x ∷ (xs ++ ys)))
-      at_last x xs (Done ys v) = refl
-      at_last x xs (Refused e v) = refl
-
-      at_rest : (x : Refutation) (o : Outcome (List Refutation))
-          → go_on (go_on o (λ (xs : List Refutation). made_from (r + 1 + length ss) ts >>= λ ys. give (xs ++ ys))) (λ (zs : List Refutation). give (x ∷ zs))
-          ≡ go_on (go_on o (λ (zs : List Refutation). give (x ∷ zs))) (λ (xs : List Refutation). made_from (r + 1 + length ss) ts >>= λ ys. give (xs ++ ys))
-      at_rest x (Done xs v) = at_last x xs (made_from (r + 1 + length ss) ts v)
-      at_rest x (Refused e v) = refl
-
-      at_first : ((v : Work) → made_from (r + 1) (ss ++ ts) v ≡ go_on (made_from (r + 1) ss v) (λ (xs : List Refutation). made_from (r + 1 + length ss) ts >>= λ ys. give (xs ++ ys)))
-          → (o : Outcome Refutation) → go_on o (λ (x : Refutation). made_from (r + 1) (ss ++ ts) >>= λ zs. give (x ∷ zs))
-          ≡ go_on (go_on o (λ (x : Refutation). made_from (r + 1) ss >>= λ zs. give (x ∷ zs))) (λ (xs : List Refutation). made_from (r + length (s ∷ ss)) ts >>= λ ys. give (xs ++ ys))
-      at_first again (Done x v) =
-          let place : r + 1 + length ss ≡ r + length (s ∷ ss) = omega arith in
-          ap (λ (o : Outcome (List Refutation)). go_on o (λ (zs : List Refutation). give (x ∷ zs))) (again v)
-          ∙ at_rest x (made_from (r + 1) ss v)
-          ∙ ap (λ (n : ℕ). go_on (go_on (made_from (r + 1) ss v) (λ (zs : List Refutation). give (x ∷ zs))) (λ (xs : List Refutation). made_from n ts >>= λ ys. give (xs ++ ys))) place
-      at_first again (Refused e v) = refl
+  made_from-append r [] ts w = sym (given (made_from r ts w)) ∙ ap (λ (n : ℕ). go_on (made_from n ts w) (λ (ys : List Refutation). give ys)) (let e : r ≡ r + 0 = omega arith in e)
+  made_from-append r (s ∷ ss) ts w =
+      let rest = λ (n : ℕ) (xs : List Refutation). made_from n ts >>= λ ys. give (xs ++ ys) in
+      let put = λ (x : Refutation) (xs : List Refutation). let ys : List Refutation = x ∷ xs in give ys in
+      let k = r + 1 + length ss in
+      let place : r + 1 + length ss ≡ r + length (s ∷ ss) = omega arith in
+      same_after (made_refutation P L ks (f r) s w) (λ x. made_from (r + 1) (ss ++ ts) >>= put x) (λ x. made_from (r + 1) ss >>= put x >>= rest k) (λ x v.
+          ap (λ (o : Outcome (List Refutation)). go_on o (put x)) (made_from-append (r + 1) ss ts v)
+          ∙ grouped (made_from (r + 1) ss v) (rest k) (put x)
+          ∙ same_after (made_from (r + 1) ss v) (λ xs. rest k xs >>= put x) (λ xs. put x xs >>= rest k) (λ xs u. grouped (made_from k ts u) (λ ys. give (xs ++ ys)) (put x))
+          ∙ sym (grouped (made_from (r + 1) ss v) (put x) (rest k)))
+      ∙ sym (grouped (made_refutation P L ks (f r) s w) (λ x. made_from (r + 1) ss >>= put x) (rest k))
+      ∙ ap (λ (n : ℕ). go_on (made_from r (s ∷ ss) w) (rest n)) place
 
   -- all of them over as many unknowns
   made_from-same : (n r : ℕ) (ss : List Premises) (w : Work) → ((i : ℕ) → r ≤ i → i < r + length ss → f i ≡ n) → made_refutations P L ks n ss w ≡ made_from r ss w
   made_from-same n r [] w h = refl
   made_from-same n r (s ∷ ss) w h =
       ap (λ (m : ℕ). go_on (made_refutation P L ks m s w) (λ (x : Refutation). made_refutations P L ks n ss >>= λ xs. give (x ∷ xs))) (sym (h r (omega arith) (omega arith)))
-      ∙ at_first (λ v. made_from-same n (r + 1) ss v (λ i low high. h i (omega arith) (omega arith))) (made_refutation P L ks (f r) s w)
-    where
-      at_first : ((v : Work) → made_refutations P L ks n ss v ≡ made_from (r + 1) ss v)
-          → (o : Outcome Refutation) → go_on o (λ (x : Refutation). made_refutations P L ks n ss >>= λ xs. give (x ∷ xs)) ≡ go_on o (λ (x : Refutation). made_from (r + 1) ss >>= λ xs. give (x ∷ xs))
-      at_first again (Done x v) = ap (λ (o : Outcome (List Refutation)). go_on o (λ (xs : List Refutation). give (x ∷ xs))) (again v)
-      at_first again (Refused e v) = refl
+      ∙ same_after (made_refutation P L ks (f r) s w) (λ x. made_refutations P L ks n ss >>= λ xs. give (x ∷ xs)) (λ x. made_from (r + 1) ss >>= λ xs. give (x ∷ xs))
+      (λ x v. ap (λ (o : Outcome (List Refutation)). go_on o (λ (xs : List Refutation). give (x ∷ xs))) (made_from-same n (r + 1) ss v (λ i low high. h i (omega arith) (omega arith))))
 
   -- the next one
   module _ (S : List Premises) (made : List Refutation) (r : ℕ) (d : Premises) (w : Work) (h : r < length S) where
@@ -75,24 +60,14 @@ module _ (P : Problem) (L : LeafCase) (ks : List PathQuotient) (f : ℕ → ℕ)
     goals_next x v e =
         next_parts
         ∙ ap (λ (o : Outcome Refutation). go_on (go_on o (λ (x : Refutation). made_from (r + 1) (drop (r + 1) S) >>= λ xs. give (x ∷ xs))) (behind made)) e
-        ∙ moved (made_from (r + 1) (drop (r + 1) S) v)
-      where
-        moved : (o : Outcome (List Refutation)) → go_on (go_on o (λ (xs : List Refutation). give (x ∷ xs))) (behind made) ≡ go_on o (behind (made ++ x ∷ []))
-        moved (Done xs u) = ap (λ (ys : List Refutation). give ys u) (sym (append_assoc made (x ∷ []) xs))
-        moved (Refused f u) = refl
+        ∙ grouped (made_from (r + 1) (drop (r + 1) S) v) (λ xs. give (x ∷ xs)) (behind made)
+        ∙ same_after (made_from (r + 1) (drop (r + 1) S) v) (λ xs. behind made (x ∷ xs)) (behind (made ++ x ∷ [])) (λ xs u. ap (λ ys. give ys u) (sym (append_assoc made (x ∷ []) xs)))
 
     pub goals_stop : (e : Refusal) (v : Work) → made_refutation P L ks (f r) (get_or S r d) w ≡ Refused e v → go_on (made_from r (drop r S) w) (behind made) ≡ Refused e v
     goals_stop e v h =
         next_parts ∙ ap (λ (o : Outcome Refutation). go_on (go_on o (λ (x : Refutation). made_from (r + 1) (drop (r + 1) S) >>= λ xs. give (x ∷ xs))) (behind made)) h
 
 -- ---- those of a leaf
-
-whole_of : Problem → LeafCase → Premises → Premises
-whole_of P L s = joined (leaf_forms P L) s
-
-map-append : (g : Premises → Premises) (ss ts : List Premises) → map g (ss ++ ts) ≡ map g ss ++ map g ts
-map-append g [] ts = refl
-map-append g (s ∷ ss) ts = ap (λ (us : List Premises). g s ∷ us) (map-append g ss ts)
 
 module _ (P : Problem) (L : LeafCase) (ks : List PathQuotient) where
   pub leaf_goals : (o : Option (List Component)) (w : Work) → made_leaf P L ks o w ≡ made_from P L ks (unknowns_at P o) 0 (map (joined (leaf_forms P L)) (leaf_premises P L o)) w
@@ -126,25 +101,20 @@ module _ (P : Problem) (L : LeafCase) (ks : List PathQuotient) where
           ≡ made_from P L ks (unknowns_at P (Some cs)) 0 (rows ++ signs ++ least) w
       three rows signs least w h k l =
           let f = unknowns_at P (Some cs) in
-          ap (λ (o : Outcome (List Refutation)). go_on o (λ (a : List Refutation). made_refutations P L ks 0 signs >>= λ b. made_refutations P L ks P.unknowns least >>= λ c. give (a ++ b ++ c))) (made_from-same P L ks f 0 0 rows w h)
-          ∙ at_rows (made_from P L ks f 0 rows w)
-          ∙ ap (λ (o : Outcome (List Refutation)). go_on o (λ (ab : List Refutation). made_from P L ks f (0 + length (rows ++ signs)) least >>= λ c. give (ab ++ c))) (sym (made_from-append P L ks f 0 rows signs w))
+          let each = λ (a b c : List Refutation). let d : List Refutation = a ++ b ++ c in give d in
+          let last = λ (ab : List Refutation). made_from P L ks f (0 + length (rows ++ signs)) least >>= λ c. give (ab ++ c) in
+          let two = λ (a : List Refutation). made_from P L ks f (0 + length rows) signs >>= λ b. give (a ++ b) in
+          let signs_from = made_refutations P L ks 0 signs in
+          let least_from = made_refutations P L ks P.unknowns least in
+          ap (λ (o : Outcome (List Refutation)). go_on o (λ (a : List Refutation). signs_from >>= λ b. least_from >>= each a b)) (made_from-same P L ks f 0 0 rows w h)
+          ∙ same_after (made_from P L ks f 0 rows w) (λ a. signs_from >>= λ b. least_from >>= each a b) (λ a. two a >>= last) (λ a v.
+              ap (λ (o : Outcome (List Refutation)). go_on o (λ (b : List Refutation). least_from >>= each a b)) (made_from-same P L ks f 0 (0 + length rows) signs v k)
+              ∙ same_after (made_from P L ks f (0 + length rows) signs v) (λ b. least_from >>= each a b) (λ b. last (a ++ b))
+              (λ b u. ap (λ (o : Outcome (List Refutation)). go_on o (each a b)) (made_from-same P L ks f P.unknowns (0 + length (rows ++ signs)) least u l))
+              ∙ sym (grouped (made_from P L ks f (0 + length rows) signs v) (λ b. give (a ++ b)) last))
+          ∙ sym (grouped (made_from P L ks f 0 rows w) two last)
+          ∙ ap (λ (o : Outcome (List Refutation)). go_on o last) (sym (made_from-append P L ks f 0 rows signs w))
           ∙ sym (made_from-append P L ks f 0 (rows ++ signs) least w)
-        where
-          at_last : (a b : List Refutation) (v : Work) → go_on (made_refutations P L ks P.unknowns least v) (λ (c : List Refutation). give (a ++ b ++ c)) ≡ go_on (made_from P L ks (unknowns_at P (Some cs)) (0 + length (rows ++ signs)) least v) (λ (c : List Refutation). give (a ++ b ++ c))
-          at_last a b v = ap (λ (o : Outcome (List Refutation)). go_on o (λ (c : List Refutation). give (a ++ b ++ c))) (made_from-same P L ks (unknowns_at P (Some cs)) P.unknowns (0 + length (rows ++ signs)) least v l)
-
-          at_signs : (a : List Refutation) (o : Outcome (List Refutation)) → go_on o (λ (b : List Refutation). made_refutations P L ks P.unknowns least >>= λ c. give (a ++ b ++ c))
-              ≡ go_on (go_on o (λ (b : List Refutation). give (a ++ b))) (λ (ab : List Refutation). made_from P L ks (unknowns_at P (Some cs)) (0 + length (rows ++ signs)) least >>= λ c. give (ab ++ c))
-          at_signs a (Done b v) = at_last a b v
-          at_signs a (Refused e v) = refl
-
-          at_rows : (o : Outcome (List Refutation)) → go_on o (λ (a : List Refutation). made_refutations P L ks 0 signs >>= λ b. made_refutations P L ks P.unknowns least >>= λ c. give (a ++ b ++ c))
-              ≡ go_on (go_on o (λ (a : List Refutation). made_from P L ks (unknowns_at P (Some cs)) (0 + length rows) signs >>= λ b. give (a ++ b))) (λ (ab : List Refutation). made_from P L ks (unknowns_at P (Some cs)) (0 + length (rows ++ signs)) least >>= λ c. give (ab ++ c))
-          at_rows (Done a v) =
-              ap (λ (o : Outcome (List Refutation)). go_on o (λ (b : List Refutation). made_refutations P L ks P.unknowns least >>= λ c. give (a ++ b ++ c))) (made_from-same P L ks (unknowns_at P (Some cs)) 0 (0 + length rows) signs v k)
-              ∙ at_signs a (made_from P L ks (unknowns_at P (Some cs)) (0 + length rows) signs v)
-          at_rows (Refused e v) = refl
 
 -- ---- the next refutation of a leaf, and its end
 
@@ -156,11 +126,7 @@ module _ (P : Problem) (L : LeafCase) (ks : List PathQuotient) where
   from_here r made = made_from P L ks (unknowns_at P L.list) r (drop r all_premises) >>= λ rs. give (made ++ rs)
 
   pub leaf_start : (made : List Refutation) (w : Work) → made ≡ [] → made_leaf P L ks L.list w ≡ from_here 0 made w
-  leaf_start made w e = leaf_goals P L ks L.list w ∙ given (made_from P L ks (unknowns_at P L.list) 0 all_premises w) ∙ ap (λ (xs : List Refutation). from_here 0 xs w) (sym e)
-    where
-      given : (o : Outcome (List Refutation)) → o ≡ go_on o (λ (ys : List Refutation). give ([] ++ ys))
-      given (Done x v) = refl
-      given (Refused e v) = refl
+  leaf_start made w e = leaf_goals P L ks L.list w ∙ sym (given (made_from P L ks (unknowns_at P L.list) 0 all_premises w)) ∙ ap (λ (xs : List Refutation). from_here 0 xs w) (sym e)
 
   module _ (made : List Refutation) (r : ℕ) (w : Work) (h : r < length (leaf_premises P L L.list)) where
     long : r < length all_premises
@@ -184,14 +150,8 @@ module _ (P : Problem) (L : LeafCase) (ks : List PathQuotient) where
   pub leaf_end : (p : LeafProofs) (r : ℕ) (w u : Work) → length (leaf_premises P L L.list) ≤ r → p.shared ≡ [] → made_leaf P L ks L.list u ≡ from_here r p.refutations w → made_proofs P L ks u ≡ Done p w
   leaf_end p r w u h none g =
       let e = length-map (leaf_premises P L L.list) (joined (leaf_forms P L)) in
-      let gone : drop r all_premises ≡ [] = drop-all r all_premises (omega (arith, e, h)) in
+      let gone : drop r all_premises ≡ [] = drop_all r all_premises (omega (arith, e, h)) in
       ap (λ (x : Outcome (List Refutation)). go_on x (λ (rs : List Refutation). give (unshared rs)))
       (g ∙ ap (λ (ss : List Premises). go_on (made_from P L ks (unknowns_at P L.list) r ss w) (λ (rs : List Refutation). give (p.refutations ++ rs))) gone
       ∙ ap (λ (rs : List Refutation). give rs w) (append-nil p.refutations))
       ∙ ap (λ (ss : List Step). let q : LeafProofs = record { shared = ss; refutations = p.refutations } in give q w) (sym none)
-    where
-      drop-all : (r : ℕ) (ss : List Premises) → length ss ≤ r → drop r ss ≡ []
-      drop-all zero [] h = refl
-      drop-all (suc r) [] h = refl
-      drop-all zero (s ∷ ss) h = absurd (omega arith)
-      drop-all (suc r) (s ∷ ss) h = drop-all r ss (omega arith)

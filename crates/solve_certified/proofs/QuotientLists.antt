@@ -1,6 +1,6 @@
 -- The quotients' steps, and the places that they read.
-use Rattle.std.proofs.Common.{◌≡◌, refl, ap, ap₂, sym, ◌∙◌, ℕ, zero, suc, ◌+◌, ◌<◌, ℤ, pos, List, [], ◌∷◌, ◌++◌, length, take, drop, get_or, append_assoc, length-append, arith}
-use Rattle.std.proofs.lemmas.List.{take_at, drop_more, length-map}
+use Rattle.std.proofs.Common.{◌≡◌, refl, ap, ap₂, sym, ◌∙◌, ℕ, zero, suc, ◌+◌, ◌<◌, ℤ, pos, List, [], ◌∷◌, ◌++◌, length, take, get_or, append_assoc, length-append, arith}
+use Rattle.std.proofs.lemmas.List.{take_at, length-map}
 use Rattle.pip_model.specs.Rows.{count_from}
 use Rattle.pip_model.specs.Refuting.{indices}
 use Rattle.pip_model.specs.Certificate.{Refutation}
@@ -16,14 +16,6 @@ reads_at n (k ∷ ks) (suc j) d h l = reads_at (n + 1) ks j d h.1 (omega arith) 
 pub reads_more : (n : ℕ) (ks : List PathQuotient) (k : PathQuotient) → ReadsPlaces n ks → length k.quotient.form ≡ n + length ks + 1 → ReadsPlaces n (ks ++ k ∷ [])
 reads_more n [] k h l = (omega (arith, l), tt)
 reads_more n (j ∷ ks) k h l = (h.0, reads_more (n + 1) ks k h.1 (omega (arith, l)))
-
--- the next step
-pub steps_next : (front n : ℕ) (places : List ℤ) (ks : List PathQuotient) (j : ℕ) (d : PathQuotient) → j < length ks
-    → steps_from front (n + j) places (drop j ks) ≡ quotient_step front (take (n + j) places) (get_or ks j d) ∷ steps_from front (n + (j + 1)) places (drop (j + 1) ks)
-steps_next front n places ks j d h =
-    let next : n + j + 1 ≡ n + (j + 1) = omega arith in
-    ap (steps_from front (n + j) places) (drop_more ks j d h)
-    ∙ ap (λ (m : ℕ). quotient_step front (take (n + j) places) (get_or ks j d) ∷ steps_from front m places (drop (j + 1) ks)) next
 
 pub length-indices : (i n : ℕ) → length (indices i n) ≡ n
 length-indices i n = length-map (count_from i n) pos ∙ counted i n

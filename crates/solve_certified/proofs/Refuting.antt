@@ -87,10 +87,6 @@ module _ (P : Problem) (scope : ℕ) (path : List (List ℤ)) (list : Option (Li
   leaf_by = record { scope = scope; path = path; listed = []; list = list }
 
   module _ (s : Scope) (at : IsScopeOf P leaf_by s) (n : ℕ) (o : Premises) (w : Work) where
-    goal_parts : made_refutation P leaf_by s.quotients.now n (joined (leaf_forms P leaf_by) o) w
-        ≡ go_on (unless (all_fit o.listed) Overflow w) (λ done. made_by P.params (P.params + length P.context) (P.params + length P.context + length path) n (scope + n) s.quotients.now (scope_forms P leaf_by ++ o.known))
-    goal_parts = refl
-
     same_scope : made_by P.params (P.params + length P.context) (P.params + length P.context + length path) n (scope + n) s.quotients.now (scope_forms P leaf_by ++ o.known) w ≡ refuted_by s n (scope_forms P leaf_by ++ o.known) w
     same_scope =
         let known = scope_forms P leaf_by ++ o.known in
@@ -111,6 +107,3 @@ module _ (P : Problem) (scope : ℕ) (path : List (List ℤ)) (list : Option (Li
         → IfSome f (λ e. made_refutation P leaf_by s.quotients.now n (joined (leaf_forms P leaf_by) o) w ≡ Refused e v)
     goal_fault m K h e g None v k = tt
     goal_fault m K h e g (Some f) v k = goal_same m K h e g ∙ k
-
-    pub goal_unfit : all_fit o.listed ≡ false → made_refutation P leaf_by s.quotients.now n (joined (leaf_forms P leaf_by) o) w ≡ Refused Overflow w
-    goal_unfit h = ap (λ (b : Bool). go_on (unless b Overflow w) (λ done. made_by P.params (P.params + length P.context) (P.params + length P.context + length path) n (scope + n) s.quotients.now (scope_forms P leaf_by ++ o.known))) h

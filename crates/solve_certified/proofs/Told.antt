@@ -1,12 +1,10 @@
 -- What holds of the definition's answers and certificates holds of those that are given.
 use Rattle.std.proofs.Common.{◌≡◌, refl, subst, Result, Ok, Err, Option, Some, None, true}
-use Rattle.std.specs.Prelude.{IfOk, IsTrue}
+use Rattle.std.specs.Prelude.{IfOk}
 use Rattle.pip_model.specs.Problem.{Problem}
 use Rattle.pip_model.specs.Tree as tree
 use Rattle.pip_model.specs.Certificate.{Certificate}
-use Rattle.pip_model.specs.Check.{check}
-use Rattle.pip_model.specs.Made.{solve_with_certificate, IsNotRejected}
-use Rattle.pip_model.specs.Printed.{certificate_fits}
+use Rattle.pip_model.specs.Made.{solve_with_certificate}
 use Rattle.pip_model.specs.Run.{Budget, IsBudget, Work, Outcome, Done, Refused, answered, solve}
 use Rattle.pip_model.specs.Right.{IsRight}
 use Rattle.pip_model.specs.Leaves.{IsReached}
@@ -21,7 +19,7 @@ use Rattle.pip_problem.specs.declared.refusal.Refusal as code
 use Rattle.pip_problem.specs.Faults.{run_fault}
 use Rattle.quast.specs.declared.answer.Answer as answer
 use Rattle.quast.specs.Answers.{answer_of}
-use Rattle.solve_certified.specs.Certified.{certificate_in, certified_of}
+use Rattle.solve_certified.specs.Certified.{certificate_in, certified_of, IsCertificateOf}
 
 abbrev Given : Type 0
 Given = answer.Answer × Result Certificate Overflow
@@ -74,8 +72,7 @@ module _ (P : Problem) (b : Budget) (r : Result Given code.Refusal) (given : Agr
       by (Ok x) h = of_given (Q (answer_of x.0)) x.1 h
       by (Err e) h = tt
 
-  pub is_accepted : IsProblem P → P.integer ≡ true → IfOk r (λ x. IfOk x.1 (λ c. IsNotRejected (check P (answer_of x.0) c)))
-  is_accepted formed integer = of_certificate (λ a c. IsNotRejected (check P a c)) (λ a c w e. certificate-not_rejected P b a c w formed integer e)
-
-  pub is_fit : IsProblem P → P.integer ≡ true → IsBudget b → IfOk r (λ x. IfOk x.1 (λ c. IsTrue (certificate_fits c)))
-  is_fit formed integer budget = of_certificate (λ a c. IsTrue (certificate_fits c)) (λ a c w e. certificate-fits P b a c w formed integer budget e)
+  pub is_certificate : IsProblem P → P.integer ≡ true → IsBudget b → IfOk r (λ x. IfOk x.1 (IsCertificateOf P (answer_of x.0)))
+  is_certificate formed integer budget =
+      of_certificate (IsCertificateOf P)
+      (λ a c w e. record { accepted = certificate-not_rejected P b a c w formed integer e; fits = certificate-fits P b a c w formed integer budget e })

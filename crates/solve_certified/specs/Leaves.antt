@@ -5,6 +5,7 @@ use Rattle.pip_model.specs.Certificate.{Refutation, LeafProofs}
 use Rattle.pip_model.specs.Check.{LeafCase, joined, leaf_forms, leaf_premises, scope_forms, is_whole_list}
 use Rattle.pip_model.specs.Run.{Counted, ◌>>=◌, give}
 use Rattle.pip_model.specs.Made.{PathQuotient, made_refutation, made_leaf, unshared}
+use Rattle.certificate_check.specs.Known.{KnownForms}
 use Rattle.certificate_check.specs.Leaves.{case_of, goal_forms, nothing, IsLeaf}
 use Rattle.solve_certified.specs.Goals.{unknowns_at}
 use Rattle.solve_certified.specs.Quotients.{ReadsPlaces}
@@ -40,3 +41,8 @@ pub record IsMaking (m : LeafMaking) : Type 0 where
 abbrev pub forms_before : LeafMaking → ℕ → List (List ℤ)
 forms_before m zero = scope_forms m.leaf.problem.now (case_of m.leaf)
 forms_before m (suc r) = goal_forms m.leaf r
+
+-- they are over the leaf's places and the unknowns
+pub record IsBefore (m : LeafMaking) (r : ℕ) (known : KnownForms) : Type 0 where
+  pub width : known.width ≡ m.leaf.scope + m.leaf.problem.now.unknowns
+  pub forms : known.forms ≡ forms_before m r

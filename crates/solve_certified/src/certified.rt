@@ -1,10 +1,7 @@
 ghost use Rattle.std.specs.Prelude.{◌≡◌, true, ℤ, List, Option, All, IsTrue, IfOk, IfSome, option_copied};
-ghost use Rattle.pip_model.specs.Certificate as certificate;
-ghost use Rattle.pip_model.specs.Check as check;
+ghost use Rattle.pip_model.specs.Certificate as certificates;
 ghost use Rattle.pip_model.specs.Leaves.{IsReached};
 ghost use Rattle.pip_model.specs.Made as model;
-ghost use Rattle.pip_model.specs.Made.{IsNotRejected};
-ghost use Rattle.pip_model.specs.Printed.{certificate_fits};
 ghost use Rattle.pip_model.specs.Right.{IsRight};
 ghost use Rattle.pip_model.specs.Run.{IsBudget, Outcome, answered};
 ghost use Rattle.pip_model.specs.Run.{Work as Counts};
@@ -14,7 +11,7 @@ ghost use Rattle.pip_model.specs.WellFormed.{IsProblem, IsWellFormedAnswer};
 ghost use Rattle.pip_problem.specs.Faults.{run_fault};
 ghost use Rattle.quast.specs.Answers.{answer_of, IsOver};
 ghost use Rattle.affine_forms.specs.Checks.{Fits};
-ghost use Rattle.solve_certified.specs.Certified.{certificate_in, certified_of};
+ghost use Rattle.solve_certified.specs.Certified.{certificate_in, certified_of, IsCertificateOf};
 ghost use Rattle.solve_certified.specs.Walks.{are_whole, is_whole_answer};
 
 use crate::refutation::Scope;
@@ -45,9 +42,7 @@ pub fn solve_with_certificate(
     ensures reached { IfOk result (λ r. IsReached problem.now (answer_of r.0)) }
     ensures well_formed { IfOk result (λ r. IsWellFormedAnswer problem.now.params (answer_of r.0)) }
     ensures scope { IfOk result (λ r. IsOver problem.now.params r.0) }
-    ensures accepted { IfOk result (λ r. IfOk r.1 (λ c.
-        IsNotRejected (check.check problem.now (answer_of r.0) c))) }
-    ensures fits { IfOk result (λ r. IfOk r.1 (λ c. IsTrue (certificate_fits c))) }
+    ensures certificate { IfOk result (λ r. IfOk r.1 (IsCertificateOf problem.now (answer_of r.0))) }
 {
     let certified = certified(alloc, problem, limits);
     certified
@@ -103,7 +98,7 @@ fn certificate_of_void(
     };
     let mut refuter = Refuter::new(alloc);
     let mut proofs = LeafProofs::new(alloc);
-    proofs.push(scope.refute(&mut refuter, &known, 0, work)?)?;
+    proofs.push(scope.refute(&mut refuter, &known, 0, 0, work)?)?;
     let mut made = Certificate::try_new(alloc, None)?;
     made.push(proofs)?;
     Ok(made)
@@ -131,7 +126,7 @@ fn certificate_of(
 
 // The certificate, or that a listed number does not fit; a budget's refusal stays one.
 fn if_fits(made: Result<Certificate, Refusal>) -> Result<Result<Certificate, Overflow>, Refusal>
-    ensures { (w : Counts) (o : Outcome certificate.Certificate) → AgreesCounted (λ c. c) run_fault made w o
+    ensures { (w : Counts) (o : Outcome certificates.Certificate) → AgreesCounted (λ c. c) run_fault made w o
         → AgreesCounted certificate_in run_fault result w (model.if_fits o) }
 {
     match made {

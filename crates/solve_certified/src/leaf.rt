@@ -1,10 +1,12 @@
-ghost use Rattle.std.specs.Prelude.{◌≡◌, ◌+◌, ◌<◌, length, slice_index_or, OnOk, IsTrue, option_copied};
+ghost use Rattle.std.specs.Prelude.{◌≡◌, ◌-◌, ◌<◌, length, take, slice_index_or, OnOk, IsTrue, option_copied};
 ghost use Rattle.pip_model.specs.Agreement.{IsChecked, AgreesCounted};
 ghost use Rattle.pip_model.specs.Check.{is_whole_list};
 ghost use Rattle.affine_forms.specs.Checks.{is_form_overflow};
 ghost use Rattle.pip_problem.specs.Faults.{run_fault};
+ghost use Rattle.certificate_check.specs.Goals.{without_last};
 ghost use Rattle.certificate_check.specs.Leaves.{case_of, own_premises, goal_forms, nothing};
-ghost use Rattle.solve_certified.specs.Leaves.{made_at, made_proofs, forms_before, IsMaking};
+ghost use Rattle.context.specs.Scoped.{AreFirst};
+ghost use Rattle.solve_certified.specs.Leaves.{made_at, made_proofs, IsBefore, IsMaking};
 ghost use Rattle.solve_certified.specs.Goals.{unknowns_at};
 
 use crate::refutation::Scope;
@@ -53,12 +55,12 @@ impl LeafMaking<'_> {
     // leaf's.
     fn turn_to(&self, known: &mut Known, r: usize) -> Result<(), FormRefusal>
         requires making { IsMaking self.now }
-        requires width { known.old.width ≡ self.now.leaf.scope + self.now.leaf.problem.now.unknowns }
-        requires known { known.old.forms ≡ forms_before self.now r }
+        requires before { IsBefore self.now r known.old }
         requires place { r < length (own_premises self.now.leaf) }
         ensures listed { IsChecked is_form_overflow (slice_index_or (own_premises self.now.leaf) r nothing).listed
             result }
         ensures ok { OnOk result (known.new ≡ record known.old { forms = goal_forms self.now.leaf r }) }
+        ensures stay { OnOk result (take (length known.old.forms - 1) known.new.forms ≡ without_last known.old.forms) }
     {
         if r == 0 {
             return self.leaf.push_goal(self.scope.alloc, known, r);
@@ -75,16 +77,20 @@ impl LeafMaking<'_> {
         work: &mut Work,
     ) -> Result<Refutation, Refusal>
         requires making { IsMaking self.now }
-        requires width { known.old.width ≡ self.now.leaf.scope + self.now.leaf.problem.now.unknowns }
-        requires known { known.old.forms ≡ forms_before self.now r }
+        requires before { IsBefore self.now r known.old }
         requires place { r < length (own_premises self.now.leaf) }
+        requires first { AreFirst refuter.old known.old.forms }
         ensures gives { AgreesCounted (λ steps. steps) run_fault result work.new (made_at self.now.leaf.problem.now
             (case_of self.now.leaf) self.now.scope.quotients.now r work.old) }
         ensures known { OnOk result (known.new ≡ record known.old { forms = goal_forms self.now.leaf r }) }
+        ensures first { OnOk result (AreFirst refuter.new known.new.forms) }
     {
+        let same = known.len().saturating_sub(1);
         self.turn_to(known, r)?;
         refuter.keep(self.kept(known.len()));
-        let steps = self.scope.refute(refuter, known, self.unknowns(r), work)?;
+        let steps = self
+            .scope
+            .refute(refuter, known, same, self.unknowns(r), work)?;
         Ok(steps)
     }
 

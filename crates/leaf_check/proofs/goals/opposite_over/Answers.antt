@@ -1,10 +1,16 @@
-use Rattle.std.proofs.Common.{◌≡◌, length, arith, rules}
-use Rattle.pip_model.specs.Forms.{opposite}
-use Rattle.pip_model.proofs.Forms.{length-opposite}
+use Rattle.std.proofs.Common.{◌≡◌, ◌∙◌, ap, length, arith, rules}
+use Rattle.pip_model.specs.Forms.{opposite, widen_to}
+use Rattle.pip_model.proofs.Forms.{length-opposite, length-widened}
 use Rattle.leaf_check.proofs.goals.opposite_over.Goals as goal
 
-pub widened-requires : goal.widened-requires
-widened-requires c =
+pub overflow_sub-more : goal.overflow_sub-more
+overflow_sub-more c =
     let e : length (opposite c.args.form) ≡ length c.args.form = length-opposite c.args.form (search rules) in
     let same : c.opposite.new.self ≡ opposite c.args.form = search rules in
-    rw same (omega arith)
+    omega (arith, e, ap length same, c.width.ensures.entries, c.requires)
+
+pub returns-clause-long : goal.returns-clause-long
+returns-clause-long c =
+    let e : length (opposite c.args.form) ≡ length c.args.form = length-opposite c.args.form (search rules) in
+    let same : c.widen.new.self ≡ widen_to c.args.width (opposite c.args.form) = search rules in
+    ap length same ∙ length-widened c.args.width (opposite c.args.form) (omega (arith, e, c.requires))

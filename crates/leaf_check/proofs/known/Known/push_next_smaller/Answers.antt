@@ -1,5 +1,6 @@
-use Rattle.std.proofs.Common.{arith, ◌≡◌, ◌∙◌, ap, ap₂, ℕ, ℤ, List, [], ◌∷◌, ◌++◌, ◌+◌, ◌-◌, length, get_or, negsuc, append_assoc}
+use Rattle.std.proofs.Common.{arith, refl, ◌≡◌, ◌∙◌, ap, ap₂, ℕ, ℤ, List, [], ◌∷◌, ◌++◌, ◌+◌, ◌-◌, length, get_or, negsuc, append_assoc}
 use Rattle.std.proofs.lemmas.Grind.{common_steps}
+use Rattle.std.proofs.lemmas.List.{take_at}
 use Rattle.pip_model.specs.Forms.{plus}
 use Rattle.pip_model.specs.Check.{not_above}
 use Rattle.pip_model.specs.Tree.{Component}
@@ -16,8 +17,8 @@ pub returns-clause-listed : goal.returns-clause-listed
 returns-clause-listed c =
     rw (last_smaller c.args.self.now.width c.args.scope c.args.front.now (length c.args.front.now - 1) c.index-front-last-2.result (omega arith) []) (grind (arith, common_steps))
 
-pub returns-clause-ok : goal.returns-clause-ok
-returns-clause-ok c =
+pub returns-clause-pushed : goal.returns-clause-pushed
+returns-clause-pushed c =
     let w = c.args.self.now.width in
     let old = c.args.self.now.forms in
     let front = c.args.front.now in
@@ -31,6 +32,11 @@ returns-clause-ok c =
     = c.in_ok-form-2.ensures.value ∙ ap (λ (v : ℕ). plus (not_above v (c.args.scope + (length front - 1)) e) (negsuc 0)) c.width-width.ensures ∙ ap (λ (x : Component). plus (not_above w (c.args.scope + (length front - 1)) x) (negsuc 0)) c.index-front-last-2.is in
     let pushed : c.push-2.new.self ≡ record { width = c.args.self.now.width; forms = (c.args.self.now.forms ++ c.in_ok-form.form ∷ []) ++ c.in_ok-form-2.form ∷ [] }
     = c.in_ok-push-2.ensures.ok ∙ ap (λ (k : KnownForms). record k { forms = k.forms ++ c.in_ok-form-2.form ∷ [] }) c.in_ok-push.ensures.ok in
-    rw (shorter, rest_is w c.args.scope front (length front - 1 - 1) d e (omega arith), back)
-    (pushed
-    ∙ ap (λ (xs : List (List ℤ)). let k : KnownForms = record { width = w; forms = xs } in k) (append_assoc old (c.in_ok-form.form ∷ []) (c.in_ok-form-2.form ∷ []) ∙ ap₂ (λ (x y : List ℤ). old ++ x ∷ y ∷ []) first second))
+    let both : c.push-2.new.self ≡ record { width = c.args.self.now.width; forms = c.args.self.now.forms ++ c.in_ok-form.form ∷ c.in_ok-form-2.form ∷ [] }
+    = pushed ∙ ap (λ (xs : List (List ℤ)). let k : KnownForms = record { width = w; forms = xs } in k) (append_assoc old (c.in_ok-form.form ∷ []) (c.in_ok-form-2.form ∷ [])) in
+    record {
+      ok = rw (shorter, rest_is w c.args.scope front (length front - 1 - 1) d e (omega arith), back)
+          (both ∙ ap₂ (λ (x y : List ℤ). let k : KnownForms = record { width = w; forms = old ++ x ∷ y ∷ [] } in k) first second);
+      front = rw both (take_at old (c.in_ok-form.form ∷ c.in_ok-form-2.form ∷ []) (length old) refl);
+      width = ap (λ (k : KnownForms). k.width) both;
+    }

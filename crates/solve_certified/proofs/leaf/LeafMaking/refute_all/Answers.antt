@@ -1,4 +1,4 @@
-use Rattle.std.proofs.Common.{rules, arith, ◌≡◌, ◌∙◌, ap, sym, ◌+◌, ◌++◌, [], ◌∷◌, List}
+use Rattle.std.proofs.Common.{rules, arith, refl, ◌≡◌, ◌∙◌, ap, sym, ◌+◌, ◌++◌, [], ◌∷◌, List}
 use Rattle.std.specs.Prelude.{option_copied}
 use Rattle.std.proofs.lemmas.Result.{err_from_is_err_and}
 use Rattle.pip_model.specs.Certificate.{Refutation, LeafProofs}
@@ -14,8 +14,8 @@ pub loop-r-init : goal.loop-r-init
 loop-r-init c =
     let leaf = c.args.self.now.leaf in
     record {
-      width = search rules;
-      known = search rules;
+      before = record { width = search rules; forms = search rules };
+      first = rw c.new-refuter.ensures (record { first = refl });
       shared = search rules;
       made = leaf_start leaf.problem.now (case_of leaf) c.args.self.now.scope.quotients.now c.new-proofs.result.refutations c.args.work.now (ap (λ (p : LeafProofs). p.refutations) c.new-proofs.ensures);
     }
@@ -43,8 +43,11 @@ loop-r-preserved c =
     let pushed : c.push.new.self ≡ record c.loop-r.proofs { refutations = c.loop-r.proofs.refutations ++ c.in_ok-steps.steps ∷ [] } = search rules in
     let longer : c.push.new.self.refutations ≡ c.loop-r.proofs.refutations ++ c.in_ok-steps.steps ∷ [] = ap (λ (p : LeafProofs). p.refutations) pushed in
     record {
-      width = search rules;
-      known = ap (λ (k : KnownForms). k.forms) c.in_ok-steps.ensures.known ∙ sym (before_next c.args.self.now c.loop-r.r);
+      before = record {
+        width = ap (λ (k : KnownForms). k.width) c.in_ok-steps.ensures.known ∙ c.loop-r.invariant.before.width;
+        forms = ap (λ (k : KnownForms). k.forms) c.in_ok-steps.ensures.known ∙ sym (before_next c.args.self.now c.loop-r.r);
+      };
+      first = c.in_ok-steps.ensures.first;
       shared = ap (λ (p : LeafProofs). p.shared) pushed ∙ c.loop-r.invariant.shared;
       made = c.loop-r.invariant.made
           ∙ leaf_next P L ks c.loop-r.proofs.refutations c.loop-r.r c.loop-r.work

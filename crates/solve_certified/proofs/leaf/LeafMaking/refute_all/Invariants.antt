@@ -1,7 +1,8 @@
-use Rattle.std.proofs.Common.{◌≡◌, ◌+◌, []}
+use Rattle.std.proofs.Common.{◌≡◌, []}
 use Rattle.pip_model.specs.Made.{made_leaf}
 use Rattle.certificate_check.specs.Leaves.{case_of}
-use Rattle.solve_certified.specs.Leaves.{forms_before}
+use Rattle.context.specs.Scoped.{AreFirst}
+use Rattle.solve_certified.specs.Leaves.{IsBefore}
 use Rattle.solve_certified.proofs.MadeGoals.{from_here}
 use Rattle.solve_certified.proofs.leaf.LeafMaking.refute_all.Given as goal
 
@@ -11,8 +12,8 @@ invariant-loop-r l =
     let L = case_of l.self.leaf in
     let ks = l.self.scope.quotients.now in
     record {
-      width : l.known.width ≡ l.self.leaf.scope + P.unknowns;
-      known : l.known.forms ≡ forms_before l.self l.r;
+      before : IsBefore l.self l.r l.known;
+      first : AreFirst l.refuter l.known.forms;
       shared : l.proofs.shared ≡ [];
       made : made_leaf P L ks L.list l.fn.work ≡ from_here P L ks l.r l.proofs.refutations l.work;
     }

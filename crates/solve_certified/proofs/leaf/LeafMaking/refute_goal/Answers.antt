@@ -1,4 +1,4 @@
-use Rattle.std.proofs.Common.{rules, ◌≡◌, ◌∙◌, ap, ◌++◌, IsTrue}
+use Rattle.std.proofs.Common.{rules, ◌≡◌, ◌∙◌, ap, ◌-◌, ◌++◌, length, IsTrue}
 use Rattle.std.specs.Prelude.{option_copied, slice_index_or}
 use Rattle.std.proofs.lemmas.Result.{err_from_is_err_and}
 use Rattle.pip_model.specs.Listed.{all_fit}
@@ -7,6 +7,7 @@ use Rattle.pip_problem.specs.Faults.{run_fault}
 use Rattle.certificate_check.specs.Known.{KnownForms}
 use Rattle.certificate_check.specs.Leaves.{case_of, own_premises, nothing}
 use Rattle.solve_certified.specs.Goals.{unknowns_at}
+use Rattle.solve_certified.proofs.GoalsBefore.{first_still}
 use Rattle.solve_certified.proofs.Refuting.{goal_same, goal_fault}
 use Rattle.solve_certified.proofs.leaf.LeafMaking.refute_goal.Goals as goal
 
@@ -21,7 +22,7 @@ returns-in_err-steps-clause-gives c =
     let known : c.turn_to.new.known.forms ≡ scope_forms P (case_of leaf) ++ o.known = ap (λ (k : KnownForms). k.forms) c.in_ok-turn_to.ensures.ok in
     rw (p.1, p.2)
     (goal_fault P leaf.scope leaf.path.now list c.args.self.now.scope c.requires.making.scope (unknowns_at P list c.args.r) o c.args.work.now c.unknowns.result c.turn_to.new.known.forms fits c.unknowns.ensures known
-    (run_fault c.in_err-steps.field-0.0) c.refute.new.work c.in_err-steps.ensures)
+    (run_fault c.in_err-steps.field-0.0) c.refute.new.work c.in_err-steps.ensures.gives)
 
 pub returns-clause-gives : goal.returns-clause-gives
 returns-clause-gives c =
@@ -32,4 +33,9 @@ returns-clause-gives c =
     let fits : IsTrue (all_fit o.listed) = search rules in
     let known : c.turn_to.new.known.forms ≡ scope_forms P (case_of leaf) ++ o.known = ap (λ (k : KnownForms). k.forms) c.in_ok-turn_to.ensures.ok in
     goal_same P leaf.scope leaf.path.now list c.args.self.now.scope c.requires.making.scope (unknowns_at P list c.args.r) o c.args.work.now c.unknowns.result c.turn_to.new.known.forms fits c.unknowns.ensures known
-    ∙ c.in_ok-steps.ensures
+    ∙ c.in_ok-steps.ensures.gives
+
+pub refute-requires-clause-same : goal.refute-requires-clause-same
+refute-requires-clause-same c =
+    let same : c.saturating_sub-same.result ≡ length c.args.known.now.forms - 1 = search rules in
+    rw (same, c.keep.ensures) (first_still c.args.refuter.now c.args.known.now.forms c.turn_to.new.known.forms c.requires.first c.in_ok-turn_to.ensures.stay)

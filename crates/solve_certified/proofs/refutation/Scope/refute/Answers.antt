@@ -16,8 +16,11 @@ refute-requires-clause-wide c =
     rw c.as_slice.ensures.value
     (all-longer c.args.known.now.width (length c.deref.result.now) (omega (arith, ap length at, length-places s c.args.n known, c.requires.width)) known c.as_slice.ensures.wide)
 
-pub returns-in_err-found : goal.returns-in_err-found
-returns-in_err-found c =
+pub refute-requires-clause-same : goal.refute-requires-clause-same
+refute-requires-clause-same c = rw c.as_slice.ensures.value c.requires.same
+
+pub returns-in_err-found-clause-gives : goal.returns-in_err-found-clause-gives
+returns-in_err-found-clause-gives c =
     let s = c.args.self.now in
     let known = c.args.known.now.forms in
     let p = err_from_is_err_and c.from_residual-in_err-found.result c.from_residual-in_err-found.ensures.1 in
@@ -38,8 +41,11 @@ quotient_steps-requires-clause-number c =
     let at : c.deref-2.result.now ≡ places_of s (length known) c.args.n = c.deref-2.ensures.value ∙ items in
     omega (arith, ap length at, length-places s c.args.n known)
 
-pub returns : goal.returns
-returns c =
+pub returns-clause-first : goal.returns-clause-first
+returns-clause-first c = rw c.as_slice.ensures.value at c.in_ok-found.ensures.first
+
+pub returns-clause-gives : goal.returns-clause-gives
+returns-clause-gives c =
     let s = c.args.self.now in
     let known = c.args.known.now.forms in
     let items : c.in_ok-places.places.items ≡ places_of s (length known) c.args.n = c.in_ok-places.ensures.value ∙ ap (λ (k : ℕ). places_of s k c.args.n) c.len-count.ensures in
