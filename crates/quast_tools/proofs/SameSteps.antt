@@ -1,113 +1,97 @@
 -- The steps of a comparison of two lists, and of two leaves.
-use Rattle.std.proofs.Common.{◌≡◌, ◌∙◌, ap, sym, refl, ℕ, suc, ◌+◌, ◌<◌, arith, true, false, List, [], ◌∷◌, ◌++◌, length, get_or, drop, ℤ, pos, negsuc, ◌-ℤ◌, Option, Some, None}
-use Rattle.std.specs.Prelude.{IfSome, is_some}
+use Rattle.std.proofs.Common.{◌≡◌, ◌∙◌, ap, sym, subst, ℕ, suc, ◌+◌, ◌<◌, arith, true, false, List, [], ◌∷◌, ◌++◌, length, get_or, take, drop, ℤ, Bool, eq-eqb, Option, Some, None, Result, Ok, Err, IsTrue, IsFalse}
+use Rattle.std.specs.Prelude.{IfSome, is_some, if◌then◌else◌}
 use Rattle.std.proofs.Math.Seq.{drop-cons}
-use Rattle.pip_model.specs.Forms.{constant, plus, opposite}
-use Rattle.pip_model.specs.Listed.{all_fit, opposite_listed}
-use Rattle.pip_model.specs.Tree.{Component}
-use Rattle.pip_model.specs.Run.{Work, point, listed}
-use Rattle.pip_model.specs.Walks.{ToolRefusal, Walked, Made, Stopped, Walking, walk_on, ◌>>=◌, make, by_run, Visit}
-use Rattle.pip_model.specs.Tools.{difference, difference_listed, first_numbers, differ_or, same_lists}
+use Rattle.pip_model.specs.Listed.{all_fit}
+use Rattle.pip_model.specs.Tree.{Component, Leaf, Solved, is_scoped}
+use Rattle.pip_model.specs.Run.{Work, point}
+use Rattle.pip_model.specs.Walks as walks
+use Rattle.pip_model.specs.Walks.{Walked, Made, Stopped, Walking, walk_on, make, by_run, Visit}
+use Rattle.pip_model.specs.Tools.{difference, difference_listed, first_numbers, differ_or, differ_here, same_lists, same_leaves, widened_components}
+use Rattle.pip_model.specs.ToolAgreement.{AgreesWalked}
+use Rattle.affine_forms.specs.Checks.{is_form_overflow}
+use Rattle.affine_forms.specs.declared.memory.FormRefusal.{FormRefusal}
 use Rattle.context.specs.Scoped.{ScopedForms, IsKeptContext}
-use Rattle.quast_walk.proofs.Defining.{listed_goes}
-use Rattle.quast_walk.proofs.Walking.{kept_visit, in_two}
-use Rattle.quast_walk.specs.Visits.{visit_of}
-use Rattle.quast_tools.specs.Searches.{point_where, point_above, point_below, found_or, same_component}
+use Rattle.quast_walk.specs.Faults.{tool_fault, of_form}
+use Rattle.quast_walk.specs.Visits.{visit_of, IsUnder}
+use Rattle.quast_walk.specs.declared.refusal.ToolRefusal.{ToolRefusal}
+use Rattle.quast_walk.proofs.Defining.{listed_goes, unfit_stops}
+use Rattle.quast_walk.proofs.Placing.{scoped_of, all_wide}
+use Rattle.quast_walk.proofs.Walking.{kept_visit}
+use Rattle.quast_tools.specs.Searches.{point_or, above_or_below, component_or, Finds}
 
-found_step : (m : ℕ) (o : Walked (Option (List ℤ))) (next : Walking (Option (List ℤ))) → walk_on o (λ p. differ_or m p next) ≡ walk_on (walk_on o (λ p. make (first_numbers m p))) (λ p. found_or p next)
-found_step m (Made None w) next = refl
-found_step m (Made (Some p) w) next = refl
-found_step m (Stopped e w) next = refl
+-- of the same, more is found
+pub finds_as : (r : Result (Option (List ℤ)) ToolRefusal) (now : Work) (next : Walking (Option (List ℤ))) (m n : Walked (Option (List ℤ))) → m ≡ n → Finds r now m next → Finds r now n next
+finds_as r now next m n e h = subst (λ (o : Walked (Option (List ℤ))). Finds r now o next) e h
 
--- two parts in a row, the second of which may be passed by
-two_parts : (o : Walked (Option (List ℤ))) (second next : Walking (Option (List ℤ))) → walk_on (walk_on o (λ p. found_or p second)) (λ p. found_or p next) ≡ walk_on o (λ p. found_or p (second >>= λ q. found_or q next))
-two_parts (Made None w) second next = refl
-two_parts (Made (Some p) w) second next = refl
-two_parts (Stopped e w) second next = refl
+none_stops : {A : Type 0} (x : A) (w u : Work) (P : walks.ToolRefusal → Type 0) (o : Option walks.ToolRefusal) → IfSome o (λ f. Made x w ≡ Stopped f u) → IfSome o P
+none_stops x w u P None h = h
+none_stops x w u P (Some f) h = let e : Made x w ≡ Stopped f u = h in cc
 
-module _ (m : ℕ) (h : Visit) (c d : Component) (cs ds : List Component) where
-  abbrev e : List ℤ
-  e = difference c d
+pub found_some : (now : Work) (next : Walking (Option (List ℤ))) (whole : Walked (Option (List ℤ))) (o : Option (List ℤ)) → is_some o ≡ true → Finds (Ok o) now whole next → whole ≡ Made o now
+found_some now next whole None e h = cc
+found_some now next whole (Some p) e h = h
 
-  abbrev others : Walking (Option (List ℤ))
-  others = same_lists m h cs ds
+pub found_none : (now : Work) (next : Walking (Option (List ℤ))) (whole : Walked (Option (List ℤ))) (o : Option (List ℤ)) → is_some o ≡ false → Finds (Ok o) now whole next → whole ≡ next now
+found_none now next whole None e h = h
+found_none now next whole (Some p) e h = cc
 
-  abbrev under : Walking (Option (List ℤ))
-  under w = walk_on (by_run (listed (opposite_listed e)) w) (λ done. λ v. walk_on (by_run (point h.places (h.context ++ opposite e ∷ [])) v) (λ p. differ_or m p others))
+-- ---- where a condition is at least 0
 
-  under_is : (w : Work) → under w ≡ walk_on (point_below m h e w) (λ p. found_or p others)
-  under_is w = ap (λ (f : Unit {0} → Walking (Option (List ℤ))). walk_on (by_run (listed (opposite_listed e)) w) f) (λ i done v. found_step m (by_run (point h.places (h.context ++ opposite e ∷ [])) v) others i) ∙ in_two (by_run (listed (opposite_listed e)) w) (λ done. point_where m h (opposite e)) (λ p. found_or p others)
+module _ (m : ℕ) (next : Walking (Option (List ℤ))) (now : Work) where
+  by_point : (o : Walked (Option (List ℤ))) (r : Result (Option (List ℤ)) ToolRefusal) → AgreesWalked (λ p. p) tool_fault r now (walk_on o (λ p. make (first_numbers m p))) → Finds r now (walk_on o (λ p. differ_or m p next)) next
+  by_point (Made None w) (Ok None) h = let e : Made None w ≡ Made None now = h in let s : w ≡ now = cc in ap next s
+  by_point (Made None w) (Ok (Some p)) h = let e : Made None w ≡ Made (Some p) now = h in cc
+  by_point (Made None w) (Err e) h = none_stops None w now (λ f. next w ≡ Stopped f now) (tool_fault e) h
+  by_point (Made (Some p) w) (Ok None) h = let e : Made (Some (take m p)) w ≡ Made None now = h in cc
+  by_point (Made (Some p) w) (Ok (Some q)) h = h
+  by_point (Made (Some p) w) (Err e) h = h
+  by_point (Stopped f w) (Ok None) h = let e : Stopped f w ≡ Made None now = h in cc
+  by_point (Stopped f w) (Ok (Some q)) h = h
+  by_point (Stopped f w) (Err e) h = h
 
-  abbrev over : Walking (Option (List ℤ))
-  over w = walk_on (by_run (listed ((constant e -ℤ pos 1) ∷ [])) w) (λ done. λ v. walk_on (by_run (point h.places (h.context ++ plus e (negsuc 0) ∷ [])) v) (λ p. differ_or m p under))
+  module _ (zs v c : List ℤ) (k : ScopedForms) (w : Work) where
+    abbrev then_point : Unit {0} → Walking (Option (List ℤ))
+    then_point done u = walk_on (by_run (point k.width (k.forms ++ c ∷ [])) u) (λ p. differ_or m p next)
 
-  over_is : (w : Work) → over w ≡ walk_on (point_above m h e w) (λ p. found_or p under)
-  over_is w = ap (λ (f : Unit {0} → Walking (Option (List ℤ))). walk_on (by_run (listed ((constant e -ℤ pos 1) ∷ [])) w) f) (λ i done v. found_step m (by_run (point h.places (h.context ++ plus e (negsuc 0) ∷ [])) v) under i) ∙ in_two (by_run (listed ((constant e -ℤ pos 1) ∷ [])) w) (λ done. point_where m h (plus e (negsuc 0))) (λ p. found_or p under)
+    pub where_unfit : (r : FormRefusal) (e : ToolRefusal) → e ≡ of_form r → (IsTrue (is_form_overflow r) → IsFalse (all_fit zs)) → IfSome (tool_fault e) (λ f. point_or m (visit_of k 0) zs c next w ≡ Stopped f w)
+    where_unfit r e same unfit = unfit_stops zs then_point w r e same unfit
 
-  abbrev here : Walking (Option (List ℤ))
-  here w = walk_on (point_above m h e w) (λ p. found_or p (point_below m h e))
-
-  over_here : (w : Work) → over w ≡ walk_on (here w) (λ p. found_or p others)
-  over_here w = over_is w ∙ ap (λ (f : Walking (Option (List ℤ))). walk_on (point_above m h e w) (λ p. found_or p f)) (λ i v. under_is v i) ∙ sym (two_parts (point_above m h e w) (point_below m h e) others)
-
-  -- the first components, and then the others
-  pub same_step : (w : Work) → same_lists m h (c ∷ cs) (d ∷ ds) w ≡ walk_on (same_component m h c d w) (λ p. found_or p (same_lists m h cs ds))
-  same_step w = ap (λ (f : Unit {0} → Walking (Option (List ℤ))). walk_on (by_run (listed (difference_listed c d)) w) f) (λ i done v. over_here v i) ∙ in_two (by_run (listed (difference_listed c d)) w) (λ done. here) (λ p. found_or p others)
-
--- ---- by an index
-
-module _ (m : ℕ) (h : Visit) (cs ds : List Component) (i : ℕ) where
-  pub lists_step : (c d : Component) → i < length cs → i < length ds → c ≡ get_or cs i c → d ≡ get_or ds i d → (w : Work)
-      → same_lists m h (drop i cs) (drop i ds) w ≡ walk_on (same_component m h c d w) (λ p. found_or p (same_lists m h (drop (i + 1) cs) (drop (i + 1) ds)))
-  lists_step c d lc ld ec ed w =
-      let one : (xs : List Component) (x : Component) → i < length xs → x ≡ get_or xs i x → drop i xs ≡ x ∷ drop (i + 1) xs = λ xs x l e. drop-cons xs i x l ∙ ap (λ (y : Component). y ∷ drop (suc i) xs) (sym e) ∙ (let e : suc i ≡ i + 1 = omega arith in ap (λ (n : ℕ). x ∷ drop n xs) e) in
-      ap (λ (xs : List Component). same_lists m h xs (drop i ds) w) (one cs c lc ec) ∙ ap (λ (xs : List Component). same_lists m h (c ∷ drop (i + 1) cs) xs w) (one ds d ld ed) ∙ same_step m h c d (drop (i + 1) cs) (drop (i + 1) ds) w
+    pub where_finds : (l : ScopedForms) → IsUnder k v l → v ≡ c → all_fit zs ≡ true → (r : Result (Option (List ℤ)) ToolRefusal) → AgreesWalked (λ p. p) tool_fault r now (differ_here m (visit_of l 0) w) → Finds r now (point_or m (visit_of k 0) zs c next w) next
+    where_finds l under same fit r found =
+        let forms : l.forms ≡ k.forms ++ c ∷ [] = under.forms ∙ ap (λ (f : List ℤ). k.forms ++ f ∷ []) same in
+        let there = ap (λ (n : ℕ). by_run (point n l.forms) w) under.width ∙ ap (λ (fs : List (List ℤ)). by_run (point k.width fs) w) forms in
+        finds_as r now next _ _ (ap (λ (o : Walked (Option (List ℤ))). walk_on o (λ p. differ_or m p next)) there ∙ sym (listed_goes zs then_point w fit)) (by_point (by_run (point l.width l.forms) w) r found)
 
 -- ---- two components
 
-pub above_goes : (m : ℕ) (h : Visit) (e c : List ℤ) (w : Work) → all_fit ((constant e -ℤ pos 1) ∷ []) ≡ true → c ≡ plus e (negsuc 0) → point_where m h c w ≡ point_above m h e w
-above_goes m h e c w fit is = ap (λ (f : List ℤ). point_where m h f w) is ∙ sym (listed_goes ((constant e -ℤ pos 1) ∷ []) (λ done. point_where m h (plus e (negsuc 0))) w fit)
-
-pub below_goes : (m : ℕ) (h : Visit) (e c : List ℤ) (w : Work) → all_fit (opposite_listed e) ≡ true → c ≡ opposite e → point_where m h c w ≡ point_below m h e w
-below_goes m h e c w fit is = ap (λ (f : List ℤ). point_where m h f w) is ∙ sym (listed_goes (opposite_listed e) (λ done. point_where m h (opposite e)) w fit)
-
-module _ (m : ℕ) (h : Visit) (c d : Component) (e : List ℤ) (is : e ≡ difference c d) (w0 w1 : Work) (fit : all_fit (difference_listed c d) ≡ true) where
-  abbrev over_first : Walked (Option (List ℤ)) → Walked (Option (List ℤ))
-  over_first o = walk_on o (λ p. found_or p (point_below m h (difference c d)))
-
-  from_fit : same_component m h c d w0 ≡ over_first (point_above m h e w0)
-  from_fit = listed_goes (difference_listed c d) (λ done w. over_first (point_above m h (difference c d) w)) w0 fit ∙ ap (λ (f : List ℤ). over_first (point_above m h f w0)) (sym is)
-
-  pub above_found : (o : Option (List ℤ)) (p : List ℤ) → o ≡ Some p → point_above m h e w0 ≡ Made o w1 → same_component m h c d w0 ≡ Made (Some p) w1
-  above_found o p some s = from_fit ∙ ap over_first s ∙ ap (λ (q : Option (List ℤ)). over_first (Made q w1)) some
-
-  pub none_above : (o : Option (List ℤ)) → o ≡ None → point_above m h e w0 ≡ Made o w1 → same_component m h c d w0 ≡ point_below m h e w1
-  none_above o none s = from_fit ∙ ap over_first s ∙ ap (λ (q : Option (List ℤ)). over_first (Made q w1)) none ∙ ap (λ (f : List ℤ). point_below m h f w1) (sym is)
+pub from_fit : (m : ℕ) (h : Visit) (c d : Component) (e : List ℤ) → e ≡ difference c d → all_fit (difference_listed c d) ≡ true → (next : Walking (Option (List ℤ))) (w : Work) → above_or_below m h e next w ≡ component_or m h c d next w
+from_fit m h c d e is fit next w = ap (λ (f : List ℤ). above_or_below m h f next w) is ∙ sym (listed_goes (difference_listed c d) (λ done. above_or_below m h (difference c d) next) w fit)
 
 -- ---- the components in order
 
-module _ (m : ℕ) (k l : ScopedForms) (kept : IsKeptContext k l) (depth : ℕ) (cs ds : List Component) (i : ℕ) (c d : Component) (lc : i < length cs) (ld : i < length ds) (ec : c ≡ get_or cs i c) (ed : d ≡ get_or ds i d) (w0 w1 w2 : Work)
-    (before : same_lists m (visit_of k depth) cs ds w0 ≡ same_lists m (visit_of k depth) (drop i cs) (drop i ds) w1) where
-  abbrev then_others : Walked (Option (List ℤ)) → Walked (Option (List ℤ))
-  then_others o = walk_on o (λ p. found_or p (same_lists m (visit_of k depth) (drop (i + 1) cs) (drop (i + 1) ds)))
+pub drop_at : (xs : List Component) (i : ℕ) (x : Component) → i < length xs → x ≡ get_or xs i x → drop i xs ≡ x ∷ drop (i + 1) xs
+drop_at xs i x l e = drop-cons xs i x l ∙ ap (λ (y : Component). y ∷ drop (suc i) xs) (sym e) ∙ (let s : suc i ≡ i + 1 = omega arith in ap (λ (n : ℕ). x ∷ drop n xs) s)
 
-  at_component : same_lists m (visit_of k depth) cs ds w0 ≡ then_others (same_component m (visit_of l depth) c d w1)
-  at_component = before ∙ lists_step m (visit_of k depth) cs ds i c d lc ld ec ed w1 ∙ ap (λ (h : Visit). then_others (same_component m h c d w1)) (sym (kept_visit k l depth kept))
+pub wide_at : (w x : ℕ) (cs : List Component) (i : ℕ) (c : Component) → IsTrue (is_scoped w (Leaf cs)) → x ≡ w → i < length cs → c ≡ get_or cs i c → length c.form ≡ x + 1
+wide_at w x cs i c h same l e =
+    let wide = all_wide w cs (scoped_of w cs h).each i c l in
+    ap (λ (d : Component). length d.form) e ∙ wide ∙ ap (λ (n : ℕ). n + 1) (sym same)
 
-  pub lists_stop : (o : Option ToolRefusal) → IfSome o (λ f. same_component m (visit_of l 0) c d w1 ≡ Stopped f w2) → IfSome o (λ f. same_lists m (visit_of k depth) cs ds w0 ≡ Stopped f w2)
-  lists_stop None s = s
-  lists_stop (Some f) s = at_component ∙ ap then_others s
+module _ (m : ℕ) (k l : ScopedForms) (kept : IsKeptContext k l) (depth : ℕ) (cs ds : List Component) (i : ℕ) (c d : Component) (lc : i < length cs) (ld : i < length ds) (ec : c ≡ get_or cs i c) (ed : d ≡ get_or ds i d) where
+  abbrev pub others : Walking (Option (List ℤ))
+  others = same_lists m (visit_of k depth) (drop (i + 1) cs) (drop (i + 1) ds)
 
-  on_found : (o : Option (List ℤ)) → is_some o ≡ true → then_others (Made o w2) ≡ Made o w2
-  on_found None e = cc
-  on_found (Some p) e = refl
+  pub at_component : (w : Work) → component_or m (visit_of l 0) c d others w ≡ same_lists m (visit_of k depth) (drop i cs) (drop i ds) w
+  at_component w =
+      ap (λ (h : Visit). component_or m h c d others w) (kept_visit k l 0 kept)
+      ∙ sym (ap (λ (xs : List Component). same_lists m (visit_of k depth) xs (drop i ds) w) (drop_at cs i c lc ec) ∙ ap (λ (xs : List Component). same_lists m (visit_of k depth) (c ∷ drop (i + 1) cs) xs w) (drop_at ds i d ld ed))
 
-  pub lists_found : (o : Option (List ℤ)) → is_some o ≡ true → same_component m (visit_of l 0) c d w1 ≡ Made o w2 → same_lists m (visit_of k depth) cs ds w0 ≡ Made o w2
-  lists_found o e s = at_component ∙ ap then_others s ∙ on_found o e
+-- ---- two lists are compared where they have as many components
 
-  on_none : (o : Option (List ℤ)) → is_some o ≡ false → then_others (Made o w2) ≡ same_lists m (visit_of k depth) (drop (i + 1) cs) (drop (i + 1) ds) w2
-  on_none None e = refl
-  on_none (Some p) e = cc
+module _ (m : ℕ) (h : Visit) (cs ds : List Component) (w : Work) where
+  abbrev by_lengths : Bool → Walked (Option (List ℤ))
+  by_lengths b = (if b then same_lists m h (widened_components h.places cs) ds else differ_here m h) w
 
-  pub lists_go_on : (o : Option (List ℤ)) → is_some o ≡ false → same_component m (visit_of l 0) c d w1 ≡ Made o w2 → same_lists m (visit_of k depth) cs ds w0 ≡ same_lists m (visit_of k depth) (drop (i + 1) cs) (drop (i + 1) ds) w2
-  lists_go_on o e s = at_component ∙ ap then_others s ∙ on_none o e
+  pub leaves_alike : length cs ≡ length ds → same_leaves m h (Solved (Leaf cs)) (Solved (Leaf ds)) w ≡ same_lists m h (widened_components h.places cs) ds w
+  leaves_alike e = ap by_lengths (eq-eqb (length cs) (length ds) e)

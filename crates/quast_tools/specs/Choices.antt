@@ -1,22 +1,14 @@
 -- The parts of a walk that makes the lesser of two answers.
-use Rattle.std.specs.Prelude.{◌≡◌, ℕ, ◌+◌, ◌-◌, ◌*◌, ◌<◌, ◌≤◌, List, length, drop, All, ℤ, ⊤}
-use Rattle.pip_model.specs.Limits.{most_components}
+use Rattle.std.specs.Prelude.{◌≡◌, ℕ, ◌+◌, ◌-◌, ◌*◌, ◌≤◌, List, length, drop, ℤ, ⊤}
 use Rattle.pip_model.specs.Run.{class}
 use Rattle.pip_model.specs.Tree as model
 use Rattle.pip_model.specs.Tree.{Tree, If, Component}
 use Rattle.pip_model.specs.Walks.{Walking, ◌>>=◌, ◌>>◌, make, by_run, Visit, where_holds, by_class}
 use Rattle.pip_model.specs.Tools.{count_if, not_below, least_lists}
-use Rattle.quast.specs.Components.{IsComponent, width_of}
+use Rattle.quast_tools.specs.Pairs.{AreLists}
 use Rattle.quast_tools.specs.declared.rest.Known.{Known}
 use Rattle.quast_tools.specs.declared.rest.Known.TheVariants as known
 use Rattle.quast_tools.specs.declared.rest.Rest.{Rest}
-
--- components that make a list over w places
-pub record IsList (w : ℕ) (cs : List Component) : Type 0 where
-  pub some : 0 < length cs
-  pub few : length cs ≤ most_components
-  pub width : width_of cs ≡ w
-  pub components : All (IsComponent (width_of cs)) cs
 
 -- by the sign of a form: what comes next, or a leaf, or a node that chooses over both
 abbrev pub chosen_by : Visit → List ℤ → (Visit → Walking Tree) → Tree → Walking Tree
@@ -43,9 +35,7 @@ IsWideForm w (known.NotBelow e) = length e.now ≡ w + 1
 
 -- two lists over w places of as many components, and the next one of them
 pub record IsRest (w : ℕ) (r : Rest) : Type 0 where
-  pub first : IsList w r.first.now
-  pub second : IsList w r.second.now
-  pub lengths : length r.first.now ≡ length r.second.now
+  pub lists : AreLists w r.first.now r.second.now
   pub next : r.next + steps r.known ≤ length r.first.now
   pub wide : IsWideForm w r.known
 

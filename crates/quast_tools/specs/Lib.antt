@@ -1,4 +1,5 @@
 pub mod Searches
 pub mod Samenesses
+pub mod Pairs
 pub mod Choices
 pub mod Nodes

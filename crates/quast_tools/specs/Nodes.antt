@@ -1,5 +1,8 @@
 -- What is made before it is an answer.
-use Rattle.std.specs.Prelude.{ℕ, ◌≤◌, Option, Some, None}
+use Rattle.std.specs.Prelude.{ℕ, ◌+◌, ◌^◌, ◌<◌, ◌≤◌, ℤ, List, Option, Some, None}
+use Rattle.pip_model.specs.Contexts.{IsContext}
+use Rattle.pip_model.specs.Limits.{most_nesting}
+use Rattle.pip_model.specs.Printed.{IsPrintableAnswer}
 use Rattle.pip_model.specs.Tree as model
 use Rattle.pip_model.specs.WellFormed.{IsWellFormedAnswer}
 use Rattle.quast.specs.Answers.{answer_of, IsOver}
@@ -18,3 +21,10 @@ pub record IsWithinLimits (w most : ℕ) (a : Answer) : Type 0 where
   pub well_formed : IsWellFormedAnswer w (answer_of a)
   pub scope : IsOver w a
   pub nested : answer_nesting a ≤ most
+
+-- rows that are a context over w places, and an answer over these
+pub record AreGiven (w : ℕ) (rows : List (List ℤ)) (a : model.Answer) : Type 0 where
+  pub context : IsContext w rows
+  pub small : w + most_nesting < 2 ^ 127
+  pub printable : IsPrintableAnswer w a
+  pub well_formed : IsWellFormedAnswer w a

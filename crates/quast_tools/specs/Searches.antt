@@ -1,37 +1,32 @@
 -- The parts of a walk that looks for a difference.
-use Rattle.std.specs.Prelude.{ℕ, ◌++◌, ℤ, pos, negsuc, ◌-ℤ◌, List, [], ◌∷◌, Option, Some, None}
+use Rattle.std.specs.Prelude.{◌≡◌, ℕ, ◌++◌, ℤ, pos, negsuc, ◌-ℤ◌, List, [], ◌∷◌, Option, Some, None, IfSome, Result, Ok, Err}
 use Rattle.pip_model.specs.Forms.{constant, plus, opposite}
 use Rattle.pip_model.specs.Listed.{opposite_listed}
 use Rattle.pip_model.specs.Tree.{Component}
-use Rattle.pip_model.specs.Run.{point, listed}
-use Rattle.pip_model.specs.Walks.{Walking, ◌>>=◌, ◌>>◌, make, by_run, Visit}
-use Rattle.pip_model.specs.Tools.{difference, difference_listed, first_numbers}
+use Rattle.pip_model.specs.Run.{Work, point, listed}
+use Rattle.pip_model.specs.Walks.{Walked, Made, Stopped, Walking, ◌>>=◌, ◌>>◌, by_run, Visit}
+use Rattle.pip_model.specs.Tools.{difference, difference_listed, differ_or}
+use Rattle.quast_walk.specs.Faults.{tool_fault}
+use Rattle.quast_walk.specs.declared.refusal.ToolRefusal.{ToolRefusal}
 
--- the context's point where c is at least 0, cut to m numbers
-abbrev pub point_where : ℕ → Visit → List ℤ → Walking (Option (List ℤ))
-point_where m h c = do
+-- after a calculation the context's point where c is at least 0, cut to m numbers, else what comes next
+abbrev pub point_or : ℕ → Visit → List ℤ → List ℤ → Walking (Option (List ℤ)) → Walking (Option (List ℤ))
+point_or m h zs c next = do
+  by_run (listed zs)
   some ← by_run (point h.places (h.context ++ c ∷ []))
-  make (first_numbers m some)
+  differ_or m some next
 
--- such a point where e is at least 1; where it is at most -1
-abbrev pub point_above : ℕ → Visit → List ℤ → Walking (Option (List ℤ))
-point_above m h e = do
-  by_run (listed ((constant e -ℤ pos 1) ∷ []))
-  point_where m h (plus e (negsuc 0))
+-- where two components differ by e, the first above or below the second, else what comes next
+abbrev pub above_or_below : ℕ → Visit → List ℤ → Walking (Option (List ℤ)) → Walking (Option (List ℤ))
+above_or_below m h e next = point_or m h ((constant e -ℤ pos 1) ∷ []) (plus e (negsuc 0)) (point_or m h (opposite_listed e) (opposite e) next)
 
-abbrev pub point_below : ℕ → Visit → List ℤ → Walking (Option (List ℤ))
-point_below m h e = do
-  by_run (listed (opposite_listed e))
-  point_where m h (opposite e)
-
--- the point that was found, else what comes next
-abbrev pub found_or : Option (List ℤ) → Walking (Option (List ℤ)) → Walking (Option (List ℤ))
-found_or None next = next
-found_or (Some p) next = make (Some p)
-
--- where two components differ
-abbrev pub same_component : ℕ → Visit → Component → Component → Walking (Option (List ℤ))
-same_component m h c d = do
+abbrev pub component_or : ℕ → Visit → Component → Component → Walking (Option (List ℤ)) → Walking (Option (List ℤ))
+component_or m h c d next = do
   by_run (listed (difference_listed c d))
-  above ← point_above m h (difference c d)
-  found_or above (point_below m h (difference c d))
+  above_or_below m h (difference c d) next
+
+-- a point that was found, a refusal, or what comes next
+abbrev pub Finds : Result (Option (List ℤ)) ToolRefusal → Work → Walked (Option (List ℤ)) → Walking (Option (List ℤ)) → Type 0
+Finds (Ok None) now whole next = whole ≡ next now
+Finds (Ok (Some p)) now whole next = whole ≡ Made (Some p) now
+Finds (Err e) now whole next = IfSome (tool_fault e) (λ f. whole ≡ Stopped f now)

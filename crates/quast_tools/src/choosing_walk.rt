@@ -1,18 +1,18 @@
-ghost use Rattle.std.specs.Prelude.{◌≡◌, ◌+◌, ◌*◌, ◌≤◌, false};
+ghost use Rattle.std.specs.Prelude.{◌≡◌, ◌+◌, ◌*◌, ◌≤◌, false, IsTrue};
 ghost use Rattle.pip_model.specs.Limits.{most_components};
 ghost use Rattle.pip_model.specs.ToolAgreement.{AgreesWalked};
 ghost use Rattle.pip_model.specs.Tools.{choosing, least_first, least_leaves, least_second, tree_or_bottom};
-ghost use Rattle.pip_model.specs.Tree.{Tree};
+ghost use Rattle.pip_model.specs.Tree.{Tree, is_scoped};
 ghost use Rattle.pip_model.specs.Walks.{start_visit};
 ghost use Rattle.context.specs.Scoped.{IsKeptContext};
 ghost use Rattle.quast.specs.Answers.{answer_of, IsOver};
 ghost use Rattle.quast.specs.Trees.{tree_of};
 ghost use Rattle.quast_walk.specs.Faults.{tool_fault};
-ghost use Rattle.quast_walk.specs.Readings.{leaf_tree, answer_nesting, IsWithin, HasRoom};
+ghost use Rattle.quast_walk.specs.Readings.{leaf_tree, answer_nesting, HasRoom};
 ghost use Rattle.quast_walk.specs.Visits.{visit_of};
 
 use crate::lesser_leaves::choose_at_leaves;
-use crate::lesser_lists::count_if;
+use crate::lesser_lists::{count_if, raise};
 use crate::nodes::{choice, definition};
 use affine_forms::{Form, WantOfMemory};
 use context::{Context, Work};
@@ -56,8 +56,7 @@ impl Walker for Choosing<'_> {
     }
 
     fn at_quotient(&self, depth: u64, work: &Work) -> Result<(), ToolRefusal> {
-        work.check_nesting(depth + 1)?;
-        Ok(())
+        raise(depth, work)
     }
 
     fn at_leaf(
@@ -105,7 +104,7 @@ impl Walker for Lessening<'_> {
 
     ghost room = { λ s. 2 * most_components };
 
-    ghost IsReady = { λ s. IsWithin (s.reading.parameters + s.reading.between) s.first };
+    ghost IsReady = { λ s. IsTrue (is_scoped (s.reading.parameters + s.reading.between) (leaf_tree s.first)) };
 
     ghost ends = { λ made. false };
 
@@ -118,8 +117,7 @@ impl Walker for Lessening<'_> {
     }
 
     fn at_quotient(&self, depth: u64, work: &Work) -> Result<(), ToolRefusal> {
-        work.check_nesting(depth + 1)?;
-        Ok(())
+        raise(depth, work)
     }
 
     fn at_leaf(
@@ -155,7 +153,7 @@ fn choose_second(
     work: &mut Work,
 ) -> Result<Node, ToolRefusal>
     requires few { reading.now.parameters ≤ context.old.width }
-    requires leaf { IsWithin context.old.width leaf }
+    requires leaf { IsTrue (is_scoped context.old.width (leaf_tree leaf)) }
     requires answer { IsOver reading.now.parameters answer.now }
     requires room { HasRoom (2 * answer_nesting answer.now + 2 * most_components) depth 0 context.old }
     ensures gives { AgreesWalked tree_of tool_fault result work.new

@@ -1,13 +1,16 @@
-ghost use Rattle.std.specs.Prelude.{◌≡◌, ℕ, ◌+◌, ◌≤◌, length, All, IfSome};
+ghost use Rattle.std.specs.Prelude.{◌≡◌, ℕ, ◌+◌, ◌≤◌, ℤ, List, Option, length, IfOk, IfSome};
+ghost use Rattle.pip_model.specs.Agreement.{IsChecked};
 ghost use Rattle.pip_model.specs.ToolAgreement.{AgreesWalked};
 ghost use Rattle.pip_model.specs.Tools.{differ_here, first_numbers, same_lists};
+ghost use Rattle.pip_model.specs.Walks.{Walking};
+ghost use Rattle.affine_forms.specs.Checks.{is_form_overflow};
 ghost use Rattle.context.specs.Scoped.{IsKeptContext};
 ghost use Rattle.quast_walk.specs.Faults.{tool_fault};
-ghost use Rattle.quast_walk.specs.Readings.{IsWide};
 ghost use Rattle.quast_walk.specs.Visits.{visit_of};
-ghost use Rattle.quast_tools.specs.Searches.{point_where, point_above as above_of, point_below as below_of, same_component};
+ghost use Rattle.quast_tools.specs.Pairs.{AreLists};
+ghost use Rattle.quast_tools.specs.Searches.{point_or, component_or, Finds};
 
-use affine_forms::Form;
+use affine_forms::{Form, FormRefusal};
 use context::{Context, Point, Work};
 use quast::Component;
 use quast_walk::{Reading, ToolRefusal, above, below, difference, enter, leave, mark, point};
@@ -40,61 +43,27 @@ pub(crate) fn find_here(
     Ok(cut(found, reading.parameters))
 }
 
-// The context's point where a condition is at least 0, cut to its parameters.
+// The context's point where a condition that was calculated is at least 0, cut to its parameters.
 fn find_where(
     reading: &Reading,
-    condition: Form,
+    condition: Result<Form, FormRefusal>,
     context: &mut Context,
     work: &mut Work,
 ) -> Result<Option<Point>, ToolRefusal>
     requires few { reading.now.parameters ≤ context.old.width }
-    requires narrow { length condition ≤ context.old.width + 1 }
+    requires narrow { IfOk condition (λ c. length c ≤ context.old.width + 1) }
     requires room { 1 ≤ context.old.spare }
-    ensures gives { AgreesWalked (λ o. o) tool_fault result work.new
-        (point_where reading.now.parameters (visit_of context.old 0) condition work.old) }
+    ensures finds { (zs c : List ℤ) → (next : Walking (Option (List ℤ))) → IsChecked is_form_overflow zs condition →
+        IfOk condition (λ x. x ≡ c) → Finds result work.new
+        (point_or reading.now.parameters (visit_of context.old 0) zs c next work.old) next }
     ensures kept { IsKeptContext context.old context.new }
 {
+    let condition = condition?;
     let start = mark(context);
     enter(context, condition);
     let found = find_here(reading, context, work);
     leave(context, start);
     found
-}
-
-// The context's point where a form is above 0, cut to its parameters.
-fn find_above(
-    reading: &Reading,
-    form: &Form,
-    context: &mut Context,
-    work: &mut Work,
-) -> Result<Option<Point>, ToolRefusal>
-    requires few { reading.now.parameters ≤ context.old.width }
-    requires narrow { length form.now ≤ context.old.width + 1 }
-    requires room { 1 ≤ context.old.spare }
-    ensures gives { AgreesWalked (λ o. o) tool_fault result work.new
-        (above_of reading.now.parameters (visit_of context.old 0) form.now work.old) }
-    ensures kept { IsKeptContext context.old context.new }
-{
-    let condition = above(reading.alloc, form)?;
-    find_where(reading, condition, context, work)
-}
-
-// The context's point where a form is below 0, cut to its parameters.
-fn find_below(
-    reading: &Reading,
-    form: &Form,
-    context: &mut Context,
-    work: &mut Work,
-) -> Result<Option<Point>, ToolRefusal>
-    requires few { reading.now.parameters ≤ context.old.width }
-    requires narrow { length form.now ≤ context.old.width + 1 }
-    requires room { 1 ≤ context.old.spare }
-    ensures gives { AgreesWalked (λ o. o) tool_fault result work.new
-        (below_of reading.now.parameters (visit_of context.old 0) form.now work.old) }
-    ensures kept { IsKeptContext context.old context.new }
-{
-    let condition = below(reading.alloc, form)?;
-    find_where(reading, condition, context, work)
 }
 
 // The first point of the context at which two components differ: the first is above the second there, or below it.
@@ -106,21 +75,25 @@ fn find_unequal(
     work: &mut Work,
 ) -> Result<Option<Point>, ToolRefusal>
     requires few { reading.now.parameters ≤ context.old.width }
-    requires first { IsWide context.old.width first.now }
-    requires second { IsWide context.old.width second.now }
+    requires first { length first.now.form ≡ context.old.width + 1 }
+    requires second { length second.now.form ≡ context.old.width + 1 }
     requires room { 1 ≤ context.old.spare }
-    ensures gives { AgreesWalked (λ o. o) tool_fault result work.new
-        (same_component reading.now.parameters (visit_of context.old 0) first.now second.now work.old) }
+    ensures finds { (next : Walking (Option (List ℤ))) → Finds result work.new
+        (component_or reading.now.parameters (visit_of context.old 0) first.now second.now next work.old) next }
     ensures kept { IsKeptContext context.old context.new }
 {
     let form = difference(reading.alloc, first, second)?;
-    match find_above(reading, &form, context, work)? {
+    let over = above(reading.alloc, &form);
+    match find_where(reading, over, context, work)? {
         Some(point) => Ok(Some(point)),
-        None => find_below(reading, &form, context, work),
+        None => {
+            let under = below(reading.alloc, &form);
+            find_where(reading, under, context, work)
+        }
     }
 }
 
-// The first point at which two lists differ, of as many components.
+// The first point at which two lists differ.
 pub(crate) fn find_in_lists(
     reading: &Reading,
     first: &[Component],
@@ -129,9 +102,7 @@ pub(crate) fn find_in_lists(
     work: &mut Work,
 ) -> Result<Option<Point>, ToolRefusal>
     requires few { reading.now.parameters ≤ context.old.width }
-    requires first { All (IsWide context.old.width) first.now }
-    requires second { All (IsWide context.old.width) second.now }
-    requires lengths { length first.now ≡ length second.now }
+    requires lists { AreLists context.old.width first.now second.now }
     requires room { 1 ≤ context.old.spare }
     ensures gives { (depth : ℕ) → AgreesWalked (λ o. o) tool_fault result work.new
         (same_lists reading.now.parameters (visit_of context.old depth) first.now second.now work.old) }

@@ -1,17 +1,34 @@
-ghost use Rattle.std.specs.Prelude.{◌≡◌, ℕ, ◌≤◌, IsTrue};
+ghost use Rattle.std.specs.Prelude.{◌≡◌, ℕ, ◌+◌, ◌≤◌, IfOk, IsTrue};
 ghost use Rattle.pip_model.specs.ToolAgreement.{AgreesWalked};
-ghost use Rattle.pip_model.specs.Tools.{same_leaves, spread_tree};
+ghost use Rattle.pip_model.specs.Tools.{same_leaves, spread_tree, widened_components};
 ghost use Rattle.pip_model.specs.Tree as model;
 ghost use Rattle.pip_model.specs.Tree.{is_scoped};
 ghost use Rattle.context.specs.Scoped.{IsKeptContext};
 ghost use Rattle.quast_walk.specs.Faults.{tool_fault};
-ghost use Rattle.quast_walk.specs.Readings.{leaf_answer, leaf_tree, spread_answer, IsListWithin, IsWithin};
+ghost use Rattle.quast_walk.specs.Readings.{leaf_answer, leaf_tree, spread_answer};
 ghost use Rattle.quast_walk.specs.Visits.{visit_of};
+ghost use Rattle.quast_tools.specs.Pairs.{AreMet};
 
 use crate::finding::{find_here, find_in_lists};
+use affine_forms::WantOfMemory;
 use context::{Context, Point, Work};
 use quast::Component;
-use quast_walk::{Leaf, Reading, ToolRefusal, spread_list, widened_list};
+use quast_walk::{Leaf, Reading, ToolRefusal, spread_list};
+
+// A list of the first tree over so many places, of which its own are the first.
+pub(crate) fn first_list(
+    reading: &Reading,
+    components: &[Component],
+    places: usize,
+) -> Result<Vec<Component>, WantOfMemory>
+    requires few { reading.now.parameters + reading.now.between ≤ places }
+    requires scoped { IsTrue (is_scoped (reading.now.parameters + reading.now.between) (model.Leaf components.now)) }
+    ensures { IfOk result (λ v. v.items ≡ widened_components places components.now) }
+{
+    let own = reading.parameters + reading.between;
+    let wide = spread_list(reading.alloc, components, own, places - own)?;
+    Ok(wide)
+}
 
 // The first point at which two lists differ: a list of the first tree, over no more places, and one of the second.
 fn find_between(
@@ -21,10 +38,8 @@ fn find_between(
     context: &mut Context,
     work: &mut Work,
 ) -> Result<Option<Point>, ToolRefusal>
-    requires few { reading.now.parameters ≤ context.old.width }
-    requires first { IsListWithin context.old.width first.now }
-    requires second { IsTrue (is_scoped context.old.width
-        (spread_tree reading.now.parameters reading.now.between (model.Leaf second.now))) }
+    requires met { AreMet reading.now.parameters reading.now.between context.old.width (model.Leaf first.now)
+        (model.Leaf second.now) }
     requires room { 1 ≤ context.old.spare }
     ensures gives { (depth : ℕ) → AgreesWalked (λ o. o) tool_fault result work.new
         (same_leaves reading.now.parameters (visit_of context.old depth) (model.Solved (model.Leaf first.now))
@@ -34,7 +49,7 @@ fn find_between(
     if first.len() != second.len() {
         return find_here(reading, context, work);
     }
-    let wide = widened_list(reading.alloc, first, context.mark().width)?;
+    let wide = first_list(reading, first, context.mark().width)?;
     let other = spread_list(reading.alloc, second, reading.parameters, reading.between)?;
     find_in_lists(reading, &wide, &other, context, work)
 }
@@ -47,10 +62,8 @@ pub(crate) fn find_at_leaves(
     context: &mut Context,
     work: &mut Work,
 ) -> Result<Option<Point>, ToolRefusal>
-    requires few { reading.now.parameters ≤ context.old.width }
-    requires first { IsWithin context.old.width first }
-    requires second { IsTrue (is_scoped context.old.width
-        (spread_tree reading.now.parameters reading.now.between (leaf_tree second))) }
+    requires met { AreMet reading.now.parameters reading.now.between context.old.width (leaf_tree first)
+        (leaf_tree second) }
     requires room { 1 ≤ context.old.spare }
     ensures gives { (depth : ℕ) → AgreesWalked (λ o. o) tool_fault result work.new
         (same_leaves reading.now.parameters (visit_of context.old depth) (leaf_answer first.entry)

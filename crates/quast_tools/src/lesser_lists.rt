@@ -1,19 +1,18 @@
-ghost use Rattle.std.specs.Prelude.{◌≡◌, ℕ, ◌+◌, ◌^◌, ◌<◌, ◌≤◌, length, All, IfOk};
-ghost use Rattle.pip_model.specs.Limits.{most_components};
-ghost use Rattle.pip_model.specs.Run.{Work as Counts};
+ghost use Rattle.std.specs.Prelude.{◌≡◌, ℕ, ◌+◌, ◌^◌, ◌<◌, length, IfOk, IsTrue};
+ghost use Rattle.pip_model.specs.Run.{Work as Counts, check_nesting};
 ghost use Rattle.pip_model.specs.ToolAgreement.{AgreesWalked};
 ghost use Rattle.pip_model.specs.Tools.{count_if as count_of};
 ghost use Rattle.pip_model.specs.Tree as model;
-ghost use Rattle.pip_model.specs.Walks.{Walked, walk_on, make};
+ghost use Rattle.pip_model.specs.Tree.{is_scoped};
+ghost use Rattle.pip_model.specs.Walks.{Walked, walk_on, make, by_run};
 ghost use Rattle.context.specs.Scoped.{ScopedForms, IsKeptContext};
-ghost use Rattle.quast.specs.Components.{IsComponent, width_of};
 ghost use Rattle.quast.specs.Trees.{tree_of};
 ghost use Rattle.quast_walk.specs.Faults.{tool_fault};
 ghost use Rattle.quast_walk.specs.Readings.{HasRoom};
 ghost use Rattle.quast_walk.specs.Visits.{visit_of};
-ghost use Rattle.quast_tools.specs.Choices.{chosen_by, left, rest_chosen, IsList, IsRest};
+ghost use Rattle.quast_tools.specs.Choices.{chosen_by, left, rest_chosen, IsRest};
 
-use crate::nodes::{choice, list};
+use crate::nodes::{choice, list_again};
 use crate::rest::{Known, Rest};
 use affine_forms::Form;
 use context::{Context, Work};
@@ -22,6 +21,15 @@ use quast_walk::{ToolRefusal, difference, enter, leave, mark, negated, sign};
 use sign_split::Class;
 use std::alloc::Global;
 
+// Below one more node of the tree that is made: the nesting is raised.
+pub(crate) fn raise(depth: u64, work: &Work) -> Result<(), ToolRefusal>
+    requires { depth < 2 ^ 63 }
+    ensures { AgreesWalked (λ x. tt) tool_fault result work.now (by_run (check_nesting (depth + 1)) work.now) }
+{
+    work.check_nesting(depth + 1)?;
+    Ok(())
+}
+
 // Before the two trees of a node that chooses, of the tree that is made: it is counted, and then the nesting is raised.
 pub(crate) fn count_if(depth: u64, work: &mut Work) -> Result<(), ToolRefusal>
     requires { depth < 2 ^ 63 }
@@ -29,8 +37,7 @@ pub(crate) fn count_if(depth: u64, work: &mut Work) -> Result<(), ToolRefusal>
         (count_of (visit_of k depth) work.old) }
 {
     work.count_split()?;
-    work.check_nesting(depth + 1)?;
-    Ok(())
+    raise(depth, work)
 }
 
 // Before the two trees of a node that chooses by a condition, which is kept for the node.
@@ -52,15 +59,13 @@ fn joined(
     made: Result<Node, ToolRefusal>,
     other: &[Component],
 ) -> Result<Node, ToolRefusal>
-    requires some { 0 < length other.now }
-    requires few { length other.now ≤ most_components }
-    requires components { All (IsComponent (width_of other.now)) other.now }
+    requires { (w : ℕ) × IsTrue (is_scoped w (model.Leaf other.now)) }
     ensures { (part : Walked model.Tree) → (w : Counts) → AgreesWalked tree_of tool_fault made w part →
         AgreesWalked tree_of tool_fault result w
         (walk_on part (λ x. make (model.If form x (model.Leaf other.now)))) }
 {
     let first = made?;
-    let second = list(alloc, other)?;
+    let second = list_again(alloc, other)?;
     let node = choice(alloc, form, first, second)?;
     Ok(node)
 }
@@ -82,11 +87,16 @@ pub(crate) fn choose_rest(
     match rest.known {
         Known::NotBelow(form) => {
             let opposite = negated(rest.alloc, form)?;
-            choose_by(&opposite, rest.second, &rest.past(), context, work)
+            let next = Rest {
+                next: rest.next + 1,
+                known: Known::Nothing,
+                ..*rest
+            };
+            choose_by(&opposite, rest.second, &next, context, work)
         }
         Known::Nothing => {
             if rest.next == rest.first.len() {
-                return Ok(list(rest.alloc, rest.first)?);
+                return Ok(list_again(rest.alloc, rest.first)?);
             }
             let form = difference(rest.alloc, &rest.first[rest.next], &rest.second[rest.next])?;
             choose_by(&form, rest.first, &rest.not_below(&form), context, work)
@@ -104,7 +114,7 @@ fn choose_by(
     work: &mut Work,
 ) -> Result<Node, ToolRefusal>
     requires form { length form.now ≡ context.old.width + 1 }
-    requires other { IsList context.old.width other.now }
+    requires other { IsTrue (is_scoped context.old.width (model.Leaf other.now)) }
     requires next { IsRest context.old.width next.now }
     requires room { HasRoom (left next.now + 1) next.now.depth 0 context.old }
     ensures gives { AgreesWalked tree_of tool_fault result work.new
@@ -114,12 +124,16 @@ fn choose_by(
 {
     match sign(next.alloc, form, context, work)? {
         Class::Plus => choose_rest(next, context, work),
-        Class::Minus => Ok(list(next.alloc, other)?),
+        Class::Minus => Ok(list_again(next.alloc, other)?),
         Class::Unknown(condition) => {
             let form = split(next, &condition, work)?;
             let start = mark(context);
             enter(context, condition);
-            let made = choose_rest(&next.deeper(), context, work);
+            let deeper = Rest {
+                depth: next.depth + 1,
+                ..*next
+            };
+            let made = choose_rest(&deeper, context, work);
             leave(context, start);
             joined(next.alloc, form, made, other)
         }

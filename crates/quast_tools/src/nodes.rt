@@ -1,14 +1,15 @@
-ghost use Rattle.std.specs.Prelude.{◌≡◌, ◌<◌, ◌≤◌, length, All, IfOk, IfSome};
-ghost use Rattle.pip_model.specs.Limits.{most_components};
+ghost use Rattle.std.specs.Prelude.{◌≡◌, ℕ, IfOk, IfSome, IsTrue};
+ghost use Rattle.pip_model.specs.Tools.{spread_tree};
 ghost use Rattle.pip_model.specs.Tree as model;
+ghost use Rattle.pip_model.specs.Tree.{is_scoped};
 ghost use Rattle.quast.specs.Answers.{answer_of, IsOver};
-ghost use Rattle.quast.specs.Components.{IsComponent, width_of};
 ghost use Rattle.quast.specs.Trees.{tree_of, IsQuast};
-ghost use Rattle.quast_tools.specs.Nodes.{node_answer};
+ghost use Rattle.quast_walk.specs.Readings.{leaf_tree};
+ghost use Rattle.quast_tools.specs.Nodes.{node_answer, AreGiven};
 
-use affine_forms::{Form, WantOfMemory};
+use affine_forms::{Form, Forms, WantOfMemory};
 use quast::{Answer, Component, Node, Quast};
-use quast_walk::copies;
+use quast_walk::{Leaf, Reading, levels, spread_list};
 use std::alloc::Global;
 
 // A node that chooses by the sign of a form.
@@ -44,15 +45,46 @@ pub(crate) fn definition(
     Ok(Node::Define(form, den, below))
 }
 
+// The list of these components as they are read, with n zeros behind the first m coefficients of each.
+pub(crate) fn list(
+    alloc: Global,
+    components: &[Component],
+    m: usize,
+    n: usize,
+) -> Result<Node, WantOfMemory>
+    requires { (w : ℕ) × IsTrue (is_scoped w (spread_tree m n (model.Leaf components.now))) }
+    ensures { IfOk result (λ made. tree_of made ≡ spread_tree m n (model.Leaf components.now)) }
+{
+    let read = spread_list(alloc, components, m, n)?;
+    Ok(Quast::list(read).into_node())
+}
+
 // The list of these components.
-pub(crate) fn list(alloc: Global, components: &[Component]) -> Result<Node, WantOfMemory>
-    requires some { 0 < length components.now }
-    requires few { length components.now ≤ most_components }
-    requires components { All (IsComponent (width_of components.now)) components.now }
+pub(crate) fn list_again(alloc: Global, components: &[Component]) -> Result<Node, WantOfMemory>
+    requires { (w : ℕ) × IsTrue (is_scoped w (model.Leaf components.now)) }
     ensures { IfOk result (λ made. tree_of made ≡ model.Leaf components.now) }
 {
-    let components = copies(alloc, components)?;
-    Ok(Quast::list(components).into_node())
+    let made = list(alloc, components, 0, 0)?;
+    Ok(made)
+}
+
+// A leaf as a node, as it is read.
+pub(crate) fn leaf_node(reading: &Reading, leaf: Leaf) -> Result<Node, WantOfMemory>
+    requires { (w : ℕ) × IsTrue
+        (is_scoped w (spread_tree reading.now.parameters reading.now.between (leaf_tree leaf))) }
+    ensures { IfOk result (λ made. tree_of made
+        ≡ spread_tree reading.now.parameters reading.now.between (leaf_tree leaf.entry)) }
+{
+    match leaf {
+        Leaf::Void => Ok(Node::Bottom),
+        Leaf::Bottom => Ok(Node::Bottom),
+        Leaf::List(components) => list(
+            reading.alloc,
+            components,
+            reading.parameters,
+            reading.between,
+        ),
+    }
 }
 
 // The answer of a node over so many parameters; none is `void`.
@@ -65,4 +97,14 @@ pub(crate) fn as_answer(width: usize, made: Option<Node>) -> Answer
         None => Answer::Void,
         Some(node) => Answer::Tree(Quast::from_node(width, node)),
     }
+}
+
+// What holds of the rows and of an answer over them.
+pub(crate) fn given(rows: &Forms, answer: &Answer)
+    requires { IsOver rows.now.width answer.now }
+    ensures { AreGiven rows.now.width rows.now.forms (answer_of answer.now) }
+{
+    let _ = rows.width();
+    let _ = rows.as_slice();
+    let _ = levels(answer);
 }

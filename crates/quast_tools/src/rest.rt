@@ -1,4 +1,4 @@
-ghost use Rattle.std.specs.Prelude.{◌≡◌, ◌+◌, ◌-◌, ◌^◌, ◌<◌};
+ghost use Rattle.std.specs.Prelude.{◌≡◌};
 ghost use Rattle.quast_tools.specs.declared.rest.Known.TheVariants as known;
 
 use affine_forms::Form;
@@ -65,29 +65,6 @@ impl<'t> Rest<'t> {
             next: self.next,
             known: Known::NotBelow(form),
             depth: self.depth,
-        }
-    }
-
-    // Past the next component.
-    pub(crate) fn past(&self) -> Rest<'t>
-        requires { self.now.next < 2 ^ 64 - 1 }
-        ensures { result ≡ record self.now { next = self.now.next + 1; known = known.Nothing } }
-    {
-        Rest {
-            next: self.next + 1,
-            known: Known::Nothing,
-            ..*self
-        }
-    }
-
-    // One node down.
-    pub(crate) fn deeper(&self) -> Rest<'t>
-        requires { self.now.depth < 2 ^ 64 - 1 }
-        ensures { result ≡ record self.now { depth = self.now.depth + 1 } }
-    {
-        Rest {
-            depth: self.depth + 1,
-            ..*self
         }
     }
 }

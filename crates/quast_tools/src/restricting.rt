@@ -1,6 +1,5 @@
-ghost use Rattle.std.specs.Prelude.{◌≡◌, ◌+◌, ◌*◌, ◌≤◌, false, IfOk, IfErr, IfSome};
+ghost use Rattle.std.specs.Prelude.{◌≡◌, ◌*◌, ◌≤◌, false, IfOk, IfErr, IfSome};
 ghost use Rattle.pip_model.specs.Agreement.{Agrees};
-ghost use Rattle.pip_model.specs.Contexts.{IsContext};
 ghost use Rattle.pip_model.specs.Run.{start_work};
 ghost use Rattle.pip_model.specs.ToolAgreement.{AgreesWalked, without_counts};
 ghost use Rattle.pip_model.specs.ToolLaws.{IsRestriction, IsRestrictRefusal};
@@ -12,10 +11,9 @@ ghost use Rattle.pip_model.specs.WellFormed.{IsWellFormedAnswer};
 ghost use Rattle.quast.specs.Answers.{answer_of, IsOver};
 ghost use Rattle.quast.specs.Trees.{tree_of};
 ghost use Rattle.quast_walk.specs.Faults.{tool_fault};
-ghost use Rattle.quast_walk.specs.Readings.{answer_nesting};
 ghost use Rattle.quast_tools.specs.Nodes.{node_answer};
 
-use crate::nodes::{as_answer, choice, definition, list};
+use crate::nodes::{as_answer, choice, definition, given, leaf_node};
 use affine_forms::{Form, Forms, WantOfMemory};
 use context::{Context, Work};
 use pip_problem::Limits;
@@ -72,11 +70,8 @@ impl Walker for Restricting {
         _context: &mut Context,
         _work: &mut Work,
     ) -> Result<Node, ToolRefusal> {
-        match leaf {
-            Leaf::Void => Ok(Node::Bottom),
-            Leaf::Bottom => Ok(Node::Bottom),
-            Leaf::List(components) => Ok(list(self.alloc, components)?),
-        }
+        let made = leaf_node(&self.reading(), leaf)?;
+        Ok(made)
     }
 
     fn is_end(&self, _first: &Node) -> bool {
@@ -111,30 +106,6 @@ fn restrict_tree(
     walk(&walker, tree.root(), 0, context, work)
 }
 
-// The answer on a context that has room for its tree, after what was counted; none is `void`.
-fn restricted_on(
-    alloc: Global,
-    answer: &Answer,
-    context: &mut Context,
-    work: &mut Work,
-) -> Result<Option<Node>, ToolRefusal>
-    requires width { IsOver context.old.width answer.now }
-    requires room { 2 * answer_nesting answer.now ≤ context.old.spare }
-    ensures { AgreesWalked node_answer tool_fault result work.new
-        (model.restrict context.old.width context.old.forms (answer_of answer.now) work.old) }
-{
-    if point(alloc, context, work)?.is_none() {
-        return Ok(None);
-    }
-    match answer {
-        Answer::Void => Ok(None),
-        Answer::Tree(tree) => {
-            let made = restrict_tree(alloc, tree, context, work)?;
-            Ok(Some(made))
-        }
-    }
-}
-
 // The answer on the rows, after what was counted; none is `void`.
 fn restricted(
     alloc: Global,
@@ -147,29 +118,16 @@ fn restricted(
         (model.restrict rows.now.width rows.now.forms (answer_of answer.now) work.old) }
 {
     let mut context = context_of(alloc, rows, levels(answer))?;
-    restricted_on(alloc, answer, &mut context, work)
-}
-
-// The answer on the rows from the start, and what is known of them.
-fn started(
-    alloc: Global,
-    rows: &Forms,
-    answer: &Answer,
-    limits: &Limits,
-) -> Result<Answer, ToolRefusal>
-    requires { IsOver rows.now.width answer.now }
-    ensures gives { Agrees answer_of tool_fault result (without_counts
-        (model.restrict rows.now.width rows.now.forms (answer_of answer.now) (start_work limits.now))) }
-    ensures scope { IfOk result (IsOver rows.now.width) }
-    ensures rows { IsContext rows.now.width rows.now.forms }
-    ensures answer { IsWellFormedAnswer rows.now.width (answer_of answer.now) }
-{
-    let width = rows.width();
-    let _ = rows.as_slice();
-    let _ = levels(answer);
-    let mut work = Work::start(limits);
-    let made = restricted(alloc, rows, answer, &mut work)?;
-    Ok(as_answer(width, made))
+    if point(alloc, &context, work)?.is_none() {
+        return Ok(None);
+    }
+    match answer {
+        Answer::Void => Ok(None),
+        Answer::Tree(tree) => {
+            let made = restrict_tree(alloc, tree, &mut context, work)?;
+            Ok(Some(made))
+        }
+    }
 }
 
 /// The answer at the whole vectors of numbers from 0 on that satisfy the rows: `void` where it is void or there are
@@ -192,6 +150,8 @@ pub fn restrict(
     ensures well_formed { IfOk result (λ a. IsWellFormedAnswer rows.now.width (answer_of a)) }
     ensures scope { IfOk result (IsOver rows.now.width) }
 {
-    let made = started(alloc, rows, answer, limits);
-    made
+    given(rows, answer);
+    let mut work = Work::start(limits);
+    let made = restricted(alloc, rows, answer, &mut work)?;
+    Ok(as_answer(rows.width(), made))
 }

@@ -1,12 +1,12 @@
-ghost use Rattle.std.specs.Prelude.{◌≡◌, ◌+◌, ◌*◌, ◌≤◌, ℤ, List, Option, is_some};
+ghost use Rattle.std.specs.Prelude.{◌≡◌, ◌+◌, ◌*◌, ◌≤◌, ℤ, List, Option, is_some, IsTrue};
 ghost use Rattle.pip_model.specs.ToolAgreement.{AgreesWalked};
 ghost use Rattle.pip_model.specs.Tools.{comparing, same_first, same_leaves, same_second};
-ghost use Rattle.pip_model.specs.Tree.{Solved};
+ghost use Rattle.pip_model.specs.Tree.{Solved, is_scoped};
 ghost use Rattle.pip_model.specs.Walks.{start_visit};
 ghost use Rattle.context.specs.Scoped.{IsKeptContext};
 ghost use Rattle.quast.specs.Answers.{answer_of, IsOver};
 ghost use Rattle.quast_walk.specs.Faults.{tool_fault};
-ghost use Rattle.quast_walk.specs.Readings.{leaf_answer, answer_nesting, IsWithin, HasRoom};
+ghost use Rattle.quast_walk.specs.Readings.{leaf_answer, leaf_tree, answer_nesting, HasRoom};
 ghost use Rattle.quast_walk.specs.Visits.{visit_of};
 
 use crate::leaves::find_at_leaves;
@@ -111,7 +111,7 @@ impl Walker for Meeting<'_> {
 
     ghost room = { λ s. 1 };
 
-    ghost IsReady = { λ s. IsWithin (s.reading.parameters + s.reading.between) s.first };
+    ghost IsReady = { λ s. IsTrue (is_scoped (s.reading.parameters + s.reading.between) (leaf_tree s.first)) };
 
     ghost ends = { is_some };
 
@@ -171,7 +171,7 @@ fn search_second(
     work: &mut Work,
 ) -> Result<Option<Point>, ToolRefusal>
     requires few { reading.now.parameters ≤ context.old.width }
-    requires leaf { IsWithin context.old.width leaf }
+    requires leaf { IsTrue (is_scoped context.old.width (leaf_tree leaf)) }
     requires answer { IsOver reading.now.parameters answer.now }
     requires room { HasRoom (2 * answer_nesting answer.now + 1) depth 0 context.old }
     ensures gives { AgreesWalked (λ o. o) tool_fault result work.new

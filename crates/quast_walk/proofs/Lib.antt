@@ -1,4 +1,3 @@
-pub mod Lowest
 pub mod Placing
 pub mod Walking
 pub mod Narrow

@@ -1,16 +1,19 @@
 -- Lists that are cut, and forms that are read with further places.
-use Rattle.std.proofs.Common.{◌≡◌, ◌∙◌, ap, ap₂, sym, refl, ℕ, ◌+◌, ◌<◌, ◌≤◌, true, List, [], ◌∷◌, ◌++◌, length, take, drop, get_or, map, ℤ, pos, All, int_le, eqb-true, append-nil}
+use Rattle.std.proofs.Common.{◌≡◌, ◌∙◌, ap, ap₂, sym, subst, refl, arith, ℕ, ◌+◌, ◌<◌, ◌≤◌, true, IsTrue, List, [], ◌∷◌, ◌++◌, length, take, drop, get_or, map, ℤ, pos, All, int_le, eqb-true, append-nil}
 use Rattle.std.specs.Prelude.{nat_le}
 use Rattle.std.specs.List.{list_all}
 use Rattle.std.proofs.lemmas.List.{take_min, drop_min, take-append-drop, map_more}
 use Rattle.std.proofs.lemmas.List.Elements.{All-cons, All-nil}
 use Rattle.std.proofs.lemmas.Bool.{leb-true}
 use Rattle.pip_model.specs.Numbers.{gcd, gcd_of, same_number, floor_div}
-use Rattle.pip_model.specs.Forms.{floor_divided}
+use Rattle.pip_model.specs.Forms.{floor_divided, width}
 use Rattle.pip_model.specs.Limits.{most_components}
 use Rattle.pip_model.specs.Tree.{Tree, Bottom, Leaf, If, NewParm, Component, reduced, is_form, is_component, is_scoped}
 use Rattle.pip_model.specs.Tools.{spread, spread_component, spread_tree}
 use Rattle.pip_model.proofs.Tests.{three, both, same_number_is}
+use Rattle.quast.specs.Components.{IsComponent}
+use Rattle.quast.specs.Places.{IsListOver}
+use Rattle.quast_walk.specs.Readings.{IsOwnComponent}
 use Rattle.pip_model.proofs.Gcd.{div_one, floor_divided_one}
 
 pub ruleset cut_lemmas = (take_min, drop_min)
@@ -72,6 +75,15 @@ all_wide w [] h = All-nil (λ c. length c.form ≡ w + 1)
 all_wide w (c ∷ cs) h =
     let parts = both (is_component w c) (list_all (is_component w) cs) h in
     All-cons (λ c. length c.form ≡ w + 1) c cs (component_wide w c parts.0) (all_wide w cs parts.1)
+
+-- of components over their own places
+own_each : (w : ℕ) (c : Component) → IsOwnComponent c → length c.form ≡ w + 1 → IsComponent w c
+own_each w c own wide = let e : width c.form ≡ w = omega (arith, wide) in subst (λ (n : ℕ). IsComponent n c) e own
+
+pub own_list : (w : ℕ) (xs : List Component) → IsTrue (is_scoped w (Leaf xs)) → All IsOwnComponent xs → IsListOver w xs
+own_list w xs h own =
+    let s = scoped_of w xs h in
+    record { some = omega (arith, s.some); few = s.few; components = λ k d l. own_each w (get_or xs k d) (own k d l) (all_wide w xs s.each k d l) }
 
 -- one more is made
 pub made_more : (f : Component → Component) (xs : List Component) (i : ℕ) (x y : Component) (made : List Component) → made ≡ map f (take i xs) → y ≡ f x → x ≡ get_or xs i x → i < length xs → made ++ y ∷ [] ≡ map f (take (i + 1) xs)

@@ -1,7 +1,7 @@
 -- What is known of the trees that are walked, and of their leaves.
 use Rattle.std.proofs.Common.{◌≡◌, ◌∙◌, ap, sym, subst, ℕ, ◌-◌, ◌≤◌, arith, [], Option, Some, None, IsTrue}
 use Rattle.std.specs.Prelude.{IfSome}
-use Rattle.pip_model.specs.Tree.{Tree, Leaf, Solved, is_scoped}
+use Rattle.pip_model.specs.Tree.{Tree, Solved, is_scoped}
 use Rattle.pip_model.specs.Run as run
 use Rattle.pip_model.specs.Run.{Work, Counted, Refused}
 use Rattle.pip_model.specs.Walks.{Stopped, by_run, walked_as, Visit}
@@ -9,26 +9,17 @@ use Rattle.pip_model.specs.Tools.{spread_tree}
 use Rattle.walk_laws.proofs.SecondTree.{second-scoped}
 use Rattle.quast.specs.Trees.{ScopedTree, IsQuast}
 use Rattle.quast_walk.specs.Faults.{by_run_fault}
-use Rattle.quast_walk.specs.Readings.{leaf_answer, leaf_tree, IsWithin, IsTreeAt}
+use Rattle.quast_walk.specs.Readings.{leaf_answer, leaf_tree, IsTreeAt}
 use Rattle.quast_walk.specs.declared.reading.Leaf as code
-use Rattle.quast_walk.specs.declared.reading.Leaf.TheVariants as leaf
 use Rattle.quast_walk.proofs.Placing.{spread_tree-none}
 
 -- a leaf of a tree that is read as it stands
-pub leaf_within : (m n w : ℕ) (l : code.Leaf) → n ≡ 0 → IsTrue (is_scoped w (spread_tree m n (leaf_tree l))) → IsWithin w l
-leaf_within m n w leaf.Void none h = tt
-leaf_within m n w leaf.Bottom none h = tt
-leaf_within m n w (leaf.List cs) none h = (w, omega arith, subst (λ (t : Tree). IsTrue (is_scoped w t)) (ap (λ (k : ℕ). spread_tree m k (Leaf cs.now)) none ∙ spread_tree-none m (Leaf cs.now)) h)
+pub leaf_scoped : (m n w : ℕ) (l : code.Leaf) → n ≡ 0 → IsTrue (is_scoped w (spread_tree m n (leaf_tree l))) → IsTrue (is_scoped w (leaf_tree l))
+leaf_scoped m n w l none h = subst (λ (t : Tree). IsTrue (is_scoped w t)) (ap (λ (k : ℕ). spread_tree m k (leaf_tree l)) none ∙ spread_tree-none m (leaf_tree l)) h
 
 -- so it is the leaf that it is
 pub leaf_whole : (m n : ℕ) (l : code.Leaf) → n ≡ 0 → leaf_answer l ≡ Solved (leaf_tree l) → leaf_answer l ≡ Solved (spread_tree m n (leaf_tree l))
 leaf_whole m n l none kind = kind ∙ ap Solved (sym (ap (λ (k : ℕ). spread_tree m k (leaf_tree l)) none ∙ spread_tree-none m (leaf_tree l)))
-
--- a leaf where there are more places
-pub wider_leaf : (w x : ℕ) (l : code.Leaf) → w ≤ x → IsWithin w l → IsWithin x l
-wider_leaf w x leaf.Void h i = tt
-wider_leaf w x leaf.Bottom h i = tt
-wider_leaf w x (leaf.List cs) h i = (i.0, omega (arith, h, i.1), i.2)
 
 -- the second tree where it is walked
 pub second_ready : (m w : ℕ) (q : ScopedTree) (t : Tree) → t ≡ q.tree → q.width ≡ m → IsQuast q → m ≤ w → IsTreeAt m (w - m) w t

@@ -1,33 +1,19 @@
 -- The steps of a walk, from what the calls at a node answered: a part that stops a walk stops it, and after one that is made the walk goes on.
-use Rattle.std.proofs.Common.{◌≡◌, ◌∙◌, ap, subst, refl, ℕ, ◌+◌, arith, List, [], ◌∷◌, ℤ, Option, Some, None, Result}
+use Rattle.std.proofs.Common.{◌≡◌, ◌∙◌, ap, subst, refl, ℕ, arith, List, ℤ, Option, Some, None, Result}
 use Rattle.std.specs.Prelude.{IfSome}
-use Rattle.pip_model.specs.Cuts.{Quotient, lower_bound, upper_bound}
 use Rattle.pip_model.specs.Run.{Work}
-use Rattle.pip_model.specs.Walks.{ToolRefusal, Walked, Made, Stopped, Walking, walk_on, ◌>>=◌, where_holds, below}
+use Rattle.pip_model.specs.Walks.{ToolRefusal, Walked, Made, Stopped, Walking, walk_on, ◌>>=◌}
 use Rattle.pip_model.specs.ToolAgreement.{AgreesWalked}
 use Rattle.context.specs.Scoped.{ScopedForms, IsKeptContext}
-use Rattle.quast_walk.specs.Visits.{visit_of, IsUnder, IsBelow, IsGrown}
+use Rattle.quast_walk.specs.Visits.{visit_of}
 
 -- ---- where the walk stands
 
 pub kept_visit : (k l : ScopedForms) (depth : ℕ) → IsKeptContext k l → visit_of l depth ≡ visit_of k depth
 kept_visit k l depth h = ap (λ (w : ℕ). record { places = w; context = l.forms; depth = depth }) h.width ∙ ap (λ (fs : List (List ℤ)). record { places = k.width; context = fs; depth = depth }) h.forms
 
-pub under_visit : (k l : ScopedForms) (c : List ℤ) (depth : ℕ) → IsUnder k c l → visit_of l (depth + 1) ≡ where_holds (visit_of k depth) c
-under_visit k l c depth h = ap (λ (w : ℕ). record { places = w; context = l.forms; depth = depth + 1 }) h.width ∙ ap (λ (fs : List (List ℤ)). record { places = k.width; context = fs; depth = depth + 1 }) h.forms
-
-pub below_visit : (k l : ScopedForms) (q : Quotient) (depth : ℕ) → IsBelow k q l → visit_of l (depth + 1) ≡ below (visit_of k depth) q
-below_visit k l q depth h = ap (λ (w : ℕ). record { places = w; context = l.forms; depth = depth + 1 }) h.width ∙ ap (λ (fs : List (List ℤ)). record { places = k.width + 1; context = fs; depth = depth + 1 }) h.forms
-
 pub kept_kept : (k l m : ScopedForms) → IsKeptContext k l → IsKeptContext l m → IsKeptContext k m
 kept_kept k l m f g = record { width = g.width ∙ f.width; forms = g.forms ∙ f.forms; spare = omega (arith, f.spare, g.spare) }
-
-pub below_grown : (k l m : ScopedForms) (q : Quotient) → IsBelow k q l → IsKeptContext l m → IsGrown k m
-below_grown k l m q f g = record {
-  added = lower_bound (k.width + 1) k.width q ∷ upper_bound (k.width + 1) k.width q ∷ [];
-  forms = g.forms ∙ f.forms;
-  spare = omega (arith, f.spare, g.spare);
-}
 
 -- ---- what a call answered
 

@@ -1,6 +1,6 @@
 -- How a tree is read: its forms have zeros at the places that another tree's new parameters took.
-use Rattle.std.specs.Prelude.{◌≡◌, ℕ, ◌+◌, ◌*◌, ◌^◌, ◌<◌, ◌≤◌, IsTrue, List, length, ⊤}
-use Rattle.pip_model.specs.Forms.{width, widen_to}
+use Rattle.std.specs.Prelude.{◌≡◌, ℕ, ◌+◌, ◌*◌, ◌^◌, ◌<◌, ◌≤◌, IsTrue}
+use Rattle.pip_model.specs.Forms.{width}
 use Rattle.pip_model.specs.Printed.{tree_fits}
 use Rattle.pip_model.specs.Tree as model
 use Rattle.pip_model.specs.Tree.{Tree, Component, is_scoped, nesting}
@@ -24,15 +24,6 @@ abbrev pub leaf_tree : Leaf → Tree
 leaf_tree leaf.Void = model.Bottom
 leaf_tree leaf.Bottom = model.Bottom
 leaf_tree (leaf.List cs) = model.Leaf cs.now
-
--- a list's components are over no more than w places
-abbrev pub IsListWithin : ℕ → List Component → Type 0
-IsListWithin w cs = (z : ℕ) × (z ≤ w) × IsTrue (is_scoped z (model.Leaf cs))
-
-abbrev pub IsWithin : ℕ → Leaf → Type 0
-IsWithin w leaf.Void = ⊤
-IsWithin w leaf.Bottom = ⊤
-IsWithin w (leaf.List cs) = IsListWithin w cs.now
 
 -- ---- answers
 
@@ -73,17 +64,10 @@ pub record AreBranches (m n leaf depth : ℕ) (k : ScopedForms) (a b : Tree) : T
 
 -- ---- components in memory
 
--- they are made in lowest terms
+-- it is made in lowest terms
 abbrev pub spread_reduced : ℕ → ℕ → Component → Component
 spread_reduced m n c = model.reduced c.den (spread m n c.form)
-
-abbrev pub widened_reduced : ℕ → Component → Component
-widened_reduced w c = model.reduced c.den (widen_to w c.form)
 
 -- a component over as many places as its form
 abbrev pub IsOwnComponent : Component → Type 0
 IsOwnComponent c = IsComponent (width c.form) c
-
--- over w places
-abbrev pub IsWide : ℕ → Component → Type 0
-IsWide w c = length c.form ≡ w + 1

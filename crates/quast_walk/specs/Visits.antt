@@ -1,14 +1,16 @@
 -- Where a walk stands: its context in memory.
-use Rattle.std.specs.Prelude.{◌≡◌, ℕ, ◌+◌, ◌≤◌, ℤ, List, [], ◌∷◌, ◌++◌, length, IsTrue}
+use Rattle.std.specs.Prelude.{◌≡◌, ℕ, ◌+◌, ◌≤◌, ℤ, List, [], ◌∷◌, ◌++◌, length, IfSome, IsTrue, Result, Ok, Err}
 use Rattle.pip_model.specs.Contexts.{IsContext}
 use Rattle.pip_model.specs.Cuts.{Quotient, lower_bound, upper_bound}
 use Rattle.pip_model.specs.Forms.{opposite}
 use Rattle.pip_model.specs.Listed.{all_fit, opposite_listed}
-use Rattle.pip_model.specs.Run.{class, listed}
+use Rattle.pip_model.specs.Run.{Work, class, listed}
 use Rattle.pip_model.specs.Tree.{Tree}
-use Rattle.pip_model.specs.Walks.{Walking, ◌>>=◌, ◌>>◌, by_run, not_negative, Visit, Walker, where_holds, below_listed, walk}
+use Rattle.pip_model.specs.Walks.{Walked, Stopped, Walking, ◌>>=◌, ◌>>◌, by_run, not_negative, Visit, Walker, where_holds, below_listed, walk}
 use Rattle.context.specs.Scoped.{ScopedForms}
 use Rattle.context.specs.declared.context.ContextMark.{ContextMark}
+use Rattle.quast_walk.specs.Faults.{tool_fault}
+use Rattle.quast_walk.specs.declared.refusal.ToolRefusal.{ToolRefusal}
 
 -- a walk at a depth whose context is this one
 abbrev pub visit_of : ScopedForms → ℕ → Visit
@@ -18,9 +20,19 @@ visit_of k depth = record { places = k.width; context = k.forms; depth = depth }
 abbrev pub checked_sign : List (List ℤ) → ℕ → List ℤ → Walking (Unit {0})
 checked_sign K w v = by_run (class K w v) >>= not_negative
 
--- what is done at a new parameter before its tree
-abbrev pub before_tree : {X : Type 0} → Walker X → Visit → Quotient → Walking (Unit {0})
-before_tree W h q = checked_sign h.context h.places q.form >> (W.at_quotient h >> by_run (listed (below_listed h q)))
+-- what is done at a new parameter before what comes next
+abbrev pub below_then : {X : Type 0} → Walker X → Visit → Quotient → Walking X → Walking X
+below_then W h q next = do
+  c ← by_run (class h.context h.places q.form)
+  not_negative c
+  W.at_quotient h
+  by_run (listed (below_listed h q))
+  next
+
+-- it was done, or a refusal
+abbrev pub PassesTo : {X A : Type 0} → Result A ToolRefusal → Work → Walked X → Walking X → Type 0
+PassesTo (Ok x) now whole next = whole ≡ next now
+PassesTo (Err e) now whole next = IfSome (tool_fault e) (λ f. whole ≡ Stopped f now)
 
 -- what is done with both trees of a node that chooses, whose form v has both signs, by the condition that parts them
 abbrev pub both_trees : {X : Type 0} → Walker X → Visit → List ℤ → Tree → Tree → List ℤ → Walking X

@@ -3,7 +3,6 @@
 #![tactic(auto)]
 
 mod differences;
-mod lists;
 mod reading;
 mod refusal;
 mod spreading;
@@ -12,10 +11,9 @@ mod steps;
 mod tree_walk;
 
 pub use differences::{above, below, difference, negated};
-pub use lists::copies;
 pub use reading::{Leaf, Reading};
 pub use refusal::ToolRefusal;
-pub use spreading::{spread, spread_list, widened_list};
+pub use spreading::{spread, spread_list};
 pub use starting::{context_of, levels, point};
 pub use steps::{enter, leave, mark, sign};
 pub use tree_walk::{Walker, walk};

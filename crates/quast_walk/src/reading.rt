@@ -1,4 +1,4 @@
-ghost use Rattle.std.specs.Prelude.{◌≡◌, ◌-◌, ◌≤◌};
+ghost use Rattle.std.specs.Prelude.{◌≡◌, ◌+◌, ◌-◌, ◌≤◌};
 
 use quast::Component;
 use std::alloc::Global;
@@ -25,7 +25,8 @@ impl Reading {
     /// places, of which the parameters are the first.
     pub fn below(&self, places: usize) -> Reading
         requires { self.now.parameters ≤ places }
-        ensures { result ≡ record self.now { between = places - self.now.parameters } }
+        ensures value { result ≡ record self.now { between = places - self.now.parameters } }
+        ensures places { result.parameters + result.between ≡ places }
     {
         Reading {
             between: places - self.parameters,

@@ -1,8 +1,9 @@
-ghost use Rattle.std.specs.Prelude.{◌≡◌, ◌≤◌, ◌<◌, length, vec_len, map, All, IfOk};
-ghost use Rattle.pip_model.specs.Forms.{widen_to};
+ghost use Rattle.std.specs.Prelude.{◌≡◌, ℕ, ◌≤◌, ◌<◌, length, vec_len, map, All, IfOk, IsTrue};
 ghost use Rattle.pip_model.specs.Tools as model;
+ghost use Rattle.pip_model.specs.Tree.{Leaf, is_scoped};
 ghost use Rattle.affine_forms.specs.Checks.{Fits};
-ghost use Rattle.quast_walk.specs.Readings.{spread_reduced, widened_reduced, IsOwnComponent};
+ghost use Rattle.quast.specs.Places.{IsListOver};
+ghost use Rattle.quast_walk.specs.Readings.{spread_reduced, IsOwnComponent};
 
 use affine_forms::{Form, WantOfMemory};
 use quast::Component;
@@ -40,15 +41,6 @@ pub fn spread(alloc: Global, form: &Form, m: usize, n: usize) -> Result<Form, Wa
     Ok(Form::from_entries(entries))
 }
 
-// The form over w places, of which it may have fewer.
-fn widened(alloc: Global, form: &Form, w: usize) -> Result<Form, WantOfMemory>
-    ensures { IfOk result (λ made. made ≡ widen_to w form.now) }
-{
-    let mut made = form.try_clone(alloc)?;
-    made.widen(w.saturating_sub(form.width()))?;
-    Ok(made)
-}
-
 // The component with n zeros behind the first m coefficients.
 fn spread_component(
     alloc: Global,
@@ -65,21 +57,6 @@ fn spread_component(
     Ok(made)
 }
 
-// The component over w places, of which its own may be fewer.
-fn widened_component(
-    alloc: Global,
-    component: &Component,
-    w: usize,
-) -> Result<Component, WantOfMemory>
-    ensures value { IfOk result (λ made. made ≡ widened_reduced w component.now) }
-    ensures component { IfOk result IsOwnComponent }
-{
-    let form = widened(alloc, component.form(), w)?;
-    let made = Component::reduced(component.den(), form);
-    let _ = made.den();
-    Ok(made)
-}
-
 /// The components with n zeros behind the first m coefficients of each, in lowest terms.
 pub fn spread_list(
     alloc: Global,
@@ -87,29 +64,13 @@ pub fn spread_list(
     m: usize,
     n: usize,
 ) -> Result<Vec<Component>, WantOfMemory>
-    ensures value { IfOk result (λ v. v.items ≡ map (spread_reduced m n) components.now) }
-    ensures components { IfOk result (λ v. All IsOwnComponent v.items) }
+    ensures value { IfOk result (λ v. (w : ℕ) → IsTrue (is_scoped w (model.spread_tree m n (Leaf components.now)))
+        → v.items ≡ map (model.spread_component m n) components.now) }
+    ensures list { IfOk result (λ v. (w : ℕ) → IsTrue (is_scoped w (Leaf v.items)) → IsListOver w v.items) }
 {
     let mut made = Vec::with_capacity(alloc, components.len())?;
     for i in 0..components.len() {
         let component = spread_component(alloc, &components[i], m, n)?;
-        made.push(component)?;
-    }
-    Ok(made)
-}
-
-/// The components over w places, of which theirs may be fewer, in lowest terms.
-pub fn widened_list(
-    alloc: Global,
-    components: &[Component],
-    w: usize,
-) -> Result<Vec<Component>, WantOfMemory>
-    ensures value { IfOk result (λ v. v.items ≡ map (widened_reduced w) components.now) }
-    ensures components { IfOk result (λ v. All IsOwnComponent v.items) }
-{
-    let mut made = Vec::with_capacity(alloc, components.len())?;
-    for i in 0..components.len() {
-        let component = widened_component(alloc, &components[i], w)?;
         made.push(component)?;
     }
     Ok(made)

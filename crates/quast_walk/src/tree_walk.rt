@@ -12,7 +12,7 @@ ghost use Rattle.context.specs.Scoped.{ScopedForms, IsKeptContext};
 ghost use Rattle.quast.specs.Trees.{tree_of};
 ghost use Rattle.quast_walk.specs.Faults.{tool_fault};
 ghost use Rattle.quast_walk.specs.Readings.{leaf_tree, IsTreeAt, IsLeafAt, AreBranches, HasRoom};
-ghost use Rattle.quast_walk.specs.Visits.{visit_of, before_tree, both_trees, IsBelow, IsCondition};
+ghost use Rattle.quast_walk.specs.Visits.{visit_of, below_then, both_trees, IsBelow, IsCondition, PassesTo};
 
 use crate::reading::{Leaf, Reading};
 use crate::refusal::ToolRefusal;
@@ -171,9 +171,8 @@ fn go_under<W: Walker>(
     requires fits { Fits den }
     requires room { 2 ≤ context.old.spare }
     requires shallow { depth < 2 ^ 63 }
-    ensures gives { AgreesWalked (λ x. tt) tool_fault result work.new
-        (before_tree (W.walker walker.now) (visit_of context.old depth)
-        (record { form = form.now; den = den }) work.old) }
+    ensures gives { (next : model.Walking W.Seen) → PassesTo result work.new (below_then (W.walker walker.now)
+        (visit_of context.old depth) (record { form = form.now; den = den }) next work.old) next }
     ensures context { MatchResult result
         (λ x. IsBelow context.old (record { form = form.now; den = den }) context.new)
         (λ e. IsKeptContext context.old context.new) }

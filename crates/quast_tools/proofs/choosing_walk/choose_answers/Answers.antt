@@ -1,7 +1,6 @@
-use Rattle.std.proofs.Common.{◌∙◌, ap, sym, subst, ℕ}
-use Rattle.pip_model.specs.Tree.{Tree}
-use Rattle.pip_model.specs.Tools.{choosing, least_first, least_second, spread_tree, tree_or_bottom}
-use Rattle.pip_model.specs.Walks.{start_visit, walk}
+use Rattle.std.proofs.Common.{ap, sym, subst}
+use Rattle.pip_model.specs.Tools.{least_first, tree_or_bottom}
+use Rattle.pip_model.specs.Walks.{start_visit}
 use Rattle.quast.specs.Answers.{answer_of, IsOver}
 use Rattle.quast.specs.Trees.{tree_of}
 use Rattle.quast.specs.declared.answer.Answer as answer
@@ -20,10 +19,5 @@ walk-requires-clause-tree c =
 pub returns-in-Tree : goal.returns-in-Tree
 returns-in-Tree c =
     let w = c.args.context.now.width in
-    let h = start_visit w c.args.context.now.forms in
-    let b = tree_or_bottom (answer_of c.args.second.now) in
-    let w0 = c.args.work.now in
-    let places = ap (λ (m : ℕ). walk (choosing (λ g leaf. least_second m leaf g b)) h (spread_tree m 0 (tree_of c.root.result.now)) w0) c.mark.ensures.width in
-    let tree = ap (λ (t : Tree). least_first w h t b w0) (spread_tree-none w (tree_of c.root.result.now) ∙ c.root.ensures.tree) in
-    let whole = ap (λ (x : answer.Answer). least_first w h (tree_or_bottom (answer_of x)) b w0) c.in-Tree.is in
-    agrees_as tree_of tool_fault c.walk.result c.walk.new.work _ _ (places ∙ tree ∙ sym whole) c.walk.ensures.gives
+    let whole = ap (λ (x : answer.Answer). least_first w (start_visit w c.args.context.now.forms) (tree_or_bottom (answer_of x)) (tree_or_bottom (answer_of c.args.second.now)) c.args.work.now) c.in-Tree.is in
+    agrees_as tree_of tool_fault c.walk.result c.walk.new.work _ _ (sym whole) (rw (c.mark.ensures.width, spread_tree-none w (tree_of c.root.result.now), c.root.ensures.tree) at c.walk.ensures.gives)

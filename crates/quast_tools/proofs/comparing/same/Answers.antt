@@ -1,17 +1,22 @@
-use Rattle.quast_tools.proofs.Compared.{is_sameness, is_same_refusal, is_over}
+use Rattle.std.proofs.lemmas.Result.{err_from_is_err_and}
+use Rattle.pip_model.specs.ToolLaws.{IsSameRefusal}
+use Rattle.walk_laws.proofs.Comparing.{same-gives, same-refuses}
+use Rattle.quast.specs.Answers.{answer_of}
+use Rattle.quast_walk.specs.Faults.{tool_fault}
+use Rattle.quast_tools.specs.Samenesses.{sameness_of}
+use Rattle.quast_tools.proofs.Given.{told, over_rows}
 use Rattle.quast_tools.proofs.comparing.same.Goals as goal
+
+pub returns-in_err-found-clause-refusal : goal.returns-in_err-found-clause-refusal
+returns-in_err-found-clause-refusal c =
+    let p = err_from_is_err_and c.from_residual.result c.from_residual.ensures.1 in
+    rw (p.1, p.2) (told _ (IsSameRefusal c.args.rows.now.width c.args.rows.now.forms (answer_of c.args.first.now) (answer_of c.args.second.now)) (tool_fault c.in_err-found.field-0.0) (λ f is. same-refuses c.args.rows.now.width c.args.rows.now.forms (answer_of c.args.first.now) (answer_of c.args.second.now) f c.start-work.result c.compared.new.work c.given.ensures.context c.given.ensures.well_formed c.given-2.ensures.well_formed is) c.in_err-found.ensures)
 
 pub returns-clause-right : goal.returns-clause-right
 returns-clause-right c =
-    is_sameness c.args.rows.now.width c.args.rows.now.forms _ _ c.args.limits.now c.started-made.ensures.rows c.started-made.ensures.first c.started-made.ensures.second c.started-made.result c.started-made.ensures.gives
-
-pub returns-clause-refusal : goal.returns-clause-refusal
-returns-clause-refusal c =
-    is_same_refusal c.args.rows.now.width c.args.rows.now.forms _ _ c.args.limits.now c.started-made.ensures.rows c.started-made.ensures.first c.started-made.ensures.second c.started-made.result c.started-made.ensures.gives
+    same-gives c.args.rows.now.width c.args.rows.now.forms (answer_of c.args.first.now) (answer_of c.args.second.now) (sameness_of c.in_ok-found.found) c.start-work.result c.compared.new.work c.given.ensures.context c.given.ensures.well_formed c.given-2.ensures.well_formed c.in_ok-found.ensures
 
 pub returns-clause-scope : goal.returns-clause-scope
 returns-clause-scope c =
-    let first = c.started-made.ensures.first in
-    let second = c.started-made.ensures.second in
-    is_over c.args.rows.now.width c.args.rows.now.forms _ _ c.args.limits.now c.started-made.ensures.rows first second c.started-made.result
-    (is_sameness c.args.rows.now.width c.args.rows.now.forms _ _ c.args.limits.now c.started-made.ensures.rows first second c.started-made.result c.started-made.ensures.gives)
+    over_rows c.args.rows.now.width c.args.rows.now.forms (answer_of c.args.first.now) (answer_of c.args.second.now) c.in_ok-found.found c.given.ensures.context
+    (same-gives c.args.rows.now.width c.args.rows.now.forms (answer_of c.args.first.now) (answer_of c.args.second.now) (sameness_of c.in_ok-found.found) c.start-work.result c.compared.new.work c.given.ensures.context c.given.ensures.well_formed c.given-2.ensures.well_formed c.in_ok-found.ensures)

@@ -1,5 +1,11 @@
-use Rattle.quast_tools.proofs.Listing.{components_again}
+use Rattle.std.proofs.Common.{sym, subst, List, IsTrue}
+use Rattle.pip_model.specs.Tree.{Leaf, Component, is_scoped}
+use Rattle.quast_tools.proofs.Lists.{own_components}
 use Rattle.quast_tools.proofs.nodes.list.Goals as goal
 
-pub list-requires-clause-components : goal.list-requires-clause-components
-list-requires-clause-components c = components_again c.args.components.now _ c.in_ok-components.ensures c.requires.components
+pub list-requires : goal.list-requires
+list-requires c =
+    let value = c.in_ok-read.ensures.value c.requires.0 c.requires.1 in
+    let scoped = subst (λ (cs : List Component). IsTrue (is_scoped c.requires.0 (Leaf cs))) (sym value) c.requires.1 in
+    let list = c.in_ok-read.ensures.list c.requires.0 scoped in
+    record { some = list.some; few = list.few; components = own_components c.requires.0 c.in_ok-read.read.items list }

@@ -1,13 +1,12 @@
-use Rattle.std.proofs.Common.{◌≡◌, ◌∙◌, ap, sym, subst, arith, ℕ, ◌+◌, ◌-◌}
+use Rattle.std.proofs.Common.{◌∙◌, ap, sym, subst, refl, arith}
 use Rattle.pip_model.specs.Tree as model
 use Rattle.pip_model.specs.Tree.{Tree, Solved}
-use Rattle.pip_model.specs.Tools.{comparing, same_leaves, same_second, spread_tree}
-use Rattle.pip_model.specs.Walks.{walk}
+use Rattle.pip_model.specs.Tools.{same_leaves, same_second}
 use Rattle.quast.specs.Answers.{answer_of, IsOver}
 use Rattle.quast.specs.Trees.{tree_of}
 use Rattle.quast.specs.declared.answer.Answer as answer
 use Rattle.quast_walk.specs.Faults.{tool_fault}
-use Rattle.quast_walk.specs.Readings.{leaf_answer, IsWithin}
+use Rattle.quast_walk.specs.Readings.{leaf_answer}
 use Rattle.quast_walk.specs.Visits.{visit_of}
 use Rattle.quast_walk.specs.declared.reading.Reading.{Reading}
 use Rattle.quast_walk.proofs.Readied.{second_ready}
@@ -15,30 +14,29 @@ use Rattle.quast_walk.proofs.Walking.{agrees_as}
 use Rattle.quast_tools.proofs.searching.search_second.Goals as goal
 
 pub walk-requires-clause-ready : goal.walk-requires-clause-ready
-walk-requires-clause-ready c =
-    let places : c.below-below.result.parameters + c.below-below.result.between ≡ c.args.context.now.width = omega (arith, c.requires.few, ap (λ (r : Reading). r.parameters) c.below-below.ensures, ap (λ (r : Reading). r.between) c.below-below.ensures, c.mark.ensures.width) in
-    subst (λ (n : ℕ). IsWithin n c.args.leaf) (sym places) c.requires.leaf
+walk-requires-clause-ready c = rw (c.below-below.ensures.places, c.mark.ensures.width) c.requires.leaf
+
+pub find_at_leaves-requires-clause-met : goal.find_at_leaves-requires-clause-met
+find_at_leaves-requires-clause-met c = record {
+  few = omega (arith, c.below-below.ensures.places, c.mark.ensures.width);
+  first = rw (c.below-below.ensures.places, c.mark.ensures.width) c.requires.leaf;
+  second = refl;
+}
 
 pub walk-requires-clause-tree : goal.walk-requires-clause-tree
 walk-requires-clause-tree c =
     let m = c.args.reading.now.parameters in
     let over = subst (λ (x : answer.Answer). IsOver m x) c.in-Tree.is c.requires.answer in
-    rw (c.below-below.ensures, c.mark.ensures.width) (second_ready m c.args.context.now.width c.in-Tree.tree (tree_of c.root.result.now) c.root.ensures.tree over c.root.ensures.quast c.requires.few)
+    rw (c.below-below.ensures.value, c.mark.ensures.width) (second_ready m c.args.context.now.width c.in-Tree.tree (tree_of c.root.result.now) c.root.ensures.tree over c.root.ensures.quast c.requires.few)
 
 pub returns-in-Void-clause-gives : goal.returns-in-Void-clause-gives
 returns-in-Void-clause-gives c =
     let h = visit_of c.args.context.now c.args.depth in
-    let read = ap (λ (r : Reading). same_leaves r.parameters h (leaf_answer c.args.leaf) model.Void c.args.work.now) c.below-below.ensures in
+    let read = ap (λ (r : Reading). same_leaves r.parameters h (leaf_answer c.args.leaf) model.Void c.args.work.now) c.below-below.ensures.value in
     let whole = ap (λ (x : answer.Answer). same_second c.args.reading.now.parameters (leaf_answer c.args.leaf) h (answer_of x) c.args.work.now) c.in-Void.is in
     agrees_as (λ o. o) tool_fault c.find_at_leaves.result c.find_at_leaves.new.work _ _ (read ∙ sym whole) (c.find_at_leaves.ensures.gives c.args.depth)
 
 pub returns-in-Tree-clause-gives : goal.returns-in-Tree-clause-gives
 returns-in-Tree-clause-gives c =
-    let m = c.args.reading.now.parameters in
-    let h = visit_of c.args.context.now c.args.depth in
-    let l = leaf_answer c.args.leaf in
-    let read = ap (λ (r : Reading). walk (comparing (λ g other. same_leaves r.parameters g l (Solved other))) h (spread_tree r.parameters r.between (tree_of c.root.result.now)) c.args.work.now) c.below-below.ensures in
-    let places = ap (λ (w : ℕ). walk (comparing (λ g other. same_leaves m g l (Solved other))) h (spread_tree m (w - m) (tree_of c.root.result.now)) c.args.work.now) c.mark.ensures.width in
-    let tree = ap (λ (t : Tree). same_second m l h (Solved t) c.args.work.now) c.root.ensures.tree in
-    let whole = ap (λ (x : answer.Answer). same_second m l h (answer_of x) c.args.work.now) c.in-Tree.is in
-    agrees_as (λ o. o) tool_fault c.walk.result c.walk.new.work _ _ (read ∙ places ∙ tree ∙ sym whole) c.walk.ensures.gives
+    let whole = ap (λ (x : answer.Answer). same_second c.args.reading.now.parameters (leaf_answer c.args.leaf) (visit_of c.args.context.now c.args.depth) (answer_of x) c.args.work.now) c.in-Tree.is in
+    agrees_as (λ o. o) tool_fault c.walk.result c.walk.new.work _ _ (sym whole) (rw (c.below-below.ensures.value, c.mark.ensures.width, c.root.ensures.tree) at c.walk.ensures.gives)

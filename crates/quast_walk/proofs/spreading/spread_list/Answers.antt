@@ -1,7 +1,10 @@
-use Rattle.std.proofs.Common.{rules}
+use Rattle.std.proofs.Common.{◌∙◌, ap, rules, arith, List, map}
+use Rattle.std.proofs.lemmas.List.{take_all}
 use Rattle.std.proofs.lemmas.List.Elements.{All-push}
+use Rattle.pip_model.specs.Tree.{Component}
+use Rattle.pip_model.specs.Tools.{spread_component}
 use Rattle.quast_walk.specs.Readings.{spread_reduced, IsOwnComponent}
-use Rattle.quast_walk.proofs.Placing.{made_more}
+use Rattle.quast_walk.proofs.Placing.{made_more, made_so, scoped_of, own_list}
 use Rattle.quast_walk.proofs.spreading.spread_list.Goals as goal
 
 pub loop-i-preserved : goal.loop-i-preserved
@@ -9,3 +12,12 @@ loop-i-preserved c = (
   rw c.in_ok-push.ensures.items (made_more (spread_reduced c.args.m c.args.n) c.args.components.now c.loop-i.i c.index-components-i.result c.in_ok-component.component c.loop-i.made.items c.loop-i.invariant.0 c.in_ok-component.ensures.value c.index-components-i.is (search rules)),
   rw c.in_ok-push.ensures.items (All-push IsOwnComponent c.loop-i.made.items c.in_ok-component.component c.loop-i.invariant.1 (search rules)),
 )
+
+pub returns-clause-value : goal.returns-clause-value
+returns-clause-value c = λ w scoped.
+    let f = spread_component c.args.m c.args.n in
+    let whole = take_all c.loop-i.i c.args.components.now (omega arith) in
+    c.loop-i.invariant.0 ∙ ap (λ (cs : List Component). map (spread_reduced c.args.m c.args.n) cs) whole ∙ made_so f w c.args.components.now (scoped_of w (map f c.args.components.now) scoped).each
+
+pub returns-clause-list : goal.returns-clause-list
+returns-clause-list c = λ w scoped. own_list w c.loop-i.made.items scoped c.loop-i.invariant.1

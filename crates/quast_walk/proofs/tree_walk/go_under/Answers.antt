@@ -5,35 +5,36 @@ use Rattle.pip_model.specs.Listed.{all_fit}
 use Rattle.pip_model.specs.Walks.{below_listed}
 use Rattle.affine_forms.specs.Checks.{is_form_overflow}
 use Rattle.quast_walk.specs.Faults.{tool_fault}
-use Rattle.quast_walk.specs.Visits.{visit_of, IsBelow}
-use Rattle.quast_walk.proofs.Defining.{sign_stops, quotient_stops, bounds_unfit, bounds_fit, kept_below}
+use Rattle.quast_walk.specs.Visits.{visit_of, checked_sign, IsBelow}
+use Rattle.quast_walk.proofs.Defining.{listed_goes, unfit_stops, below_is, kept_below}
 use Rattle.quast_walk.proofs.Narrow.{quotient}
+use Rattle.quast_walk.proofs.Walking.{stops}
 use Rattle.quast_walk.proofs.tree_walk.go_under.Goals as goal
 
 pub returns-in_err-check_sign-clause-gives : goal.returns-in_err-check_sign-clause-gives
 returns-in_err-check_sign-clause-gives g c =
     let p = err_from_is_err_and c.from_residual.result c.from_residual.ensures.1 in
-    rw (p.1, p.2) (sign_stops (g.W.Walker.walker c.args.walker.now) c.args.form.now c.args.den c.args.context.now c.args.depth c.args.work.now c.check_sign.new.work (tool_fault c.in_err-check_sign.field-0.0) c.in_err-check_sign.ensures.gives)
+    rw (p.1, p.2) (λ next. rw (below_is (g.W.Walker.walker c.args.walker.now) (visit_of c.args.context.now c.args.depth) (quotient c.args.form.now c.args.den) next c.args.work.now) (stops (tool_fault c.in_err-check_sign.field-0.0) (checked_sign c.args.context.now.forms c.args.context.now.width c.args.form.now c.args.work.now) _ c.check_sign.new.work c.in_err-check_sign.ensures.gives))
 
 pub returns-in_err-at_quotient-clause-gives : goal.returns-in_err-at_quotient-clause-gives
 returns-in_err-at_quotient-clause-gives g c =
     let p = err_from_is_err_and c.from_residual-in_err-at_quotient.result c.from_residual-in_err-at_quotient.ensures.1 in
-    rw (p.1, p.2) (quotient_stops (g.W.Walker.walker c.args.walker.now) c.args.form.now c.args.den c.args.context.now c.args.depth c.args.work.now c.check_sign.new.work c.check_sign.new.context c.check_sign.ensures.kept c.in_ok-check_sign.ensures.gives (tool_fault c.in_err-at_quotient.field-0.0) (c.in_err-at_quotient.ensures c.check_sign.new.context))
+    rw (p.1, p.2) (λ next. rw (below_is (g.W.Walker.walker c.args.walker.now) (visit_of c.args.context.now c.args.depth) (quotient c.args.form.now c.args.den) next c.args.work.now, c.in_ok-check_sign.ensures.gives) (stops (tool_fault c.in_err-at_quotient.field-0.0) ((g.W.Walker.walker c.args.walker.now).at_quotient (visit_of c.args.context.now c.args.depth) c.check_sign.new.work) _ c.check_sign.new.work (c.in_err-at_quotient.ensures c.args.context.now)))
 
 pub returns-in_err-go_below-clause-gives : goal.returns-in_err-go_below-clause-gives
 returns-in_err-go_below-clause-gives g c =
-    let h = visit_of c.check_sign.new.context c.args.depth in
     let den : to_z w128 (of_z w128 c.args.den) ≡ c.args.den = search rules in
-    let unfit = subst (λ (e : ℤ). IsTrue (is_form_overflow c.in_err-go_below.field-0.0) → IsFalse (all_fit (below_listed h (quotient c.args.form.now e)))) den (c.in_err-go_below.ensures.listed c.args.depth) in
+    let zs = below_listed (visit_of c.args.context.now c.args.depth) (quotient c.args.form.now c.args.den) in
+    let unfit : IsTrue (is_form_overflow c.in_err-go_below.field-0.0) → IsFalse (all_fit zs) = rw (den, c.check_sign.ensures.kept.width) at (c.in_err-go_below.ensures.listed c.args.depth) in
     let p = err_from_is_err_and c.from_residual-in_err-go_below.result c.from_residual-in_err-go_below.ensures.1 in
-    rw p.1 (bounds_unfit (g.W.Walker.walker c.args.walker.now) c.args.form.now c.args.den c.args.context.now c.args.depth c.args.work.now c.check_sign.new.work c.check_sign.new.context c.check_sign.ensures.kept c.in_ok-check_sign.ensures.gives (c.in_ok-at_quotient.ensures c.check_sign.new.context) c.in_err-go_below.field-0.0 p.0 p.2 unfit)
+    rw p.1 (λ next. rw (below_is (g.W.Walker.walker c.args.walker.now) (visit_of c.args.context.now c.args.depth) (quotient c.args.form.now c.args.den) next c.args.work.now, c.in_ok-check_sign.ensures.gives, c.in_ok-at_quotient.ensures c.args.context.now) (unfit_stops zs (λ done. next) c.check_sign.new.work c.in_err-go_below.field-0.0 p.0 p.2 unfit))
 
 pub returns-clause-gives : goal.returns-clause-gives
-returns-clause-gives g c =
-    let h = visit_of c.check_sign.new.context c.args.depth in
+returns-clause-gives g c = λ next.
     let den : to_z w128 (of_z w128 c.args.den) ≡ c.args.den = search rules in
-    let fit = subst (λ (e : ℤ). IsTrue (all_fit (below_listed h (quotient c.args.form.now e)))) den (c.in_ok-go_below.ensures.listed c.args.depth) in
-    bounds_fit (g.W.Walker.walker c.args.walker.now) c.args.form.now c.args.den c.args.context.now c.args.depth c.args.work.now c.check_sign.new.work c.check_sign.new.context c.check_sign.ensures.kept c.in_ok-check_sign.ensures.gives (c.in_ok-at_quotient.ensures c.check_sign.new.context) fit
+    let zs = below_listed (visit_of c.args.context.now c.args.depth) (quotient c.args.form.now c.args.den) in
+    let fit : IsTrue (all_fit zs) = rw (den, c.check_sign.ensures.kept.width) at (c.in_ok-go_below.ensures.listed c.args.depth) in
+    rw (below_is (g.W.Walker.walker c.args.walker.now) (visit_of c.args.context.now c.args.depth) (quotient c.args.form.now c.args.den) next c.args.work.now, c.in_ok-check_sign.ensures.gives, c.in_ok-at_quotient.ensures c.args.context.now) (listed_goes zs (λ done. next) c.check_sign.new.work fit)
 
 pub returns-clause-context : goal.returns-clause-context
 returns-clause-context g c =

@@ -7,12 +7,12 @@ use Rattle.quast_walk.specs.Faults.{tool_fault}
 use Rattle.quast_walk.specs.Readings.{leaf_tree}
 use Rattle.quast_walk.specs.Visits.{visit_of}
 use Rattle.quast_walk.proofs.Placing.{spread_tree-none}
-use Rattle.quast_walk.proofs.Readied.{leaf_within}
+use Rattle.quast_walk.proofs.Readied.{leaf_scoped}
 use Rattle.quast_walk.proofs.Walking.{agrees_as}
 use Rattle.quast_tools.proofs.choosing_walk.ChoosingWalker.at_leaf.Goals as goal
 
 pub choose_second-requires-clause-leaf : goal.choose_second-requires-clause-leaf
-choose_second-requires-clause-leaf c = leaf_within c.args.self.now.reading.parameters c.args.self.now.reading.between c.args.context.now.width c.args.leaf c.requires.ready.0 c.requires.leaf.tree.scoped
+choose_second-requires-clause-leaf c = leaf_scoped c.args.self.now.reading.parameters c.args.self.now.reading.between c.args.context.now.width c.args.leaf c.requires.ready.0 c.requires.leaf.tree.scoped
 
 pub returns-clause-gives : goal.returns-clause-gives
 returns-clause-gives c =

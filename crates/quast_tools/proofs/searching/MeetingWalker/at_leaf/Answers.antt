@@ -4,12 +4,8 @@ use Rattle.pip_model.specs.Tools.{same_leaves}
 use Rattle.quast_walk.specs.Faults.{tool_fault}
 use Rattle.quast_walk.specs.Readings.{leaf_answer, spread_answer}
 use Rattle.quast_walk.specs.Visits.{visit_of}
-use Rattle.quast_walk.proofs.Readied.{wider_leaf}
 use Rattle.quast_walk.proofs.Walking.{agrees_as}
 use Rattle.quast_tools.proofs.searching.MeetingWalker.at_leaf.Goals as goal
-
-pub find_at_leaves-requires-clause-first : goal.find_at_leaves-requires-clause-first
-find_at_leaves-requires-clause-first c = wider_leaf _ _ c.args.self.now.first c.requires.leaf.tree.few c.requires.ready
 
 pub returns-clause-gives : goal.returns-clause-gives
 returns-clause-gives c =

@@ -5,12 +5,12 @@ use Rattle.pip_model.specs.Tools.{same_second}
 use Rattle.quast.specs.Answers.{answer_of}
 use Rattle.quast_walk.specs.Faults.{tool_fault}
 use Rattle.quast_walk.specs.Visits.{visit_of}
-use Rattle.quast_walk.proofs.Readied.{leaf_within, leaf_whole}
+use Rattle.quast_walk.proofs.Readied.{leaf_scoped, leaf_whole}
 use Rattle.quast_walk.proofs.Walking.{agrees_as}
 use Rattle.quast_tools.proofs.searching.SearchingWalker.at_leaf.Goals as goal
 
 pub search_second-requires-clause-leaf : goal.search_second-requires-clause-leaf
-search_second-requires-clause-leaf c = leaf_within c.args.self.now.reading.parameters c.args.self.now.reading.between c.args.context.now.width c.args.leaf c.requires.ready.0 c.requires.leaf.tree.scoped
+search_second-requires-clause-leaf c = leaf_scoped c.args.self.now.reading.parameters c.args.self.now.reading.between c.args.context.now.width c.args.leaf c.requires.ready.0 c.requires.leaf.tree.scoped
 
 pub returns-clause-gives : goal.returns-clause-gives
 returns-clause-gives c =

@@ -1,0 +1,54 @@
+-- What is known of rows, of answers over them and of what is made.
+use Rattle.std.proofs.Common.{◌≡◌, subst, arith, ℕ, suc, ◌+◌, ◌≤◌, List, [], ◌∷◌, length, All, ℤ, Option, Some, None}
+use Rattle.std.specs.Prelude.{IfSome}
+use Rattle.pip_model.specs.Contexts.{IsContext}
+use Rattle.pip_model.specs.Printed.{IsPrintableAnswer}
+use Rattle.pip_model.specs.Run.{Work, Budget, start_work}
+use Rattle.pip_model.specs.Tree as model
+use Rattle.pip_model.specs.Walks.{Made}
+use Rattle.pip_model.specs.Tools.{least}
+use Rattle.pip_model.specs.ToolLaws.{IsSameness}
+use Rattle.pip_model.specs.WellFormed.{IsWellFormedAnswer}
+use Rattle.run_laws.proofs.ContextRight.{scope_of}
+use Rattle.walk_laws.proofs.Depths.{least-nested}
+use Rattle.quast.specs.Answers.{answer_of}
+use Rattle.quast.specs.Trees.{tree_of, IsQuast}
+use Rattle.quast.specs.declared.answer.Answer.{Answer}
+use Rattle.quast.specs.declared.answer.Answer.TheVariants as code
+use Rattle.quast.specs.declared.node.Node.{Node}
+use Rattle.quast_walk.specs.Readings.{answer_nesting}
+use Rattle.quast_tools.specs.Nodes.{node_answer}
+use Rattle.quast_tools.specs.Samenesses.{sameness_of, DiffersOver}
+use Rattle.quast_tools.specs.declared.sameness.Sameness.{Sameness}
+use Rattle.quast_tools.specs.declared.sameness.Sameness.TheVariants as sameness
+
+pub told : {A : Type 0} (P Q : A → Type 0) (o : Option A) → ((x : A) → P x → Q x) → IfSome o P → IfSome o Q
+told P Q None f h = h
+told P Q (Some x) f h = f x h
+
+-- rows of one width are a context
+narrow_rows : (m : ℕ) (K : List (List ℤ)) → All (λ c. length c ≡ m + 1) K → IsContext m K
+narrow_rows m [] h = tt
+narrow_rows m (c ∷ K) h = (let e : length c ≡ m + 1 = h 0 c (omega arith) in record { some = omega (arith, e); most = omega (arith, e) }, narrow_rows m K (λ k d l. h (suc k) d (omega (arith, l))))
+
+pub rows_context : (m : ℕ) (xs K : List (List ℤ)) → xs ≡ K → All (λ c. length c ≡ m + 1) xs → IsContext m K
+rows_context m xs K is h = narrow_rows m K (subst (λ (ks : List (List ℤ)). All (λ c. length c ≡ m + 1) ks) is h)
+
+-- a node whose answer can be printed makes a tree
+pub quast_of : (m : ℕ) (o : Option Node) → IsPrintableAnswer m (node_answer o) → IfSome o (λ node. IsQuast (record { width = m; tree = tree_of node }))
+quast_of m None h = tt
+quast_of m (Some t) h = record { well_formed = h.well_formed; fits = h.numbers }
+
+pub formed_of : (m : ℕ) (a : model.Answer) → IsPrintableAnswer m a → IsWellFormedAnswer m a
+formed_of m model.Void h = tt
+formed_of m (model.Solved t) h = h.well_formed
+
+-- the lesser of two answers is nested no deeper than the budget
+pub nested_in : (m : ℕ) (rows : List (List ℤ)) (a b : model.Answer) (k : Budget) (w : Work) (s : Answer) → least m rows a b (start_work k) ≡ Made (answer_of s) w → answer_nesting s ≤ k.nesting
+nested_in m rows a b k w code.Void is = omega arith
+nested_in m rows a b k w (code.Tree q) is = least-nested m rows a b q.tree k w is
+
+-- a difference is at a vector over the rows' places
+pub over_rows : (m : ℕ) (rows : List (List ℤ)) (a b : model.Answer) (s : Sameness) → IsContext m rows → IsSameness m rows a b (sameness_of s) → DiffersOver m s
+over_rows m rows a b sameness.Same context h = tt
+over_rows m rows a b (sameness.Differ p) context h = (scope_of m rows p context h.0).width
