@@ -57,44 +57,32 @@ abbrev pub IsItemEnd : Option Ending → Type 0
 IsItemEnd None = Unit {0}
 IsItemEnd (Some e) = IsItemStatus e.status
 
-fault_end : (f : Option Fault) → IsItemEnd (option_map fault_ending f)
-fault_end None = tt
-fault_end (Some f) = fault_status f
-
-refusal_end : (r : Option Refusal) → IsItemEnd (option_map refusal_ending r)
-refusal_end None = tt
-refusal_end (Some r) = refusal_status r
-
 tool_status : (r : ToolRefusal) → IsItemStatus (tool_ending r).status
 tool_status (ByRun r) = refusal_status r
 tool_status Negative = record { above_usage = omega arith; no_read_fault = omega arith; no_write_fault = omega arith; no_memory = omega arith }
 tool_status (Lengths a b) = record { above_usage = omega arith; no_read_fault = omega arith; no_write_fault = omega arith; no_memory = omega arith }
 
-tool_end : (r : Option ToolRefusal) → IsItemEnd (option_map tool_ending r)
-tool_end None = tt
-tool_end (Some r) = tool_status r
+told_end : {E : Type 0} (f : E → Ending) (each : (e : E) → IsItemStatus (f e).status) (o : Option E) → IsItemEnd (option_map f o)
+told_end f each None = tt
+told_end f each (Some e) = each e
 
 -- the same of each refusal of an item
 pub item_end : (e : Refused) → IsOfItem e → IsItemEnd (told e)
 item_end ending.WantOfMemory own = tt
-item_end (ending.Problem e) own = fault_end (read_fault e)
-item_end (ending.Answer e) own = fault_end (text_fault e)
-item_end (ending.Certificate e) own = fault_end (certificate_fault e)
+item_end (ending.Problem e) own = told_end fault_ending fault_status (read_fault e)
+item_end (ending.Answer e) own = told_end fault_ending fault_status (text_fault e)
+item_end (ending.Certificate e) own = told_end fault_ending fault_status (certificate_fault e)
 item_end ending.RationalCertificate own = record { above_usage = omega arith; no_read_fault = omega arith; no_write_fault = omega arith; no_memory = omega arith }
 item_end (ending.Rejected s) own = record { above_usage = omega arith; no_read_fault = omega arith; no_write_fault = omega arith; no_memory = omega arith }
 item_end (ending.OverflowAt s) own = record { above_usage = omega arith; no_read_fault = omega arith; no_write_fault = omega arith; no_memory = omega arith }
-item_end (ending.Run e) own = refusal_end (run_fault e)
-item_end (ending.Walk e) own = tool_end (tool_fault e)
+item_end (ending.Run e) own = told_end refusal_ending refusal_status (run_fault e)
+item_end (ending.Walk e) own = told_end tool_ending tool_status (tool_fault e)
 item_end e own = absurd own
 
 -- the status of an item's end, or of want of memory, is that of no other end
-item_read : (o : Option Ending) → IsItemEnd o → (s : ℕ) → s ≡ (or_memory o).status → s ≢ 6
-item_read None h s k p = omega arith
-item_read (Some e) h s k p = h.no_read_fault (sym k ∙ p)
-
-item_write : (o : Option Ending) → IsItemEnd o → (s : ℕ) → s ≡ (or_memory o).status → s ≢ 7
-item_write None h s k p = omega arith
-item_write (Some e) h s k p = h.no_write_fault (sym k ∙ p)
+item_not : (o : Option Ending) → IsItemEnd o → (s : ℕ) → s ≡ (or_memory o).status → (s ≢ 6) × (s ≢ 7)
+item_not None h s k = (λ p. absurd (omega arith), λ p. absurd (omega arith))
+item_not (Some e) h s k = (λ p. h.no_read_fault (sym k ∙ p), λ p. h.no_write_fault (sym k ∙ p))
 
 abbrev pub ending_from : Result (Unit {0}) Refused → Ending
 ending_from (Ok u) = finished
@@ -107,7 +95,7 @@ read_fault-by (Err ending.Usage) s k p = absurd (omega arith)
 read_fault-by (Err ending.ReadFault) s k p = refl
 read_fault-by (Err ending.WriteFault) s k p = absurd (omega arith)
 read_fault-by (Err ending.InputTooLong) s k p = absurd (omega arith)
-read_fault-by (Err e) s k p = absurd (item_read (told e) (item_end e tt) s k p)
+read_fault-by (Err e) s k p = absurd ((item_not (told e) (item_end e tt) s k).0 p)
 
 pub write_fault-by : (r : Result (Unit {0}) Refused) (s : ℕ) → s ≡ (ending_from r).status → s ≡ 7 → r ≡ Err ending.WriteFault
 write_fault-by (Ok u) s k p = absurd (omega arith)
@@ -115,18 +103,13 @@ write_fault-by (Err ending.Usage) s k p = absurd (omega arith)
 write_fault-by (Err ending.ReadFault) s k p = absurd (omega arith)
 write_fault-by (Err ending.WriteFault) s k p = refl
 write_fault-by (Err ending.InputTooLong) s k p = absurd (omega arith)
-write_fault-by (Err e) s k p = absurd (item_write (told e) (item_end e tt) s k p)
+write_fault-by (Err e) s k p = absurd ((item_not (told e) (item_end e tt) s k).1 p)
 
 -- ---- the notes
 
 pub line-gained : {K E : Type 0} (written : K → Option (List ℕ)) (count : K → ℕ) (a b : K) (e : Ending) (r : Result (Unit {0}) E) → WritesBytes written count a b r (notes_of e) → GainsLine (written a) (written b) (count a) (count b) e
 line-gained written count a b e (Ok u) h = inl h.bytes
 line-gained written count a b e (Err f) h = inr (h.bytes, h.faults.cause refl)
-
--- why a run ends
-abbrev cause_of : Result (Unit {0}) Refused → Option Refused
-cause_of (Ok u) = None
-cause_of (Err e) = Some e
 
 module _ (Noted : Ending → Type 0) where
   -- the line of an item's end, or of want of memory

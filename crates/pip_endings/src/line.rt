@@ -22,3 +22,11 @@ pub(crate) enum Line {
     /// The lengths of two lists, with words between them and behind them.
     Lengths(usize, usize),
 }
+
+// A part of a line.
+#[derive(Clone, Copy)]
+pub(crate) enum Part<'a> {
+    Words(&'a str),
+    Count(usize),
+    Number(i128),
+}

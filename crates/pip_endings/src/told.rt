@@ -1,4 +1,4 @@
-ghost use Rattle.std.specs.Prelude.{◌≡◌, ◌++◌, ◌<◌, Some, None, pos, length, codes, decimal};
+ghost use Rattle.std.specs.Prelude.{◌≡◌, ◌++◌, ◌<◌, Some, None, pos, length, codes};
 ghost use Rattle.pip_outside.specs.Bytes.{WritesBytes};
 ghost use Rattle.program_model.specs.Endings.{ending, budget_spent, spot_text, memory_ending, kind_name, option_name, fault_ending, check_ending, tool_ending, notes_of};
 ghost use Rattle.pip_model.specs.Reading.{Syntax, Wide};
@@ -6,13 +6,12 @@ ghost use Rattle.pip_endings.specs.Statuses.{number_of};
 ghost use Rattle.pip_model.specs.Check.{Rejected, Unfit};
 ghost use Rattle.pip_model.specs.Walks.{Lengths};
 ghost use Rattle.pip_endings.specs.Endings.{walk_ending};
-ghost use Rattle.pip_endings.specs.Lines.{second_said, lengths_said};
 ghost use Rattle.certificate_check.specs.Faults.{spot_of};
 ghost use Rattle.pip_endings.specs.Endings.{or_memory, read_ending, text_ending, certificate_ending, run_ending, ending_of};
-ghost use Rattle.pip_endings.specs.Lines.{digits_of, numbered, with_count, front_said, place_said, ending_told};
+ghost use Rattle.pip_endings.specs.Lines.{part_text, parts_text, numbered, ending_told};
 
 use crate::ending::Ending;
-use crate::line::{Line, Told};
+use crate::line::{Line, Part, Told};
 use crate::status::Status;
 use affine_forms::MOST_NESTING;
 use certificate_check::Spot;
@@ -24,96 +23,68 @@ use pip_stream::MOST_INPUT_BYTES;
 use quast_text::TextRefusal;
 use quast_walk::ToolRefusal;
 
+// Writes a part of a line.
+fn write_part<N: Sink>(notes: &mut N, part: &Part) -> Result<(), Failed>
+    ensures { WritesBytes N.written N.faults notes.old notes.new result (part_text part.now) }
+{
+    match part {
+        Part::Words(words) => write_all(notes, words.as_bytes()),
+        Part::Count(count) => write_all(notes, Buffer::new().format(*count).as_bytes()),
+        Part::Number(number) => write_all(notes, Buffer::new().format(*number).as_bytes()),
+    }
+}
+
+// Writes parts of a line, one behind the other.
+fn write_parts<N: Sink>(notes: &mut N, parts: &[Part]) -> Result<(), Failed>
+    ensures { WritesBytes N.written N.faults notes.old notes.new result (parts_text parts.now) }
+{
+    match parts {
+        [] => Ok(()),
+        [part, rest @ ..] => {
+            write_part(notes, part)?;
+            write_parts(notes, rest)
+        }
+    }
+}
+
 // Writes the line to the notes. It takes no memory.
 pub(crate) fn write_line<N: Sink>(notes: &mut N, told: &Told) -> Result<(), Failed>
     ensures { WritesBytes N.written N.faults notes.old notes.new result (notes_of (ending_told told.now)) }
 {
-    write_all(notes, b"pip: ")?;
-    write_text(notes, told)?;
-    write_all(notes, b"\n")
-}
-
-// The digits of a number, if there is one.
-fn write_number<N: Sink>(notes: &mut N, number: Option<i128>) -> Result<(), Failed>
-    ensures { WritesBytes N.written N.faults notes.old notes.new result (digits_of number) }
-{
-    match number {
-        Some(number) => write_all(notes, Buffer::new().format(number).as_bytes()),
-        None => write_all(notes, b""),
-    }
-}
-
-// Words, and a number behind them if there is one.
-fn write_numbered<N: Sink>(notes: &mut N, words: &str, number: Option<i128>) -> Result<(), Failed>
-    ensures { WritesBytes N.written N.faults notes.old notes.new result (numbered words.now number) }
-{
-    write_all(notes, words.as_bytes())?;
-    write_number(notes, number)
-}
-
-// The digits of a count.
-fn write_count<N: Sink>(notes: &mut N, count: usize) -> Result<(), Failed>
-    ensures { WritesBytes N.written N.faults notes.old notes.new result (decimal count) }
-{
-    write_all(notes, Buffer::new().format(count).as_bytes())
-}
-
-// Words and a count behind them.
-fn write_counted<N: Sink>(notes: &mut N, words: &str, count: usize) -> Result<(), Failed>
-    ensures { WritesBytes N.written N.faults notes.old notes.new result (with_count words.now count) }
-{
-    write_all(notes, words.as_bytes())?;
-    write_count(notes, count)
-}
-
-// The leaf and the refutation of a place.
-fn write_front<N: Sink>(notes: &mut N, spot: &Spot) -> Result<(), Failed>
-    ensures { WritesBytes N.written N.faults notes.old notes.new result (front_said spot.now) }
-{
-    write_counted(notes, " at leaf ", spot.leaf)?;
-    write_counted(notes, " refutation ", spot.refutation)
-}
-
-// A place in a certificate.
-fn write_spot<N: Sink>(notes: &mut N, spot: &Spot) -> Result<(), Failed>
-    ensures { WritesBytes N.written N.faults notes.old notes.new result (place_said spot.now) }
-{
-    write_front(notes, spot)?;
-    write_counted(notes, " step ", spot.step)
-}
-
-// Words and a place in a certificate.
-fn write_place<N: Sink>(notes: &mut N, words: &str, spot: &Spot) -> Result<(), Failed>
-    ensures { WritesBytes N.written N.faults notes.old notes.new result (words.now ++ place_said spot.now) }
-{
-    write_all(notes, words.as_bytes())?;
-    write_spot(notes, spot)
-}
-
-// The second length of two lists.
-fn write_second<N: Sink>(notes: &mut N, second: usize) -> Result<(), Failed>
-    ensures { WritesBytes N.written N.faults notes.old notes.new result (second_said second) }
-{
-    write_counted(notes, " and ", second)?;
-    write_all(notes, b" components")
-}
-
-// The lengths of two lists.
-fn write_lengths<N: Sink>(notes: &mut N, first: usize, second: usize) -> Result<(), Failed>
-    ensures { WritesBytes N.written N.faults notes.old notes.new result (lengths_said first second) }
-{
-    write_counted(notes, "lists of ", first)?;
-    write_second(notes, second)
-}
-
-// The line.
-fn write_text<N: Sink>(notes: &mut N, told: &Told) -> Result<(), Failed>
-    ensures { WritesBytes N.written N.faults notes.old notes.new result (ending_told told.now).line }
-{
+    let front = Part::Words("pip: ");
+    let end = Part::Words("\n");
     match told.line {
-        Line::Words(words, number) => write_numbered(notes, words, number),
-        Line::Place(words, spot) => write_place(notes, words, &spot),
-        Line::Lengths(first, second) => write_lengths(notes, first, second),
+        Line::Words(words, None) => write_parts(notes, &[front, Part::Words(words), end]),
+        Line::Words(words, Some(number)) => write_parts(
+            notes,
+            &[front, Part::Words(words), Part::Number(number), end],
+        ),
+        Line::Place(words, spot) => write_parts(
+            notes,
+            &[
+                front,
+                Part::Words(words),
+                Part::Words(" at leaf "),
+                Part::Count(spot.leaf),
+                Part::Words(" refutation "),
+                Part::Count(spot.refutation),
+                Part::Words(" step "),
+                Part::Count(spot.step),
+                end,
+            ],
+        ),
+        Line::Lengths(first, second) => write_parts(
+            notes,
+            &[
+                front,
+                Part::Words("lists of "),
+                Part::Count(first),
+                Part::Words(" and "),
+                Part::Count(second),
+                Part::Words(" components"),
+                end,
+            ],
+        ),
     }
 }
 

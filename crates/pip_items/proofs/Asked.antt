@@ -11,14 +11,15 @@ use Rattle.pip_model.specs.NativeText.{read_native}
 use Rattle.program_model.specs.Endings.{Ending}
 use Rattle.program_model.specs.Items.{ItemAt, Gives, FirstItemsTo, IsItself, or_ending, text_with, text_of_item}
 use Rattle.program_model.specs.Commands.{Command, SolveOptions, Solve, text_of}
-use Rattle.text_laws.proofs.EndedProblems.{read_native-ends}
+use Rattle.text_laws.proofs.LocalProblems.{read_native-ends}
 use Rattle.pip_reader.specs.Groups.{first_group_end}
 use Rattle.pip_stream.specs.Windows.{taken_by}
 use Rattle.pip_stream.specs.Asked.{AsksWhileOpen}
 use Rattle.pip_stream.proofs.Groups.{group_end-ends}
+use Rattle.pip_stream.proofs.Dropping.{if-some}
 use Rattle.pip_stream.proofs.Taking.{ended-by}
 use Rattle.pip_items.specs.ByProblem.{reads_by_problem, StopsAtRefused}
-use Rattle.pip_items.proofs.ByProblem.{if-some, text, text-is, Follows}
+use Rattle.pip_items.proofs.ByProblem.{text, text-is, Follows}
 
 -- ---- items one after the other
 

@@ -1,8 +1,8 @@
 -- What the loop over the problems of an input has written so far, and what it is at each of its ends.
-use Rattle.std.proofs.Common.{◌≡◌, refl, sym, ap, subst, ◌∙◌, ℕ, ◌+◌, ◌-◌, ◌<◌, ◌≤◌, inl, inr, arith, Bool, true, false, not, List, [], length, length-append, length-drop, take, drop}
+use Rattle.std.proofs.Common.{◌≡◌, refl, sym, ap, subst, ◌∙◌, ℕ, ◌+◌, ◌-◌, ◌<◌, ◌≤◌, inl, inr, arith, true, false, List, [], length, length-append, length-drop, take, drop}
 use Rattle.std.proofs.KnownBytes.{Appends-nil}
 use Rattle.std.proofs.lemmas.List.{drop-drop, drop-take}
-use Rattle.std.specs.Prelude.{◌⊎◌, ◌↔◌, Option, Some, None, IfSome, Result, Ok, Err, IfErr, IsErrOf, MatchBool, Vec, if◌then◌else◌}
+use Rattle.std.specs.Prelude.{◌⊎◌, ◌↔◌, Option, Some, None, IfSome, Result, Ok, Err, IfErr, IsErrOf, Vec, if◌then◌else◌}
 use Rattle.std.specs.declared.alloc.Global.{Global}
 use Rattle.pip_items.specs.Inputs.{IsOfInput}
 use Rattle.std.specs.Option.{option_map}
@@ -28,6 +28,7 @@ use Rattle.pip_problem.specs.Faults.{read_fault}
 use Rattle.pip_problem.specs.declared.refusal.ReadRefusal.{ReadRefusal}
 use Rattle.pip_reader.specs.Groups.{group_behind, first_group_end}
 use Rattle.pip_stream.specs.Windows.{taken_by, bytes_from}
+use Rattle.pip_stream.proofs.Dropping.{if-some}
 use Rattle.pip_stream.specs.Next.{ReadsNext, ReadsNone, IsSpared, StaysOpen, HoldsRest, FindsNext, IsReady}
 use Rattle.pip_stream.specs.declared.refusal.NextRefusal.{NextRefusal}
 use Rattle.pip_stream.specs.declared.refusal.NextRefusal.TheVariants as next
@@ -38,14 +39,10 @@ use Rattle.pip_endings.specs.declared.ending.Ending.TheVariants as ending
 use Rattle.pip_items.specs.Items.{Gained, GainedFront}
 use Rattle.pip_outside.specs.Faults.{HasRisen, CountsFaults}
 use Rattle.pip_outside.proofs.Faults.{counts-none, counts-as, counts-refused}
-use Rattle.pip_items.specs.Outputs.{TakesInputAtMost, EndsByFaults, WritesOutput}
+use Rattle.pip_items.specs.Outputs.{TakesInputAtMost, EndsByFaults}
 use Rattle.pip_items.specs.Answered.{Answers, IsUnread, IsUnanswered, AnswersNext}
-use Rattle.pip_items.specs.ByProblem.{AreEnded, AreBefore, AreAll, WritesTillEnd, WritesByProblem, WritesOf}
+use Rattle.pip_items.specs.ByProblem.{AreEnded, AreBefore, AreAll, WritesTillEnd, WritesByProblem}
 use Rattle.pip_items.proofs.Written.{LeadTo, nothing, one_more, front_of_one}
-
-pub if-some : {X : Type 0} (P : X → Type 0) (o : Option X) (x : X) → o ≡ Some x → IfSome o P → P x
-if-some P (Some y) x e h = let same : y ≡ x = cc in subst P same h
-if-some P None x e h = absurd cc
 
 module _ (o : SolveOptions) (bytes : List ℕ) where
   abbrev pub text : ℕ → ItemAt (List ℕ)
@@ -223,10 +220,10 @@ pub taken-by : (input : Option (List ℕ)) (Q : List ℕ → ℕ → Type 0) (i 
 taken-by None Q i j n e h = tt
 taken-by (Some bytes) Q i j n e h = let same : n ≡ j - i = omega (arith, e) in subst (Q bytes) same h
 
-pub counted-on : (o : SolveOptions) (input : Option (List ℕ)) (w : HeldBytes) (now a b : Option (List ℕ)) (i j k c d : ℕ) → IfSome input (λ bytes. Follows o bytes w now a b) → IfSome input (λ _. j ≡ i + c) → IfSome now (λ _. k + c ≡ j + d) → IfSome input (λ _. k ≡ i + d)
-counted-on o None w now a b i j k c d fs h e = tt
-counted-on o (Some bytes) w now a b i j k c d fs h e =
-    let f = if-some (λ _. k + c ≡ j + d) now fs.left_now fs.told e in omega (arith, h, f)
+-- what holds of the input and of what is left of it now
+pub told-on : (o : SolveOptions) (input : Option (List ℕ)) (w : HeldBytes) (now a b : Option (List ℕ)) (P Q R : Type 0) → IfSome input (λ bytes. Follows o bytes w now a b) → IfSome input (λ _. P) → IfSome now (λ _. Q) → (P → Q → R) → IfSome input (λ _. R)
+told-on o None w now a b P Q R fs p q k = tt
+told-on o (Some bytes) w now a b P Q R fs p q k = k p (if-some (λ _. Q) now fs.left_now fs.told q)
 
 -- no more is taken than a byte past the limit
 pub taken-few : (input : Option (List ℕ)) (i j n : ℕ) → IfSome input (λ _. j ≡ i + n) → n ≤ most_input_bytes + 1 → TakesInputAtMost input i j
@@ -239,31 +236,20 @@ if-told P (Some x) p = p
 
 -- ---- refusals
 
-pub next-usage : (e : NextRefusal) → next_ending e ≡ ending.Usage → ⊥
-next-usage (next.Read e) h = cc
-next-usage next.Failed h = cc
-next-usage next.InputBytes h = cc
-next-usage next.WantOfMemory h = cc
-
-pub next-no_write : (e : NextRefusal) → next_ending e ≡ ending.WriteFault → ⊥
-next-no_write (next.Read e) h = cc
-next-no_write next.Failed h = cc
-next-no_write next.InputBytes h = cc
-next-no_write next.WantOfMemory h = cc
-
-pub next-fault : (e : NextRefusal) → next_ending e ≡ ending.ReadFault → e ≡ next.Failed
-next-fault (next.Read e) h = absurd cc
-next-fault next.Failed h = refl
-next-fault next.InputBytes h = absurd cc
-next-fault next.WantOfMemory h = absurd cc
+-- a refusal of a problem is neither of the words nor of a write, and a fault only where the source failed
+pub next-not : (e : NextRefusal) → (¬ (next_ending e ≡ ending.Usage)) × (¬ (next_ending e ≡ ending.WriteFault)) × (next_ending e ≡ ending.ReadFault → e ≡ next.Failed)
+next-not (next.Read e) = (λ h. cc, λ h. cc, λ h. absurd cc)
+next-not next.Failed = (λ h. cc, λ h. cc, λ h. refl)
+next-not next.InputBytes = (λ h. cc, λ h. cc, λ h. absurd cc)
+next-not next.WantOfMemory = (λ h. cc, λ h. cc, λ h. absurd cc)
 
 -- a refusal of an item is none of the outside
-pub own-not : (e : Refused) → IsOfItem e → (¬ (e ≡ ending.Usage)) × (¬ (e ≡ ending.ReadFault)) × (¬ (e ≡ ending.WriteFault))
+pub own-not : (e : Refused) → IsOfItem e → (¬ (e ≡ ending.Usage)) × (¬ (e ≡ ending.ReadFault)) × (¬ (e ≡ ending.WriteFault)) × (¬ (e ≡ ending.InputTooLong))
 own-not ending.Usage own = absurd own
 own-not ending.ReadFault own = absurd own
 own-not ending.WriteFault own = absurd own
 own-not ending.InputTooLong own = absurd own
-own-not e own = (λ p. cc, λ p. cc, λ p. cc)
+own-not e own = (λ p. cc, λ p. cc, λ p. cc, λ p. cc)
 
 pub err-same : {T : Type 0} (x y : Refused) → IsErrOf {T = T} (Err x) y → x ≡ y
 err-same x y h = cc
@@ -287,8 +273,8 @@ module _ (rb r0 ra wb w0 wa : ℕ) (read : r0 ≡ rb) (write : w0 ≡ wb) where
 
   pub faults-next : {T : Type 0} (e : NextRefusal) → CountsFaults (IsErrOf {T = Option (Problem × ℕ)} (Err e) next.Failed) r0 ra → EndsByFaults {T = T} rb ra wb w0 (Err (next_ending e))
   faults-next e h = faults-by rb ra wb w0 (Err (next_ending e))
-      (counts-as rb r0 ra read (λ k. ap Err (next-fault e (err-same _ _ k))) (λ k. ap (λ x. Err (next_ending x)) (next-same e next.Failed k)) h)
-      (counts-none wb w0 (λ k. next-no_write e (err-same _ _ k)) write)
+      (counts-as rb r0 ra read (λ k. ap Err ((next-not e).2 (err-same _ _ k))) (λ k. ap (λ x. Err (next_ending x)) (next-same e next.Failed k)) h)
+      (counts-none wb w0 (λ k. (next-not e).1 (err-same _ _ k)) write)
 
   pub faults-own : {T : Type 0} (e : Refused) → IsOfItem e → EndsByFaults {T = T} rb r0 wb w0 (Err e)
   faults-own e own =
@@ -330,22 +316,13 @@ unmade o (Some bytes) a n zero = record { texts = []; are = record { place = 0; 
 pub none-taken : (input : Option (List ℕ)) (i : ℕ) → TakesInputAtMost input i i
 none-taken input i = taken-few input i i 0 (if-told _ input (omega arith)) (omega arith)
 
--- ---- what `solve` writes, by how it reads
-
-module _ (o : SolveOptions) (left : Option (List ℕ)) (n : ℕ) (a b : Option (List ℕ)) (r : Result (Unit {0}) Refused) where
-  as_of : (t : Bool) → o.polylib ≡ t → IfSome left (λ bytes. MatchBool (not t) (WritesByProblem (Solve o) bytes n a b r) (WritesOutput (Solve o) bytes a b r)) → IfSome left (λ bytes. WritesOf (Solve o) bytes n a b r)
-  as_of t e h = subst (λ s. IfSome left (λ bytes. MatchBool (not s) (WritesByProblem (Solve o) bytes n a b r) (WritesOutput (Solve o) bytes a b r))) (sym e) h
-
-  pub output-problems : o.polylib ≡ false → IfSome left (λ bytes. WritesByProblem (Solve o) bytes n a b r) → IfSome left (λ bytes. WritesOf (Solve o) bytes n a b r)
-  output-problems e h = as_of false e h
-
 -- ---- the ends of the loop
 
 module _ (o : SolveOptions) (native : o.polylib ≡ false) (input : Option (List ℕ)) (w : HeldBytes) (now a b : Option (List ℕ)) (i j : ℕ)
     (fs : IfSome input (λ bytes. Follows o bytes w now a b)) (counted : IfSome input (λ _. j ≡ i + taken_by w))
     (new : HeldBytes) (after : Option (List ℕ)) (k : ℕ) (more : IfSome now (λ _. k + taken_by w ≡ j + taken_by new)) where
   pub counts : IfSome input (λ _. k ≡ i + taken_by new)
-  counts = counted-on o input w now a b i j k (taken_by w) (taken_by new) fs counted more
+  counts = told-on o input w now a b (j ≡ i + taken_by w) (k + taken_by w ≡ j + taken_by new) (k ≡ i + taken_by new) fs counted more (λ x y. omega (arith, x, y))
 
   pub taken-at_most : taken_by new ≤ most_input_bytes + 1 → TakesInputAtMost input i k
   taken-at_most h = taken-few input i k (taken_by new) counts h
@@ -417,24 +394,16 @@ pub own-limit : {U : Type 0} (r : Result U Refused) (n : ℕ) → ¬ IsErrOf r e
 own-limit r n other within = (λ p. absurd (other p), λ q. absurd (omega (arith, within, q)))
 
 pub own-not_long : {U : Type 0} (e : Refused) → IsOfItem e → ¬ IsErrOf {T = U} (Err e) ending.InputTooLong
-own-not_long ending.Usage own h = own
-own-not_long ending.ReadFault own h = own
-own-not_long ending.WriteFault own h = own
-own-not_long ending.InputTooLong own h = own
-own-not_long e own h = cc
+own-not_long e own h = (own-not e own).3 (err-same _ _ h)
 
 pub err-limit : {T : Type 0} (e : Refused) (n : ℕ) → (IsErrOf {T = T} (Err e) ending.InputTooLong ↔ (most_input_bytes < n)) → (e ≡ ending.InputTooLong) ↔ (most_input_bytes < n)
 err-limit e n h = (λ p. h.0 (ap (λ x. Err x) p), λ q. err-same _ _ (h.1 q))
 
 pub next-words : {T : Type 0} (e : NextRefusal) → ¬ IsErrOf {T = T} (Err (next_ending e)) ending.Usage
-next-words e h = next-usage e (err-same _ _ h)
+next-words e h = (next-not e).0 (err-same _ _ h)
 
 pub own-words : {T : Type 0} (e : Refused) → IsOfItem e → ¬ IsErrOf {T = T} (Err e) ending.Usage
 own-words e own h = (own-not e own).0 (err-same _ _ h)
 
 pub err-not_ok : {T E : Type 0} (r : Result T E) (e : E) (x : T) {P : Type 0} → r ≡ Err e → r ≡ Ok x → P
 err-not_ok r e x h k = absurd (let both : Err e ≡ Ok x = sym h ∙ k in cc)
-
-pub none-left : {X : Type 0} (o : Option X) → ((x : X) → ¬ (o ≡ Some x)) → o ≡ None
-none-left None h = refl
-none-left (Some x) h = absurd (h x refl)

@@ -4,7 +4,7 @@ use Rattle.std.specs.Prelude.{Result, Ok, Err, IfSome, IfErr, MatchBool, Vec, �
 use Rattle.std.specs.declared.alloc.Global.{Global}
 use Rattle.std.specs.Io.KnownBytes.{Keeps}
 use Rattle.pip_model.specs.Limits.{most_input_bytes}
-use Rattle.program_model.specs.Commands.{Command, Trial, way, item_text}
+use Rattle.program_model.specs.Commands.{Command, way, item_text}
 use Rattle.pip_endings.specs.Endings.{IsOfItem}
 use Rattle.pip_endings.specs.declared.ending.Ending.{Ending}
 use Rattle.pip_endings.specs.declared.ending.Ending.TheVariants as ending
@@ -20,6 +20,17 @@ IsOwn r = IfErr r (λ e. ¬ (e ≡ ending.WriteFault) → IsOfItem e)
 kept : (a : Option (List ℕ)) → Keeps a a
 kept None = tt
 kept (Some xs) = refl
+
+-- what is written of the items is the output where the input is no longer than its limit
+pub written : (c : Command) (bytes : List ℕ) (a b : Option (List ℕ)) (r : Result (Unit {0}) Ending) → (TakesInput c → length bytes ≤ most_input_bytes)
+    → IsOwn r → WritesItems (item_text c bytes) a b r → WritesOutput c bytes a b r
+written c bytes a b (Ok u) few own k = (few, k)
+written c bytes a b (Err ending.Usage) few own k = absurd (own (λ p. cc))
+written c bytes a b (Err ending.ReadFault) few own k = absurd (own (λ p. cc))
+written c bytes a b (Err ending.WriteFault) few own k = (few, k)
+written c bytes a b (Err ending.WantOfMemory) few own k = inr (few, k)
+written c bytes a b (Err ending.InputTooLong) few own k = absurd (own (λ p. cc))
+written c bytes a b (Err e) few own k = (few, k)
 
 -- ---- of a command that reads its whole input first
 
@@ -37,16 +48,6 @@ module _ (c : Command) (takes : TakesInput c) (whole : reads_by_problem c ≡ fa
       → IfSome left (λ bytes. WritesOf c bytes n a b r) → IfSome (bytes_read c left) (λ bytes. WritesOf c bytes n a b r)
   as_read left a b r h = subst (λ o. IfSome o (λ bytes. WritesOf c bytes n a b r)) (sym (all_read (way c).takes_input takes left)) h
 
-  written : (bytes : List ℕ) (a b : Option (List ℕ)) (r : Result (Unit {0}) Ending) → length bytes ≤ most_input_bytes
-      → IsOwn r → WritesItems (item_text c bytes) a b r → WritesOutput c bytes a b r
-  written bytes a b (Ok u) h own k = (λ _. h, k)
-  written bytes a b (Err ending.Usage) h own k = absurd (own (λ p. cc))
-  written bytes a b (Err ending.ReadFault) h own k = absurd (own (λ p. cc))
-  written bytes a b (Err ending.WriteFault) h own k = (λ _. h, k)
-  written bytes a b (Err ending.WantOfMemory) h own k = inr (λ _. h, k)
-  written bytes a b (Err ending.InputTooLong) h own k = absurd (own (λ p. cc))
-  written bytes a b (Err e) h own k = (λ _. h, k)
-
   pub output-read : (left : Option (List ℕ)) (input : Vec ℕ Global) (a b : Option (List ℕ)) (r : Result (Unit {0}) Ending)
       → IfSome left (ReadsInput (Ok input)) → IsOwn r → WritesItems (item_text c input.items) a b r
       → IfSome (bytes_read c left) (λ bytes. WritesOf c bytes n a b r)
@@ -56,7 +57,7 @@ module _ (c : Command) (takes : TakesInput c) (whole : reads_by_problem c ≡ fa
       go None h = tt
       go (Some bytes) h =
           where_false (reads_by_problem c) _ _ whole
-          (written bytes a b r h.1 own (subst (λ (xs : List ℕ). WritesItems (item_text c xs) a b r) h.0 k))
+          (written c bytes a b r (λ _. h.1) own (subst (λ (xs : List ℕ). WritesItems (item_text c xs) a b r) h.0 k))
 
   -- nothing is written where the input is not read
   unread : (bytes : List ℕ) (a : Option (List ℕ)) (e : Ending) → IsOfInput (Err e) → ReadsInput (Err e) bytes
@@ -73,15 +74,3 @@ module _ (c : Command) (takes : TakesInput c) (whole : reads_by_problem c ≡ fa
       go : (o : Option (List ℕ)) → IfSome o (ReadsInput (Err e)) → IfSome o (λ bytes. WritesOf c bytes n a a (Err e))
       go None h = tt
       go (Some bytes) h = where_false (reads_by_problem c) _ _ whole (unread bytes a e own h)
-
--- ---- of the trial, which reads no bytes
-
-pub output-trial : (seed count : ℕ) (a b : Option (List ℕ)) (r : Result (Unit {0}) Ending) → IsOwn r
-    → WritesItems (item_text (Trial seed count) []) a b r → WritesOutput (Trial seed count) [] a b r
-output-trial seed count a b (Ok u) own k = (λ taken. absurd taken, k)
-output-trial seed count a b (Err ending.Usage) own k = absurd (own (λ p. cc))
-output-trial seed count a b (Err ending.ReadFault) own k = absurd (own (λ p. cc))
-output-trial seed count a b (Err ending.WriteFault) own k = (λ taken. absurd taken, k)
-output-trial seed count a b (Err ending.WantOfMemory) own k = inr (λ taken. absurd taken, k)
-output-trial seed count a b (Err ending.InputTooLong) own k = absurd (own (λ p. cc))
-output-trial seed count a b (Err e) own k = (λ taken. absurd taken, k)

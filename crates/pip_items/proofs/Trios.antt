@@ -27,15 +27,15 @@ module _ {A B C E : Type 0} (r : Result A E) (s : A → Result B E) (both : A �
   steps-stopped x (Some e) h k = then r (λ z. s z >>= λ w. Ok (both z w)) x h ∙ stopped (s x) (λ w. Ok (both x w)) e k
 
 module _ (bytes : List ℕ) (m : ℕ) (rows : List (List ℤ)) (at : ℕ) (first : Spoken × ℕ) (is : needed_answer bytes m at ≡ Ok first) where
-  pub trio-given : (second : Spoken × ℕ) → needed_answer bytes m first.1 ≡ Ok second
+  pub trio_given : (second : Spoken × ℕ) → needed_answer bytes m first.1 ≡ Ok second
       → trio_by bytes m (Some (rows, at)) ≡ Ok (Some (record { rows = rows; first = first.0; second = second.0 }, second.1))
-  trio-given second h =
+  trio_given second h =
       steps-given (needed_answer bytes m at) (λ a. needed_answer bytes m a.1)
       (λ a b. Some (record { rows = rows; first = a.0; second = b.0 }, b.1)) first second is h
 
   -- the second answer is refused
-  pub trio-stopped : (o : Option Ending) → IfSome o (λ e. needed_answer bytes m first.1 ≡ Err e)
+  pub trio_stopped : (o : Option Ending) → IfSome o (λ e. needed_answer bytes m first.1 ≡ Err e)
       → IfSome o (λ e. trio_by bytes m (Some (rows, at)) ≡ Err e)
-  trio-stopped o h =
+  trio_stopped o h =
       steps-stopped (needed_answer bytes m at) (λ a. needed_answer bytes m a.1)
       (λ a b. Some (record { rows = rows; first = a.0; second = b.0 }, b.1)) first o is h

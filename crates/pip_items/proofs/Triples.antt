@@ -1,17 +1,14 @@
 -- From what the check finds to the texts of check and share.
 use Rattle.std.proofs.Common.{◌≡◌}
-use Rattle.std.specs.Prelude.{Ok, Err, IfSome, Option, Some, None}
+use Rattle.std.specs.Prelude.{Ok, Err, IfSome}
 use Rattle.pip_model.specs.Certificate.{Certificate}
 use Rattle.pip_model.specs.Check.{Checks}
 use Rattle.program_model.specs.Endings as model
 use Rattle.program_model.specs.ItemTexts.{verdict_text, certificate_text}
 use Rattle.pip_endings.specs.Endings.{told}
 use Rattle.pip_endings.specs.declared.ending.Ending.{Ending}
+use Rattle.pip_stream.proofs.Dropping.{if-map}
 use Rattle.pip_items.specs.Triples.{verdict, IsFound}
-
-where_some : {A : Type 0} (P Q : A → Type 0) (o : Option A) → ((x : A) → P x → Q x) → IfSome o P → IfSome o Q
-where_some P Q None f h = tt
-where_some P Q (Some x) f h = f x h
 
 verdict_err : (found : Checks (Unit {0})) (e : model.Ending) → verdict found ≡ Err e → verdict_text found ≡ Err e
 verdict_err (Ok u) e h = cc
@@ -25,8 +22,8 @@ certificate_err (Err f) c e h = cc
 -- where the check finds a fault, this is the end of check and of share
 pub check_refused : (found : Checks (Unit {0})) (e : Ending) → IsFound (Err e) found
     → IfSome (told e) (λ f. verdict_text found ≡ Err f)
-check_refused found e h = where_some _ _ (told e) (verdict_err found) h
+check_refused found e h = if-map _ _ (told e) (verdict_err found) h
 
 pub share_refused : (found : Checks (Unit {0})) (c : Certificate) (e : Ending) → IsFound (Err e) found
     → IfSome (told e) (λ f. certificate_text found c ≡ Err f)
-share_refused found c e h = where_some _ _ (told e) (certificate_err found c) h
+share_refused found c e h = if-map _ _ (told e) (certificate_err found c) h

@@ -3,13 +3,13 @@ use Rattle.std.proofs.Common.{◌≡◌, ℕ, ◌+◌, ◌<◌, inr, arith, Bool
 use Rattle.std.specs.Prelude.{IfSome, Result, Ok, Err}
 use Rattle.std.specs.Io.KnownBytes.{Consumes}
 use Rattle.pip_outside.specs.Calls.{Takes, AsksOn}
-use Rattle.pip_outside.proofs.Calls.{takes-none, takes-more, takes-then, asks-none, asks-once, asks-then}
+use Rattle.pip_outside.proofs.Calls.{takes-none, takes-more, takes-then, asks-none, asks-then}
 use Rattle.pip_outside.specs.Windows.{HeldBytes}
 use Rattle.program_model.specs.Commands.{SolveOptions}
 use Rattle.pip_stream.specs.Asked.{AsksUntil, AsksInTurns, AsksWhileOpen, CallsFor}
 use Rattle.pip_stream.specs.Windows.{taken_by}
 use Rattle.pip_stream.proofs.Dropping.{if-map}
-use Rattle.pip_items.proofs.ByProblem.{if-some, Follows}
+use Rattle.pip_items.proofs.ByProblem.{Follows, told-on}
 
 module _ {S : Type 0} (Calls : S → S → Type 0) (taken : S → ℕ) where
   pub takes-start : (s : S) (o : Option (List ℕ)) → IfSome o (λ _. Takes Calls taken s s)
@@ -25,10 +25,6 @@ module _ {S : Type 0} (Calls : S → S → Type 0) (taken : S → ℕ) where
 
   -- ---- a read
 
-  pub asks-read : (s t u : S) (o : Option (List ℕ)) → IfSome o (λ _. Takes Calls taken s t) → Calls t u → IfSome o (λ _. AsksOn Calls taken s u)
-  asks-read s t u None h called = tt
-  asks-read s t u (Some left) h called = asks-once Calls taken s t u h (inr called)
-
   pub takes-read : (s t u : S) (o m : Option (List ℕ)) (xs : List ℕ) (n : ℕ) → Consumes o m xs → IfSome o (λ _. Takes Calls taken s t) → IfSome m (λ _. taken u ≡ taken t + n) → 0 < n → Calls t u → IfSome o (λ _. Takes Calls taken s u)
   takes-read s t u None m xs n k h counted some called = tt
   takes-read s t u (Some left) None xs n k h counted some called = absurd k
@@ -43,18 +39,10 @@ module _ {S : Type 0} (Calls : S → S → Type 0) (taken : S → ℕ) where
 
   module _ (o : SolveOptions) (input : Option (List ℕ)) (w : HeldBytes) (now a b : Option (List ℕ)) (fs : IfSome input (λ bytes. Follows o bytes w now a b)) (s t u : S) (led : IfSome input (λ _. Takes Calls taken s t)) where
     pub asks-next : {E : Type 0} (r : Result Bool E) → IfSome now (λ _. AsksUntil Calls taken t u r) → IfSome input (λ _. AsksOn Calls taken s u)
-    asks-next r h = by_told input fs led
-      where
-        by_told : (i : Option (List ℕ)) → IfSome i (λ bytes. Follows o bytes w now a b) → IfSome i (λ _. Takes Calls taken s t) → IfSome i (λ _. AsksOn Calls taken s u)
-        by_told None f g = tt
-        by_told (Some bytes) f g = asks-then Calls taken s t u g (until-asks t u r (if-some (λ _. AsksUntil Calls taken t u r) now f.left_now f.told h))
+    asks-next r h = told-on o input w now a b (Takes Calls taken s t) (AsksUntil Calls taken t u r) (AsksOn Calls taken s u) fs led h (λ x y. asks-then Calls taken s t u x (until-asks t u r y))
 
     pub takes-next : IfSome now (λ _. Takes Calls taken t u) → IfSome input (λ _. Takes Calls taken s u)
-    takes-next h = by_told input fs led
-      where
-        by_told : (i : Option (List ℕ)) → IfSome i (λ bytes. Follows o bytes w now a b) → IfSome i (λ _. Takes Calls taken s t) → IfSome i (λ _. Takes Calls taken s u)
-        by_told None f g = tt
-        by_told (Some bytes) f g = takes-then Calls taken s t u g (if-some (λ _. Takes Calls taken t u) now f.left_now f.told h)
+    takes-next h = told-on o input w now a b (Takes Calls taken s t) (Takes Calls taken t u) (Takes Calls taken s u) fs led h (λ x y. takes-then Calls taken s t u x y)
 
 -- ---- the calls for the next problem
 

@@ -30,7 +30,7 @@ value_tree-landed : (o : Option (List Component × List ℤ)) → value_tree (le
 value_tree-landed None = refl
 value_tree-landed (Some l) = ap Leaf (ratios_of-values l.1 l.0)
 
-pub tree_valued-landed : (t : Tree) (u : List ℤ) (o : Option (List Component × List ℤ)) → all_fit (tree_value_listed t u) ≡ true → o ≡ landed (leaf_of t u) → tree_valued t u ≡ Ok (landed_tree o)
-tree_valued-landed t u o fit at =
+pub tree_valued_landed : (t : Tree) (u : List ℤ) (o : Option (List Component × List ℤ)) → all_fit (tree_value_listed t u) ≡ true → o ≡ landed (leaf_of t u) → tree_valued t u ≡ Ok (landed_tree o)
+tree_valued_landed t u o fit at =
     let same : value_tree (tree_value t u) ≡ landed_tree o = ap value_tree (tree_value-leaf t u) ∙ value_tree-landed (leaf_of t u) ∙ ap landed_tree (sym at) in
     rw fit (ap Ok same)

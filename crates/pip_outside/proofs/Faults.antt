@@ -1,6 +1,6 @@
 -- Counts of faults, one call after the other.
-use Rattle.std.proofs.Common.{◌≡◌, sym, ap, subst, ◌∙◌, ℕ, ◌≤◌, arith}
-use Rattle.std.specs.Prelude.{Result, Ok, Err, IsErr, IsErrOf}
+use Rattle.std.proofs.Common.{◌≡◌, ap, subst, ◌∙◌, ℕ, arith}
+use Rattle.std.specs.Prelude.{Err, IsErrOf}
 use Rattle.pip_outside.specs.Faults.{HasRisen, CountsFaults}
 
 -- nothing failed, and nothing is counted

@@ -1,9 +1,9 @@
 -- Fronts of bytes, and bytes that are written in parts.
-use Rattle.std.proofs.Common.{◌≡◌, refl, ℕ, ◌+◌, ◌<◌, List, [], ◌++◌, length, take, drop, Option, Some, sym, subst, ap, ◌∙◌, arith, length-append}
-use Rattle.std.proofs.lemmas.List.{take-append-le, take-append-drop, drop-drop}
+use Rattle.std.proofs.Common.{◌≡◌, ℕ, ◌+◌, ◌<◌, List, [], ◌++◌, length, take, drop, Option, Some, sym, subst, ap, ◌∙◌, arith, length-append}
+use Rattle.std.proofs.lemmas.List.{take-append-drop, drop-drop}
 use Rattle.std.proofs.Math.Seq.{take-add, take-append-add}
 use Rattle.std.proofs.KnownBytes.{Appends-trans}
-use Rattle.std.specs.Prelude.{Result, Ok, Err, IsErr}
+use Rattle.std.specs.Prelude.{Result, Ok, Err}
 use Rattle.std.specs.Io.KnownBytes.{Appends, Consumes, IsAtEnd}
 use Rattle.pip_outside.specs.Bytes.{AppendsFront, WritesAll, WritesBytes}
 use Rattle.pip_outside.proofs.Faults.{counts-after}
@@ -11,11 +11,6 @@ use Rattle.pip_outside.proofs.Faults.{counts-after}
 -- a front of the bytes, and then a front of the rest
 pub front_more : (a b c : Option (List ℕ)) (bytes : List ℕ) (at n : ℕ) → Appends a b (take at bytes) → Appends b c (take n (drop at bytes)) → Appends a c (take (at + n) bytes)
 front_more a b c bytes at n p q = subst (Appends a c) (sym (take-add at n bytes)) (Appends-trans a b c _ _ p q)
-
--- a front of the bytes is one of more bytes
-pub front_longer : (a b : Option (List ℕ)) (xs ys : List ℕ) → AppendsFront a b xs → AppendsFront a b (xs ++ ys)
-front_longer a b xs ys h =
-    (h.0, omega (arith, h.1, length-append xs ys), subst (Appends a b) (sym (take-append-le h.0 xs ys h.1)) h.2)
 
 -- bytes, and then a front of more
 pub front_after : (a b c : Option (List ℕ)) (xs ys : List ℕ) → Appends a b xs → AppendsFront b c ys → AppendsFront a c (xs ++ ys)
@@ -32,15 +27,6 @@ module _ {K E : Type 0} (written : K → Option (List ℕ)) (count : K → ℕ) 
   writes-then a b c xs ys r u h k = record {
     bytes = writes_after (written a) (written b) (written c) xs ys r h.bytes k.bytes;
     faults = counts-after (count a) (count b) (count c) (h.faults.quiet (λ e. cc)) k.faults;
-  }
-
-  -- a write that fails before these
-  pub writes-failed : (a b : K) (xs ys : List ℕ) (p r : Result (Unit {0}) E) → IsErr p → IsErr r → WritesBytes written count a b p xs → WritesBytes written count a b r (xs ++ ys)
-  writes-failed a b xs ys (Ok u) r e f h = absurd cc
-  writes-failed a b xs ys (Err x) (Ok u) e f h = absurd cc
-  writes-failed a b xs ys (Err x) (Err y) e f h = record {
-    bytes = front_longer (written a) (written b) xs ys h.bytes;
-    faults = record { later = h.faults.later; cause = λ _. h.faults.cause refl; quiet = λ never. absurd (never refl) };
   }
 
 -- a read of n bytes at a place leaves those after them

@@ -180,6 +180,9 @@ closed-none w v d =
     let closed : list_all is_closed w.held ≡ true = ap (list_all is_closed) (sym (ap (λ n. take n w.held) all ∙ take-length w.held)) ∙ d.closed in
     next_open-closed 0 w.held closed
 
+pub held-restart : (w v : HeldBytes) (p : ℕ) → v ≡ record w { peak = p } → ¬ (first_group_end w.held ≡ None) → ¬ (first_group_end v.held ≡ None)
+held-restart w v p e some none = some (ap (λ (x : HeldBytes). first_group_end x.held) (sym e) ∙ none)
+
 pub held-opens : (w : HeldBytes) → ¬ (first_group_end w.held ≡ None) → ¬ (next_open 0 w.held ≡ None)
 held-opens w some none = some (ap (group_behind w.held) none)
 

@@ -1,14 +1,12 @@
 -- Bytes that are dropped, and bytes that come: what is told of the input through each step.
-use Rattle.std.proofs.Common.{◌≡◌, refl, sym, ap, subst, ◌∙◌, ℕ, ◌+◌, ◌-◌, arith, List, ◌++◌, append_assoc, length, Bool, true, length-append, length-drop, take, drop}
+use Rattle.std.proofs.Common.{◌≡◌, refl, sym, ap, subst, ◌∙◌, ℕ, ◌+◌, ◌-◌, arith, List, ◌++◌, length, Bool, true, length-append, length-drop, take, drop}
 use Rattle.std.proofs.Math.Seq.{take-add}
 use Rattle.std.proofs.lemmas.List.{drop-drop, drop-append-le, take-append-le}
 use Rattle.std.proofs.lemmas.List.Folds.{list_all-append}
 use Rattle.std.specs.Prelude.{Option, Some, None, IfSome}
 use Rattle.std.specs.List.{list_all}
-use Rattle.std.specs.Io.KnownBytes.{Consumes, Keeps}
 use Rattle.pip_outside.specs.Windows.{HeldBytes}
 use Rattle.pip_model.specs.Moved.{is_closed}
-use Rattle.pip_stream.specs.Asked.{TakesMore}
 use Rattle.pip_stream.specs.Windows.{taken_by, bytes_from, Drops, Skips, Grows}
 use Rattle.pip_stream.specs.Open.{DropsClosed}
 
@@ -32,27 +30,6 @@ taken-grown a b n g =
 
 pub drops-none : (w : HeldBytes) (left : Bytes) (o : Option Bytes) → o ≡ Some left → Drops w left w o 0
 drops-none w left o e = record { few = omega arith; base = omega arith; left_now = left; told = e; rest = refl }
-
-module _ {S : Type 0} (taken : S → ℕ) (s t : S) where
-  pub kept-takes : (w : HeldBytes) (o m : Option Bytes) → Keeps o m → IfSome o (λ _. taken t ≡ taken s + 0) → IfSome o (λ left. TakesMore taken s t w w left m)
-  kept-takes w None m h k = tt
-  kept-takes w (Some xs) None h k = absurd h
-  kept-takes w (Some xs) (Some ys) h k = record { drops = drops-none w xs (Some ys) (ap Some h); counted = omega (arith, k) }
-
-  -- what comes is held
-  pub grown-takes : (a b : HeldBytes) (n : ℕ) (o m : Option Bytes) (g : Grows a b n) → Consumes o m g.piece → IfSome o (λ _. taken t ≡ taken s + n) → IfSome o (λ left. TakesMore taken s t a b left m)
-  grown-takes a b n None m g h k = tt
-  grown-takes a b n (Some xs) None g h k = absurd h
-  grown-takes a b n (Some xs) (Some ys) g h k = record {
-    drops = record {
-      few = omega arith;
-      base = g.base ∙ omega arith;
-      left_now = ys;
-      told = refl;
-      rest = ap (λ s. s ++ ys) g.held ∙ append_assoc a.held g.piece ys ∙ ap (λ s. a.held ++ s) (sym h);
-    };
-    counted = omega (arith, k, taken-grown a b n g);
-  }
 
 -- ---- one step after the other
 

@@ -1,6 +1,6 @@
 -- The window where the search for the end of a group ends, and where it goes on.
-use Rattle.std.proofs.Common.{◌≡◌, refl, sym, ap, subst, ◌∙◌, ℕ, ◌+◌, ◌-◌, ◌<◌, ◌≤◌, inl, inr, arith, List, [], ◌∷◌, ◌++◌, length, length-append, length-take, take, drop}
-use Rattle.std.proofs.lemmas.List.{take-append-drop, take_at, append-nil}
+use Rattle.std.proofs.Common.{◌≡◌, refl, sym, ap, subst, ◌∙◌, ℕ, ◌+◌, ◌-◌, ◌<◌, ◌≤◌, inl, inr, arith, List, ◌++◌, length, length-append, length-take, take, drop}
+use Rattle.std.proofs.lemmas.List.{take-append-drop, take_at, append-nil, nil_from_length}
 use Rattle.std.specs.Prelude.{Some, None, Ok, Err}
 use Rattle.pip_outside.specs.Windows.{HeldBytes}
 use Rattle.pip_model.specs.Limits.{most_input_bytes}
@@ -38,11 +38,7 @@ module _ (w u : HeldBytes) where
   none-came : (k : ℕ) → IsMore w u (Ok k) → k ≡ 0 → u.held ≡ w.held
   none-came k m zero =
       let none : length m.0.piece ≡ 0 = omega (arith, m.0.count, zero) in
-      m.0.held ∙ ap (λ x. w.held ++ x) (no_bytes m.0.piece none) ∙ append-nil w.held
-    where
-      no_bytes : (xs : List ℕ) → length xs ≡ 0 → xs ≡ []
-      no_bytes [] e = refl
-      no_bytes (x ∷ xs) e = absurd (omega (arith, e))
+      m.0.held ∙ ap (λ x. w.held ++ x) (nil_from_length m.0.piece none) ∙ append-nil w.held
 
   -- the input ends
   pub rest-open : (k d : ℕ) → IsScanned w.held d → IsMore w u (Ok k) → k ≡ 0 → first_group_end u.held ≡ None

@@ -70,11 +70,13 @@ module _ (old : HeldBytes) (left : List ℕ) (w : HeldBytes) (now : Option (List
         omega (arith, later, s.drops.base);
   }
 
+  left-none : now ≡ Some [] → s.drops.left_now ≡ []
+  left-none end = let same : Some s.drops.left_now ≡ Some [] = sym s.drops.told ∙ end in cc
+
   -- no `(` is left
   pub reads-none : w.held ≡ [] → now ≡ Some [] → ReadsNone old left w now
   reads-none none end =
-      let behind : s.drops.left_now ≡ [] = some-same (sym s.drops.told ∙ end) in
-      let empty : rest ≡ [] = ap (λ x. x ++ s.drops.left_now) none ∙ behind in
+      let empty : rest ≡ [] = ap (λ x. x ++ s.drops.left_now) none ∙ left-none end in
       let all : input ≡ take s.count input = whole ∙ ap (λ x. take s.count input ++ x) empty ∙ append-nil (take s.count input) in
       let size : s.count ≡ length input = sym front-size ∙ ap length (sym all) in
       record {
@@ -82,9 +84,6 @@ module _ (old : HeldBytes) (left : List ℕ) (w : HeldBytes) (now : Option (List
         drops = subst (Drops old left w now) size s.drops;
         end = end;
       }
-    where
-      some-same : {x y : List ℕ} → Some x ≡ Some y → x ≡ y
-      some-same e = cc
 
   module _ (first : next_open 0 w.held ≡ Some 0) where
     opens-at : (k : ℕ) → next_open k rest ≡ Some k
@@ -106,15 +105,11 @@ module _ (old : HeldBytes) (left : List ℕ) (w : HeldBytes) (now : Option (List
 
     reads-rest : now ≡ Some [] → read_native input 0 ≡ moved s.count (read_native w.held 0)
     reads-rest end =
-        let behind : s.drops.left_now ≡ [] = some-same (sym s.drops.told ∙ end) in
-        let held : drop s.count input ≡ w.held = sym s.drops.rest ∙ ap (λ x. w.held ++ x) behind ∙ append-nil w.held in
+        let held : drop s.count input ≡ w.held = sym s.drops.rest ∙ ap (λ x. w.held ++ x) (left-none end) ∙ append-nil w.held in
         let low : s.count + 0 ≤ length input = omega (arith, s.drops.few) in
         let here : next_open (s.count + 0) (drop (s.count + 0) input) ≡ Some s.count = ap (λ k. next_open k (drop k input)) zero_more ∙ ap (next_open s.count) (sym s.drops.rest) ∙ opens-at s.count in
         ap (item_at (problem_at input)) (opens ∙ sym here) ∙ read_native-moved input s.count 0 low ∙ ap (λ g. moved s.count (read_native g 0)) held
       where
-        some-same : {x y : List ℕ} → Some x ≡ Some y → x ≡ y
-        some-same e = cc
-
         zero_more : s.count + 0 ≡ s.count
         zero_more = omega arith
 
@@ -144,9 +139,7 @@ module _ (old : HeldBytes) (left : List ℕ) (w : HeldBytes) (now : Option (List
             let same : q ≡ s.count + n = cc in
             omega (arith, same, s.drops.base, h.behind)
         by_item (inr open_still) =
-            let none : now ≡ Some [] = end open_still.0 in
-            let behind : s.drops.left_now ≡ [] = let f = sym s.drops.told ∙ none in cc in
-            let held : rest ≡ w.held = ap (λ x. w.held ++ x) behind ∙ append-nil w.held in
+            let held : rest ≡ w.held = ap (λ x. w.held ++ x) (left-none (end open_still.0)) ∙ append-nil w.held in
             let there : Some q ≡ None = sym e ∙ group-behind ∙ ap (place_behind s.count) (ap first_group_end held ∙ open_still.0) in
             absurd cc
 

@@ -101,11 +101,3 @@ group_end-ends bytes n h = by_open (next_open 0 bytes) refl
               ∙ group_end-opened o.before (o.tail ++ more) o.closed
               ∙ closing-append 1 (suc (length o.before)) (suc (length o.before)) n n o.tail more refl closed;
         }
-
--- a group that does not end among the bytes does not in a front of them
-pub group_end-front : (bytes more : List ℕ) → first_group_end (bytes ++ more) ≡ None → first_group_end bytes ≡ None
-group_end-front bytes more h = by_end (first_group_end bytes) refl
-  where
-    by_end : (o : Option ℕ) → first_group_end bytes ≡ o → first_group_end bytes ≡ None
-    by_end None is = is
-    by_end (Some n) is = let e = (group_end-ends bytes n is).longer more in cc

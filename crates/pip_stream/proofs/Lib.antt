@@ -1,4 +1,3 @@
-pub mod FaultPlaces
 pub mod Groups
 pub mod Dropping
 pub mod Scanned

@@ -8,7 +8,7 @@ use Rattle.pip_model.specs.Limits.{most_input_bytes}
 use Rattle.pip_model.specs.Problem.{Problem}
 use Rattle.pip_model.specs.Reading.{next_open}
 use Rattle.pip_reader.specs.Groups.{first_group_end}
-use Rattle.pip_stream.specs.Windows.{taken_by, Drops, Skips}
+use Rattle.pip_stream.specs.Windows.{taken_by, Skips}
 use Rattle.pip_stream.specs.Open.{IsOpened}
 use Rattle.pip_stream.specs.Ended.{HoldsItem, IsEnded, IsRead}
 use Rattle.pip_stream.specs.Next.{ReadsNext, IsSpared, RefusesNext, FindsNext, LeavesWindow, IsReady, IsPeak}
@@ -44,10 +44,10 @@ finds-none old w (Some left) m s h e = reads-none old left w m s h (at-end old w
 
 -- ---- the window behind a refusal, or the input's end
 
-abbrev AtLimit : NextRefusal → HeldBytes → Type 0
+abbrev pub AtLimit : NextRefusal → HeldBytes → Type 0
 AtLimit e w = (taken_by w ≤ most_input_bytes + 1) × (e ≡ next.InputBytes → most_input_bytes < taken_by w) × (most_input_bytes < taken_by w → e ≡ next.InputBytes)
 
-leaves-by : (old w : HeldBytes) (e : NextRefusal) → old.base ≤ w.base → AtLimit e w → LeavesWindow old w (Err e)
+pub leaves-by : (old w : HeldBytes) (e : NextRefusal) → old.base ≤ w.base → AtLimit e w → LeavesWindow old w (Err e)
 leaves-by old w e base h = record {
   ready = tt;
   peak = tt;
@@ -57,23 +57,17 @@ leaves-by old w e base h = record {
   limit = (λ p. h.1 (let same : e ≡ next.InputBytes = cc in same), λ p. ap (λ x. Err x) (h.2 p));
 }
 
-opened-limit : (w : HeldBytes) (e : NextRefusal) → IsOpened w (Err e) → AtLimit e w
+pub opened-limit : (w : HeldBytes) (e : NextRefusal) → IsOpened w (Err e) → AtLimit e w
 opened-limit w next.InputBytes h = (omega (arith, h.1), λ _. omega (arith, h.1), λ _. refl)
 opened-limit w next.Failed h = (omega (arith, h.1), λ p. absurd cc, λ p. absurd (omega (arith, h.1, p)))
 opened-limit w next.WantOfMemory h = (omega (arith, h.1), λ p. absurd cc, λ p. absurd (omega (arith, h.1, p)))
 opened-limit w (next.Read e) h = absurd h
 
-ended-limit : (w : HeldBytes) (e : NextRefusal) → IsEnded w (Err e) → AtLimit e w
+pub ended-limit : (w : HeldBytes) (e : NextRefusal) → IsEnded w (Err e) → AtLimit e w
 ended-limit w next.InputBytes h = (omega (arith, h.1), λ _. omega (arith, h.1), λ _. refl)
 ended-limit w next.Failed h = (omega (arith, h.1), λ p. absurd cc, λ p. absurd (omega (arith, h.1, p)))
 ended-limit w next.WantOfMemory h = (omega (arith, h.1), λ p. absurd cc, λ p. absurd (omega (arith, h.1, p)))
 ended-limit w (next.Read e) h = absurd h
-
-pub opened-leaves : (old w : HeldBytes) (e : NextRefusal) → old.base ≤ w.base → IsOpened w (Err e) → LeavesWindow old w (Err e)
-opened-leaves old w e base h = leaves-by old w e base (opened-limit w e h)
-
-pub ended-leaves : (old w : HeldBytes) (e : NextRefusal) → old.base ≤ w.base → IsEnded w (Err e) → LeavesWindow old w (Err e)
-ended-leaves old w e base h = leaves-by old w e base (ended-limit w e h)
 
 pub none-leaves : (old w : HeldBytes) → old.base ≤ w.base → IsOpened w (Ok false) → LeavesWindow old w (Ok None)
 none-leaves old w base h = record {

@@ -1,7 +1,7 @@
 -- A window whose bytes before the first `(` are dropped.
-use Rattle.std.proofs.Common.{◌≡◌, refl, ap, ◌∙◌, ℕ, ◌+◌, arith, true, false, List, [], ◌∷◌, length, length-append, take, drop}
+use Rattle.std.proofs.Common.{◌≡◌, ap, ◌∙◌, ℕ, ◌+◌, arith, true, false, ◌∷◌, length, length-append, take, drop}
 use Rattle.std.proofs.Math.Seq.{take-length}
-use Rattle.std.proofs.lemmas.List.{take_at, drop_at}
+use Rattle.std.proofs.lemmas.List.{take_at, drop_at, drop_all}
 use Rattle.std.specs.Prelude.{Some, None}
 use Rattle.std.specs.List.{list_all}
 use Rattle.pip_outside.specs.Windows.{HeldBytes}
@@ -25,10 +25,6 @@ drops-to_open w new place h is =
       open_now = ap (λ (v : HeldBytes). next_open 0 v.held) is ∙ ap (next_open 0) behind;
     }
 
-drop-length : (xs : List ℕ) → drop (length xs) xs ≡ []
-drop-length [] = refl
-drop-length (x ∷ xs) = drop-length xs
-
 pub drops-all : (w new : HeldBytes) (n : ℕ) → next_open 0 w.held ≡ None → n ≡ length w.held → new ≡ record w { held = drop n w.held; base = w.base + n } → DropsClosed w new false
 drops-all w new n h all is =
     let front : take n w.held ≡ w.held = ap (λ k. take k w.held) all ∙ take-length w.held in
@@ -37,5 +33,5 @@ drops-all w new n h all is =
       few = omega (arith, all);
       is = is;
       closed = ap (list_all is_closed) front ∙ next_open-none 0 w.held h;
-      open_now = ap (λ (v : HeldBytes). v.held) is ∙ ap (λ k. drop k w.held) all ∙ drop-length w.held;
+      open_now = ap (λ (v : HeldBytes). v.held) is ∙ drop_all n w.held (omega (arith, all));
     }

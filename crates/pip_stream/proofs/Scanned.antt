@@ -1,7 +1,8 @@
 -- The bytes of a group that were scanned, and those behind them.
-use Rattle.std.proofs.Common.{◌≡◌, refl, sym, ap, ◌∙◌, ℕ, ◌-◌, ◌<◌, inl, inr, arith, List, [], ◌∷◌, ◌++◌, length, take, drop}
+use Rattle.std.proofs.Common.{◌≡◌, refl, sym, ap, ◌∙◌, ℕ, ◌-◌, ◌<◌, inl, inr, arith, List, ◌∷◌, ◌++◌, length, take, drop}
 use Rattle.std.proofs.Math.Seq.{take-add}
 use Rattle.std.proofs.lemmas.Bool.{cases_lt}
+use Rattle.std.proofs.lemmas.List.{nil_from_length}
 use Rattle.std.specs.Prelude.{Some, None}
 use Rattle.pip_model.specs.Reading.{next_open}
 use Rattle.pip_reader.specs.Groups.{first_group_end}
@@ -12,12 +13,8 @@ pub record Begins (bytes : List ℕ) : Type 0 where
   pub tail : List ℕ
   pub is : bytes ≡ 40 ∷ tail
 
-no_bytes : (xs : List ℕ) → length xs ≡ 0 → xs ≡ []
-no_bytes [] h = refl
-no_bytes (x ∷ xs) h = absurd (omega (arith, h))
-
 pub begins : (bytes : List ℕ) → next_open 0 bytes ≡ Some 0 → Begins bytes
-begins bytes h = let o = opened bytes 0 h in record { tail = o.tail; is = o.is ∙ ap (λ s. s ++ (40 ∷ o.tail)) (no_bytes o.before o.count) }
+begins bytes h = let o = opened bytes 0 h in record { tail = o.tail; is = o.is ∙ ap (λ s. s ++ (40 ∷ o.tail)) (nil_from_length o.before o.count) }
 
 pub begins_some : (bytes : List ℕ) → next_open 0 bytes ≡ Some 0 → 0 < length bytes
 begins_some bytes h = let b = begins bytes h in omega (arith, ap length b.is)

@@ -1,12 +1,9 @@
 -- Facts of a step that asks for more bytes, or drops some, as the loops need them.
-use Rattle.std.proofs.Common.{◌≡◌, refl, sym, ap, subst, ℕ, ◌+◌, ◌≤◌, arith, true, false, Bool, List, [], ◌∷◌, length, length-append, length-drop}
-use Rattle.std.specs.Prelude.{Ok, Err, IsErrOf}
-use Rattle.pip_outside.specs.Faults.{CountsFaults}
-use Rattle.pip_outside.specs.declared.window.FillRefusal.{FillRefusal}
-use Rattle.pip_outside.specs.declared.window.FillRefusal.TheVariants as fill
+use Rattle.std.proofs.Common.{◌≡◌, sym, ap, subst, ℕ, ◌+◌, ◌≤◌, arith, true, false, Bool, [], length, length-append, length-drop}
+use Rattle.std.proofs.lemmas.List.{nil_from_length}
+use Rattle.std.specs.Prelude.{Ok, Err}
 use Rattle.pip_outside.specs.Windows.{HeldBytes}
 use Rattle.pip_model.specs.Limits.{most_input_bytes}
-use Rattle.pip_stream.specs.Refusals.{not_filled}
 use Rattle.pip_stream.specs.Windows.{taken_by, IsMore}
 use Rattle.pip_stream.specs.Open.{DropsClosed, IsOpened}
 use Rattle.pip_stream.specs.declared.refusal.NextRefusal.{NextRefusal}
@@ -15,11 +12,6 @@ use Rattle.pip_stream.proofs.Dropping.{taken-grown}
 
 pub not_true : {P : Type 0} → true ≡ false → P
 not_true h = absurd cc
-
--- only a source that failed is a fault
-pub filled-faults : (e : FillRefusal) (a b : ℕ) → CountsFaults (IsErrOf {T = ℕ} (Err e) fill.Failed) a b → CountsFaults (IsErrOf {T = ℕ} (Err (not_filled e)) next.Failed) a b
-filled-faults fill.Failed a b h = record { later = h.later; cause = λ _. h.cause refl; quiet = λ other. absurd (other refl) }
-filled-faults fill.WantOfMemory a b h = record { later = h.later; cause = λ e. absurd cc; quiet = λ _. h.quiet (λ e. cc) }
 
 -- ---- dropped bytes before a `(`
 
@@ -63,10 +55,6 @@ err-base v u next.Failed h = ap (λ (x : HeldBytes). x.base) h
 err-base v u next.WantOfMemory h = ap (λ (x : HeldBytes). x.base) h
 err-base v u (next.Read e) h = absurd h
 
-no_held : (xs : List ℕ) → length xs ≡ 0 → xs ≡ []
-no_held [] h = refl
-no_held (x ∷ xs) h = absurd (omega (arith, h))
-
 pub opened-err : (v u : HeldBytes) (e : NextRefusal) → v.held ≡ [] → taken_by v ≤ most_input_bytes → IsMore v u (Err e) → IsOpened u (Err e)
 opened-err v u next.InputBytes none within h =
     let g = h.0 in (omega (arith, ap length g.held, length-append v.held g.piece, g.count, ap length none), h.1)
@@ -78,4 +66,4 @@ pub opened-end : (v u : HeldBytes) (n : ℕ) → v.held ≡ [] → v.peak ≤ 40
 opened-end v u n none peak h zero =
     let s = some_more v u n h in
     let empty : length u.held ≡ 0 = omega (arith, s.held, ap length none, zero) in
-    (no_held u.held empty, record { few = omega (arith, empty); peak = s.peak_high 4096 peak (omega (arith, empty)); within = s.within })
+    (nil_from_length u.held empty, record { few = omega (arith, empty); peak = s.peak_high 4096 peak (omega (arith, empty)); within = s.within })

@@ -11,12 +11,12 @@ use Rattle.pip_problem.specs.Faults.{read_fault}
 use Rattle.pip_problem.specs.declared.refusal.ReadRefusal.{ReadRefusal}
 use Rattle.pip_problem.specs.declared.refusal.ReadRefusal.TheVariants as read
 use Rattle.pip_reader.specs.Groups.{group_behind, first_group_end}
+use Rattle.pip_reader.proofs.FaultPlaces.{FaultWithin, read_native-fault}
 use Rattle.text_laws.proofs.Items.{next_open-closed}
 use Rattle.text_laws.proofs.ReadProblems.{read_native-none}
-use Rattle.text_laws.proofs.EndedProblems.{read_native-ends}
+use Rattle.text_laws.proofs.LocalProblems.{read_native-ends}
 use Rattle.pip_stream.specs.Refusals.{place_told}
 use Rattle.pip_stream.specs.Ended.{IsItem, HoldsItem, IsRead}
-use Rattle.pip_stream.proofs.FaultPlaces.{FaultWithin, read_native-fault}
 use Rattle.pip_stream.proofs.Groups.{group_end-ends}
 use Rattle.pip_stream.proofs.Scanned.{begins, begins_some}
 
@@ -27,8 +27,8 @@ fault_of n (Ok x) f h e = absurd cc
 fault_of n (Err g) f h e = let same : g ≡ f = cc in subst (FaultWithin n) same h
 
 pub place-within : (bytes : List ℕ) (e : ReadRefusal) → IfSome (read_fault e) (λ f. read_native bytes 0 ≡ Err f) → place_told e ≤ length bytes
-place-within bytes (read.Syntax place) h = fault_of (length bytes) (read_native bytes 0) (Syntax place) (read_native-fault bytes) h
-place-within bytes (read.Wide place) h = fault_of (length bytes) (read_native bytes 0) (Wide place) (read_native-fault bytes) h
+place-within bytes (read.Syntax place) h = fault_of (length bytes) (read_native bytes 0) (Syntax place) (read_native-fault bytes 0 (omega arith)) h
+place-within bytes (read.Wide place) h = fault_of (length bytes) (read_native bytes 0) (Wide place) (read_native-fault bytes 0 (omega arith)) h
 place-within bytes (read.Limit kind z) h = omega arith
 place-within bytes (read.BigParameter z) h = omega arith
 place-within bytes (read.OptionWord word) h = omega arith

@@ -3,3 +3,4 @@ pub mod Folds
 pub mod Giving
 pub mod Parameters
 pub mod Parsed
+pub mod Rows

@@ -1,7 +1,7 @@
-ghost use Rattle.std.specs.Prelude.{◌≡◌, ◌≤◌, IfOk, fold, length, false};
+ghost use Rattle.std.specs.Prelude.{◌≡◌, IfOk, fold, false};
 ghost use Rattle.clap.specs.Words.{app_of, shape_of, rule_of};
 ghost use Rattle.clap.specs.declared.builder.Command.TheViews.{out-Command};
-ghost use Rattle.pip_words.specs.Arguments.{rule_given, shape_given, with_argument, with_entry};
+ghost use Rattle.pip_words.specs.Arguments.{rule_given, shape_given, with_entry};
 
 use clap::{Arg, ArgAction, Command};
 use std::alloc::{AllocError, Global};

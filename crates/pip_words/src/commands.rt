@@ -148,6 +148,7 @@ fn solve(matches: &ArgMatches<'_>) -> Result<Command, WordsRefusal>
     }
 }
 
+#[tactic(auto, using(crate::proofs::Rows::value_rows, crate::proofs::Giving::refused_mapped))]
 fn eval(alloc: Global, matches: &ArgMatches<'_>) -> Result<Command, WordsRefusal>
     ensures { Gives meaning_of (eval_of (rows_of (found_of matches.now))) result }
 {

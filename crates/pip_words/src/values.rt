@@ -76,6 +76,7 @@ pub(crate) fn limits(matches: &ArgMatches<'_>) -> Option<Limits>
 }
 
 // The number of a required argument.
+#[tactic(auto, using(crate::proofs::Rows::value_rows))]
 pub(crate) fn needed(matches: &ArgMatches<'_>, name: &str, most: u64) -> Option<u64>
     ensures value { result ≡ needed_of name.now most (rows_of (found_of matches.now)) }
     ensures within { IfSome result (λ n. n ≤ most) }
@@ -87,6 +88,7 @@ pub(crate) fn needed(matches: &ArgMatches<'_>, name: &str, most: u64) -> Option<
 }
 
 // The flag is given.
+#[tactic(auto, using(crate::proofs::Rows::value_rows))]
 pub(crate) fn is_set(matches: &ArgMatches<'_>, name: &str) -> bool
     ensures { result ≡ flag_of name.now (rows_of (found_of matches.now)) }
 {
@@ -97,6 +99,7 @@ pub(crate) fn is_set(matches: &ArgMatches<'_>, name: &str) -> bool
 }
 
 // The number of an option, or its default.
+#[tactic(auto, using(crate::proofs::Rows::value_rows))]
 fn limit(matches: &ArgMatches<'_>, name: &str, most: u64, default: u64) -> Option<u64>
     requires { default ≤ most }
     ensures value { result ≡ limit_of name.now most default (rows_of (found_of matches.now)) }

@@ -1,6 +1,5 @@
-ghost use Rattle.std.specs.Prelude.{◌≡◌, ◌≤◌, ◌<◌, ◌+◌, ◌≤ℤ◌, ◌*ℤ◌, pos, map, length, All, IfOk, IsOk};
-ghost use Rattle.pip_model.specs.Numbers.{floor_div as floor_div_of, lcm as lcm_of};
-ghost use Rattle.pip_model.specs.Listed.{all_fit};
+ghost use Rattle.std.specs.Prelude.{◌≡◌, ◌≤◌, ◌<◌, ◌≤ℤ◌, pos, map, length, All, IfOk};
+ghost use Rattle.pip_model.specs.Numbers.{lcm as lcm_of};
 ghost use Rattle.pip_model.specs.TreeText.{lowest_terms as lowest_terms_of, fractions as fractions_of, common_denominators, last_of};
 ghost use Rattle.pip_model.specs.Agreement.{Agrees, IsChecked};
 ghost use Rattle.affine_forms.specs.Checks.{Fits, IsFitted, is_overflow, is_form_overflow};

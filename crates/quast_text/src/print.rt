@@ -1,11 +1,11 @@
-ghost use Rattle.std.specs.Prelude.{◌≡◌, ◌+◌, ◌-◌, ◌≤◌, ◌≤ℤ◌, ◌++◌, ℕ, pos, length, All, decimal, codes, OnOk, OnErr};
+ghost use Rattle.std.specs.Prelude.{◌≡◌, ◌+◌, ◌-◌, ◌≤◌, ◌≤ℤ◌, ◌++◌, ℕ, pos, decimal, codes, OnOk, OnErr};
 ghost use Rattle.std.specs.Fmt.{signed_decimal};
 ghost use Rattle.pip_model.specs.Forms.{width};
 ghost use Rattle.pip_model.specs.TreeText.{newline, spell_form, spell_fraction, spell_fractions, spell_components, spell_tree, spell_answer, spell};
 ghost use Rattle.pip_model.specs.Printed.{IsGroup, IsPrintableAnswer};
 ghost use Rattle.pip_model.specs.Limits.{most_params};
 ghost use Rattle.affine_forms.specs.Checks.{Fits};
-ghost use Rattle.quast.specs.Trees.{tree_of, IsQuast};
+ghost use Rattle.quast.specs.Trees.{tree_of};
 ghost use Rattle.quast.specs.Answers.{answer_of, IsOver};
 ghost use Rattle.text_printing.specs.Printing.{Appends, Begins};
 ghost use Rattle.quast_text.specs.Printing.{spell_denominator, spell_term, spell_component, IsReadBack};

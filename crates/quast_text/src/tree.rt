@@ -1,8 +1,7 @@
-ghost use Rattle.std.specs.Prelude.{◌≡◌, ◌≤◌, ◌<◌, ◌+◌, ◌≤ℤ◌, pos, max, length, IfOk, IfErr};
+ghost use Rattle.std.specs.Prelude.{◌≡◌, ◌≤◌, ◌<◌, ◌+◌, length, IfOk};
 ghost use Rattle.pip_model.specs.Limits.{most_params, most_nesting};
-ghost use Rattle.pip_model.specs.Tree.{If, NewParm, nesting};
+ghost use Rattle.pip_model.specs.Tree.{nesting};
 ghost use Rattle.pip_model.specs.TreeText.{head as head_at, tree as tree_at};
-ghost use Rattle.affine_forms.specs.Checks.{Fits};
 ghost use Rattle.text_reading.specs.Steps.{IsRead};
 ghost use Rattle.quast_text.specs.Faults.{text_fault};
 ghost use Rattle.quast_text.specs.Trees.{head_of, opening as opening_of, choice_at, define_at};

@@ -17,6 +17,7 @@ use solve_certified::solve_with_certificate;
 use std::alloc::Global;
 
 // The answer of a problem and its certificate. A rational problem is refused before its run.
+#[tactic(auto, using(crate::proofs::Certified::certified_ok, crate::proofs::Certified::certified_none, crate::proofs::Certified::certified_refused))]
 fn certify(
     alloc: Global,
     limits: &Limits,

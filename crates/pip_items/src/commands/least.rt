@@ -34,6 +34,7 @@ impl Items for Least<'_> {
         trio_at(alloc, bytes, at, self.0.params)
     }
 
+    #[tactic(auto, using(crate::proofs::Walked::made_ok, crate::proofs::Walked::made_refused))]
     fn put(&self, alloc: Global, trio: Trio, text: &mut Vec<u8>) -> Result<(), Ending> {
         let answer = least(
             alloc,

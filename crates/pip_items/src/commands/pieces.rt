@@ -31,6 +31,7 @@ impl Items for PiecesOptions {
         answer_at(alloc, bytes, at, self.params)
     }
 
+    #[tactic(auto, using(crate::proofs::Pieces::pieces_refused))]
     fn put(&self, _alloc: Global, spoken: Spoken, text: &mut Vec<u8>) -> Result<(), Ending> {
         print_pieces(&spoken.comment, &spoken.answer, text)?;
         Ok(())

@@ -34,6 +34,7 @@ impl Items for Restrict<'_> {
         pair_at(alloc, bytes, at, self.0.params)
     }
 
+    #[tactic(auto, using(crate::proofs::Walked::made_ok, crate::proofs::Walked::made_refused))]
     fn put(&self, alloc: Global, pair: Pair, text: &mut Vec<u8>) -> Result<(), Ending> {
         let answer = restrict(alloc, &pair.rows, &pair.first.answer, &self.0.limits)?;
         print_answer(&pair.first.comment, &answer, text)?;

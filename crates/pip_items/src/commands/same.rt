@@ -51,6 +51,7 @@ impl Items for Same<'_> {
         trio_at(alloc, bytes, at, self.0.params)
     }
 
+    #[tactic(auto, using(crate::proofs::Walked::line_ok, crate::proofs::Walked::line_refused))]
     fn put(&self, alloc: Global, trio: Trio, text: &mut Vec<u8>) -> Result<(), Ending> {
         let sameness = same(
             alloc,

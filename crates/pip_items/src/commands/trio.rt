@@ -20,6 +20,7 @@ pub(crate) struct Trio {
 }
 
 // The two answers behind a context, and the place behind these.
+#[tactic(auto, using(crate::proofs::Trios::trio_given, crate::proofs::Trios::trio_stopped))]
 fn rest_of_trio(
     alloc: Global,
     bytes: &[u8],

@@ -1,5 +1,5 @@
 ghost use Rattle.std.specs.Prelude.{◌≡◌, ◌<◌, ◌≤◌, [], ◌∷◌, length, All, IfOk};
-ghost use Rattle.pip_model.specs.Limits.{most_components, most_params};
+ghost use Rattle.pip_model.specs.Limits.{most_params};
 ghost use Rattle.pip_model.specs.Tree as model;
 ghost use Rattle.pip_model.specs.Agreement.{Agrees};
 ghost use Rattle.affine_forms.specs.Checks.{Fits};
@@ -55,6 +55,7 @@ fn point(
 }
 
 // The value of a tree at a parameter vector, as a tree over no parameters.
+#[tactic(auto, using(crate::proofs::Values::tree_valued_landed))]
 fn value_of_tree(alloc: Global, tree: &Quast, params: &[i128]) -> Result<Quast, Ending>
     requires width { length params.now ≡ tree.now.width }
     requires few { length params.now ≤ most_params }

@@ -3,12 +3,12 @@ use Rattle.program_model.specs.Commands.{Trial}
 use Rattle.pip_items.proofs.ByProblem.{faults-items}
 use Rattle.pip_items.proofs.Asked.{stops-whole}
 use Rattle.pip_items.proofs.Turns.{asks-start}
-use Rattle.pip_items.proofs.Outputs.{output-trial}
+use Rattle.pip_items.proofs.Outputs.{written}
 use Rattle.pip_items.proofs.output.write_output.Goals as goal
 
 pub returns-in-Trial-clause-output : goal.returns-in-Trial-clause-output
 returns-in-Trial-clause-output g c =
-    rw c.in-Trial.is (output-trial c.in-Trial.options.seed c.in-Trial.options.count (g.K.Sink.written c.args.sink.now) _ c.write_items.result c.write_items.ensures.own c.write_items.ensures.output)
+    rw c.in-Trial.is (written (Trial c.in-Trial.options.seed c.in-Trial.options.count) [] (g.K.Sink.written c.args.sink.now) _ c.write_items.result (λ taken. absurd taken) c.write_items.ensures.own c.write_items.ensures.output)
 
 pub returns-else-options-clause-asked : goal.returns-else-options-clause-asked
 returns-else-options-clause-asked g c =

@@ -12,24 +12,20 @@ use Rattle.pip_items.proofs.problems.write_problems.Goals as goal
 
 -- ---- no window is made
 
-pub returns-in_err-window-clause-output : goal.returns-in_err-window-clause-output
-returns-in_err-window-clause-output g c = let p = err_from_is_err_and c.from_residual.result c.from_residual.ensures.1 in rw (p.1, p.2) (unmade (options_of c.args.options.now) (g.S.Source.left c.args.source.now) (g.K.Sink.written c.args.sink.now) ((g.S.Source.taken c.args.source.now) - (g.S.Source.taken c.args.source.now)) (omega arith))
-
-pub returns-in_err-window-clause-words : goal.returns-in_err-window-clause-words
-returns-in_err-window-clause-words g c = let p = err_from_is_err_and c.from_residual.result c.from_residual.ensures.1 in rw (p.1, p.2) (λ h. cc)
-
-pub returns-in_err-window-clause-end : goal.returns-in_err-window-clause-end
-returns-in_err-window-clause-end g c h = let p = err_from_is_err_and c.from_residual.result c.from_residual.ensures.1 in err-not_ok _ _ tt p.1 h
-
-pub returns-in_err-window-clause-calls : goal.returns-in_err-window-clause-calls
-returns-in_err-window-clause-calls g c = record {
-  asked = stops-start g.S.Source.calls g.S.Source.taken c.args.source.now (Solve (options_of c.args.options.now)) (g.S.Source.left c.args.source.now);
-  turns = asks-start g.S.Source.calls g.S.Source.taken c.args.source.now (g.S.Source.left c.args.source.now);
-  taken = none-taken (g.S.Source.left c.args.source.now) _;
-}
-
-pub returns-in_err-window-clause-faults : goal.returns-in_err-window-clause-faults
-returns-in_err-window-clause-faults g c = let p = err_from_is_err_and c.from_residual.result c.from_residual.ensures.1 in rw (p.1, p.2) (faults-own _ _ 0 _ _ 0 refl refl ending.WantOfMemory tt)
+pub returns-in_err-window : goal.returns-in_err-window
+returns-in_err-window g c =
+    let p = err_from_is_err_and c.from_residual.result c.from_residual.ensures.1 in
+    record {
+      output = rw (p.1, p.2) (unmade (options_of c.args.options.now) (g.S.Source.left c.args.source.now) (g.K.Sink.written c.args.sink.now) ((g.S.Source.taken c.args.source.now) - (g.S.Source.taken c.args.source.now)) (omega arith));
+      words = rw (p.1, p.2) (λ h. cc);
+      end = λ h. err-not_ok _ _ tt p.1 h;
+      calls = record {
+        asked = stops-start g.S.Source.calls g.S.Source.taken c.args.source.now (Solve (options_of c.args.options.now)) (g.S.Source.left c.args.source.now);
+        turns = asks-start g.S.Source.calls g.S.Source.taken c.args.source.now (g.S.Source.left c.args.source.now);
+        taken = none-taken (g.S.Source.left c.args.source.now) _;
+      };
+      faults = rw (p.1, p.2) (faults-own _ _ 0 _ _ 0 refl refl ending.WantOfMemory tt);
+    }
 
 pub loop-window-init : goal.loop-window-init
 loop-window-init g c =
@@ -46,32 +42,23 @@ loop-window-init g c =
 
 -- ---- a problem is not answered
 
-pub answer_next-requires-clause-held : goal.answer_next-requires-clause-held
-answer_next-requires-clause-held g c = c.loop-window.invariant.ready.few
+pub answer_next-requires : goal.answer_next-requires
+answer_next-requires g c = record { held = c.loop-window.invariant.ready.few; taken = c.loop-window.invariant.ready.within }
 
-pub answer_next-requires-clause-taken : goal.answer_next-requires-clause-taken
-answer_next-requires-clause-taken g c = c.loop-window.invariant.ready.within
-
-pub returns-in_err-answer_next-clause-output : goal.returns-in_err-answer_next-clause-output
-returns-in_err-answer_next-clause-output g c =
+pub returns-in_err-answer_next : goal.returns-in_err-answer_next
+returns-in_err-answer_next g c =
     let p = err_from_is_err_and c.from_residual-in_err-answer_next.result c.from_residual-in_err-answer_next.ensures.1 in
-    rw (p.1, p.2) (err-output (options_of c.args.options.now) c.requires (g.S.Source.left c.args.source.now) c.loop-window.window (g.S.Source.left c.loop-window.source) (g.K.Sink.written c.args.sink.now) (g.K.Sink.written c.loop-window.sink) (g.S.Source.taken c.args.source.now) (g.S.Source.taken c.loop-window.source) c.loop-window.invariant.follows c.loop-window.invariant.counted c.answer_next.new.window (g.S.Source.left c.answer_next.new.source) (g.S.Source.taken c.answer_next.new.source) c.answer_next.ensures.counted (g.K.Sink.written c.answer_next.new.sink) _ c.loop-window.invariant.ready (λ q. ap g.K.Sink.written (c.in_err-answer_next.ensures.kept (λ h. cc) (λ h. q (err-same _ _ h)))) (err-limit _ _ c.in_err-answer_next.ensures.limit) c.in_err-answer_next.ensures.answers)
-
-pub returns-in_err-answer_next-clause-words : goal.returns-in_err-answer_next-clause-words
-returns-in_err-answer_next-clause-words g c = let p = err_from_is_err_and c.from_residual-in_err-answer_next.result c.from_residual-in_err-answer_next.ensures.1 in rw (p.1, p.2) (λ h. c.in_err-answer_next.ensures.words (ap (λ x. Err x) (err-same _ _ h)))
-
-pub returns-in_err-answer_next-clause-end : goal.returns-in_err-answer_next-clause-end
-returns-in_err-answer_next-clause-end g c h = let p = err_from_is_err_and c.from_residual-in_err-answer_next.result c.from_residual-in_err-answer_next.ensures.1 in err-not_ok _ _ tt p.1 h
-
-pub returns-in_err-answer_next-clause-calls : goal.returns-in_err-answer_next-clause-calls
-returns-in_err-answer_next-clause-calls g c = record {
-  asked = stops-next g.S.Source.calls g.S.Source.taken (options_of c.args.options.now) c.requires c.args.source.now c.loop-window.source c.answer_next.new.source c.loop-window.window (g.S.Source.left c.loop-window.source) (g.K.Sink.written c.args.sink.now) (g.K.Sink.written c.loop-window.sink) (g.S.Source.left c.args.source.now) c.loop-window.invariant.follows c.loop-window.invariant.counted c.loop-window.invariant.takes c.loop-window.invariant.asked c.answer_next.ensures.asked;
-  turns = asks-next g.S.Source.calls g.S.Source.taken (options_of c.args.options.now) (g.S.Source.left c.args.source.now) c.loop-window.window (g.S.Source.left c.loop-window.source) (g.K.Sink.written c.args.sink.now) (g.K.Sink.written c.loop-window.sink) c.loop-window.invariant.follows c.args.source.now c.loop-window.source c.answer_next.new.source c.loop-window.invariant.takes c.answer_next.result c.answer_next.ensures.turns;
-  taken = taken-at_most (options_of c.args.options.now) c.requires (g.S.Source.left c.args.source.now) c.loop-window.window (g.S.Source.left c.loop-window.source) (g.K.Sink.written c.args.sink.now) (g.K.Sink.written c.loop-window.sink) (g.S.Source.taken c.args.source.now) (g.S.Source.taken c.loop-window.source) c.loop-window.invariant.follows c.loop-window.invariant.counted c.answer_next.new.window (g.S.Source.left c.answer_next.new.source) (g.S.Source.taken c.answer_next.new.source) c.answer_next.ensures.counted c.answer_next.ensures.bound;
-}
-
-pub returns-in_err-answer_next-clause-faults : goal.returns-in_err-answer_next-clause-faults
-returns-in_err-answer_next-clause-faults g c = let p = err_from_is_err_and c.from_residual-in_err-answer_next.result c.from_residual-in_err-answer_next.ensures.1 in rw (p.1, p.2) (faults-after _ _ _ _ _ _ c.loop-window.invariant.read_quiet c.loop-window.invariant.write_quiet _ c.in_err-answer_next.ensures.faults)
+    record {
+      output = rw (p.1, p.2) (err-output (options_of c.args.options.now) c.requires (g.S.Source.left c.args.source.now) c.loop-window.window (g.S.Source.left c.loop-window.source) (g.K.Sink.written c.args.sink.now) (g.K.Sink.written c.loop-window.sink) (g.S.Source.taken c.args.source.now) (g.S.Source.taken c.loop-window.source) c.loop-window.invariant.follows c.loop-window.invariant.counted c.answer_next.new.window (g.S.Source.left c.answer_next.new.source) (g.S.Source.taken c.answer_next.new.source) c.answer_next.ensures.counted (g.K.Sink.written c.answer_next.new.sink) _ c.loop-window.invariant.ready (λ q. ap g.K.Sink.written (c.in_err-answer_next.ensures.kept (λ h. cc) (λ h. q (err-same _ _ h)))) (err-limit _ _ c.in_err-answer_next.ensures.limit) c.in_err-answer_next.ensures.answers);
+      words = rw (p.1, p.2) (λ h. c.in_err-answer_next.ensures.words (ap (λ x. Err x) (err-same _ _ h)));
+      end = λ h. err-not_ok _ _ tt p.1 h;
+      calls = record {
+        asked = stops-next g.S.Source.calls g.S.Source.taken (options_of c.args.options.now) c.requires c.args.source.now c.loop-window.source c.answer_next.new.source c.loop-window.window (g.S.Source.left c.loop-window.source) (g.K.Sink.written c.args.sink.now) (g.K.Sink.written c.loop-window.sink) (g.S.Source.left c.args.source.now) c.loop-window.invariant.follows c.loop-window.invariant.counted c.loop-window.invariant.takes c.loop-window.invariant.asked c.answer_next.ensures.asked;
+        turns = asks-next g.S.Source.calls g.S.Source.taken (options_of c.args.options.now) (g.S.Source.left c.args.source.now) c.loop-window.window (g.S.Source.left c.loop-window.source) (g.K.Sink.written c.args.sink.now) (g.K.Sink.written c.loop-window.sink) c.loop-window.invariant.follows c.args.source.now c.loop-window.source c.answer_next.new.source c.loop-window.invariant.takes c.answer_next.result c.answer_next.ensures.turns;
+        taken = taken-at_most (options_of c.args.options.now) c.requires (g.S.Source.left c.args.source.now) c.loop-window.window (g.S.Source.left c.loop-window.source) (g.K.Sink.written c.args.sink.now) (g.K.Sink.written c.loop-window.sink) (g.S.Source.taken c.args.source.now) (g.S.Source.taken c.loop-window.source) c.loop-window.invariant.follows c.loop-window.invariant.counted c.answer_next.new.window (g.S.Source.left c.answer_next.new.source) (g.S.Source.taken c.answer_next.new.source) c.answer_next.ensures.counted c.answer_next.ensures.bound;
+      };
+      faults = rw (p.1, p.2) (faults-after _ _ _ _ _ _ c.loop-window.invariant.read_quiet c.loop-window.invariant.write_quiet _ c.in_err-answer_next.ensures.faults);
+    }
 
 -- ---- once more
 
@@ -99,24 +86,18 @@ loop-window-preserved g c =
 
 -- ---- no problem is left
 
-pub returns-clause-output : goal.returns-clause-output
-returns-clause-output g c =
-    none-output (options_of c.args.options.now) c.requires (g.S.Source.left c.args.source.now) c.loop-window.window (g.S.Source.left c.loop-window.source) (g.K.Sink.written c.args.sink.now) (g.K.Sink.written c.loop-window.sink) (g.S.Source.taken c.args.source.now) (g.S.Source.taken c.loop-window.source) c.loop-window.invariant.follows c.loop-window.invariant.counted c.answer_next.new.window (g.S.Source.left c.answer_next.new.source) (g.S.Source.taken c.answer_next.new.source) c.answer_next.ensures.counted (g.K.Sink.written c.answer_next.new.sink) (ap g.K.Sink.written (c.in_ok-answer_next.ensures.kept (λ h. absurd (let t = h in let f = c.if-branch.false in cc)) (λ h. cc))) c.in_ok-answer_next.ensures.ready.within (rw c.if-branch.false at c.in_ok-answer_next.ensures.answers)
-
-pub returns-clause-words : goal.returns-clause-words
-returns-clause-words g c = λ h. cc
-
-pub returns-clause-end : goal.returns-clause-end
-returns-clause-end g c h = c.in_ok-answer_next.ensures.end (ap (λ x. Ok x) c.if-branch.false)
-
-pub returns-clause-calls : goal.returns-clause-calls
-returns-clause-calls g c = record {
-  asked = stops-next g.S.Source.calls g.S.Source.taken (options_of c.args.options.now) c.requires c.args.source.now c.loop-window.source c.answer_next.new.source c.loop-window.window (g.S.Source.left c.loop-window.source) (g.K.Sink.written c.args.sink.now) (g.K.Sink.written c.loop-window.sink) (g.S.Source.left c.args.source.now) c.loop-window.invariant.follows c.loop-window.invariant.counted c.loop-window.invariant.takes c.loop-window.invariant.asked c.answer_next.ensures.asked;
-  turns = asks-next g.S.Source.calls g.S.Source.taken (options_of c.args.options.now) (g.S.Source.left c.args.source.now) c.loop-window.window (g.S.Source.left c.loop-window.source) (g.K.Sink.written c.args.sink.now) (g.K.Sink.written c.loop-window.sink) c.loop-window.invariant.follows c.args.source.now c.loop-window.source c.answer_next.new.source c.loop-window.invariant.takes c.answer_next.result c.answer_next.ensures.turns;
-  taken = taken-at_most (options_of c.args.options.now) c.requires (g.S.Source.left c.args.source.now) c.loop-window.window (g.S.Source.left c.loop-window.source) (g.K.Sink.written c.args.sink.now) (g.K.Sink.written c.loop-window.sink) (g.S.Source.taken c.args.source.now) (g.S.Source.taken c.loop-window.source) c.loop-window.invariant.follows c.loop-window.invariant.counted c.answer_next.new.window (g.S.Source.left c.answer_next.new.source) (g.S.Source.taken c.answer_next.new.source) c.answer_next.ensures.counted c.answer_next.ensures.bound;
-}
-
-pub returns-clause-faults : goal.returns-clause-faults
-returns-clause-faults g c =
-    let done = faults-ok _ _ _ _ _ c.in_ok-answer_next.ensures.faults in
-    faults-none _ _ 0 _ _ 0 (done.0 ∙ c.loop-window.invariant.read_quiet) (done.1 ∙ c.loop-window.invariant.write_quiet) tt
+pub returns : goal.returns
+returns g c =
+    record {
+      output = none-output (options_of c.args.options.now) c.requires (g.S.Source.left c.args.source.now) c.loop-window.window (g.S.Source.left c.loop-window.source) (g.K.Sink.written c.args.sink.now) (g.K.Sink.written c.loop-window.sink) (g.S.Source.taken c.args.source.now) (g.S.Source.taken c.loop-window.source) c.loop-window.invariant.follows c.loop-window.invariant.counted c.answer_next.new.window (g.S.Source.left c.answer_next.new.source) (g.S.Source.taken c.answer_next.new.source) c.answer_next.ensures.counted (g.K.Sink.written c.answer_next.new.sink) (ap g.K.Sink.written (c.in_ok-answer_next.ensures.kept (λ h. absurd (let t = h in let f = c.if-branch.false in cc)) (λ h. cc))) c.in_ok-answer_next.ensures.ready.within (rw c.if-branch.false at c.in_ok-answer_next.ensures.answers);
+      words = λ h. cc;
+      end = λ h. c.in_ok-answer_next.ensures.end (ap (λ x. Ok x) c.if-branch.false);
+      calls = record {
+        asked = stops-next g.S.Source.calls g.S.Source.taken (options_of c.args.options.now) c.requires c.args.source.now c.loop-window.source c.answer_next.new.source c.loop-window.window (g.S.Source.left c.loop-window.source) (g.K.Sink.written c.args.sink.now) (g.K.Sink.written c.loop-window.sink) (g.S.Source.left c.args.source.now) c.loop-window.invariant.follows c.loop-window.invariant.counted c.loop-window.invariant.takes c.loop-window.invariant.asked c.answer_next.ensures.asked;
+        turns = asks-next g.S.Source.calls g.S.Source.taken (options_of c.args.options.now) (g.S.Source.left c.args.source.now) c.loop-window.window (g.S.Source.left c.loop-window.source) (g.K.Sink.written c.args.sink.now) (g.K.Sink.written c.loop-window.sink) c.loop-window.invariant.follows c.args.source.now c.loop-window.source c.answer_next.new.source c.loop-window.invariant.takes c.answer_next.result c.answer_next.ensures.turns;
+        taken = taken-at_most (options_of c.args.options.now) c.requires (g.S.Source.left c.args.source.now) c.loop-window.window (g.S.Source.left c.loop-window.source) (g.K.Sink.written c.args.sink.now) (g.K.Sink.written c.loop-window.sink) (g.S.Source.taken c.args.source.now) (g.S.Source.taken c.loop-window.source) c.loop-window.invariant.follows c.loop-window.invariant.counted c.answer_next.new.window (g.S.Source.left c.answer_next.new.source) (g.S.Source.taken c.answer_next.new.source) c.answer_next.ensures.counted c.answer_next.ensures.bound;
+      };
+      faults =
+          let done = faults-ok _ _ _ _ _ c.in_ok-answer_next.ensures.faults in
+          faults-none _ _ 0 _ _ 0 (done.0 ∙ c.loop-window.invariant.read_quiet) (done.1 ∙ c.loop-window.invariant.write_quiet) tt;
+    }

@@ -1,9 +1,10 @@
-use Rattle.std.proofs.Common.{drop}
+use Rattle.std.proofs.Common.{drop, length}
 use Rattle.std.specs.List.{list_all}
 use Rattle.pip_model.specs.Moved.{is_closed}
 use Rattle.pip_model.specs.NativeText.{read_native}
 use Rattle.text_laws.proofs.ReadProblems.{read_native-none}
-use Rattle.pip_reader.proofs.NoOptions.{native_plain, agreed_no_option, agreed_none}
+use Rattle.pip_reader.proofs.FaultPlaces.{read_native-fault}
+use Rattle.pip_reader.proofs.NoOptions.{agreed_no_option, agreed_none}
 use Rattle.pip_reader.proofs.problem.read_problem.Goals as goal
 
 pub returns-clause-none : goal.returns-clause-none
@@ -13,4 +14,4 @@ returns-clause-none c =
 
 pub returns-clause-no_option : goal.returns-clause-no_option
 returns-clause-no_option c =
-    agreed_no_option c.first_problem.result (read_native c.args.bytes.now c.args.start) (native_plain c.args.bytes.now c.args.start) c.first_problem.ensures.agrees
+    agreed_no_option (length c.args.bytes.now) c.first_problem.result (read_native c.args.bytes.now c.args.start) (read_native-fault c.args.bytes.now c.args.start c.requires) c.first_problem.ensures.agrees

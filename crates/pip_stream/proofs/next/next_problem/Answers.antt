@@ -1,14 +1,13 @@
-use Rattle.std.proofs.Common.{◌≡◌, refl, sym, ap, subst, ◌∙◌, ℕ, ◌≤◌, arith, Bool, true, false, length}
+use Rattle.std.proofs.Common.{◌≡◌, refl, sym, ap, subst, ◌∙◌, ◌≤◌, arith, true, false, length}
 use Rattle.std.proofs.lemmas.Result.{err_from_is_err_and}
 use Rattle.std.specs.Prelude.{None, Ok, Err}
 use Rattle.pip_outside.specs.Windows.{HeldBytes}
 use Rattle.pip_outside.proofs.Faults.{counts-none, counts-refused}
-use Rattle.pip_reader.specs.Groups.{first_group_end}
 use Rattle.pip_stream.specs.Windows.{taken_by}
 use Rattle.pip_stream.specs.Open.{IsOpened}
 use Rattle.pip_stream.specs.declared.refusal.NextRefusal.TheVariants as next
-use Rattle.pip_stream.proofs.Asking.{seeks-as, seeks-restart, seeks-then, seeks-skips, seeks-calls, calls-item, held-opens, held-ends}
-use Rattle.pip_stream.proofs.Nexting.{finds-unopened, finds-none, finds-unended, finds-item, opened-leaves, ended-leaves, none-leaves, item-leaves, item-taken, item-not_none, item-not_failed}
+use Rattle.pip_stream.proofs.Asking.{seeks-as, seeks-restart, seeks-then, seeks-skips, seeks-calls, calls-item, held-restart, held-opens, held-ends}
+use Rattle.pip_stream.proofs.Nexting.{finds-unopened, finds-none, finds-unended, finds-item, leaves-by, opened-limit, ended-limit, none-leaves, item-leaves, item-taken, item-not_none, item-not_failed}
 use Rattle.pip_stream.proofs.next.next_problem.Goals as goal
 
 pub find_open-requires : goal.find_open-requires
@@ -29,12 +28,10 @@ returns-in_err-find_open g c =
     record {
       finds = rw (p.1, p.2) (finds-unopened c.args.window.now c.find_open.new.window o (g.S.Source.left c.find_open.new.source) _ (seeks-skips g.S.Source.calls g.S.Source.taken c.args.source.now c.find_open.new.source c.args.window.now c.find_open.new.window o (g.S.Source.left c.find_open.new.source) false told) c.in_err-find_open.ensures.window);
       end = λ h. absurd (let e : Err p.0 ≡ Ok None = sym p.1 ∙ h in cc);
-      window = rw (p.1, p.2) (opened-leaves c.args.window.now c.find_open.new.window _ base c.in_err-find_open.ensures.window);
+      window = rw (p.1, p.2) (leaves-by c.args.window.now c.find_open.new.window _ base (opened-limit c.find_open.new.window _ c.in_err-find_open.ensures.window));
       calls = rw p.1 (seeks-calls g.S.Source.calls g.S.Source.taken c.args.source.now c.find_open.new.source c.args.window.now c.find_open.new.window o (g.S.Source.left c.find_open.new.source) false told);
       faults = rw (p.1, p.2) (counts-refused _ next.Failed _ _ _ refl c.in_err-find_open.ensures.faults);
-      untouched = λ some.
-          let start : ¬ (first_group_end c.restart.new.self.held ≡ None) = λ none. some (ap (λ (x : HeldBytes). first_group_end x.held) (sym c.restart.ensures) ∙ none) in
-          (c.find_open.ensures.untouched (held-opens c.restart.new.self start)).0;
+      untouched = λ some. (c.find_open.ensures.untouched (held-opens c.restart.new.self (held-restart c.args.window.now c.restart.new.self _ c.restart.ensures some))).0;
     }
 
 -- ---- the input ends without one
@@ -54,9 +51,7 @@ returns-then-not-branch g c =
       window = none-leaves c.args.window.now c.find_open.new.window base w;
       calls = seeks-calls g.S.Source.calls g.S.Source.taken c.args.source.now c.find_open.new.source c.args.window.now c.find_open.new.window o (g.S.Source.left c.find_open.new.source) false told;
       faults = counts-none _ _ (λ e. cc) (c.in_ok-find_open.ensures.faults.quiet (λ e. cc));
-      untouched = λ some.
-          let start : ¬ (first_group_end c.restart.new.self.held ≡ None) = λ none. some (ap (λ (x : HeldBytes). first_group_end x.held) (sym c.restart.ensures) ∙ none) in
-          (c.find_open.ensures.untouched (held-opens c.restart.new.self start)).0;
+      untouched = λ some. (c.find_open.ensures.untouched (held-opens c.restart.new.self (held-restart c.args.window.now c.restart.new.self _ c.restart.ensures some))).0;
     }
 
 -- ---- the group does not end
@@ -80,11 +75,11 @@ returns-in_err-n g c =
     record {
       finds = rw (p.1, p.2) (finds-unended c.args.window.now c.find_end.new.window o (g.S.Source.left c.find_end.new.source) _ (seeks-skips g.S.Source.calls g.S.Source.taken c.args.source.now c.find_end.new.source c.args.window.now c.find_end.new.window o (g.S.Source.left c.find_end.new.source) false told) w.open_still w.place);
       end = λ h. absurd (let e : Err p.0 ≡ Ok None = sym p.1 ∙ h in cc);
-      window = rw (p.1, p.2) (ended-leaves c.args.window.now c.find_end.new.window _ base w.place);
+      window = rw (p.1, p.2) (leaves-by c.args.window.now c.find_end.new.window _ base (ended-limit c.find_end.new.window _ w.place));
       calls = rw p.1 (seeks-calls g.S.Source.calls g.S.Source.taken c.args.source.now c.find_end.new.source c.args.window.now c.find_end.new.window o (g.S.Source.left c.find_end.new.source) false told);
       faults = rw (p.1, p.2) (counts-refused _ next.Failed _ _ _ (c.in_ok-find_open.ensures.faults.quiet (λ e. cc)) c.in_err-n.ensures.faults);
       untouched = λ some.
-          let start : ¬ (first_group_end c.restart.new.self.held ≡ None) = λ none. some (ap (λ (x : HeldBytes). first_group_end x.held) (sym c.restart.ensures) ∙ none) in
+          let start = held-restart c.args.window.now c.restart.new.self _ c.restart.ensures some in
           let u = c.find_open.ensures.untouched (held-opens c.restart.new.self start) in
           c.find_end.ensures.untouched (held-ends c.restart.new.self c.find_open.new.window u.1 start) ∙ u.0;
     }
@@ -112,7 +107,7 @@ returns g c =
       calls = calls-item g.S.Source.calls g.S.Source.taken c.args.source.now c.find_end.new.source c.args.window.now c.find_end.new.window c.take_item.new.window _ c.take_item.result o (g.S.Source.left c.find_end.new.source) c.take_item.ensures t.0 told;
       faults = counts-none _ _ (λ failed. item-not_failed c.find_end.new.window c.take_item.new.window _ w.place c.take_item.result c.take_item.ensures failed) (c.in_ok-n.ensures.faults.quiet (λ e. cc) ∙ c.in_ok-find_open.ensures.faults.quiet (λ e. cc));
       untouched = λ some.
-          let start : ¬ (first_group_end c.restart.new.self.held ≡ None) = λ none. some (ap (λ (x : HeldBytes). first_group_end x.held) (sym c.restart.ensures) ∙ none) in
+          let start = held-restart c.args.window.now c.restart.new.self _ c.restart.ensures some in
           let u = c.find_open.ensures.untouched (held-opens c.restart.new.self start) in
           c.find_end.ensures.untouched (held-ends c.restart.new.self c.find_open.new.window u.1 start) ∙ u.0;
     }

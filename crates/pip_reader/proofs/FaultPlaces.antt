@@ -1,5 +1,5 @@
--- The place of a fault lies within the bytes, or at their end.
-use Rattle.std.proofs.Common.{◌≡◌, refl, ℕ, zero, suc, ◌+◌, ◌-◌, ◌≤◌, ℤ, pos, arith, List, length, Bool, true, false}
+-- The place of a fault of a native text lies within the bytes, or at their end, and none is for an option word.
+use Rattle.std.proofs.Common.{◌≡◌, refl, ℕ, zero, suc, ◌+◌, ◌-◌, ◌≤◌, ℤ, pos, arith, List, length, length-drop, Bool, true, false}
 use Rattle.std.specs.Prelude.{◌&&◌, ◌==◌, drop, Result, Ok, Err, Option, Some, None, IfOk, IfErr, if◌then◌else◌, int_le, unsigned_abs}
 use Rattle.pip_model.specs.declared.Kind.{Kind}
 use Rattle.pip_model.specs.declared.Kind.TheVariants.{LeftParen, RightParen, LeftRow, RightRow, Number, WideNumber}
@@ -8,18 +8,23 @@ use Rattle.pip_model.specs.declared.LimitKind.TheVariants.{Unknowns, Parameters,
 use Rattle.pip_model.specs.Limits.{most_unknowns, most_params, most_rows, most_context_rows}
 use Rattle.pip_model.specs.Tokens.{token}
 use Rattle.pip_model.specs.Printed.{IsGroup}
-use Rattle.pip_model.specs.Reading.{Fault, Syntax, Wide, Limit, BigParameter, ◌>>=◌, same_bracket, expect, number, number_of, numbers, row, rows, block, closing, group, group_to, within, no_big_parameter, next_open, item_at}
+use Rattle.pip_model.specs.Reading.{Fault, Syntax, Wide, Limit, BigParameter, OptionWord, ◌>>=◌, same_bracket, expect, number, number_of, numbers, row, rows, block, closing, group, group_to, within, no_big_parameter, next_open, item_at}
 use Rattle.pip_model.specs.NativeText.{problem_at, read_native}
 use Rattle.text_laws.proofs.Places.{token-lies}
 use Rattle.text_laws.proofs.Items.{next_open-first}
 use Rattle.text_laws.proofs.ReadPlaces.{Between, Read, Opens, expect-opens, expect-reads, number-reads, Fitting, Numbers, numbers-reads, any}
 use Rattle.text_laws.proofs.ReadProblems.{row-reads, AreRows, rows-reads, block-reads, InRange, within-reads, big-reads, group-reads}
 
--- a place that the fault tells is at most n
+-- a place that the fault tells is at most n, and it is for no option word
 abbrev pub FaultWithin : ℕ → Fault → Type 0
 FaultWithin n (Syntax place) = place ≤ n
 FaultWithin n (Wide place) = place ≤ n
+FaultWithin n (OptionWord word) = ⊥
 FaultWithin n e = Unit {0}
+
+choose : {A : Type 0} (n : ℕ) (b : Bool) (x : A) (e : Fault) → FaultWithin n e → IfErr {T = A} (if b then Ok x else Err e) (FaultWithin n)
+choose n true x e h = tt
+choose n false x e h = h
 
 -- a step fails in its first part, or, from what that gives, in its second
 then-err : {A B : Type 0} (n : ℕ) (r : Result A Fault) (f : A → Result B Fault) (P : A → Type 0) → IfErr r (FaultWithin n) → IfOk r P → ((x : A) → P x → IfErr (f x) (FaultWithin n)) → IfErr (r >>= f) (FaultWithin n)
@@ -27,11 +32,8 @@ then-err n (Ok x) f P g h each = each x h
 then-err n (Err e) f P g h each = g
 
 expect-fault : (bytes : List ℕ) (kind : Kind) (place : ℕ) → place ≤ length bytes → IfErr (expect bytes kind place) (FaultWithin (length bytes))
-expect-fault bytes kind place h = by_case (same_bracket (token bytes place).kind kind)
-  where
-    by_case : (t : Bool) → IfErr (if t then Ok (token bytes place).after else Err (Syntax (token bytes place).start)) (FaultWithin (length bytes))
-    by_case true = tt
-    by_case false = (token-lies bytes place h).start_high
+expect-fault bytes kind place h =
+    choose (length bytes) (same_bracket (token bytes place).kind kind) (token bytes place).after (Syntax (token bytes place).start) (token-lies bytes place h).start_high
 
 number-fault : (bytes : List ℕ) (place : ℕ) → place ≤ length bytes → IfErr (number bytes place) (FaultWithin (length bytes))
 number-fault bytes place h = by_kind (token bytes place).kind
@@ -79,18 +81,10 @@ group-fault bytes place h =
     closed first (Some after) = tt
 
 within-fault : (kind : LimitKind) (low high n : ℕ) (z : ℤ × ℕ) → IfErr (within kind low high z) (FaultWithin n)
-within-fault kind low high n z = by_case (int_le (pos low) z.0 && int_le z.0 (pos high))
-  where
-    by_case : (t : Bool) → IfErr {T = ℕ × ℕ} (if t then Ok (unsigned_abs z.0, z.1) else Err (Limit kind z.0)) (FaultWithin n)
-    by_case true = tt
-    by_case false = tt
+within-fault kind low high n z = choose n (int_le (pos low) z.0 && int_le z.0 (pos high)) (unsigned_abs z.0, z.1) (Limit kind z.0) tt
 
 big-fault : (n : ℕ) (z : ℤ × ℕ) → IfErr (no_big_parameter z) (FaultWithin n)
-big-fault n z = by_case (int_le z.0 (pos 0) && (unsigned_abs z.0 == 1))
-  where
-    by_case : (t : Bool) → IfErr (if t then Ok z.1 else Err (BigParameter z.0)) (FaultWithin n)
-    by_case true = tt
-    by_case false = tt
+big-fault n z = choose n (int_le z.0 (pos 0) && (unsigned_abs z.0 == 1)) z.1 (BigParameter z.0) tt
 
 problem_at-fault : (bytes : List ℕ) (place : ℕ) → place ≤ length bytes → IfErr (problem_at bytes place) (FaultWithin (length bytes))
 problem_at-fault bytes place h =
@@ -118,12 +112,12 @@ problem_at-fault bytes place h =
     then-err _ _ _ (Between bytes context.1) (expect-fault bytes RightParen context.1 p15.between.high) (expect-reads bytes RightParen context.1 p15.between.high) (λ after p16.
     tt))))))))))))))))
 
-pub read_native-fault : (bytes : List ℕ) → IfErr (read_native bytes 0) (FaultWithin (length bytes))
-read_native-fault bytes = by_open (next_open 0 bytes) refl
+pub read_native-fault : (bytes : List ℕ) (start : ℕ) → start ≤ length bytes → IfErr (read_native bytes start) (FaultWithin (length bytes))
+read_native-fault bytes start h = by_open (next_open start (drop start bytes)) refl
   where
-    by_open : (o : Option ℕ) → next_open 0 bytes ≡ o → IfErr (item_at (problem_at bytes) o) (FaultWithin (length bytes))
+    by_open : (o : Option ℕ) → next_open start (drop start bytes) ≡ o → IfErr (item_at (problem_at bytes) o) (FaultWithin (length bytes))
     by_open None is = tt
     by_open (Some place) is =
-        let f = next_open-first 0 place bytes is in
-        let low : place ≤ length bytes = omega (arith, f.high) in
+        let f = next_open-first start place (drop start bytes) is in
+        let low : place ≤ length bytes = omega (arith, f.high, length-drop start bytes, h) in
         then-err _ _ _ (λ x. Unit {0}) (problem_at-fault bytes place low) (any (problem_at bytes place)) (λ x p. tt)
