@@ -1,52 +1,69 @@
 //! Certificates that are made, checked, and written with the steps that their refutations share. The texts of those that
 //! are made come from an independent program.
-use crate::row::{Row, are_answered, ends_over, run};
+use crate::row::{Answered, Refused, are_answered, are_refused, ends_over, run};
 use std::alloc::Global;
 use std::process::Abort;
 use std::test::Fail;
 
-const CHECKED: &[Row] = &[
-    Row {
+const CHECKED: &[Answered] = &[
+    Answered {
         name: "an accepted certificate of a list",
         words: "pip check",
         input: "((a) 1 0 1 0 -1 1 (#[1 -3]) ())((a)\n(list\n#[ 3]\n)\n)\n(certificate 1 #[] (() () ((1 1 1 2 1))))",
         output: "accepted\n",
-        notes: "",
-        status: 0,
     },
-    Row {
+    Answered {
         name: "an accepted certificate of void, with a quotient",
         words: "pip check",
         input: "((v) 1 1 0 2 -1 1 () (#[2 -1] #[-2 1]))((v)\nvoid\n)\n(certificate 1 void (((2 1 1) (1 2 1 3 2))))",
         output: "accepted\n",
-        notes: "",
-        status: 0,
     },
-    Row {
+    Answered {
         name: "an accepted certificate of bottom",
         words: "pip check",
         input: "((n) 1 0 2 0 -1 1 (#[1 -3] #[-1 2]) ())((n)\n()\n)\n(certificate 1 #[] (((1 1 1 2 1))))",
         output: "accepted\n",
-        notes: "",
-        status: 0,
     },
-    Row {
+    Answered {
         name: "an accepted certificate with shared steps",
         words: "pip check",
         input: "((v) 1 1 0 2 -1 1 () (#[2 -1] #[-2 1]))((v)\nvoid\n)\n(certificate 2 void\n(\n((2 1 1))\n((1 2 1 3 2))\n)\n)\n",
         output: "accepted\n",
-        notes: "",
-        status: 0,
     },
-    Row {
+    Answered {
         name: "a step with another divisor",
         words: "pip check",
         input: "((a) 1 0 1 0 -1 1 (#[1 -3]) ())((a)\n(list\n#[ 3]\n)\n)\n(certificate 1 #[] (() () ((2 1 1 2 1))))",
         output: "accepted\n",
-        notes: "",
-        status: 0,
     },
-    Row {
+    Answered {
+        name: "an accepted certificate of void, of one step",
+        words: "pip check",
+        input: "((v) 1 1 0 1 -1 1 () (#[-1 -1]))((v)\nvoid\n)\n(certificate 1 void (((1 0 1 1 1))))",
+        output: "accepted\n",
+    },
+    Answered {
+        name: "shared steps of none",
+        words: "pip check",
+        input: "((a) 1 0 1 0 -1 1 (#[1 -3]) ())((a)\n(list\n#[ 3]\n)\n)\n(certificate 2 #[]\n(\n()\n()\n()\n((1 1 1 2 1))\n)\n)\n",
+        output: "accepted\n",
+    },
+    Answered {
+        name: "an accepted certificate of choices and a new parameter",
+        words: "pip check",
+        input: "((c) 1 1 1 0 -1 1 (#[2 0 -1]) ())((c)\n(if #[ -1 0]\n(list\n#[ 0 0]\n)\n(newparm 1 (div #[ 1 0] 2))\n(if #[ -1 2 0]\n(list\n#[ 1 -1 0]\n)\n(list\n#[ 1 -1 0]\n)\n)\n)\n)\n(certificate 1 #[ 0] (((1 1 1 2 1)) ((1 2 1)) ((1 4 1 2 1)))\n(((2 3 1 0 1)(1 2 1 5 1)) ((2 3 1 0 1)(1 2 1 1 1 5 2)) ((2 3 1 0 1)(1 7 2 4 1 6 1)))\n(((2 3 1 0 1)(1 2 1 5 1)) ((2 3 1 0 1)(1 2 1 1 1 5 2)) ((2 3 1 0 1)(1 3 1 7 2 6 1))))",
+        output: "accepted\n",
+    },
+    Answered {
+        name: "the same with shared steps",
+        words: "pip check",
+        input: "((c) 1 1 1 0 -1 1 (#[2 0 -1]) ())((c)\n(if #[ -1 0]\n(list\n#[ 0 0]\n)\n(newparm 1 (div #[ 1 0] 2))\n(if #[ -1 2 0]\n(list\n#[ 1 -1 0]\n)\n(list\n#[ 1 -1 0]\n)\n)\n)\n)\n(certificate 2 #[ 0]\n(\n()\n((1 1 1 2 1))\n((1 2 1))\n((1 4 1 2 1))\n)\n(\n((2 3 1 0 1))\n((1 2 1 6 1))\n((1 2 1 1 1 6 2))\n((1 8 2 4 1 7 1))\n)\n(\n((2 3 1 0 1))\n((1 2 1 6 1))\n((1 2 1 1 1 6 2))\n((1 3 1 8 2 7 1))\n)\n)\n",
+        output: "accepted\n",
+    },
+];
+
+const REFUSED_CHECKED: &[Refused] = &[
+    Refused {
         name: "a step with the divisor 0",
         words: "pip check",
         input: "((a) 1 0 1 0 -1 1 (#[1 -3]) ())((a)\n(list\n#[ 3]\n)\n)\n(certificate 1 #[] (() () ((0 1 1 2 1))))",
@@ -54,7 +71,7 @@ const CHECKED: &[Row] = &[
         notes: "pip: rejected at leaf 1 refutation 3 step 1\n",
         status: 10,
     },
-    Row {
+    Refused {
         name: "a step with an index that names nothing",
         words: "pip check",
         input: "((a) 1 0 1 0 -1 1 (#[1 -3]) ())((a)\n(list\n#[ 3]\n)\n)\n(certificate 1 #[] (() () ((1 3 1 2 1))))",
@@ -62,7 +79,7 @@ const CHECKED: &[Row] = &[
         notes: "pip: rejected at leaf 1 refutation 3 step 1\n",
         status: 10,
     },
-    Row {
+    Refused {
         name: "a step whose form does not refute",
         words: "pip check",
         input: "((a) 1 0 1 0 -1 1 (#[1 -3]) ())((a)\n(list\n#[ 3]\n)\n)\n(certificate 1 #[] (() () ((1 1 2 2 1))))",
@@ -70,7 +87,7 @@ const CHECKED: &[Row] = &[
         notes: "pip: rejected at leaf 1 refutation 3 step 1\n",
         status: 10,
     },
-    Row {
+    Refused {
         name: "a step with a negative multiplier",
         words: "pip check",
         input: "((a) 1 0 1 0 -1 1 (#[1 -3]) ())((a)\n(list\n#[ 3]\n)\n)\n(certificate 1 #[] (() () ((1 0 -1 1 1))))",
@@ -78,7 +95,7 @@ const CHECKED: &[Row] = &[
         notes: "pip: rejected at leaf 1 refutation 3 step 1\n",
         status: 10,
     },
-    Row {
+    Refused {
         name: "a vector of another length",
         words: "pip check",
         input: "((n) 1 0 2 0 -1 1 (#[1 -3] #[-1 2]) ())((n)\n()\n)\n(certificate 1 #[1] (((1 1 1 2 1))))",
@@ -86,7 +103,7 @@ const CHECKED: &[Row] = &[
         notes: "pip: rejected at leaf 0 refutation 0 step 0\n",
         status: 10,
     },
-    Row {
+    Refused {
         name: "a refutation too few",
         words: "pip check",
         input: "((a) 1 0 1 0 -1 1 (#[1 -3]) ())((a)\n(list\n#[ 3]\n)\n)\n(certificate 1 #[] (() ()))",
@@ -94,7 +111,7 @@ const CHECKED: &[Row] = &[
         notes: "pip: rejected at leaf 1 refutation 0 step 0\n",
         status: 10,
     },
-    Row {
+    Refused {
         name: "a product past 128 bits",
         words: "pip check",
         input: "((a) 1 0 1 0 -1 1 (#[1 -3]) ())((a)\n(list\n#[ 3]\n)\n)\n(certificate 1 #[] (() () ((1 1 170141183460469231731687303715884105727 2 1))))",
@@ -102,7 +119,7 @@ const CHECKED: &[Row] = &[
         notes: "pip: overflow at leaf 1 refutation 3 step 1\n",
         status: 4,
     },
-    Row {
+    Refused {
         name: "a format that is not known",
         words: "pip check",
         input: "((a) 1 0 1 0 -1 1 (#[1 -3]) ())((a)\n(list\n#[ 3]\n)\n)\n(certificate 3 #[] (() () ((1 1 1 2 1))))",
@@ -110,7 +127,7 @@ const CHECKED: &[Row] = &[
         notes: "pip: unsupported certificate 3\n",
         status: 3,
     },
-    Row {
+    Refused {
         name: "a certificate of a rational problem",
         words: "pip check",
         input: "((h) 1 0 1 0 -1 0 (#[2 -3]) ())((h)\n(list\n#[ 3/2]\n)\n)\n(certificate 1 #[] (() () ((1 1 1 2 1))))",
@@ -118,7 +135,7 @@ const CHECKED: &[Row] = &[
         notes: "pip: unsupported rational certificate\n",
         status: 3,
     },
-    Row {
+    Refused {
         name: "a triple without its certificate",
         words: "pip check",
         input: "((a) 1 0 1 0 -1 1 (#[1 -3]) ())((a)\n(list\n#[ 3]\n)\n)\n",
@@ -126,23 +143,7 @@ const CHECKED: &[Row] = &[
         notes: "pip: syntax at byte 52\n",
         status: 2,
     },
-    Row {
-        name: "an accepted certificate of void, of one step",
-        words: "pip check",
-        input: "((v) 1 1 0 1 -1 1 () (#[-1 -1]))((v)\nvoid\n)\n(certificate 1 void (((1 0 1 1 1))))",
-        output: "accepted\n",
-        notes: "",
-        status: 0,
-    },
-    Row {
-        name: "shared steps of none",
-        words: "pip check",
-        input: "((a) 1 0 1 0 -1 1 (#[1 -3]) ())((a)\n(list\n#[ 3]\n)\n)\n(certificate 2 #[]\n(\n()\n()\n()\n((1 1 1 2 1))\n)\n)\n",
-        output: "accepted\n",
-        notes: "",
-        status: 0,
-    },
-    Row {
+    Refused {
         name: "a leaf too few",
         words: "pip check",
         input: "((a) 1 0 1 0 -1 1 (#[1 -3]) ())((a)\n(list\n#[ 3]\n)\n)\n(certificate 1 #[])",
@@ -150,7 +151,7 @@ const CHECKED: &[Row] = &[
         notes: "pip: rejected at leaf 0 refutation 0 step 0\n",
         status: 10,
     },
-    Row {
+    Refused {
         name: "a certificate of void for a list",
         words: "pip check",
         input: "((a) 1 0 1 0 -1 1 (#[1 -3]) ())((a)\n(list\n#[ 3]\n)\n)\n(certificate 1 void (() () ((1 1 1 2 1))))",
@@ -158,7 +159,7 @@ const CHECKED: &[Row] = &[
         notes: "pip: rejected at leaf 0 refutation 0 step 0\n",
         status: 10,
     },
-    Row {
+    Refused {
         name: "a shared step that names nothing known",
         words: "pip check",
         input: "((a) 1 0 1 0 -1 1 (#[1 -3]) ())((a)\n(list\n#[ 3]\n)\n)\n(certificate 2 #[] (((1 0 1)) () () ((1 1 1 2 1))))",
@@ -166,7 +167,7 @@ const CHECKED: &[Row] = &[
         notes: "pip: rejected at leaf 1 refutation 0 step 1\n",
         status: 10,
     },
-    Row {
+    Refused {
         name: "a product past 128 bits in a short step",
         words: "pip check",
         input: "((a) 1 0 1 0 -1 1 (#[1 -3]) ())((a)\n(list\n#[ 3]\n)\n)\n(certificate 1 #[] (() () ((1 1 170141183460469231731687303715884105727))))",
@@ -174,7 +175,7 @@ const CHECKED: &[Row] = &[
         notes: "pip: overflow at leaf 1 refutation 3 step 1\n",
         status: 4,
     },
-    Row {
+    Refused {
         name: "a step that does not end a refutation of bottom",
         words: "pip check",
         input: "((n) 1 0 2 0 -1 1 (#[1 -3] #[-1 2]) ())((n)\n()\n)\n(certificate 1 #[] (((1 1 1))))",
@@ -182,7 +183,7 @@ const CHECKED: &[Row] = &[
         notes: "pip: rejected at leaf 1 refutation 1 step 1\n",
         status: 10,
     },
-    Row {
+    Refused {
         name: "no step for bottom",
         words: "pip check",
         input: "((n) 1 0 2 0 -1 1 (#[1 -3] #[-1 2]) ())((n)\n()\n)\n(certificate 1 #[] (()))",
@@ -190,7 +191,7 @@ const CHECKED: &[Row] = &[
         notes: "pip: rejected at leaf 1 refutation 1 step 0\n",
         status: 10,
     },
-    Row {
+    Refused {
         name: "another divisor for void",
         words: "pip check",
         input: "((v) 1 1 0 2 -1 1 () (#[2 -1] #[-2 1]))((v)\nvoid\n)\n(certificate 1 void (((3 1 1) (1 2 1 3 2))))",
@@ -198,7 +199,7 @@ const CHECKED: &[Row] = &[
         notes: "pip: rejected at leaf 1 refutation 1 step 1\n",
         status: 10,
     },
-    Row {
+    Refused {
         name: "a certificate of a tree for void",
         words: "pip check",
         input: "((v) 1 1 0 2 -1 1 () (#[2 -1] #[-2 1]))((v)\nvoid\n)\n(certificate 1 #[1] (((2 1 1) (1 2 1 3 2))))",
@@ -206,23 +207,7 @@ const CHECKED: &[Row] = &[
         notes: "pip: rejected at leaf 0 refutation 0 step 0\n",
         status: 10,
     },
-    Row {
-        name: "an accepted certificate of choices and a new parameter",
-        words: "pip check",
-        input: "((c) 1 1 1 0 -1 1 (#[2 0 -1]) ())((c)\n(if #[ -1 0]\n(list\n#[ 0 0]\n)\n(newparm 1 (div #[ 1 0] 2))\n(if #[ -1 2 0]\n(list\n#[ 1 -1 0]\n)\n(list\n#[ 1 -1 0]\n)\n)\n)\n)\n(certificate 1 #[ 0] (((1 1 1 2 1)) ((1 2 1)) ((1 4 1 2 1)))\n(((2 3 1 0 1)(1 2 1 5 1)) ((2 3 1 0 1)(1 2 1 1 1 5 2)) ((2 3 1 0 1)(1 7 2 4 1 6 1)))\n(((2 3 1 0 1)(1 2 1 5 1)) ((2 3 1 0 1)(1 2 1 1 1 5 2)) ((2 3 1 0 1)(1 3 1 7 2 6 1))))",
-        output: "accepted\n",
-        notes: "",
-        status: 0,
-    },
-    Row {
-        name: "the same with shared steps",
-        words: "pip check",
-        input: "((c) 1 1 1 0 -1 1 (#[2 0 -1]) ())((c)\n(if #[ -1 0]\n(list\n#[ 0 0]\n)\n(newparm 1 (div #[ 1 0] 2))\n(if #[ -1 2 0]\n(list\n#[ 1 -1 0]\n)\n(list\n#[ 1 -1 0]\n)\n)\n)\n)\n(certificate 2 #[ 0]\n(\n()\n((1 1 1 2 1))\n((1 2 1))\n((1 4 1 2 1))\n)\n(\n((2 3 1 0 1))\n((1 2 1 6 1))\n((1 2 1 1 1 6 2))\n((1 8 2 4 1 7 1))\n)\n(\n((2 3 1 0 1))\n((1 2 1 6 1))\n((1 2 1 1 1 6 2))\n((1 3 1 8 2 7 1))\n)\n)\n",
-        output: "accepted\n",
-        notes: "",
-        status: 0,
-    },
-    Row {
+    Refused {
         name: "a leaf of a choice too few",
         words: "pip check",
         input: "((c) 1 1 1 0 -1 1 (#[2 0 -1]) ())((c)\n(if #[ -1 0]\n(list\n#[ 0 0]\n)\n(newparm 1 (div #[ 1 0] 2))\n(if #[ -1 2 0]\n(list\n#[ 1 -1 0]\n)\n(list\n#[ 1 -1 0]\n)\n)\n)\n)\n(certificate 1 #[ 0] (((1 1 1 2 1)) ((1 2 1)) ((1 4 1 2 1)))\n(((2 3 1 0 1)(1 2 1 5 1)) ((2 3 1 0 1)(1 2 1 1 1 5 2)) ((2 3 1 0 1)(1 7 2 4 1 6 1)))\n)",
@@ -230,7 +215,7 @@ const CHECKED: &[Row] = &[
         notes: "pip: rejected at leaf 0 refutation 0 step 0\n",
         status: 10,
     },
-    Row {
+    Refused {
         name: "a step of another leaf",
         words: "pip check",
         input: "((c) 1 1 1 0 -1 1 (#[2 0 -1]) ())((c)\n(if #[ -1 0]\n(list\n#[ 0 0]\n)\n(newparm 1 (div #[ 1 0] 2))\n(if #[ -1 2 0]\n(list\n#[ 1 -1 0]\n)\n(list\n#[ 1 -1 0]\n)\n)\n)\n)\n(certificate 1 #[ 0] (((1 1 1 2 1)) ((1 2 1)) ((1 4 1 2 1)))\n(((2 3 1 0 1)(1 2 1 5 1)) ((2 3 1 0 1)(1 2 1 1 1 5 2)) ((2 3 1 0 1)(1 7 2 4 1 6 1)))\n(((2 3 1 0 1)(1 2 1 5 1)) ((2 3 1 0 1)(1 2 1 1 1 5 2)) ((2 3 1 0 1)(1 7 2 4 1 6 1))))",
@@ -238,7 +223,7 @@ const CHECKED: &[Row] = &[
         notes: "pip: rejected at leaf 3 refutation 3 step 2\n",
         status: 10,
     },
-    Row {
+    Refused {
         name: "a form of the context past 128 bits",
         words: "pip check",
         input: "((z) 1 1 0 1 -1 1 () (#[170141183460469231731687303715884105727 0])) ((a)(list #[0 0])) (certificate 1 #[2] (()))",
@@ -246,7 +231,7 @@ const CHECKED: &[Row] = &[
         notes: "pip: overflow at leaf 0 refutation 0 step 0\n",
         status: 4,
     },
-    Row {
+    Refused {
         name: "a form of a leaf past 128 bits",
         words: "pip check",
         input: "((z) 1 0 1 0 -1 1 (#[170141183460469231731687303715884105727 1]) ()) ((a)(list #[2])) (certificate 1 #[] (()()()))",
@@ -254,7 +239,7 @@ const CHECKED: &[Row] = &[
         notes: "pip: overflow at leaf 1 refutation 1 step 0\n",
         status: 4,
     },
-    Row {
+    Refused {
         name: "a step without a multiplier",
         words: "pip check",
         input: "((a) 1 0 1 0 -1 1 (#[1 -3]) ())((a)\n(list\n#[ 3]\n)\n)\n(certificate 1 #[] (((1 1))))",
@@ -262,7 +247,7 @@ const CHECKED: &[Row] = &[
         notes: "pip: syntax at byte 77\n",
         status: 2,
     },
-    Row {
+    Refused {
         name: "a vector with a number past 128 bits",
         words: "pip check",
         input: "((a) 1 0 1 0 -1 1 (#[1 -3]) ())((a)\n(list\n#[ 3]\n)\n)\n(certificate 1 #[ 170141183460469231731687303715884105728])",
@@ -270,7 +255,7 @@ const CHECKED: &[Row] = &[
         notes: "pip: number too wide at byte 70\n",
         status: 9,
     },
-    Row {
+    Refused {
         name: "a certificate that is cut off",
         words: "pip check",
         input: "((a) 1 0 1 0 -1 1 (#[1 -3]) ())((a)\n(list\n#[ 3]\n)\n)\n(certificate 1 #[] (",
@@ -278,7 +263,7 @@ const CHECKED: &[Row] = &[
         notes: "pip: syntax at byte 72\n",
         status: 2,
     },
-    Row {
+    Refused {
         name: "a leaf without shared steps in format 2",
         words: "pip check",
         input: "((a) 1 0 1 0 -1 1 (#[1 -3]) ())((a)\n(list\n#[ 3]\n)\n)\n(certificate 2 void ())",
@@ -290,27 +275,45 @@ const CHECKED: &[Row] = &[
 
 #[test]
 fn checked(rt: HostRuntime) -> Result<(), Fail> {
-    are_answered(&rt, rt.alloc(), CHECKED)
+    are_answered(&rt, rt.alloc(), CHECKED)?;
+    are_refused(&rt, rt.alloc(), REFUSED_CHECKED)
 }
 
-const SHARED: &[Row] = &[
-    Row {
+const SHARED: &[Answered] = &[
+    Answered {
         name: "steps that all refutations of a leaf begin with",
         words: "pip share",
         input: "((v) 1 1 0 2 -1 1 () (#[2 -1] #[-2 1]))((v)\nvoid\n)\n(certificate 1 void (((2 1 1) (1 2 1 3 2))))",
         output: "(certificate 2 void\n(\n((2 1 1))\n((1 2 1 3 2))\n)\n)\n",
-        notes: "",
-        status: 0,
     },
-    Row {
+    Answered {
         name: "a refutation without steps",
         words: "pip share",
         input: "((a) 1 0 1 0 -1 1 (#[1 -3]) ())((a)\n(list\n#[ 3]\n)\n)\n(certificate 1 #[] (() () ((1 1 1 2 1))))",
         output: "(certificate 2 #[]\n(\n()\n()\n()\n((1 1 1 2 1))\n)\n)\n",
-        notes: "",
-        status: 0,
     },
-    Row {
+    Answered {
+        name: "steps of choices and a new parameter",
+        words: "pip share",
+        input: "((c) 1 1 1 0 -1 1 (#[2 0 -1]) ())((c)\n(if #[ -1 0]\n(list\n#[ 0 0]\n)\n(newparm 1 (div #[ 1 0] 2))\n(if #[ -1 2 0]\n(list\n#[ 1 -1 0]\n)\n(list\n#[ 1 -1 0]\n)\n)\n)\n)\n(certificate 1 #[ 0] (((1 1 1 2 1)) ((1 2 1)) ((1 4 1 2 1)))\n(((2 3 1 0 1)(1 2 1 5 1)) ((2 3 1 0 1)(1 2 1 1 1 5 2)) ((2 3 1 0 1)(1 7 2 4 1 6 1)))\n(((2 3 1 0 1)(1 2 1 5 1)) ((2 3 1 0 1)(1 2 1 1 1 5 2)) ((2 3 1 0 1)(1 3 1 7 2 6 1))))",
+        output: "(certificate 2 #[ 0]\n(\n()\n((1 1 1 2 1))\n((1 2 1))\n((1 4 1 2 1))\n)\n(\n((2 3 1 0 1))\n((1 2 1 6 1))\n((1 2 1 1 1 6 2))\n((1 8 2 4 1 7 1))\n)\n(\n((2 3 1 0 1))\n((1 2 1 6 1))\n((1 2 1 1 1 6 2))\n((1 3 1 8 2 7 1))\n)\n)\n",
+    },
+    Answered {
+        name: "what is shared stays",
+        words: "pip share",
+        input: "((c) 1 1 1 0 -1 1 (#[2 0 -1]) ())((c)\n(if #[ -1 0]\n(list\n#[ 0 0]\n)\n(newparm 1 (div #[ 1 0] 2))\n(if #[ -1 2 0]\n(list\n#[ 1 -1 0]\n)\n(list\n#[ 1 -1 0]\n)\n)\n)\n)\n(certificate 2 #[ 0]\n(\n()\n((1 1 1 2 1))\n((1 2 1))\n((1 4 1 2 1))\n)\n(\n((2 3 1 0 1))\n((1 2 1 6 1))\n((1 2 1 1 1 6 2))\n((1 8 2 4 1 7 1))\n)\n(\n((2 3 1 0 1))\n((1 2 1 6 1))\n((1 2 1 1 1 6 2))\n((1 3 1 8 2 7 1))\n)\n)\n",
+        output: "(certificate 2 #[ 0]\n(\n()\n((1 1 1 2 1))\n((1 2 1))\n((1 4 1 2 1))\n)\n(\n((2 3 1 0 1))\n((1 2 1 6 1))\n((1 2 1 1 1 6 2))\n((1 8 2 4 1 7 1))\n)\n(\n((2 3 1 0 1))\n((1 2 1 6 1))\n((1 2 1 1 1 6 2))\n((1 3 1 8 2 7 1))\n)\n)\n",
+    },
+    Answered {
+        name: "what is shared without steps stays",
+        words: "pip share",
+        input: "((a) 1 0 1 0 -1 1 (#[1 -3]) ())((a)\n(list\n#[ 3]\n)\n)\n(certificate 2 #[] (() () () ((1 1 1 2 1))))",
+        output: "(certificate 2 #[]\n(\n()\n()\n()\n((1 1 1 2 1))\n)\n)\n",
+    },
+];
+
+const REFUSED_SHARED: &[Refused] = &[
+    Refused {
         name: "a certificate that is not accepted is not shared",
         words: "pip share",
         input: "((a) 1 0 1 0 -1 1 (#[1 -3]) ())((a)\n(list\n#[ 3]\n)\n)\n(certificate 1 #[] (() () ((1 0 -1 1 1))))",
@@ -318,7 +321,7 @@ const SHARED: &[Row] = &[
         notes: "pip: rejected at leaf 1 refutation 3 step 1\n",
         status: 10,
     },
-    Row {
+    Refused {
         name: "the text of the triple before a rejected one stays",
         words: "pip check",
         input: "((v) 1 1 0 2 -1 1 () (#[2 -1] #[-2 1]))((v)\nvoid\n)\n(certificate 1 void (((2 1 1) (1 2 1 3 2))))((v) 1 1 0 2 -1 1 () (#[2 -1] #[-2 1]))((v)\nvoid\n)\n(certificate 1 void (((3 1 1) (1 2 1 3 2))))",
@@ -326,31 +329,7 @@ const SHARED: &[Row] = &[
         notes: "pip: rejected at leaf 1 refutation 1 step 1\n",
         status: 10,
     },
-    Row {
-        name: "steps of choices and a new parameter",
-        words: "pip share",
-        input: "((c) 1 1 1 0 -1 1 (#[2 0 -1]) ())((c)\n(if #[ -1 0]\n(list\n#[ 0 0]\n)\n(newparm 1 (div #[ 1 0] 2))\n(if #[ -1 2 0]\n(list\n#[ 1 -1 0]\n)\n(list\n#[ 1 -1 0]\n)\n)\n)\n)\n(certificate 1 #[ 0] (((1 1 1 2 1)) ((1 2 1)) ((1 4 1 2 1)))\n(((2 3 1 0 1)(1 2 1 5 1)) ((2 3 1 0 1)(1 2 1 1 1 5 2)) ((2 3 1 0 1)(1 7 2 4 1 6 1)))\n(((2 3 1 0 1)(1 2 1 5 1)) ((2 3 1 0 1)(1 2 1 1 1 5 2)) ((2 3 1 0 1)(1 3 1 7 2 6 1))))",
-        output: "(certificate 2 #[ 0]\n(\n()\n((1 1 1 2 1))\n((1 2 1))\n((1 4 1 2 1))\n)\n(\n((2 3 1 0 1))\n((1 2 1 6 1))\n((1 2 1 1 1 6 2))\n((1 8 2 4 1 7 1))\n)\n(\n((2 3 1 0 1))\n((1 2 1 6 1))\n((1 2 1 1 1 6 2))\n((1 3 1 8 2 7 1))\n)\n)\n",
-        notes: "",
-        status: 0,
-    },
-    Row {
-        name: "what is shared stays",
-        words: "pip share",
-        input: "((c) 1 1 1 0 -1 1 (#[2 0 -1]) ())((c)\n(if #[ -1 0]\n(list\n#[ 0 0]\n)\n(newparm 1 (div #[ 1 0] 2))\n(if #[ -1 2 0]\n(list\n#[ 1 -1 0]\n)\n(list\n#[ 1 -1 0]\n)\n)\n)\n)\n(certificate 2 #[ 0]\n(\n()\n((1 1 1 2 1))\n((1 2 1))\n((1 4 1 2 1))\n)\n(\n((2 3 1 0 1))\n((1 2 1 6 1))\n((1 2 1 1 1 6 2))\n((1 8 2 4 1 7 1))\n)\n(\n((2 3 1 0 1))\n((1 2 1 6 1))\n((1 2 1 1 1 6 2))\n((1 3 1 8 2 7 1))\n)\n)\n",
-        output: "(certificate 2 #[ 0]\n(\n()\n((1 1 1 2 1))\n((1 2 1))\n((1 4 1 2 1))\n)\n(\n((2 3 1 0 1))\n((1 2 1 6 1))\n((1 2 1 1 1 6 2))\n((1 8 2 4 1 7 1))\n)\n(\n((2 3 1 0 1))\n((1 2 1 6 1))\n((1 2 1 1 1 6 2))\n((1 3 1 8 2 7 1))\n)\n)\n",
-        notes: "",
-        status: 0,
-    },
-    Row {
-        name: "what is shared without steps stays",
-        words: "pip share",
-        input: "((a) 1 0 1 0 -1 1 (#[1 -3]) ())((a)\n(list\n#[ 3]\n)\n)\n(certificate 2 #[] (() () () ((1 1 1 2 1))))",
-        output: "(certificate 2 #[]\n(\n()\n()\n()\n((1 1 1 2 1))\n)\n)\n",
-        notes: "",
-        status: 0,
-    },
-    Row {
+    Refused {
         name: "a form of a leaf past 128 bits",
         words: "pip share",
         input: "((z) 1 0 1 0 -1 1 (#[170141183460469231731687303715884105727 1]) ()) ((a)(list #[2])) (certificate 1 #[] (()()()))",
@@ -358,7 +337,7 @@ const SHARED: &[Row] = &[
         notes: "pip: overflow at leaf 1 refutation 1 step 0\n",
         status: 4,
     },
-    Row {
+    Refused {
         name: "a form of the context past 128 bits",
         words: "pip share",
         input: "((z) 1 1 0 1 -1 1 () (#[170141183460469231731687303715884105727 0])) ((a)(list #[0 0])) (certificate 1 #[2] (()))",
@@ -370,27 +349,81 @@ const SHARED: &[Row] = &[
 
 #[test]
 fn shared(rt: HostRuntime) -> Result<(), Fail> {
-    are_answered(&rt, rt.alloc(), SHARED)
+    are_answered(&rt, rt.alloc(), SHARED)?;
+    are_refused(&rt, rt.alloc(), REFUSED_SHARED)
 }
 
-const MADE: &[Row] = &[
-    Row {
+const MADE: &[Answered] = &[
+    Answered {
         name: "the certificate of a list",
         words: "pip solve --certificate",
         input: "((a) 1 0 1 0 -1 1 (#[1 -3]) ())",
         output: "((a)\n(list\n#[ 3]\n)\n)\n(certificate 1 #[]\n(\n((1 0 1))\n((1 0 1))\n((1 2 1 1 1))\n)\n)\n",
-        notes: "",
-        status: 0,
     },
-    Row {
+    Answered {
         name: "the certificate behind a cut",
         words: "pip solve --certificate",
         input: "((h) 1 0 1 0 -1 1 (#[2 -3]) ())",
         output: "((h)\n(list\n#[ 2]\n)\n)\n(certificate 1 #[]\n(\n((1 0 1))\n((1 0 1))\n((1 2 2 1 1))\n)\n)\n",
-        notes: "",
-        status: 0,
     },
-    Row {
+    Answered {
+        name: "no rational point",
+        words: "pip solve --certificate",
+        input: "((n) 1 0 2 0 -1 1 (#[1 -3] #[-1 2]) ())",
+        output: "((n)\n()\n)\n(certificate 1 #[]\n(\n((1 2 1 1 1))\n)\n)\n",
+    },
+    Answered {
+        name: "a rational point and no whole one",
+        words: "pip solve --certificate",
+        input: "((o) 1 0 2 0 -1 1 (#[2 -1] #[-2 1]) ())",
+        output: "((o)\n()\n)\n(certificate 1 #[]\n(\n((2 1 1)(1 2 1 3 2))\n)\n)\n",
+    },
+    Answered {
+        name: "half a parameter, rounded up",
+        words: "pip solve --certificate",
+        input: "((c) 1 1 1 0 -1 1 (#[2 0 -1]) ())",
+        output: "((c)\n(if #[ -1 0]\n(list\n#[ 0 0]\n)\n(newparm 1 (div #[ 1 0] 2))\n(if #[ -1 2 0]\n(list\n#[ 1 -1 0]\n)\n(list\n#[ 1 -1 0]\n)\n)\n)\n)\n(certificate 1 #[ 0]\n(\n((1 1 1 2 1))\n((1 2 1))\n((1 4 1 2 1))\n)\n(\n((2 3 1 0 1)(1 2 1 5 1))\n((2 3 1 0 1)(1 2 1 1 1 5 2))\n((2 3 1 0 1)(1 7 2 4 1 6 1))\n)\n(\n((2 3 1 0 1)(1 2 1 5 1))\n((2 3 1 0 1)(1 2 1 1 1 5 2))\n((2 3 1 0 1)(1 3 1 7 2 6 1))\n)\n)\n",
+    },
+    Answered {
+        name: "an empty context",
+        words: "pip solve --certificate",
+        input: "((v) 1 1 0 1 -1 1 () (#[-1 -1]))",
+        output: "((v)\nvoid\n)\n(certificate 1 void\n(\n((1 1 1 0 1))\n)\n)\n",
+    },
+    Answered {
+        name: "a context with a rational point alone",
+        words: "pip solve --certificate",
+        input: "((v) 1 1 0 2 -1 1 () (#[2 -1] #[-2 1]))",
+        output: "((v)\nvoid\n)\n(certificate 1 void\n(\n((2 1 1)(1 2 1 3 2))\n)\n)\n",
+    },
+    Answered {
+        name: "a third of a parameter, rounded up, twice",
+        words: "pip solve --certificate",
+        input: "((t) 2 1 2 0 -1 1 (#[3 0 0 -1] #[0 3 0 -1]) ())",
+        output: "((t)\n(if #[ -1 0]\n(list\n#[ 0 0]\n#[ 0 0]\n)\n(newparm 1 (div #[ 2 0] 3))\n(if #[ -2 3 0]\n(list\n#[ 1 -1 0]\n#[ 1 -1 0]\n)\n(list\n#[ 1 -1 0]\n#[ 1 -1 0]\n)\n)\n)\n)\n(certificate 1 #[ 0]\n(\n((1 1 1 2 1))\n((1 1 1 2 1))\n((1 2 1))\n((1 2 1))\n((1 6 1 2 1))\n((1 7 1 3 1))\n)\n(\n((3 3 1 0 2)(1 2 1 5 1))\n((3 3 1 0 2)(1 2 1 5 1))\n((3 3 1 0 2)(1 2 1 1 1 5 3))\n((3 3 1 0 2)(1 2 1 1 1 5 3))\n((3 3 1 0 2)(1 9 3 4 1 7 1))\n((3 3 1 0 2)(1 10 3 4 1 8 1))\n)\n(\n((3 3 1 0 2)(1 2 1 5 1))\n((3 3 1 0 2)(1 2 1 5 1))\n((3 3 1 0 2)(1 2 1 1 1 5 3))\n((3 3 1 0 2)(1 2 1 1 1 5 3))\n((3 3 1 0 2)(1 3 1 9 3 7 1))\n((3 3 1 0 2)(1 3 1 10 3 8 1))\n)\n)\n",
+    },
+    Answered {
+        name: "a context without a rational point",
+        words: "pip solve --certificate",
+        input: "((v) 1 1 0 2 -1 1 () (#[1 -3] #[-1 2]))",
+        output: "((v)\nvoid\n)\n(certificate 1 void\n(\n((1 2 1 1 1))\n)\n)\n",
+    },
+    Answered {
+        name: "a context without a rational point, divided",
+        words: "pip solve --certificate",
+        input: "((v) 1 1 0 2 -1 1 () (#[2 -3] #[-1 1]))",
+        output: "((v)\nvoid\n)\n(certificate 1 void\n(\n((1 2 2 1 1))\n)\n)\n",
+    },
+    Answered {
+        name: "a context over no parameters",
+        words: "pip solve --certificate",
+        input: "((v) 1 0 0 1 -1 1 () (#[-1]))",
+        output: "((v)\nvoid\n)\n(certificate 1 void\n(\n((1 0 1))\n)\n)\n",
+    },
+];
+
+const REFUSED_MADE: &[Refused] = &[
+    Refused {
         name: "a rational problem is refused before it is solved",
         words: "pip solve --certificate --pivots 0",
         input: "((h) 1 0 1 0 -1 0 (#[2 -3]) ())",
@@ -398,7 +431,7 @@ const MADE: &[Row] = &[
         notes: "pip: unsupported rational certificate\n",
         status: 3,
     },
-    Row {
+    Refused {
         name: "one pivot for the answer and one for its certificate",
         words: "pip solve --pivots 1 --certificate",
         input: "((a) 1 0 1 0 -1 1 (#[1 -3]) ())",
@@ -406,79 +439,7 @@ const MADE: &[Row] = &[
         notes: "pip: budget of pivots 1\n",
         status: 5,
     },
-    Row {
-        name: "no rational point",
-        words: "pip solve --certificate",
-        input: "((n) 1 0 2 0 -1 1 (#[1 -3] #[-1 2]) ())",
-        output: "((n)\n()\n)\n(certificate 1 #[]\n(\n((1 2 1 1 1))\n)\n)\n",
-        notes: "",
-        status: 0,
-    },
-    Row {
-        name: "a rational point and no whole one",
-        words: "pip solve --certificate",
-        input: "((o) 1 0 2 0 -1 1 (#[2 -1] #[-2 1]) ())",
-        output: "((o)\n()\n)\n(certificate 1 #[]\n(\n((2 1 1)(1 2 1 3 2))\n)\n)\n",
-        notes: "",
-        status: 0,
-    },
-    Row {
-        name: "half a parameter, rounded up",
-        words: "pip solve --certificate",
-        input: "((c) 1 1 1 0 -1 1 (#[2 0 -1]) ())",
-        output: "((c)\n(if #[ -1 0]\n(list\n#[ 0 0]\n)\n(newparm 1 (div #[ 1 0] 2))\n(if #[ -1 2 0]\n(list\n#[ 1 -1 0]\n)\n(list\n#[ 1 -1 0]\n)\n)\n)\n)\n(certificate 1 #[ 0]\n(\n((1 1 1 2 1))\n((1 2 1))\n((1 4 1 2 1))\n)\n(\n((2 3 1 0 1)(1 2 1 5 1))\n((2 3 1 0 1)(1 2 1 1 1 5 2))\n((2 3 1 0 1)(1 7 2 4 1 6 1))\n)\n(\n((2 3 1 0 1)(1 2 1 5 1))\n((2 3 1 0 1)(1 2 1 1 1 5 2))\n((2 3 1 0 1)(1 3 1 7 2 6 1))\n)\n)\n",
-        notes: "",
-        status: 0,
-    },
-    Row {
-        name: "an empty context",
-        words: "pip solve --certificate",
-        input: "((v) 1 1 0 1 -1 1 () (#[-1 -1]))",
-        output: "((v)\nvoid\n)\n(certificate 1 void\n(\n((1 1 1 0 1))\n)\n)\n",
-        notes: "",
-        status: 0,
-    },
-    Row {
-        name: "a context with a rational point alone",
-        words: "pip solve --certificate",
-        input: "((v) 1 1 0 2 -1 1 () (#[2 -1] #[-2 1]))",
-        output: "((v)\nvoid\n)\n(certificate 1 void\n(\n((2 1 1)(1 2 1 3 2))\n)\n)\n",
-        notes: "",
-        status: 0,
-    },
-    Row {
-        name: "a third of a parameter, rounded up, twice",
-        words: "pip solve --certificate",
-        input: "((t) 2 1 2 0 -1 1 (#[3 0 0 -1] #[0 3 0 -1]) ())",
-        output: "((t)\n(if #[ -1 0]\n(list\n#[ 0 0]\n#[ 0 0]\n)\n(newparm 1 (div #[ 2 0] 3))\n(if #[ -2 3 0]\n(list\n#[ 1 -1 0]\n#[ 1 -1 0]\n)\n(list\n#[ 1 -1 0]\n#[ 1 -1 0]\n)\n)\n)\n)\n(certificate 1 #[ 0]\n(\n((1 1 1 2 1))\n((1 1 1 2 1))\n((1 2 1))\n((1 2 1))\n((1 6 1 2 1))\n((1 7 1 3 1))\n)\n(\n((3 3 1 0 2)(1 2 1 5 1))\n((3 3 1 0 2)(1 2 1 5 1))\n((3 3 1 0 2)(1 2 1 1 1 5 3))\n((3 3 1 0 2)(1 2 1 1 1 5 3))\n((3 3 1 0 2)(1 9 3 4 1 7 1))\n((3 3 1 0 2)(1 10 3 4 1 8 1))\n)\n(\n((3 3 1 0 2)(1 2 1 5 1))\n((3 3 1 0 2)(1 2 1 5 1))\n((3 3 1 0 2)(1 2 1 1 1 5 3))\n((3 3 1 0 2)(1 2 1 1 1 5 3))\n((3 3 1 0 2)(1 3 1 9 3 7 1))\n((3 3 1 0 2)(1 3 1 10 3 8 1))\n)\n)\n",
-        notes: "",
-        status: 0,
-    },
-    Row {
-        name: "a context without a rational point",
-        words: "pip solve --certificate",
-        input: "((v) 1 1 0 2 -1 1 () (#[1 -3] #[-1 2]))",
-        output: "((v)\nvoid\n)\n(certificate 1 void\n(\n((1 2 1 1 1))\n)\n)\n",
-        notes: "",
-        status: 0,
-    },
-    Row {
-        name: "a context without a rational point, divided",
-        words: "pip solve --certificate",
-        input: "((v) 1 1 0 2 -1 1 () (#[2 -3] #[-1 1]))",
-        output: "((v)\nvoid\n)\n(certificate 1 void\n(\n((1 2 2 1 1))\n)\n)\n",
-        notes: "",
-        status: 0,
-    },
-    Row {
-        name: "a context over no parameters",
-        words: "pip solve --certificate",
-        input: "((v) 1 0 0 1 -1 1 () (#[-1]))",
-        output: "((v)\nvoid\n)\n(certificate 1 void\n(\n((1 0 1))\n)\n)\n",
-        notes: "",
-        status: 0,
-    },
-    Row {
+    Refused {
         name: "a number of the certificate past 128 bits",
         words: "pip solve --certificate",
         input: "((w) 1 0 2 0 -1 1 (#[170141183460469231731687303715884105727 -3] #[170141183460469231731687303715884105727 -5]) ())",
@@ -486,7 +447,7 @@ const MADE: &[Row] = &[
         notes: "pip: overflow\n",
         status: 4,
     },
-    Row {
+    Refused {
         name: "the counts of the answer go on in its certificate",
         words: "pip solve --certificate --pivots 3 --cuts 1 --splits 100 --nesting 100",
         input: "((q) 2 1 0 1 -1 1 () (#[3 -2]))",
@@ -494,7 +455,7 @@ const MADE: &[Row] = &[
         notes: "pip: budget of pivots 3\n",
         status: 5,
     },
-    Row {
+    Refused {
         name: "a rational problem",
         words: "pip solve --certificate",
         input: "((h) 1 0 1 0 -1 0 (#[2 -3]) ())",
@@ -506,7 +467,8 @@ const MADE: &[Row] = &[
 
 #[test]
 fn made(rt: HostRuntime) -> Result<(), Fail> {
-    are_answered(&rt, rt.alloc(), MADE)
+    are_answered(&rt, rt.alloc(), MADE)?;
+    are_refused(&rt, rt.alloc(), REFUSED_MADE)
 }
 
 // What the program writes of an input, which it takes whole.

@@ -1,5 +1,5 @@
 //! Texts that are made to overrun a reader: deep comments and wide numbers.
-use crate::row::{Row, Wanted, are_answered, ends_over, ends_so};
+use crate::row::{Answered, Refused, Wanted, are_answered, are_refused, ends_over, ends_so};
 use crate::texts::{between, repeat};
 use std::alloc::{AllocError, Global};
 use std::test::Fail;
@@ -36,16 +36,15 @@ fn a_deep_comment_is_echoed(rt: HostRuntime) -> Result<(), Fail> {
     Ok(())
 }
 
-const WIDE: &[Row] = &[
-    Row {
-        name: "the least constant, behind 100 zeros",
-        words: "pip solve",
-        input: "((w) 1 0 1 0 -1 1 (#[1 -0000000000000000000000000000000000000000000000000000000000000000000000000000000000000000000000000000170141183460469231731687303715884105727]) ())",
-        output: "((w)\n(list\n#[ 170141183460469231731687303715884105727]\n)\n)\n",
-        notes: "",
-        status: 0,
-    },
-    Row {
+const WIDE: &[Answered] = &[Answered {
+    name: "the least constant, behind 100 zeros",
+    words: "pip solve",
+    input: "((w) 1 0 1 0 -1 1 (#[1 -0000000000000000000000000000000000000000000000000000000000000000000000000000000000000000000000000000170141183460469231731687303715884105727]) ())",
+    output: "((w)\n(list\n#[ 170141183460469231731687303715884105727]\n)\n)\n",
+}];
+
+const REFUSED_WIDE: &[Refused] = &[
+    Refused {
         name: "a condition one past the least, in an answer",
         words: "pip simplify 1",
         input: "((w)\n(if #[ -170141183460469231731687303715884105728 0]\n()\n()\n)\n)\n",
@@ -53,7 +52,7 @@ const WIDE: &[Row] = &[
         notes: "pip: number too wide at byte 12\n",
         status: 9,
     },
-    Row {
+    Refused {
         name: "a number of unknowns of 40 digits",
         words: "pip solve",
         input: "((w) 1000000000000000000000000000000000000000 0 1 0 -1 1 (#[1 -3]) ())",
@@ -65,5 +64,6 @@ const WIDE: &[Row] = &[
 
 #[test]
 fn wide_numbers(rt: HostRuntime) -> Result<(), Fail> {
-    are_answered(&rt, rt.alloc(), WIDE)
+    are_answered(&rt, rt.alloc(), WIDE)?;
+    are_refused(&rt, rt.alloc(), REFUSED_WIDE)
 }

@@ -1,17 +1,16 @@
 //! PolyLib inputs that are read or refused.
-use crate::row::{Row, are_answered};
+use crate::row::{Answered, Refused, are_answered, are_refused};
 use std::test::Fail;
 
-const MATRICES: &[Row] = &[
-    Row {
-        name: "a comment in a row, a number behind a sign, no constraints",
-        words: "pip solve --polylib",
-        input: "# p\n1 3 1 -1# <= 7\n7 -1 0 +5",
-        output: "(()\n(list\n#[ 0 0]\n#[ 0 0]\n)\n)\n",
-        notes: "",
-        status: 0,
-    },
-    Row {
+const MATRICES: &[Answered] = &[Answered {
+    name: "a comment in a row, a number behind a sign, no constraints",
+    words: "pip solve --polylib",
+    input: "# p\n1 3 1 -1# <= 7\n7 -1 0 +5",
+    output: "(()\n(list\n#[ 0 0]\n#[ 0 0]\n)\n)\n",
+}];
+
+const REFUSED_MATRICES: &[Refused] = &[
+    Refused {
         name: "the word Maximize",
         words: "pip solve --polylib",
         input: "0 2 -1 1 3 1 1 -3 Maximize",
@@ -19,7 +18,7 @@ const MATRICES: &[Row] = &[
         notes: "pip: unsupported option Maximize\n",
         status: 3,
     },
-    Row {
+    Refused {
         name: "the word Urs_parms",
         words: "pip solve --polylib",
         input: "0 2 -1 1 3 1 1 -3 Urs_parms",
@@ -27,7 +26,7 @@ const MATRICES: &[Row] = &[
         notes: "pip: unsupported option Urs_parms\n",
         status: 3,
     },
-    Row {
+    Refused {
         name: "the word Urs_unknowns",
         words: "pip solve --polylib",
         input: "0 2 -1 1 3 1 1 -3 Urs_unknowns",
@@ -35,7 +34,7 @@ const MATRICES: &[Row] = &[
         notes: "pip: unsupported option Urs_unknowns\n",
         status: 3,
     },
-    Row {
+    Refused {
         name: "the word Dual, behind another",
         words: "pip solve --polylib",
         input: "0 2 -1 1 3 1 1 -3 Rational Dual",
@@ -43,7 +42,7 @@ const MATRICES: &[Row] = &[
         notes: "pip: unsupported option Dual\n",
         status: 3,
     },
-    Row {
+    Refused {
         name: "a word in small letters",
         words: "pip solve --polylib",
         input: "0 2 -1 1 3 1 1 -3 rational",
@@ -51,7 +50,7 @@ const MATRICES: &[Row] = &[
         notes: "pip: syntax at byte 18\n",
         status: 2,
     },
-    Row {
+    Refused {
         name: "a row that begins with 2",
         words: "pip solve --polylib",
         input: "0 2 -1 1 3 2 1 -3",
@@ -59,7 +58,7 @@ const MATRICES: &[Row] = &[
         notes: "pip: syntax at byte 11\n",
         status: 2,
     },
-    Row {
+    Refused {
         name: "a row that is cut off",
         words: "pip solve --polylib",
         input: "0 2 -1 1 3 1 1",
@@ -67,7 +66,7 @@ const MATRICES: &[Row] = &[
         notes: "pip: syntax at byte 14\n",
         status: 2,
     },
-    Row {
+    Refused {
         name: "a fraction",
         words: "pip solve --polylib",
         input: "0 2 -1 1 3 1 1 3/2",
@@ -75,7 +74,7 @@ const MATRICES: &[Row] = &[
         notes: "pip: syntax at byte 15\n",
         status: 2,
     },
-    Row {
+    Refused {
         name: "a number past 128 bits",
         words: "pip solve --polylib",
         input: "0 2 -1 1 3 1 170141183460469231731687303715884105728",
@@ -83,7 +82,7 @@ const MATRICES: &[Row] = &[
         notes: "pip: number too wide at byte 13\n",
         status: 9,
     },
-    Row {
+    Refused {
         name: "the limit of rows of the context",
         words: "pip solve --polylib",
         input: "257 3",
@@ -91,7 +90,7 @@ const MATRICES: &[Row] = &[
         notes: "pip: limit of context rows 257\n",
         status: 9,
     },
-    Row {
+    Refused {
         name: "the limit of columns of the context",
         words: "pip solve --polylib",
         input: "0 51",
@@ -99,7 +98,7 @@ const MATRICES: &[Row] = &[
         notes: "pip: limit of context columns 51\n",
         status: 9,
     },
-    Row {
+    Refused {
         name: "a big parameter",
         words: "pip solve --polylib",
         input: "0 2 0",
@@ -107,7 +106,7 @@ const MATRICES: &[Row] = &[
         notes: "pip: unsupported big parameter 0\n",
         status: 3,
     },
-    Row {
+    Refused {
         name: "a number of rows below 0",
         words: "pip solve --polylib",
         input: "0 2 -1 -1",
@@ -115,7 +114,7 @@ const MATRICES: &[Row] = &[
         notes: "pip: limit of rows -1\n",
         status: 9,
     },
-    Row {
+    Refused {
         name: "the limit of columns",
         words: "pip solve --polylib",
         input: "0 2 -1 1 131",
@@ -127,5 +126,6 @@ const MATRICES: &[Row] = &[
 
 #[test]
 fn matrices_are_read(rt: HostRuntime) -> Result<(), Fail> {
-    are_answered(&rt, rt.alloc(), MATRICES)
+    are_answered(&rt, rt.alloc(), MATRICES)?;
+    are_refused(&rt, rt.alloc(), REFUSED_MATRICES)
 }

@@ -1,9 +1,9 @@
 //! Problems and words that are refused, each with its line.
-use crate::row::{Row, are_answered};
+use crate::row::{Refused, are_refused};
 use std::test::Fail;
 
-const REFUSED: &[Row] = &[
-    Row {
+const REFUSED: &[Refused] = &[
+    Refused {
         name: "a product past 128 bits",
         words: "pip solve",
         input: "((w) 2 0 2 0 -1 1 (#[170141183460469231731687303715884105727 1 -3] #[170141183460469231731687303715884105727 2 -5]) ())",
@@ -11,7 +11,7 @@ const REFUSED: &[Row] = &[
         notes: "pip: overflow\n",
         status: 4,
     },
-    Row {
+    Refused {
         name: "a product past 128 bits, rational",
         words: "pip solve",
         input: "((w) 1 0 2 0 -1 0 (#[170141183460469231731687303715884105727 -3] #[170141183460469231731687303715884105727 -5]) ())",
@@ -19,7 +19,7 @@ const REFUSED: &[Row] = &[
         notes: "pip: overflow\n",
         status: 4,
     },
-    Row {
+    Refused {
         name: "a literal past 128 bits",
         words: "pip solve",
         input: "((w) 1 0 1 0 -1 1 (#[170141183460469231731687303715884105728 -3]) ())",
@@ -27,7 +27,7 @@ const REFUSED: &[Row] = &[
         notes: "pip: number too wide at byte 21\n",
         status: 9,
     },
-    Row {
+    Refused {
         name: "a second problem that is cut off",
         words: "pip solve",
         input: "((a) 1 0 1 0 -1 1 (#[1 -3]) ())((a) 1 0 1 0 -1 1 (#[1 -3]) ()",
@@ -35,7 +35,7 @@ const REFUSED: &[Row] = &[
         notes: "pip: syntax at byte 61\n",
         status: 2,
     },
-    Row {
+    Refused {
         name: "a big parameter",
         words: "pip solve",
         input: "((a) 1 0 1 0 0 1 (#[1 -3]) ())",
@@ -43,7 +43,7 @@ const REFUSED: &[Row] = &[
         notes: "pip: unsupported big parameter 0\n",
         status: 3,
     },
-    Row {
+    Refused {
         name: "an option that asks for the maximum",
         words: "pip solve --polylib",
         input: "0 2\n-1\n1 3\n1 1 -3\nMaximize\n",
@@ -51,7 +51,7 @@ const REFUSED: &[Row] = &[
         notes: "pip: unsupported option Maximize\n",
         status: 3,
     },
-    Row {
+    Refused {
         name: "a row one entry short",
         words: "pip solve",
         input: "((s) 1 1 1 0 -1 1 (#[2 0]) ())",
@@ -59,7 +59,7 @@ const REFUSED: &[Row] = &[
         notes: "pip: syntax at byte 24\n",
         status: 2,
     },
-    Row {
+    Refused {
         name: "the limit of unknowns",
         words: "pip solve",
         input: "((u) 129 0 0 0 -1 1 () ())",
@@ -67,7 +67,7 @@ const REFUSED: &[Row] = &[
         notes: "pip: limit of unknowns 129\n",
         status: 9,
     },
-    Row {
+    Refused {
         name: "the budget of splits",
         words: "pip solve --splits 1",
         input: "((c) 1 1 1 0 -1 1 (#[2 0 -1]) ())",
@@ -75,7 +75,7 @@ const REFUSED: &[Row] = &[
         notes: "pip: budget of splits 1\n",
         status: 5,
     },
-    Row {
+    Refused {
         name: "the budget of nesting",
         words: "pip solve --nesting 2",
         input: "((c) 1 1 1 0 -1 1 (#[2 0 -1]) ())",
@@ -83,7 +83,7 @@ const REFUSED: &[Row] = &[
         notes: "pip: budget of nesting 2\n",
         status: 5,
     },
-    Row {
+    Refused {
         name: "no words",
         words: "pip",
         input: "((a) 1 0 1 0 -1 1 (#[1 -3]) ())",
@@ -91,7 +91,7 @@ const REFUSED: &[Row] = &[
         notes: "pip: usage\n",
         status: 1,
     },
-    Row {
+    Refused {
         name: "a budget that is no number",
         words: "pip solve --pivots x",
         input: "((a) 1 0 1 0 -1 1 (#[1 -3]) ())",
@@ -99,7 +99,7 @@ const REFUSED: &[Row] = &[
         notes: "pip: usage\n",
         status: 1,
     },
-    Row {
+    Refused {
         name: "no pivot allowed",
         words: "pip solve --pivots 0",
         input: "((h) 1 0 1 0 -1 0 (#[2 -3]) ())",
@@ -107,7 +107,7 @@ const REFUSED: &[Row] = &[
         notes: "pip: budget of pivots 0\n",
         status: 5,
     },
-    Row {
+    Refused {
         name: "a second rational problem that is cut off",
         words: "pip solve",
         input: "((h) 1 0 1 0 -1 0 (#[2 -3]) ())((h) 1 0 1 0 -1 0 (#[2 -3]) ()",
@@ -115,7 +115,7 @@ const REFUSED: &[Row] = &[
         notes: "pip: syntax at byte 61\n",
         status: 2,
     },
-    Row {
+    Refused {
         name: "no cut allowed",
         words: "pip solve --cuts 0",
         input: "((k) 2 0 1 0 -1 1 (#[2 -1 -1]) ())",
@@ -123,7 +123,7 @@ const REFUSED: &[Row] = &[
         notes: "pip: budget of cuts 0\n",
         status: 5,
     },
-    Row {
+    Refused {
         name: "one pivot allowed",
         words: "pip solve --pivots 1",
         input: "((k) 2 0 1 0 -1 1 (#[2 -1 -1]) ())",
@@ -131,7 +131,7 @@ const REFUSED: &[Row] = &[
         notes: "pip: budget of pivots 1\n",
         status: 5,
     },
-    Row {
+    Refused {
         name: "no split allowed",
         words: "pip solve --splits 0",
         input: "((c) 1 1 1 0 -1 0 (#[2 0 -1]) ())",
@@ -139,7 +139,7 @@ const REFUSED: &[Row] = &[
         notes: "pip: budget of splits 0\n",
         status: 5,
     },
-    Row {
+    Refused {
         name: "no nesting allowed",
         words: "pip solve --nesting 0",
         input: "((c) 1 1 1 0 -1 0 (#[2 0 -1]) ())",
@@ -147,7 +147,7 @@ const REFUSED: &[Row] = &[
         notes: "pip: budget of nesting 0\n",
         status: 5,
     },
-    Row {
+    Refused {
         name: "no pivot allowed in a point",
         words: "pip solve --pivots 0",
         input: "((c) 1 1 1 0 -1 0 (#[2 0 -1]) ())",
@@ -155,7 +155,7 @@ const REFUSED: &[Row] = &[
         notes: "pip: budget of pivots 0\n",
         status: 5,
     },
-    Row {
+    Refused {
         name: "three of six cuts",
         words: "pip solve --cuts 3",
         input: "((t) 2 1 2 0 -1 1 (#[3 0 0 -1] #[0 3 0 -1]) ())",
@@ -163,7 +163,7 @@ const REFUSED: &[Row] = &[
         notes: "pip: budget of cuts 3\n",
         status: 5,
     },
-    Row {
+    Refused {
         name: "five of six cuts",
         words: "pip solve --cuts 5",
         input: "((t) 2 1 2 0 -1 1 (#[3 0 0 -1] #[0 3 0 -1]) ())",
@@ -171,7 +171,7 @@ const REFUSED: &[Row] = &[
         notes: "pip: budget of cuts 5\n",
         status: 5,
     },
-    Row {
+    Refused {
         name: "the least 128-bit number",
         words: "pip solve",
         input: "((w) 1 0 1 0 -1 1 (#[-170141183460469231731687303715884105728 -3]) ())",
@@ -179,7 +179,7 @@ const REFUSED: &[Row] = &[
         notes: "pip: number too wide at byte 21\n",
         status: 9,
     },
-    Row {
+    Refused {
         name: "a flag that is not known",
         words: "pip solve --certificates",
         input: "((a) 1 0 1 0 -1 1 (#[1 -3]) ())",
@@ -191,5 +191,5 @@ const REFUSED: &[Row] = &[
 
 #[test]
 fn refused(rt: HostRuntime) -> Result<(), Fail> {
-    are_answered(&rt, rt.alloc(), REFUSED)
+    are_refused(&rt, rt.alloc(), REFUSED)
 }

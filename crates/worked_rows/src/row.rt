@@ -6,9 +6,17 @@ use std::alloc::{AllocError, Global};
 use std::process::Abort;
 use std::test::Fail;
 
-// A worked row: the words with a blank between two of them, the input, what the sink and the notes gain, and the
-// status. It derives nothing, since what is derived is proved too.
-pub(crate) struct Row {
+// A worked row that is answered: the words with a blank between two of them, the input, and what the sink gains. The
+// notes gain nothing, and the status is 0. It derives nothing, since what is derived is proved too.
+pub(crate) struct Answered {
+    pub name: &'static str,
+    pub words: &'static str,
+    pub input: &'static str,
+    pub output: &'static str,
+}
+
+// A worked row whose run is refused: what the sink gains before that, what the notes gain, and the status.
+pub(crate) struct Refused {
     pub name: &'static str,
     pub words: &'static str,
     pub input: &'static str,
@@ -88,21 +96,47 @@ pub(crate) fn ends_so(
     Ok(is_ended(ends, status, wanted))
 }
 
-// Whether a row ends as it says, in pieces of seven bytes.
-fn is_answered(alloc: Global, row: &Row) -> Result<bool, AllocError> {
-    let mut ends = ends_over(alloc, row.input.as_bytes().to_vec(alloc)?, 7);
-    let wanted = Wanted {
-        output: row.output.as_bytes(),
-        notes: row.notes,
-        status: row.status,
-    };
-    ends_so(alloc, row.words, &mut ends, &wanted)
+// Whether the words of a line end as wanted over this input, in pieces of seven bytes.
+fn ends_over_input(
+    alloc: Global,
+    line: &str,
+    input: &str,
+    wanted: &Wanted<'_>,
+) -> Result<bool, AllocError> {
+    let mut ends = ends_over(alloc, input.as_bytes().to_vec(alloc)?, 7);
+    ends_so(alloc, line, &mut ends, wanted)
 }
 
-// Asserts that each row ends as it says.
-pub(crate) fn are_answered(rt: &impl Abort, alloc: Global, rows: &[Row]) -> Result<(), Fail> {
+// Asserts that each row is answered as it says.
+pub(crate) fn are_answered(rt: &impl Abort, alloc: Global, rows: &[Answered]) -> Result<(), Fail> {
     for row in rows {
-        assert!(rt; is_answered(alloc, row)?, "{}", row.name);
+        let wanted = Wanted {
+            output: row.output.as_bytes(),
+            notes: "",
+            status: 0,
+        };
+        assert!(rt;
+            ends_over_input(alloc, row.words, row.input, &wanted)?,
+            "{}",
+            row.name
+        );
+    }
+    Ok(())
+}
+
+// Asserts that each row is refused as it says.
+pub(crate) fn are_refused(rt: &impl Abort, alloc: Global, rows: &[Refused]) -> Result<(), Fail> {
+    for row in rows {
+        let wanted = Wanted {
+            output: row.output.as_bytes(),
+            notes: row.notes,
+            status: row.status,
+        };
+        assert!(rt;
+            ends_over_input(alloc, row.words, row.input, &wanted)?,
+            "{}",
+            row.name
+        );
     }
     Ok(())
 }

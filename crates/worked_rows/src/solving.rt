@@ -1,255 +1,193 @@
 //! Problems that are answered.
-use crate::row::{Row, are_answered};
+use crate::row::{Answered, are_answered};
 use std::test::Fail;
 
-const SOLVED: &[Row] = &[
-    Row {
+const SOLVED: &[Answered] = &[
+    Answered {
         name: "an empty input",
         words: "pip solve",
         input: "",
         output: "",
-        notes: "",
-        status: 0,
     },
-    Row {
+    Answered {
         name: "a whole bound",
         words: "pip solve",
         input: "((a) 1 0 1 0 -1 1 (#[1 -3]) ())",
         output: "((a)\n(list\n#[ 3]\n)\n)\n",
-        notes: "",
-        status: 0,
     },
-    Row {
+    Answered {
         name: "a bound that is rounded up",
         words: "pip solve",
         input: "((h) 1 0 1 0 -1 1 (#[2 -3]) ())",
         output: "((h)\n(list\n#[ 2]\n)\n)\n",
-        notes: "",
-        status: 0,
     },
-    Row {
+    Answered {
         name: "a rational bound",
         words: "pip solve",
         input: "((h) 1 0 1 0 -1 0 (#[2 -3]) ())",
         output: "((h)\n(list\n#[ 3/2]\n)\n)\n",
-        notes: "",
-        status: 0,
     },
-    Row {
+    Answered {
         name: "the last unknown takes the rest",
         words: "pip solve",
         input: "((l) 2 0 1 0 -1 1 (#[1 1 -3]) ())",
         output: "((l)\n(list\n#[ 0]\n#[ 3]\n)\n)\n",
-        notes: "",
-        status: 0,
     },
-    Row {
+    Answered {
         name: "no rational point",
         words: "pip solve",
         input: "((n) 1 0 2 0 -1 1 (#[1 -3] #[-1 2]) ())",
         output: "((n)\n()\n)\n",
-        notes: "",
-        status: 0,
     },
-    Row {
+    Answered {
         name: "a rational point and no whole one",
         words: "pip solve",
         input: "((o) 1 0 2 0 -1 1 (#[2 -1] #[-2 1]) ())",
         output: "((o)\n()\n)\n",
-        notes: "",
-        status: 0,
     },
-    Row {
+    Answered {
         name: "half a parameter, rounded up",
         words: "pip solve",
         input: "((c) 1 1 1 0 -1 1 (#[2 0 -1]) ())",
         output: "((c)\n(if #[ -1 0]\n(list\n#[ 0 0]\n)\n(newparm 1 (div #[ 1 0] 2))\n(if #[ -1 2 0]\n(list\n#[ 1 -1 0]\n)\n(list\n#[ 1 -1 0]\n)\n)\n)\n)\n",
-        notes: "",
-        status: 0,
     },
-    Row {
+    Answered {
         name: "half a parameter",
         words: "pip solve",
         input: "((c) 1 1 1 0 -1 0 (#[2 0 -1]) ())",
         output: "((c)\n(if #[ -1 0]\n(list\n#[ 0 0]\n)\n(list\n#[ 1/2 0]\n)\n)\n)\n",
-        notes: "",
-        status: 0,
     },
-    Row {
+    Answered {
         name: "an equation of a PolyLib problem",
         words: "pip solve --polylib",
         input: "0 3\n-1\n1 4\n0 2 -1 0\n",
         output: "(()\n(if #[ -1 0]\n(list\n#[ 0 0]\n)\n(newparm 1 (div #[ 1 0] 2))\n(if #[ -1 2 0]\n(list\n#[ 1 -1 0]\n)\n()\n)\n)\n)\n",
-        notes: "",
-        status: 0,
     },
-    Row {
+    Answered {
         name: "an empty context",
         words: "pip solve",
         input: "((v) 1 1 0 1 -1 1 () (#[-1 -1]))",
         output: "((v)\nvoid\n)\n",
-        notes: "",
-        status: 0,
     },
-    Row {
+    Answered {
         name: "a context with a rational point alone",
         words: "pip solve",
         input: "((v) 1 1 0 2 -1 1 () (#[2 -1] #[-2 1]))",
         output: "((v)\nvoid\n)\n",
-        notes: "",
-        status: 0,
     },
-    Row {
+    Answered {
         name: "no cut is needed",
         words: "pip solve --cuts 0",
         input: "((h) 1 0 1 0 -1 1 (#[2 -3]) ())",
         output: "((h)\n(list\n#[ 2]\n)\n)\n",
-        notes: "",
-        status: 0,
     },
-    Row {
+    Answered {
         name: "one pivot suffices",
         words: "pip solve --pivots 1",
         input: "((h) 1 0 1 0 -1 1 (#[2 -3]) ())",
         output: "((h)\n(list\n#[ 2]\n)\n)\n",
-        notes: "",
-        status: 0,
     },
-    Row {
+    Answered {
         name: "no cut is needed where no whole point is",
         words: "pip solve --cuts 0",
         input: "((o) 1 0 2 0 -1 1 (#[2 -1] #[-2 1]) ())",
         output: "((o)\n()\n)\n",
-        notes: "",
-        status: 0,
     },
-    Row {
+    Answered {
         name: "rows of great numbers that are tightened",
         words: "pip solve",
         input: "((w) 1 0 2 0 -1 1 (#[170141183460469231731687303715884105727 -3] #[170141183460469231731687303715884105727 -5]) ())",
         output: "((w)\n(list\n#[ 1]\n)\n)\n",
-        notes: "",
-        status: 0,
     },
-    Row {
+    Answered {
         name: "a PolyLib problem",
         words: "pip solve --polylib",
         input: "0 2\n-1\n1 3\n1 1 -3\n",
         output: "(()\n(list\n#[ 3]\n)\n)\n",
-        notes: "",
-        status: 0,
     },
-    Row {
+    Answered {
         name: "bytes around a problem and brackets in its comment",
         words: "pip solve",
         input: "x((a (b) c) 1 0 0 0 -1 1 () ())y",
         output: "((a (b) c)\n(list\n#[ 0]\n)\n)\n",
-        notes: "",
-        status: 0,
     },
-    Row {
+    Answered {
         name: "three nested nodes suffice",
         words: "pip solve --nesting 3",
         input: "((c) 1 1 1 0 -1 1 (#[2 0 -1]) ())",
         output: "((c)\n(if #[ -1 0]\n(list\n#[ 0 0]\n)\n(newparm 1 (div #[ 1 0] 2))\n(if #[ -1 2 0]\n(list\n#[ 1 -1 0]\n)\n(list\n#[ 1 -1 0]\n)\n)\n)\n)\n",
-        notes: "",
-        status: 0,
     },
-    Row {
+    Answered {
         name: "no point of one unknown",
         words: "pip solve",
         input: "((n) 1 0 2 0 -1 0 (#[1 -3] #[-1 2]) ())",
         output: "((n)\n()\n)\n",
-        notes: "",
-        status: 0,
     },
-    Row {
+    Answered {
         name: "a rational PolyLib problem",
         words: "pip solve --polylib",
         input: "0 2\n-1\n1 3\n1 2 -3\nRational\n",
         output: "(()\n(list\n#[ 3/2]\n)\n)\n",
-        notes: "",
-        status: 0,
     },
-    Row {
+    Answered {
         name: "two unknowns, rational",
         words: "pip solve",
         input: "((l) 2 0 1 0 -1 0 (#[1 1 -3]) ())",
         output: "((l)\n(list\n#[ 0]\n#[ 3]\n)\n)\n",
-        notes: "",
-        status: 0,
     },
-    Row {
+    Answered {
         name: "a cut before the last unknown",
         words: "pip solve",
         input: "((k) 2 0 1 0 -1 1 (#[2 -1 -1]) ())",
         output: "((k)\n(list\n#[ 1]\n#[ 0]\n)\n)\n",
-        notes: "",
-        status: 0,
     },
-    Row {
+    Answered {
         name: "the greater of two parameters",
         words: "pip solve",
         input: "((m) 1 2 2 0 -1 0 (#[1 0 -1 0] #[1 0 0 -1]) ())",
         output: "((m)\n(if #[ -1 0 0]\n(if #[ 0 -1 0]\n(list\n#[ 0 0 0]\n)\n(list\n#[ 0 1 0]\n)\n)\n(if #[ 1 -1 0]\n(list\n#[ 1 0 0]\n)\n(list\n#[ 0 1 0]\n)\n)\n)\n)\n",
-        notes: "",
-        status: 0,
     },
-    Row {
+    Answered {
         name: "a context without parameters that does not hold",
         words: "pip solve",
         input: "((v) 1 0 0 1 -1 1 () (#[-1]))",
         output: "((v)\nvoid\n)\n",
-        notes: "",
-        status: 0,
     },
-    Row {
+    Answered {
         name: "an empty context, rational",
         words: "pip solve",
         input: "((v) 1 1 0 1 -1 0 () (#[-1 -1]))",
         output: "((v)\nvoid\n)\n",
-        notes: "",
-        status: 0,
     },
-    Row {
+    Answered {
         name: "a context with a rational point alone, rational mode",
         words: "pip solve",
         input: "((v) 1 1 0 2 -1 0 () (#[2 -1] #[-2 1]))",
         output: "((v)\nvoid\n)\n",
-        notes: "",
-        status: 0,
     },
-    Row {
+    Answered {
         name: "a third of a parameter twice, known at its second cut",
         words: "pip solve",
         input: "((t) 2 1 2 0 -1 1 (#[3 0 0 -1] #[0 3 0 -1]) ())",
         output: "((t)\n(if #[ -1 0]\n(list\n#[ 0 0]\n#[ 0 0]\n)\n(newparm 1 (div #[ 2 0] 3))\n(if #[ -2 3 0]\n(list\n#[ 1 -1 0]\n#[ 1 -1 0]\n)\n(list\n#[ 1 -1 0]\n#[ 1 -1 0]\n)\n)\n)\n)\n",
-        notes: "",
-        status: 0,
     },
-    Row {
+    Answered {
         name: "six cuts suffice",
         words: "pip solve --cuts 6",
         input: "((t) 2 1 2 0 -1 1 (#[3 0 0 -1] #[0 3 0 -1]) ())",
         output: "((t)\n(if #[ -1 0]\n(list\n#[ 0 0]\n#[ 0 0]\n)\n(newparm 1 (div #[ 2 0] 3))\n(if #[ -2 3 0]\n(list\n#[ 1 -1 0]\n#[ 1 -1 0]\n)\n(list\n#[ 1 -1 0]\n#[ 1 -1 0]\n)\n)\n)\n)\n",
-        notes: "",
-        status: 0,
     },
-    Row {
+    Answered {
         name: "leading zeros",
         words: "pip solve",
         input: "((w) 1 0 1 0 -1 1 (#[0000000000000000000000000000000000000000000000000000000000000000000000000000000000000000000000000000170141183460469231731687303715884105727 -3]) ())",
         output: "((w)\n(list\n#[ 1]\n)\n)\n",
-        notes: "",
-        status: 0,
     },
-    Row {
+    Answered {
         name: "a cut is needed no more, and one is allowed",
         words: "pip solve --cuts 1",
         input: "((h) 1 0 1 0 -1 1 (#[2 -3]) ())",
         output: "((h)\n(list\n#[ 2]\n)\n)\n",
-        notes: "",
-        status: 0,
     },
 ];
 
