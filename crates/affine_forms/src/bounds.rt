@@ -12,7 +12,7 @@ use crate::numbers::{Overflow, plus};
 use std::alloc::Global;
 
 // The entries of the form read over so many places.
-fn widened(alloc: Global, width: usize, form: &[i128]) -> Result<Vec<i128>, WantOfMemory>
+fn widen_entries(alloc: Global, width: usize, form: &[i128]) -> Result<Vec<i128>, WantOfMemory>
     requires some { 0 < length form.now }
     requires within { length form.now ≤ width + 1 }
     requires fits { All Fits form.now }
@@ -54,7 +54,7 @@ fn opposite_around(
     ensures value { IfOk result (λ v. v.items ≡ slice_set (negate (widen_to width form.now)) q d) }
     ensures form { IfOk result (λ v. IsForm v.items) }
 {
-    let mut made = widened(alloc, width, form)?;
+    let mut made = widen_entries(alloc, width, form)?;
     negate_around(&mut made, q, d);
     Ok(made)
 }

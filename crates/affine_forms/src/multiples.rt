@@ -7,7 +7,7 @@ ghost use Rattle.affine_forms.specs.Forms.{raised as raised_of};
 use crate::numbers::{Overflow, floor_mod, minus, plus};
 
 // The least multiple of d from x on.
-fn raised(d: i128, x: i128) -> Result<i128, Overflow>
+fn raise_to_multiple(d: i128, x: i128) -> Result<i128, Overflow>
     requires positive { pos 1 ≤ℤ d }
     requires fits { Fits x }
     ensures { IsFitted (raised_of d x) result }
@@ -23,7 +23,7 @@ fn check_raised(d: i128, entries: &[i128]) -> Result<(), Overflow>
     ensures fits { IfOk result (λ _. All (λ x. Fits (raised_of d x)) entries.now) }
 {
     for entry in entries {
-        raised(d, *entry)?;
+        raise_to_multiple(d, *entry)?;
     }
     Ok(())
 }
@@ -36,7 +36,7 @@ fn raise(d: i128, x: i128) -> i128
     ensures value { result ≡ raised_of d x }
     ensures fits { Fits result }
 {
-    raised(d, x).unwrap_or(x)
+    raise_to_multiple(d, x).unwrap_or(x)
 }
 
 // Each entry becomes the least multiple of d from it on.
@@ -66,7 +66,7 @@ pub fn round_form(d: i128, entries: &mut [i128], q: usize) -> Result<(), Overflo
     ensures fits { All Fits entries.new }
 {
     check_raised(d, entries)?;
-    let before = minus(raised(d, entries[q])?, d)?;
+    let before = minus(raise_to_multiple(d, entries[q])?, d)?;
     raise_all(d, entries);
     entries[q] = before;
     Ok(())

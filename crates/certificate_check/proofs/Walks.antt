@@ -18,7 +18,7 @@ use Rattle.check_laws.proofs.CheckLoops.{check_leaves-if}
 use Rattle.leaf_check.specs.Leaves.{goal_count}
 use Rattle.certificate_check.specs.Paths.{PathForms, first_list, path_fault, no_proofs}
 use Rattle.certificate_check.specs.Walks.{below, IsAt}
-use Rattle.certificate_check.specs.declared.walk.Walk.{Walk}
+use Rattle.certificate_check.specs.declared.walk.TreeCheck.{TreeCheck}
 use Rattle.certificate_check.proofs.Numbers.{leaves_same}
 use Rattle.leaf_check.proofs.Owned.{own_goals, whole_count}
 
@@ -187,7 +187,7 @@ refused_at : (overflow : Bool) (fault : CheckFault) (found : Checks (Unit {0})) 
 refused_at true fault found o e h = subst (λ (p : Option CheckFault). IfSome p (λ f. found ≡ Err f)) (sym e) (h refl)
 refused_at false fault found o e h = subst (λ (p : Option CheckFault). IfSome p (λ f. found ≡ Err f)) (sym e) tt
 
-module _ (w : Walk) (l : ℕ) (path : PathForms) (t : Tree) (at : IsAt w l path.scope t) where
+module _ (w : TreeCheck) (l : ℕ) (path : PathForms) (t : Tree) (at : IsAt w l path.scope t) where
   abbrev proofs : List LeafProofs
   proofs = w.proofs.now
 

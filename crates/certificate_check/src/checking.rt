@@ -9,10 +9,10 @@ ghost use Rattle.quast.specs.Trees.{IsQuast};
 ghost use Rattle.leaf_check.specs.Faults.{fault_of};
 ghost use Rattle.certificate_check.specs.Verdicts.{IsVerdict, vector_checked, leaves_checked};
 
-use crate::path::Path;
+use crate::path::NodePath;
 use crate::vector::{START, check_context, is_vector};
 use crate::verdict::{CheckRefusal, Verdict};
-use crate::walk::{Walk, leaves};
+use crate::walk::{TreeCheck, leaves};
 use certificate_parts::Certificate;
 use leaf_check::{Fault, check_void};
 use pip_problem::Problem;
@@ -48,12 +48,12 @@ fn check_leaves(
     if proofs.len() != count {
         return Err(Fault::Rejected(START));
     }
-    let walk = Walk {
+    let walk = TreeCheck {
         problem,
         shares: certificate.shares(),
         proofs,
     };
-    let mut path = Path::new(alloc, problem.params());
+    let mut path = NodePath::new(alloc, problem.params());
     walk.check_node(alloc, &mut path, tree.root(), 0)?;
     Ok(())
 }

@@ -13,6 +13,6 @@ mod walk;
 
 pub use checking::check;
 pub use leaf_check::{Known, Leaf, Spot, refutation_count, void_forms};
-pub use path::Path;
+pub use path::NodePath;
 pub use sharing::share;
 pub use verdict::{CheckRefusal, Verdict};

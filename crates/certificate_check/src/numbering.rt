@@ -42,7 +42,7 @@ impl Numbering {
 
     // The index where the own forms are left out.
     #[tactic(auto, using(crate::proofs::Indices::fits_down))]
-    pub(crate) fn lowered(self, index: i128) -> i128
+    pub(crate) fn lower_index(self, index: i128) -> i128
         requires { Fits index }
         ensures value { result ≡ model.lowered self.leaf self.own index }
         ensures fits { Fits result }
@@ -56,7 +56,7 @@ impl Numbering {
 
     // The index where the first n steps stand before the own forms.
     #[tactic(auto, using(crate::proofs::Indices::fits_down, crate::proofs::Indices::fits_up))]
-    fn moved(self, n: usize, index: i128) -> i128
+    fn move_index(self, n: usize, index: i128) -> i128
         requires { Fits index }
         ensures value { result ≡ model.moved_index self.leaf self.own n index }
         ensures fits { Fits result }
@@ -79,8 +79,8 @@ impl Renumbering {
         ensures fits { Fits result }
     {
         match self {
-            Renumbering::Lowered(numbering) => numbering.lowered(index),
-            Renumbering::Moved(numbering, n) => numbering.moved(n, index),
+            Renumbering::Lowered(numbering) => numbering.lower_index(index),
+            Renumbering::Moved(numbering, n) => numbering.move_index(n, index),
         }
     }
 }

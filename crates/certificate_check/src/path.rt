@@ -11,12 +11,12 @@ use std::marker::Model;
 
 /// The forms of the path to a node, each over the first of the parameters and quotients in scope there.
 #[derive(Drop)]
-pub struct Path {
+pub struct NodePath {
     scope: usize,
     forms: Vec<Form>,
 }
 
-impl Model for Path {
+impl Model for NodePath {
     ghost use Rattle.std.specs.Prelude.{◌≤◌, ◌+◌, length, All};
     ghost use Rattle.certificate_check.specs.Paths.{PathForms};
 
@@ -66,12 +66,12 @@ fn upper(alloc: Global, place: usize, form: &Form, d: i128) -> Result<Form, Form
     upper_bound(alloc, place + 1, place, form.as_slice(), d)
 }
 
-impl Path {
+impl NodePath {
     /// The path to the root, over so many parameters. It takes no memory.
-    pub fn new(alloc: Global, params: usize) -> Path
+    pub fn new(alloc: Global, params: usize) -> NodePath
         ensures { result ≡ record { scope = params; forms = [] } }
     {
-        Path {
+        NodePath {
             scope: params,
             forms: Vec::new(alloc),
         }

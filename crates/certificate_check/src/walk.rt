@@ -7,7 +7,7 @@ ghost use Rattle.leaf_check.specs.Faults.{fault_of};
 ghost use Rattle.certificate_check.specs.Paths.{first_list as first_list_of, no_proofs, path_fault};
 ghost use Rattle.certificate_check.specs.Walks.{below, leaf_tree, IsAt};
 
-use crate::path::Path;
+use crate::path::NodePath;
 use affine_forms::FormRefusal;
 use certificate_parts::LeafProofs;
 use leaf_check::{Fault, Leaf, Spot, has_shape};
@@ -17,7 +17,7 @@ use std::alloc::Global;
 
 // The check of a tree's leaves: the problem, whether the certificate's format is 2, and the proofs of the leaves.
 #[derive(Drop)]
-pub(crate) struct Walk<'a> {
+pub(crate) struct TreeCheck<'a> {
     pub(crate) problem: &'a Problem,
     pub(crate) shares: bool,
     pub(crate) proofs: &'a [LeafProofs],
@@ -47,12 +47,12 @@ fn first_list(node: &Node) -> Option<&[Component]>
     }
 }
 
-impl Walk<'_> {
+impl TreeCheck<'_> {
     // Checks leaf l, from 0, which ends the path, and answers the place of the next.
     fn check_leaf(
         &self,
         alloc: Global,
-        path: &Path,
+        path: &NodePath,
         l: usize,
         list: Option<&[Component]>,
     ) -> Result<usize, Fault>
@@ -93,7 +93,7 @@ impl Walk<'_> {
     }
 
     // Why the walk ends at a node, the first of whose leaves is l, where the path to it is refused.
-    fn refused(&self, refusal: FormRefusal, node: &Node, l: usize) -> Fault
+    fn refusal_at(&self, refusal: FormRefusal, node: &Node, l: usize) -> Fault
         requires { l < length self.now.proofs.now }
         ensures { fault_of result ≡ (if is_form_overflow refusal then Some (path_fault self.now.problem.now
             self.now.shares (l + 1) (first_list_of (tree_of node.now)) (slice_index_or self.now.proofs.now l no_proofs))
@@ -110,7 +110,7 @@ impl Walk<'_> {
     pub(crate) fn check_node(
         &self,
         alloc: Global,
-        path: &mut Path,
+        path: &mut NodePath,
         node: &Node,
         l: usize,
     ) -> Result<usize, Fault>
@@ -128,7 +128,7 @@ impl Walk<'_> {
                 let second = self.check_node(alloc, path, a, l)?;
                 path.go_back(scope, n);
                 if let Err(refusal) = path.push_opposite(alloc, v) {
-                    return Err(self.refused(refusal, b, second));
+                    return Err(self.refusal_at(refusal, b, second));
                 }
                 let next = self.check_node(alloc, path, b, second)?;
                 path.go_back(scope, n);
@@ -137,7 +137,7 @@ impl Walk<'_> {
             Node::Define(v, d, a) => {
                 let (scope, n) = (path.scope(), path.len());
                 if let Err(refusal) = path.push_bounds(alloc, v, *d) {
-                    return Err(self.refused(refusal, a, l));
+                    return Err(self.refusal_at(refusal, a, l));
                 }
                 let next = self.check_node(alloc, path, a, l)?;
                 path.go_back(scope, n);

@@ -8,8 +8,8 @@ use Rattle.pip_model.specs.Cuts.{constant_cut}
 use Rattle.pip_model.specs.Certificate.{Refutation}
 use Rattle.pip_model.specs.Refuting.{Trace, cut_step}
 use Rattle.context.specs.Turns.{negative_from}
-use Rattle.context.specs.declared.point_turn.Turn.{Turn}
-use Rattle.context.specs.declared.point_turn.Turn.TheVariants as code
+use Rattle.context.specs.declared.point_turn.PointTurn.{PointTurn}
+use Rattle.context.specs.declared.point_turn.PointTurn.TheVariants as code
 
 -- the cut by the row R: its row stands for its step's form
 abbrev pub with_cut : Trace → Row → Trace
@@ -31,7 +31,7 @@ exchanges (r ∷ rs) [] T = T
 exchanges (r ∷ rs) (c ∷ cs) T = exchanges rs cs (exchanged T r c)
 
 -- which turn it was: the first row below 0 and the column that entered there, or the first fraction and its cut
-abbrev pub IsTurnAt : ℕ → List Row → List Row → Turn → Type 0
+abbrev pub IsTurnAt : ℕ → List Row → List Row → PointTurn → Type 0
 IsTurnAt n rows now (code.Bottom r) =
     (negative_from 0 rows ≡ Some r) × (r < length rows) × (entering rows r ≡ None) × (now ≡ rows)
 IsTurnAt n rows now code.List = (negative_from 0 rows ≡ None) × (first_fraction n rows ≡ None)

@@ -7,15 +7,15 @@ use Rattle.pip_model.specs.Run as run
 use Rattle.pip_model.specs.Run.{Counted, ◌>>◌, give, count_cut, Node, Setting, point_setting, leaf}
 use Rattle.tableau.specs.Tableaus.{TableauRows}
 pub use Rattle.short_tableau.specs.Below.{negative_from}
-use Rattle.context.specs.declared.point_turn.Turn.{Turn}
-use Rattle.context.specs.declared.point_turn.Turn.TheVariants as code
+use Rattle.context.specs.declared.point_turn.PointTurn.{PointTurn}
+use Rattle.context.specs.declared.point_turn.PointTurn.TheVariants as code
 
 -- a node without parameters
 abbrev pub node_of : List Row → Node
 node_of rows = record { rows = rows; context = []; quotients = []; depth = 0 }
 
 -- what a turn made of a node, the rows now being these
-abbrev pub made : ℕ → List Row → Turn → run.Turn
+abbrev pub made : ℕ → List Row → PointTurn → run.Turn
 made n rows (code.Bottom r) = run.Closed Bottom
 made n rows code.List = run.Closed (leaf (point_setting n) (node_of rows))
 made n rows (code.Pivot r c) = run.Again (node_of rows)

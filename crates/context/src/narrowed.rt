@@ -6,7 +6,7 @@ use affine_forms::{Form, WantOfMemory};
 use std::alloc::Global;
 
 // The form over its first places.
-pub(crate) fn narrowed(alloc: Global, form: &Form, width: usize) -> Result<Form, WantOfMemory>
+pub(crate) fn narrow_form(alloc: Global, form: &Form, width: usize) -> Result<Form, WantOfMemory>
     requires { width < length form.now }
     ensures value { IfOk result (λ made. made ≡ narrow_to width form.now) }
     ensures long { IfOk result (λ made. length made ≡ width + 1) }
@@ -30,7 +30,7 @@ pub(crate) fn narrow_all(
 {
     let mut made = Vec::with_capacity(alloc, forms.len())?;
     for form in forms {
-        made.push(narrowed(alloc, form, width)?)?;
+        made.push(narrow_form(alloc, form, width)?)?;
     }
     Ok(made)
 }

@@ -8,7 +8,7 @@ ghost use Rattle.context.specs.Turns.{node_of, HasSameScope};
 ghost use Rattle.context.specs.Remembered.{ended};
 
 use crate::point::{Point, values};
-use crate::point_turn::{Turn, take_turn};
+use crate::point_turn::{PointTurn, take_turn};
 use crate::rows::start_rows;
 use affine_forms::Form;
 use pip_problem::Refusal;
@@ -26,9 +26,9 @@ pub(crate) fn run_on(rows: &mut Tableau, work: &mut Work) -> Result<bool, Refusa
 {
     loop {
         match take_turn(rows, work)? {
-            Turn::Bottom(_) => return Ok(false),
-            Turn::List => return Ok(true),
-            Turn::Pivot(_, _) | Turn::Cut(_) => {}
+            PointTurn::Bottom(_) => return Ok(false),
+            PointTurn::List => return Ok(true),
+            PointTurn::Pivot(_, _) | PointTurn::Cut(_) => {}
         }
     }
 }

@@ -18,7 +18,7 @@ use tableau::Tableau;
 
 // What a turn of the run made of the tableau: no column enters at a row below 0, so that it has no point; it shows the
 // point; a pivot on a row and a column, or the cut of a row, and the run goes on.
-pub(crate) enum Turn {
+pub(crate) enum PointTurn {
     Bottom(usize),
     List,
     Pivot(usize, usize),
@@ -49,7 +49,7 @@ pub(crate) fn first_negative(rows: &Tableau) -> Option<usize>
 }
 
 // At a row below 0: no point where no column enters, else a pivot.
-fn pivot_turn(rows: &mut Tableau, work: &mut Work, r: usize) -> Result<Turn, Refusal>
+fn pivot_turn(rows: &mut Tableau, work: &mut Work, r: usize) -> Result<PointTurn, Refusal>
     requires width { rows.old.width ≡ 0 }
     requires rows { rows.old.unknowns ≤ length rows.old.rows }
     requires row { r < length rows.old.rows }
@@ -60,13 +60,13 @@ fn pivot_turn(rows: &mut Tableau, work: &mut Work, r: usize) -> Result<Turn, Ref
     ensures scope { HasSameScope rows.old rows.new }
 {
     match enter(rows, r, work)? {
-        Some(c) => Ok(Turn::Pivot(r, c)),
-        None => Ok(Turn::Bottom(r)),
+        Some(c) => Ok(PointTurn::Pivot(r, c)),
+        None => Ok(PointTurn::Bottom(r)),
     }
 }
 
 // A cut at the first fraction, where there is one.
-fn last_turn(rows: &mut Tableau, work: &mut Work) -> Result<Turn, Refusal>
+fn last_turn(rows: &mut Tableau, work: &mut Work) -> Result<PointTurn, Refusal>
     requires width { rows.old.width ≡ 0 }
     requires rows { rows.old.unknowns ≤ length rows.old.rows }
     requires none { negative_from 0 rows.old.rows ≡ None }
@@ -76,15 +76,15 @@ fn last_turn(rows: &mut Tableau, work: &mut Work) -> Result<Turn, Refusal>
     ensures scope { HasSameScope rows.old rows.new }
 {
     let Some(i) = first_fraction(rows) else {
-        return Ok(Turn::List);
+        return Ok(PointTurn::List);
     };
     count_and_cut(rows, i, work)?;
-    Ok(Turn::Cut(i))
+    Ok(PointTurn::Cut(i))
 }
 
 // One turn: a pivot at a row below 0, else a cut at a fraction.
 #[tactic(auto, using(crate::proofs::Turning::turn_is))]
-pub(crate) fn take_turn(rows: &mut Tableau, work: &mut Work) -> Result<Turn, Refusal>
+pub(crate) fn take_turn(rows: &mut Tableau, work: &mut Work) -> Result<PointTurn, Refusal>
     requires width { rows.old.width ≡ 0 }
     requires rows { rows.old.unknowns ≤ length rows.old.rows }
     ensures gives { IsCountedRun (made rows.old.unknowns rows.new.rows) run_fault result work.old work.new

@@ -8,7 +8,7 @@ ghost use Rattle.run_counts.specs.Counts.{IsCountedRun};
 ghost use Rattle.context.specs.Traces.{IsTraced, steps_if};
 ghost use Rattle.context.specs.Turns.{node_of};
 
-use crate::point_turn::{Turn, take_turn};
+use crate::point_turn::{PointTurn, take_turn};
 use crate::rows::start_rows;
 use crate::short_refute::refute_shortly;
 use crate::trace::Trace;
@@ -34,13 +34,13 @@ fn refute_on(
 {
     loop {
         match take_turn(rows, work)? {
-            Turn::Bottom(r) => {
+            PointTurn::Bottom(r) => {
                 trace.close(alloc, r, &rows.row(r))?;
                 return Ok(true);
             }
-            Turn::List => return Ok(false),
-            Turn::Pivot(r, c) => trace.exchange(r, c),
-            Turn::Cut(i) => trace.cut(alloc, &rows.row(i))?,
+            PointTurn::List => return Ok(false),
+            PointTurn::Pivot(r, c) => trace.exchange(r, c),
+            PointTurn::Cut(i) => trace.cut(alloc, &rows.row(i))?,
         }
     }
 }

@@ -15,7 +15,7 @@ ghost use Rattle.context.specs.Turns.{node_of};
 use crate::behind::{exchange_all, rows_behind};
 use crate::closing::refute_with;
 use crate::further::goes_further;
-use crate::narrowed::{narrow_all, narrowed};
+use crate::narrowed::{narrow_all, narrow_form};
 use crate::question::Question;
 use crate::refute::refute_forms;
 use crate::remembered::{Remembered, remember};
@@ -97,7 +97,7 @@ impl Refuter {
         ensures width { OnOk result (self.new.width ≡ self.old.width) }
         ensures forms { OnOk result (self.new.forms ≡ self.old.forms ++ narrow_to self.old.width form.now ∷ []) }
     {
-        let form = narrowed(self.alloc, form, self.width)?;
+        let form = narrow_form(self.alloc, form, self.width)?;
         let is_known = goes_further(self.is_known, &mut self.run, &form, &mut self.question.row);
         self.is_known = false;
         self.forms.push(form)?;

@@ -10,7 +10,7 @@ ghost use Rattle.context.specs.Stops.{stop_fault};
 ghost use Rattle.context.specs.Traces.{IsTraced, steps_if, with_cut};
 ghost use Rattle.context.specs.Turns.{node_of};
 
-use crate::point_turn::Turn;
+use crate::point_turn::PointTurn;
 use crate::short_rows::start_short;
 use crate::short_run::take_turn;
 use crate::stop::Stop;
@@ -68,13 +68,13 @@ pub(crate) fn refute_on(
 {
     loop {
         match take_turn(rows, work)? {
-            Turn::Bottom(r) => {
+            PointTurn::Bottom(r) => {
                 trace_last(alloc, rows, r, trace)?;
                 return Ok(true);
             }
-            Turn::List => return Ok(false),
-            Turn::Pivot(r, c) => trace.exchange(r, c),
-            Turn::Cut(i) => trace_cut(alloc, rows, i, trace)?,
+            PointTurn::List => return Ok(false),
+            PointTurn::Pivot(r, c) => trace.exchange(r, c),
+            PointTurn::Cut(i) => trace_cut(alloc, rows, i, trace)?,
         }
     }
 }

@@ -9,13 +9,13 @@ ghost use Rattle.context.specs.Traces.{IsTurnAt};
 ghost use Rattle.context.specs.Turns.{negative_from, node_of, made, counted_cut, HasSameScope};
 ghost use Rattle.context.specs.Remembered.{ended};
 
-use crate::point_turn::Turn;
+use crate::point_turn::PointTurn;
 use crate::stop::Stop;
 use run_counts::Work;
 use short_tableau::ShortTableau;
 
 // At a row below 0: no point where no column enters, else a pivot.
-fn pivot_turn(rows: &mut ShortTableau, work: &mut Work, r: usize) -> Result<Turn, Stop>
+fn pivot_turn(rows: &mut ShortTableau, work: &mut Work, r: usize) -> Result<PointTurn, Stop>
     requires rows { rows.old.unknowns ≤ length rows.old.rows }
     requires row { r < length rows.old.rows }
     requires first { negative_from 0 rows.old.rows ≡ Some r }
@@ -25,13 +25,13 @@ fn pivot_turn(rows: &mut ShortTableau, work: &mut Work, r: usize) -> Result<Turn
     ensures scope { OnOk result (HasSameScope rows.old rows.new) }
 {
     let Some(c) = rows.entering(r) else {
-        return Ok(Turn::Bottom(r));
+        return Ok(PointTurn::Bottom(r));
     };
     work.count_pivot()?;
     if !rows.pivot(r, c) {
         return Err(Stop::Long);
     }
-    Ok(Turn::Pivot(r, c))
+    Ok(PointTurn::Pivot(r, c))
 }
 
 // A cut by row i is counted, and then added.
@@ -48,7 +48,7 @@ fn count_and_cut(rows: &mut ShortTableau, i: usize, work: &mut Work) -> Result<(
 }
 
 // A cut at the first fraction, where there is one.
-fn last_turn(rows: &mut ShortTableau, work: &mut Work) -> Result<Turn, Stop>
+fn last_turn(rows: &mut ShortTableau, work: &mut Work) -> Result<PointTurn, Stop>
     requires rows { rows.old.unknowns ≤ length rows.old.rows }
     requires none { negative_from 0 rows.old.rows ≡ None }
     ensures gives { IsCountedRun (made rows.old.unknowns rows.new.rows) stop_fault result work.old work.new
@@ -57,15 +57,15 @@ fn last_turn(rows: &mut ShortTableau, work: &mut Work) -> Result<Turn, Stop>
     ensures scope { OnOk result (HasSameScope rows.old rows.new) }
 {
     let Some(i) = rows.first_fraction() else {
-        return Ok(Turn::List);
+        return Ok(PointTurn::List);
     };
     count_and_cut(rows, i, work)?;
-    Ok(Turn::Cut(i))
+    Ok(PointTurn::Cut(i))
 }
 
 // One turn over short rows: a pivot at a row below 0, else a cut at a fraction.
 #[tactic(auto, using(crate::proofs::Turning::turn_is))]
-pub(crate) fn take_turn(rows: &mut ShortTableau, work: &mut Work) -> Result<Turn, Stop>
+pub(crate) fn take_turn(rows: &mut ShortTableau, work: &mut Work) -> Result<PointTurn, Stop>
     requires { rows.old.unknowns ≤ length rows.old.rows }
     ensures gives { IsCountedRun (made rows.old.unknowns rows.new.rows) stop_fault result work.old work.new
         (model.turn (point_setting rows.old.unknowns) (node_of rows.old.rows)) }
@@ -86,9 +86,9 @@ pub(crate) fn run_short(rows: &mut ShortTableau, work: &mut Work) -> Result<bool
 {
     loop {
         match take_turn(rows, work)? {
-            Turn::Bottom(_) => return Ok(false),
-            Turn::List => return Ok(true),
-            Turn::Pivot(_, _) | Turn::Cut(_) => {}
+            PointTurn::Bottom(_) => return Ok(false),
+            PointTurn::List => return Ok(true),
+            PointTurn::Pivot(_, _) | PointTurn::Cut(_) => {}
         }
     }
 }

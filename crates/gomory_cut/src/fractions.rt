@@ -12,13 +12,13 @@ use tableau::Tableau;
 /// A row whose constant form is not whole over the row's denominator D, and whether only its constant is not: D divides
 /// each coefficient, so that the row's residue is a constant.
 #[derive(Clone, Copy, Debug, PartialEq, Eq)]
-pub struct Fraction {
+pub struct FractionRow {
     pub row: usize,
     pub in_constant: bool,
 }
 
 // The fraction of row i, none where its denominator divides its constant form.
-fn divided_fraction_at(t: &Tableau, i: usize) -> Option<Fraction>
+fn divided_fraction_at(t: &Tableau, i: usize) -> Option<FractionRow>
     requires { i < length t.now.rows }
     ensures whole { IfNone result (model.is_whole (model.row_at t.now.rows i).den (model.row_at t.now.rows i).constant
         ≡ true) }
@@ -34,14 +34,14 @@ fn divided_fraction_at(t: &Tableau, i: usize) -> Option<Fraction>
     if in_constant && is_whole(row.den, constant) {
         return None;
     }
-    Some(Fraction {
+    Some(FractionRow {
         row: i,
         in_constant,
     })
 }
 
 // The fraction of row i, none where its constant form is whole, as over the denominator 1.
-fn fraction_at(t: &Tableau, i: usize) -> Option<Fraction>
+fn fraction_at(t: &Tableau, i: usize) -> Option<FractionRow>
     requires { i < length t.now.rows }
     ensures whole { IfNone result (model.is_whole (model.row_at t.now.rows i).den (model.row_at t.now.rows i).constant
         ≡ true) }
@@ -59,7 +59,7 @@ fn fraction_at(t: &Tableau, i: usize) -> Option<Fraction>
 }
 
 /// The fraction of the first of the unknowns' rows that is not whole. It takes no memory.
-pub fn find_fraction(t: &Tableau) -> Option<Fraction>
+pub fn find_fraction(t: &Tableau) -> Option<FractionRow>
     requires { t.now.unknowns ≤ length t.now.rows }
     ensures value { option_map (λ f. f.row) result ≡ model.first_fraction t.now.unknowns t.now.rows }
     ensures constant { IfSome result (IsFractionOf t.now.rows) }

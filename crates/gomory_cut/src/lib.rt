@@ -6,5 +6,5 @@ mod cuts;
 mod fractions;
 
 pub use cuts::{constant_cut, parametric_cut, parametric_cut_by, rewrite};
-pub use fractions::{Fraction, find_fraction, first_fraction, residue_of};
+pub use fractions::{FractionRow, find_fraction, first_fraction, residue_of};
 pub use tableau::StepRefusal;

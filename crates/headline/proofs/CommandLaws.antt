@@ -4,7 +4,7 @@ use Rattle.std.specs.Prelude.{Ok, Err, IfOk, IfSome, ⊤, if◌then◌else◌}
 use Rattle.std.specs.Bool.{MatchBool}
 use Rattle.pip_model.specs.Limits.{most_nesting}
 use Rattle.pip_model.specs.Problem.{Problem}
-use Rattle.pip_model.specs.Printed.{IsSpoken}
+use Rattle.pip_model.specs.Printed.{IsCommented}
 use Rattle.pip_model.specs.Run.{IsBudget}
 use Rattle.program_model.specs.Endings.{Ending}
 use Rattle.program_model.specs.ItemKinds.{problem_item, matrix_item}
@@ -50,14 +50,14 @@ lawful (Solve o) bytes = record {
   end_right = λ asked P i e h. tt;
 }
 lawful (Eval u) bytes = record {
-  IsItem = IsSpoken (length u);
+  IsItem = IsCommented (length u);
   last_place = length bytes;
   reads = answer-reads bytes (length u);
   text_right = λ asked s i. value_right (length u) u s i;
   end_right = λ asked s i. value_end u s;
 }
 lawful (Simplify m) bytes = record {
-  IsItem = IsSpoken m;
+  IsItem = IsCommented m;
   last_place = length bytes;
   reads = answer-reads bytes m;
   text_right = λ asked s i. simplified_right m asked s i;
@@ -106,7 +106,7 @@ lawful (Least m b) bytes = record {
   end_right = λ asked x i. least_end m asked.0 b x i;
 }
 lawful (Pieces m) bytes = record {
-  IsItem = IsSpoken m;
+  IsItem = IsCommented m;
   last_place = length bytes;
   reads = answer-reads bytes m;
   text_right = λ asked s i. pieces_right m s i;

@@ -11,7 +11,7 @@ use Rattle.pip_model.specs.Forms.{dot, value}
 use Rattle.pip_model.specs.Tree.{Tree, Bottom, Leaf, If, NewParm, Component, reduced, component_value, Ratio, Answer, Void, Solved, tree_value, is_scoped, is_component, is_form}
 use Rattle.pip_model.specs.Rows.{Row}
 use Rattle.pip_model.specs.Values.{value_tree, tree_value_listed, answer_at, answer_at_listed}
-use Rattle.pip_model.specs.Printed.{IsSpokenAnswer, IsPrintableAnswer, component_fits, tree_fits}
+use Rattle.pip_model.specs.Printed.{IsCommentedAnswer, IsPrintableAnswer, component_fits, tree_fits}
 use Rattle.pip_model.proofs.Fitting.{fit_head, fit_parts, fits-floor}
 use Rattle.pip_model.proofs.Polynomials.{var, num, ◌⊕◌, ring}
 use Rattle.pip_model.proofs.Tests.{both, three, both_true, all_three, all_passed, one_at_least, one_le, same_number_yes}
@@ -115,6 +115,6 @@ tree-printable (Some fs) h =
       scope = omega arith;
     }
 
-pub answer-printable : (w : ℕ) (a : Answer) (u : List ℤ) → IsSpokenAnswer w a → all_fit (answer_at_listed a u) ≡ true → IsPrintableAnswer 0 (answer_at a u)
+pub answer-printable : (w : ℕ) (a : Answer) (u : List ℤ) → IsCommentedAnswer w a → all_fit (answer_at_listed a u) ≡ true → IsPrintableAnswer 0 (answer_at a u)
 answer-printable w Void u h l = tt
 answer-printable w (Solved t) u h l = tree-printable (tree_value t u) (value-good w t u h.0.scoped h.1 l)

@@ -44,7 +44,7 @@ pub(crate) fn widened_entries(
 }
 
 // The form read over so many places.
-pub(crate) fn widened(alloc: Global, width: usize, form: &Form) -> Result<Form, WantOfMemory>
+pub(crate) fn widen_form(alloc: Global, width: usize, form: &Form) -> Result<Form, WantOfMemory>
     requires { length form.now ≤ width + 1 }
     ensures value { IfOk result (λ made. made ≡ widen_to width form.now) }
     ensures long { IfOk result (λ made. length made ≡ width + 1) }
@@ -103,7 +103,7 @@ impl Known {
     {
         let width = self.width();
         for form in forms {
-            let form = widened(alloc, width, form)?;
+            let form = widen_form(alloc, width, form)?;
             self.push(form)?;
         }
         Ok(())

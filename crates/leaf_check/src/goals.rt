@@ -159,7 +159,7 @@ fn opposite_difference(
 }
 
 // That the unknown at a place is below a component.
-fn below(
+fn form_below(
     alloc: Global,
     width: usize,
     place: usize,
@@ -198,7 +198,7 @@ impl Known {
             let form = not_above(alloc, width, scope + i, &front[i])?;
             self.push(form)?;
         }
-        let form = below(alloc, width, scope + last, &front[last])?;
+        let form = form_below(alloc, width, scope + last, &front[last])?;
         self.push(form)?;
         Ok(())
     }
@@ -222,7 +222,7 @@ impl Known {
         let last = front.len() - 1;
         let form = not_above(alloc, width, scope + (last - 1), &front[last - 1])?;
         self.push(form)?;
-        let form = below(alloc, width, scope + last, &front[last])?;
+        let form = form_below(alloc, width, scope + last, &front[last])?;
         self.push(form)?;
         Ok(())
     }

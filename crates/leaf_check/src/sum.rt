@@ -47,7 +47,7 @@ pub(crate) fn add_multiple(sum: &mut [i128], m: i128, c: &[i128]) -> Result<(), 
 }
 
 // The known form that an index names.
-fn named(known: &[Form], index: i128) -> Option<&Form>
+fn form_of_index(known: &[Form], index: i128) -> Option<&Form>
     ensures { MatchOption result
         ((is_nonneg index && nat_lt (unsigned_abs index) (length known.now)) ≡ false)
         (λ c. ((is_nonneg index && nat_lt (unsigned_abs index) (length known.now)) ≡ true)
@@ -71,7 +71,7 @@ fn add_term(at: Spot, known: &[Form], sum: &mut [i128], term: (i128, i128)) -> R
     if multiplier < 0 {
         return Err(Fault::Rejected(at));
     }
-    let Some(form) = named(known, index) else {
+    let Some(form) = form_of_index(known, index) else {
         return Err(Fault::Rejected(at));
     };
     match add_multiple(sum, multiplier, form.as_slice()) {

@@ -30,7 +30,7 @@ impl Model for Quotient {
 }
 
 // The numbers up to the last that is not 0.
-fn trimmed(numbers: &[i128]) -> &[i128]
+fn trim_zeros(numbers: &[i128]) -> &[i128]
     ensures { result.now ≡ trimmed_of numbers.now }
 {
     let mut count = numbers.len();
@@ -46,7 +46,7 @@ impl Quotient {
         ensures { result.now ≡ trimmed_of (coefficients self.now.form) }
     {
         let entries = self.form.as_slice();
-        trimmed(&entries[..entries.len() - 1])
+        trim_zeros(&entries[..entries.len() - 1])
     }
 
     fn constant(&self) -> i128

@@ -4,13 +4,13 @@ use Rattle.std.specs.Prelude.{Err, IfSome, IsFalse}
 use Rattle.pip_model.specs.Listed.{all_fit}
 use Rattle.program_model.specs.ItemTexts.{pieces_text}
 use Rattle.pip_model.specs.PieceText.{answer_listed}
-use Rattle.pip_model.specs.TreeText.{Spoken}
+use Rattle.pip_model.specs.TreeText.{Commented}
 use Rattle.pip_endings.specs.Endings.{told, pieces_ending}
 use Rattle.quast_pieces.specs.Pieces.{is_pieces_overflow}
 use Rattle.quast_pieces.specs.declared.refusal.PiecesRefusal.{PiecesRefusal}
 use Rattle.quast_pieces.specs.declared.refusal.PiecesRefusal.TheVariants as refusal
 
-pub pieces_refused : (e : PiecesRefusal) (s : Spoken)
+pub pieces_refused : (e : PiecesRefusal) (s : Commented)
     → (IsTrue (is_pieces_overflow e) → IsFalse (all_fit (answer_listed s.answer)))
     → IfSome (told (pieces_ending e)) (λ f. pieces_text s ≡ Err f)
 pieces_refused refusal.Overflow s h = let unfit : all_fit (answer_listed s.answer) ≡ false = h refl in rw unfit refl

@@ -4,7 +4,7 @@ use Rattle.std.specs.Prelude.{Result, Ok, Err, IfSome}
 use Rattle.program_model.specs.Endings.{Ending}
 use Rattle.program_model.specs.ItemKinds.{needed_answer, trio_by}
 use Rattle.pip_model.specs.Reading.{◌>>=◌}
-use Rattle.pip_model.specs.TreeText.{Spoken}
+use Rattle.pip_model.specs.TreeText.{Commented}
 
 -- two steps, of which the second goes by what the first gives
 module _ {A B C E : Type 0} (r : Result A E) (s : A → Result B E) (both : A → B → C) where
@@ -26,8 +26,8 @@ module _ {A B C E : Type 0} (r : Result A E) (s : A → Result B E) (both : A �
   steps-stopped x None h k = tt
   steps-stopped x (Some e) h k = then r (λ z. s z >>= λ w. Ok (both z w)) x h ∙ stopped (s x) (λ w. Ok (both x w)) e k
 
-module _ (bytes : List ℕ) (m : ℕ) (rows : List (List ℤ)) (at : ℕ) (first : Spoken × ℕ) (is : needed_answer bytes m at ≡ Ok first) where
-  pub trio_given : (second : Spoken × ℕ) → needed_answer bytes m first.1 ≡ Ok second
+module _ (bytes : List ℕ) (m : ℕ) (rows : List (List ℤ)) (at : ℕ) (first : Commented × ℕ) (is : needed_answer bytes m at ≡ Ok first) where
+  pub trio_given : (second : Commented × ℕ) → needed_answer bytes m first.1 ≡ Ok second
       → trio_by bytes m (Some (rows, at)) ≡ Ok (Some (record { rows = rows; first = first.0; second = second.0 }, second.1))
   trio_given second h =
       steps-given (needed_answer bytes m at) (λ a. needed_answer bytes m a.1)

@@ -5,12 +5,12 @@ use Rattle.program_model.specs.Endings.{Ending}
 use Rattle.program_model.specs.Items.{or_ending, needed}
 use Rattle.pip_model.specs.Reading.{◌>>=◌}
 use Rattle.pip_model.specs.TreeText as text
-use Rattle.quast_text.specs.Spoken.{spoken_of}
-use Rattle.quast_text.specs.declared.read.Spoken.{Spoken}
+use Rattle.quast_text.specs.Commented.{commented_of}
+use Rattle.quast_text.specs.declared.read.Commented.{Commented}
 
 -- an answer with its comment, and the place behind it
-abbrev pub spoken_found : Spoken × ℕ → text.Spoken × ℕ
-spoken_found x = (spoken_of x.0, x.1)
+abbrev pub commented_found : Commented × ℕ → text.Commented × ℕ
+commented_found x = (commented_of x.0, x.1)
 
 abbrev pub needed_certificate : List ℕ → ℕ → Result (Certificate × ℕ) Ending
 needed_certificate bytes place = do

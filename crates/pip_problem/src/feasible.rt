@@ -14,7 +14,7 @@ use affine_forms::{Form, MOST_PARAMETERS, MOST_UNKNOWNS, Overflow};
 const MOST_PLACES: usize = MOST_UNKNOWNS + MOST_PARAMETERS;
 
 // The point and then the parameters, in the front of an array.
-fn joined(point: &[i128], params: &[i128]) -> [i128; MOST_PLACES]
+fn join_point(point: &[i128], params: &[i128]) -> [i128; MOST_PLACES]
     requires { length point.now + length params.now ≤ most_unknowns + most_params }
     ensures { take (length point.now + length params.now) result ≡ point.now ++ params.now }
 {
@@ -65,7 +65,7 @@ pub fn is_feasible(p: &Problem, point: &[i128], params: &[i128]) -> Result<bool,
     if !is_nonnegative(point) {
         return Ok(false);
     }
-    let vector = joined(point, params);
+    let vector = join_point(point, params);
     let (u, _) = vector.split_at(point.len() + params.len());
     all_nonneg(rows, u)
 }

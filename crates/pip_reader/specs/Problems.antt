@@ -6,12 +6,12 @@ use Rattle.pip_model.specs.Reading.{Reads, ◌>>=◌, expect, group, block}
 use Rattle.pip_reader.specs.declared.header.Sizes.{Sizes}
 use Rattle.pip_reader.specs.declared.problem.Head.{Head}
 use Rattle.pip_reader.specs.declared.problem.Blocks.{Blocks}
-use Rattle.pip_reader.specs.declared.problem.Parts.{Parts}
+use Rattle.pip_reader.specs.declared.problem.ProblemParts.{ProblemParts}
 use Rattle.pip_reader.specs.Rows.{form_block}
 use Rattle.pip_reader.specs.Header.{sizes, mode}
 
 -- the problem of these parts
-abbrev pub problem_of : Parts → Problem
+abbrev pub problem_of : ProblemParts → Problem
 problem_of p =
     record {
       unknowns = p.head.sizes.unknowns;

@@ -18,7 +18,7 @@ pub(crate) struct Sizes {
 }
 
 // The number that is the next token, from `low` to `high`, and the place behind it.
-fn limited(
+fn number_between(
     bytes: &[u8],
     kind: LimitKind,
     low: usize,
@@ -39,10 +39,16 @@ pub(crate) fn read_sizes(bytes: &[u8], place: usize) -> Reads<Sizes, ReadRefusal
     ensures unknowns { IfOk result (λ x. x.0.unknowns ≤ most_unknowns) }
     ensures params { IfOk result (λ x. x.0.params ≤ most_params) }
 {
-    let (unknowns, at) = limited(bytes, LimitKind::Unknowns, 1, MOST_UNKNOWNS, place)?;
-    let (params, at) = limited(bytes, LimitKind::Parameters, 0, MOST_PARAMETERS, at)?;
-    let (rows, at) = limited(bytes, LimitKind::Rows, 0, MOST_ROWS, at)?;
-    let (context_rows, at) = limited(bytes, LimitKind::ContextRows, 0, MOST_CONTEXT_ROWS, at)?;
+    let (unknowns, at) = number_between(bytes, LimitKind::Unknowns, 1, MOST_UNKNOWNS, place)?;
+    let (params, at) = number_between(bytes, LimitKind::Parameters, 0, MOST_PARAMETERS, at)?;
+    let (rows, at) = number_between(bytes, LimitKind::Rows, 0, MOST_ROWS, at)?;
+    let (context_rows, at) = number_between(
+        bytes,
+        LimitKind::ContextRows,
+        0,
+        MOST_CONTEXT_ROWS,
+        at,
+    )?;
     let sizes = Sizes {
         unknowns,
         params,

@@ -35,7 +35,7 @@ struct Blocks {
 
 // What a problem is made of.
 #[derive(Drop)]
-struct Parts {
+struct ProblemParts {
     head: Head,
     blocks: Blocks,
 }
@@ -72,7 +72,7 @@ fn blocks_at(alloc: Global, bytes: &[u8], sizes: Sizes, place: usize) -> Reads<B
 }
 
 // The parts of a problem, and the place behind its last `)`.
-fn parts_at(alloc: Global, bytes: &[u8], place: usize) -> Reads<Parts, ReadRefusal>
+fn parts_at(alloc: Global, bytes: &[u8], place: usize) -> Reads<ProblemParts, ReadRefusal>
     requires { place ≤ length bytes.now }
     ensures { IsRead problem_of read_fault bytes.now place result (problem_by_steps bytes.now place) }
 {
@@ -80,7 +80,7 @@ fn parts_at(alloc: Global, bytes: &[u8], place: usize) -> Reads<Parts, ReadRefus
     let (head, at) = head_at(alloc, bytes, first)?;
     let (blocks, at) = blocks_at(alloc, bytes, head.sizes, at)?;
     let after = expect(bytes, Kind::RightParen, at)?;
-    Ok((Parts { head, blocks }, after))
+    Ok((ProblemParts { head, blocks }, after))
 }
 
 // The problem that begins at a place, and the place behind its last `)`.
@@ -91,7 +91,7 @@ fn problem_at(alloc: Global, bytes: &[u8], place: usize) -> Reads<Problem, ReadR
     ensures group { IfOk result (λ x. IsGroup x.0.comment) }
 {
     let (parts, after) = parts_at(alloc, bytes, place)?;
-    let Parts { head, blocks } = parts;
+    let ProblemParts { head, blocks } = parts;
     let problem = Problem::from_parts(
         head.sizes.unknowns,
         head.sizes.params,

@@ -17,7 +17,7 @@ use crate::path::Path;
 use crate::turn::Turn;
 use affine_forms::{Form, Overflow, WantOfMemory};
 use context::{Work, count_and_cut};
-use gomory_cut::{Fraction, parametric_cut_by, residue_of, rewrite};
+use gomory_cut::{FractionRow, parametric_cut_by, residue_of, rewrite};
 use new_parameters::{Quotient, rounding};
 use pip_problem::Refusal;
 use sign_split::{Class, class};
@@ -116,7 +116,7 @@ fn quotient_cut(
 // The cut of a row whose constant form is not whole. It is counted before it is made.
 pub(crate) fn cut_turn(
     rows: &mut Tableau,
-    fraction: Fraction,
+    fraction: FractionRow,
     path: &mut Path,
     work: &mut Work,
 ) -> Result<Turn, Refusal>

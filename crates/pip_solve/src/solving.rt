@@ -64,7 +64,7 @@ fn first_path(alloc: Global, problem: &Problem) -> Result<Path, WantOfMemory>
 }
 
 // Tightened copies of the rows.
-fn tightened(alloc: Global, rows: &[Form]) -> Result<Vec<Form>, WantOfMemory>
+fn tighten_rows(alloc: Global, rows: &[Form]) -> Result<Vec<Form>, WantOfMemory>
     ensures { IfOk result (λ forms. forms.items ≡ map tighten rows.now) }
 {
     let mut forms = Vec::with_capacity(alloc, rows.len())?;
@@ -103,7 +103,7 @@ fn start_rows(alloc: Global, problem: &Problem, rows: &mut Tableau) -> Result<()
     ensures problem { IsProblem problem.now }
 {
     if problem.integer() && !are_tight(problem.rows()) {
-        let forms = tightened(alloc, problem.rows())?;
+        let forms = tighten_rows(alloc, problem.rows())?;
         rows.restart(&forms)
     } else {
         rows.restart(problem.rows())
@@ -207,7 +207,7 @@ fn answer(
 }
 
 // The answer of the run from its start.
-fn solved(alloc: Global, problem: &Problem, limits: &Limits) -> Result<Answer, Refusal>
+fn answer_from_start(alloc: Global, problem: &Problem, limits: &Limits) -> Result<Answer, Refusal>
     ensures gives { Agrees answer_of run_fault result (answered (model.solve limits.now problem.now)) }
     ensures scope { IfOk result (IsOver problem.now.params) }
     ensures problem { IsProblem problem.now }
@@ -230,6 +230,6 @@ pub fn solve(alloc: Global, problem: &Problem, limits: &Limits) -> Result<Answer
     ensures well_formed { IfOk result (λ a. IsWellFormedAnswer problem.now.params (answer_of a)) }
     ensures scope { IfOk result (IsOver problem.now.params) }
 {
-    let answer = solved(alloc, problem, limits);
+    let answer = answer_from_start(alloc, problem, limits);
     answer
 }

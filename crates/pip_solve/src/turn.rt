@@ -19,7 +19,7 @@ use crate::path::Path;
 use crate::scan::{Signs, scan};
 use affine_forms::{Form, WantOfMemory};
 use context::{Work, enter_and_pivot};
-use gomory_cut::{Fraction, find_fraction};
+use gomory_cut::{FractionRow, find_fraction};
 use new_parameters::Quotient;
 use pip_problem::Refusal;
 use quast::{Component, Quast};
@@ -100,7 +100,7 @@ fn leaf(alloc: Global, rows: &Tableau) -> Result<Quast, WantOfMemory>
 }
 
 // The fraction of the first of the unknowns' rows that is not whole. It matters in integer mode alone.
-fn fraction(rows: &Tableau, integer: bool) -> Option<Fraction>
+fn fraction(rows: &Tableau, integer: bool) -> Option<FractionRow>
     requires { rows.now.unknowns ≤ length rows.now.rows }
     ensures value { option_map (λ f. f.row) result ≡
         (if integer then first_fraction rows.now.unknowns rows.now.rows else None) }

@@ -10,7 +10,7 @@ use crate::command::{Command, PiecesOptions, SimplifyOptions, SolveOptions, Tria
 use crate::names;
 use crate::parameter_vector::ParameterVector;
 use crate::refusal::WordsRefusal;
-use crate::values::{is_set, limits, needed, parameter_count, parameters, walk};
+use crate::values::{is_set, limits, parameter_count, parameters, required_number, walk};
 use clap::ArgMatches;
 use std::alloc::{AllocError, Global};
 
@@ -96,7 +96,7 @@ pub(crate) fn pip<'a>(alloc: Global) -> Result<clap::Command<'a>, AllocError>
 }
 
 // The command of a name.
-pub(crate) fn named(
+pub(crate) fn command_of_name(
     alloc: Global,
     name: &str,
     matches: &ArgMatches<'_>,
@@ -173,8 +173,8 @@ fn simplify(matches: &ArgMatches<'_>) -> Result<Command, WordsRefusal>
 fn trial(matches: &ArgMatches<'_>) -> Result<Command, WordsRefusal>
     ensures { Gives meaning_of (trial_of (rows_of (found_of matches.now))) result }
 {
-    let seed = needed(matches, names::SEED, u64::MAX);
-    let count = needed(matches, names::COUNT, MOST_DRAWN);
+    let seed = required_number(matches, names::SEED, u64::MAX);
+    let count = required_number(matches, names::COUNT, MOST_DRAWN);
     match (seed, count) {
         (Some(seed), Some(count)) => Ok(Command::Trial(TrialOptions {
             seed,

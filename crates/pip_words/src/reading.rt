@@ -3,7 +3,7 @@ ghost use Rattle.clap.specs.Words.{subcommand_rows_of};
 ghost use Rattle.pip_words.specs.Words.{command_given, meaning_of, Gives, command_in};
 
 use crate::command::Command;
-use crate::commands::{named, pip};
+use crate::commands::{command_of_name, pip};
 use crate::refusal::WordsRefusal;
 use clap::ArgMatches;
 use clap::error::ErrorKind;
@@ -31,7 +31,7 @@ fn command(alloc: Global, matches: &ArgMatches<'_>) -> Result<Command, WordsRefu
     ensures { Gives meaning_of (command_in (subcommand_rows_of matches.now)) result }
 {
     match matches.subcommand() {
-        Some((name, matches)) => named(alloc, name, matches),
+        Some((name, matches)) => command_of_name(alloc, name, matches),
         None => Err(WordsRefusal::Usage),
     }
 }

@@ -42,7 +42,7 @@ pub(crate) fn parameter_count(matches: &ArgMatches<'_>) -> Option<usize>
     ensures value { result ≡ needed_of (codes "parameters") most_params (rows_of (found_of matches.now)) }
     ensures few { IfSome result (λ n. n ≤ most_params) }
 {
-    match needed(matches, names::PARAMETERS, MOST_PARAMETERS as u64) {
+    match required_number(matches, names::PARAMETERS, MOST_PARAMETERS as u64) {
         Some(count) => Some(count as usize),
         None => None,
     }
@@ -77,7 +77,7 @@ pub(crate) fn limits(matches: &ArgMatches<'_>) -> Option<Limits>
 
 // The number of a required argument.
 #[tactic(auto, using(crate::proofs::Rows::value_rows))]
-pub(crate) fn needed(matches: &ArgMatches<'_>, name: &str, most: u64) -> Option<u64>
+pub(crate) fn required_number(matches: &ArgMatches<'_>, name: &str, most: u64) -> Option<u64>
     ensures value { result ≡ needed_of name.now most (rows_of (found_of matches.now)) }
     ensures within { IfSome result (λ n. n ≤ most) }
 {

@@ -6,7 +6,7 @@ ghost use Rattle.text_reading.specs.Steps.{AreRead};
 ghost use Rattle.pip_problem.specs.Faults.{read_fault};
 ghost use Rattle.polylib_reader.specs.Matrices.{context_matrix as context_matrix_of, constraint_matrix as constraint_matrix_of};
 
-use crate::number::{limited, numbers};
+use crate::number::{number_between, numbers};
 use crate::row::{push_inequalities, row_head};
 use affine_forms::{Form, MOST_CONTEXT_ROWS, MOST_PARAMETERS, MOST_ROWS, MOST_UNKNOWNS};
 use pip_problem::{LimitKind, ReadRefusal};
@@ -59,8 +59,14 @@ pub(crate) fn context_matrix(alloc: Global, bytes: &[u8]) -> Result<Matrix, Read
     ensures params { IfOk result (λ m. m.size ≤ most_params) }
     ensures order { IfOk result (λ m. m.after ≤ length bytes.now) }
 {
-    let (rows, at) = limited(bytes, LimitKind::ContextRows, 0, MOST_CONTEXT_ROWS, 0)?;
-    let (columns, at) = limited(bytes, LimitKind::ContextColumns, 2, MOST_PARAMETERS + 2, at)?;
+    let (rows, at) = number_between(bytes, LimitKind::ContextRows, 0, MOST_CONTEXT_ROWS, 0)?;
+    let (columns, at) = number_between(
+        bytes,
+        LimitKind::ContextColumns,
+        2,
+        MOST_PARAMETERS + 2,
+        at,
+    )?;
     let params = columns - 2;
     let (forms, after) = matrix_rows(
         alloc,
@@ -91,8 +97,8 @@ pub(crate) fn constraint_matrix(
         (constraint_matrix_of bytes.now params place) }
     ensures order { IfOk result (λ m. m.after ≤ length bytes.now) }
 {
-    let (rows, at) = limited(bytes, LimitKind::Rows, 0, MOST_ROWS, place)?;
-    let (columns, at) = limited(
+    let (rows, at) = number_between(bytes, LimitKind::Rows, 0, MOST_ROWS, place)?;
+    let (columns, at) = number_between(
         bytes,
         LimitKind::Columns,
         params + 3,

@@ -62,7 +62,7 @@ pub(crate) fn numbers(
 }
 
 // The number that is the next word, from `low` to `high`, and the place behind it.
-pub(crate) fn limited(
+pub(crate) fn number_between(
     bytes: &[u8],
     kind: LimitKind,
     low: usize,

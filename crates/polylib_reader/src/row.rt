@@ -36,7 +36,7 @@ fn is_equality(start: usize, first: (i128, usize)) -> Reads<bool, ReadRefusal>
 }
 
 // So many inequalities, of at most `most`.
-fn counted(kind: LimitKind, most: usize, count: usize) -> Result<usize, ReadRefusal>
+fn check_count(kind: LimitKind, most: usize, count: usize) -> Result<usize, ReadRefusal>
     ensures agrees { Agrees (λ x. x) read_fault result (counted_of kind most count) }
     ensures within { IfOk result (λ count. count ≤ most) }
 {
@@ -65,7 +65,7 @@ pub(crate) fn row_head(
 {
     let word = next_word(bytes, place);
     let (equality, after) = is_equality(word.start, number_word(&word)?)?;
-    let count = counted(kind, most, count + if equality { 2 } else { 1 })?;
+    let count = check_count(kind, most, count + if equality { 2 } else { 1 })?;
     Ok(RowHead {
         equality,
         count,
@@ -74,7 +74,7 @@ pub(crate) fn row_head(
 }
 
 // The opposite of each entry.
-fn negated(alloc: Global, entries: &[i128]) -> Result<Vec<i128>, WantOfMemory>
+fn negate_entries(alloc: Global, entries: &[i128]) -> Result<Vec<i128>, WantOfMemory>
     requires { All Fits entries.now }
     ensures value { IfOk result (λ negated. negated.items ≡ negate entries.now) }
     ensures fits { IfOk result (λ negated. All Fits negated.items) }
@@ -96,7 +96,7 @@ pub(crate) fn push_inequalities(
     ensures { OnOk result (forms.new.items ≡ forms.old.items ++ inequalities equality entries.items) }
 {
     if equality {
-        let negated = negated(alloc, &entries)?;
+        let negated = negate_entries(alloc, &entries)?;
         forms.push(Form::from_entries(entries))?;
         forms.push(Form::from_entries(negated))?;
     } else {

@@ -14,7 +14,7 @@ pub(crate) struct Word<'a> {
 }
 
 // The bytes behind blanks and comments; a comment runs from `#` to the end of its line.
-fn skipped(bytes: &[u8]) -> &[u8]
+fn skip_blanks(bytes: &[u8]) -> &[u8]
     ensures value { result.now ≡ skipped_of false bytes.now }
     ensures bound { length result.now ≤ length bytes.now }
 {
@@ -60,7 +60,7 @@ pub(crate) fn next_word(bytes: &[u8], place: usize) -> Word<'_>
     ensures order { (place ≤ result.start) × (result.start ≤ result.after) × (result.after ≤ length bytes.now) }
 {
     let (_, rest) = bytes.split_at(place);
-    let rest = skipped(rest);
+    let rest = skip_blanks(rest);
     let text = word_text(rest);
     let start = bytes.len() - rest.len();
     Word {

@@ -2,7 +2,7 @@
 use Rattle.std.specs.Prelude.{ℕ, ℤ, ◌≤◌, Bool, true, false, not, List, length, Result, Ok, ⊤, MatchBool, if◌then◌else◌}
 use Rattle.pip_model.specs.Limits.{most_nesting, most_params, most_input_bytes}
 use Rattle.pip_model.specs.Problem.{Problem}
-use Rattle.pip_model.specs.TreeText.{Spoken}
+use Rattle.pip_model.specs.TreeText.{Commented}
 use Rattle.pip_model.specs.Run.{Budget, IsBudget}
 use Rattle.program_model.specs.Trial.{trial_text}
 use Rattle.program_model.specs.Endings.{Ending}
@@ -64,7 +64,7 @@ way (Solve o) = record {
   MayBeAsked = λ bytes. MatchBool o.certificate (IsBudget o.budget) (o.budget.nesting ≤ most_nesting);
 }
 way (Eval u) = record {
-  Item = Spoken;
+  Item = Commented;
   takes_input = true;
   by_problem = false;
   item_at = λ bytes place. answer_item bytes (length u) place;
@@ -74,7 +74,7 @@ way (Eval u) = record {
   MayBeAsked = λ bytes. ⊤;
 }
 way (Simplify m) = record {
-  Item = Spoken;
+  Item = Commented;
   takes_input = true;
   by_problem = false;
   item_at = λ bytes place. answer_item bytes m place;
@@ -144,7 +144,7 @@ way (Least m b) = record {
   MayBeAsked = λ bytes. (m ≤ most_params) × (b.nesting ≤ most_nesting);
 }
 way (Pieces m) = record {
-  Item = Spoken;
+  Item = Commented;
   takes_input = true;
   by_problem = false;
   item_at = λ bytes place. answer_item bytes m place;

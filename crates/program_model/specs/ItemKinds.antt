@@ -5,7 +5,7 @@ use Rattle.pip_model.specs.Tree.{Answer}
 use Rattle.pip_model.specs.Reading.{◌>>=◌, ◌>>◌}
 use Rattle.pip_model.specs.NativeText.{read_native}
 use Rattle.pip_model.specs.MatrixText.{read_matrices}
-use Rattle.pip_model.specs.TreeText.{read_answer, Spoken}
+use Rattle.pip_model.specs.TreeText.{read_answer, Commented}
 use Rattle.pip_model.specs.ContextText.{read_context}
 use Rattle.pip_model.specs.Certificate.{Certificate, read_certificate}
 use Rattle.program_model.specs.Endings.{Ending, rational_certificate}
@@ -20,10 +20,10 @@ problem_item bytes place = or_ending (read_native bytes place)
 abbrev pub matrix_item : List ℕ → ℕ → ItemAt Problem
 matrix_item bytes place = one_item (or_ending (read_matrices bytes)) place
 
-abbrev pub answer_item : List ℕ → ℕ → ℕ → ItemAt Spoken
+abbrev pub answer_item : List ℕ → ℕ → ℕ → ItemAt Commented
 answer_item bytes m place = or_ending (read_answer bytes place m)
 
-abbrev pub needed_answer : List ℕ → ℕ → ℕ → Result (Spoken × ℕ) Ending
+abbrev pub needed_answer : List ℕ → ℕ → ℕ → Result (Commented × ℕ) Ending
 needed_answer bytes m place = do
   answer_here ← answer_item bytes m place
   needed bytes answer_here
@@ -60,7 +60,7 @@ triple bytes place = do
 
 pub record Pair : Type 0 where
   pub rows : List (List ℤ)
-  pub first : Spoken
+  pub first : Commented
 
 abbrev pub pair_by : List ℕ → ℕ → Option (List (List ℤ) × ℕ) → ItemAt Pair
 pair_by bytes m None = Ok None
@@ -77,8 +77,8 @@ pair bytes m place = do
 
 pub record Trio : Type 0 where
   pub rows : List (List ℤ)
-  pub first : Spoken
-  pub second : Spoken
+  pub first : Commented
+  pub second : Commented
 
 abbrev pub trio_by : List ℕ → ℕ → Option (List (List ℤ) × ℕ) → ItemAt Trio
 trio_by bytes m None = Ok None

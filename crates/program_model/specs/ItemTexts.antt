@@ -4,7 +4,7 @@ use Rattle.pip_model.specs.Listed.{all_fit}
 use Rattle.pip_model.specs.Problem.{Problem}
 use Rattle.pip_model.specs.Tree.{Answer}
 use Rattle.pip_model.specs.Reading.{◌>>◌}
-use Rattle.pip_model.specs.TreeText.{spell, spell_form, Spoken}
+use Rattle.pip_model.specs.TreeText.{spell, spell_form, Commented}
 use Rattle.pip_model.specs.Simplified.{simplified}
 use Rattle.pip_model.specs.Values.{answer_at, answer_at_listed, simplified_by}
 use Rattle.pip_model.specs.Run.{Budget, start_work, Outcome, Done, Refused, Overflow, solve}
@@ -46,15 +46,15 @@ certified_text b P = do
 -- ---- eval, simplify and pieces
 
 -- the answer's value, over no parameters
-abbrev pub value_text : List ℤ → Spoken → Result (List ℕ) Ending
+abbrev pub value_text : List ℤ → Commented → Result (List ℕ) Ending
 value_text u s =
     if all_fit (answer_at_listed s.answer u) then Ok (spell s.comment (answer_at s.answer u))
     else Err (refusal_ending Overflow)
 
-abbrev pub simplified_text : Spoken → Result (List ℕ) Ending
+abbrev pub simplified_text : Commented → Result (List ℕ) Ending
 simplified_text s = Ok (spell s.comment (simplified_by simplified s.answer))
 
-abbrev pub pieces_text : Spoken → Result (List ℕ) Ending
+abbrev pub pieces_text : Commented → Result (List ℕ) Ending
 pieces_text s =
     if all_fit (answer_listed s.answer) then Ok (spell_pieces s.comment s.answer) else Err (refusal_ending Overflow)
 

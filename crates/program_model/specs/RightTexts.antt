@@ -6,7 +6,7 @@ use Rattle.pip_model.specs.Tree.{Answer, Void, Solved, leaves, tree_value}
 use Rattle.pip_model.specs.Right.{IsRight}
 use Rattle.pip_model.specs.Leaves.{IsReached}
 use Rattle.pip_model.specs.Simpler.{IsSimpler}
-use Rattle.pip_model.specs.TreeText.{spell, read_answer, Spoken}
+use Rattle.pip_model.specs.TreeText.{spell, read_answer, Commented}
 use Rattle.pip_model.specs.PieceText.{pieces, answer_listed, spell_pieces}
 use Rattle.pip_model.specs.Certificate.{Certificate, spell_certificate, read_certificate}
 use Rattle.pip_model.specs.Check.{check, Accepted}
@@ -61,10 +61,10 @@ IsValueAt (Solved t) u (Solved v) = IsTrue (same_found (tree_value v []) (tree_v
 IsValueAt a u v = ⊥
 
 -- the text of an answer over no parameters, which is read back as that and whose value is the other's
-abbrev pub IsValueText : List ℤ → Spoken → List ℕ → Type 0
+abbrev pub IsValueText : List ℤ → Commented → List ℕ → Type 0
 IsValueText u s t = (v : Answer) × IsTextOfAnswer 0 s.comment v t × IsValueAt s.answer u v
 
-abbrev pub IsValueEnd : List ℤ → Spoken → Ending → Type 0
+abbrev pub IsValueEnd : List ℤ → Commented → Ending → Type 0
 IsValueEnd u s e = (e ≡ refusal_ending Overflow) × IsFalse (all_fit (answer_at_listed s.answer u))
 
 -- ---- simplify
@@ -75,7 +75,7 @@ IsSimplerAnswer m Void Void = ⊤
 IsSimplerAnswer m (Solved t) (Solved s) = IsSimpler m t s
 IsSimplerAnswer m _ _ = ⊥
 
-abbrev pub IsSimplifiedText : ℕ → Spoken → List ℕ → Type 0
+abbrev pub IsSimplifiedText : ℕ → Commented → List ℕ → Type 0
 IsSimplifiedText m s t = (a : Answer) × IsTextOfAnswer m s.comment a t × IsSimplerAnswer m s.answer a
 
 -- ---- check and share
@@ -122,8 +122,8 @@ abbrev pub ArePieces : ℕ → Answer → Type 0
 ArePieces m Void = ⊤
 ArePieces m (Solved t) = (length (pieces t) ≡ leaves t) × ((u : List ℤ) → length u ≡ m → IsPieceAt t u)
 
-abbrev pub IsPiecesText : ℕ → Spoken → List ℕ → Type 0
+abbrev pub IsPiecesText : ℕ → Commented → List ℕ → Type 0
 IsPiecesText m s t = (t ≡ spell_pieces s.comment s.answer) × ArePieces m s.answer
 
-abbrev pub IsPiecesEnd : Spoken → Ending → Type 0
+abbrev pub IsPiecesEnd : Commented → Ending → Type 0
 IsPiecesEnd s e = (e ≡ refusal_ending Overflow) × IsFalse (all_fit (answer_listed s.answer))

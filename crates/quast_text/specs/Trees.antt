@@ -8,11 +8,11 @@ use Rattle.pip_model.specs.Reading.{Fault, Components, Reads, ◌>>=◌, same_br
 use Rattle.pip_model.specs.TreeText.{component, components, read_form, definition, tree}
 use Rattle.pip_model.specs.TreeText as model
 use Rattle.text_reading.specs.Fronts.{with_front}
-use Rattle.quast_text.specs.declared.tree.Head.{Head}
-use Rattle.quast_text.specs.declared.tree.Head.TheVariants as head
+use Rattle.quast_text.specs.declared.tree.TreeHead.{TreeHead}
+use Rattle.quast_text.specs.declared.tree.TreeHead.TheVariants as head
 
 -- which tree begins
-abbrev pub head_of : Head → model.Head
+abbrev pub head_of : TreeHead → model.Head
 head_of head.Ends = model.Ends
 head_of head.Lists = model.Lists
 head_of head.Chooses = model.Chooses

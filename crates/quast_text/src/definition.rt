@@ -14,7 +14,7 @@ use text_tokens::{Kind, token};
 
 // A form over a divisor, whose floor a new parameter is.
 #[derive(Drop)]
-pub(crate) struct Quotient {
+pub(crate) struct Definition {
     pub form: Form,
     pub divisor: i128,
 }
@@ -55,7 +55,7 @@ pub(crate) fn read_definition(
     bytes: &[u8],
     width: usize,
     place: usize,
-) -> Reads<Quotient, TextRefusal>
+) -> Reads<Definition, TextRefusal>
     requires place { place ≤ length bytes.now }
     requires width { width ≤ most_params + most_nesting }
     ensures reads { IsRead (λ q. (q.form, q.divisor)) text_fault bytes.now place result
@@ -71,5 +71,5 @@ pub(crate) fn read_definition(
     let (divisor, at) = divisor(bytes, at)?;
     let at = expect(bytes, Kind::RightParen, at)?;
     let after = expect(bytes, Kind::RightParen, at)?;
-    Ok((Quotient { form, divisor }, after))
+    Ok((Definition { form, divisor }, after))
 }

@@ -17,7 +17,7 @@ use text_tokens::{Kind, token};
 
 // Which tree begins behind a `(`.
 #[derive(Clone, Copy, Debug, PartialEq, Eq)]
-pub(crate) enum Head {
+pub(crate) enum TreeHead {
     Ends,
     Lists,
     Chooses,
@@ -25,26 +25,26 @@ pub(crate) enum Head {
 }
 
 // Which tree begins with the next token, and the place behind that.
-fn read_head(bytes: &[u8], place: usize) -> Reads<Head, TextRefusal>
+fn read_head(bytes: &[u8], place: usize) -> Reads<TreeHead, TextRefusal>
     requires { place ≤ length bytes.now }
     ensures { IsRead head_of text_fault bytes.now place result (head_at bytes.now place) }
 {
     let token = token(bytes, place);
     if same_bracket(token.kind, Kind::RightParen) {
-        Ok((Head::Ends, token.after))
+        Ok((TreeHead::Ends, token.after))
     } else if spells(bytes, token, b"list") {
-        Ok((Head::Lists, token.after))
+        Ok((TreeHead::Lists, token.after))
     } else if spells(bytes, token, b"if") {
-        Ok((Head::Chooses, token.after))
+        Ok((TreeHead::Chooses, token.after))
     } else if spells(bytes, token, b"newparm") {
-        Ok((Head::Defines, token.after))
+        Ok((TreeHead::Defines, token.after))
     } else {
         Err(TextRefusal::Syntax(token.start))
     }
 }
 
 // The `(` of a tree, which tree begins behind it, and the place behind that.
-fn opening(bytes: &[u8], place: usize) -> Reads<Head, TextRefusal>
+fn opening(bytes: &[u8], place: usize) -> Reads<TreeHead, TextRefusal>
     requires { place ≤ length bytes.now }
     ensures { IsRead head_of text_fault bytes.now place result (opening_of bytes.now place) }
 {
@@ -71,15 +71,15 @@ pub(crate) fn read_tree(
 {
     let (head, at) = opening(bytes, place)?;
     match head {
-        Head::Ends => Ok((Quast::bottom(width), at)),
-        Head::Lists => read_list(alloc, bytes, width, at),
-        Head::Chooses => {
+        TreeHead::Ends => Ok((Quast::bottom(width), at)),
+        TreeHead::Lists => read_list(alloc, bytes, width, at),
+        TreeHead::Chooses => {
             if room == 0 {
                 return Err(TextRefusal::Nesting);
             }
             read_choice(alloc, bytes, width, room - 1, at)
         }
-        Head::Defines => {
+        TreeHead::Defines => {
             if room == 0 {
                 return Err(TextRefusal::Nesting);
             }

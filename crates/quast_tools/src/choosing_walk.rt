@@ -17,7 +17,7 @@ use crate::nodes::{choice, definition};
 use affine_forms::{Form, WantOfMemory};
 use context::{Context, Work};
 use quast::{Answer, Node};
-use quast_walk::{Leaf, Reading, ToolRefusal, Walker, walk};
+use quast_walk::{Reading, ToolRefusal, TreeLeaf, Walker, walk};
 use std::alloc::Global;
 
 // The first answer's walk: the lesser is made along the second one's walk from each leaf.
@@ -61,7 +61,7 @@ impl Walker for Choosing<'_> {
 
     fn at_leaf(
         &self,
-        leaf: Leaf,
+        leaf: TreeLeaf,
         depth: u64,
         context: &mut Context,
         work: &mut Work,
@@ -86,7 +86,7 @@ impl Walker for Choosing<'_> {
 #[derive(Drop)]
 struct Lessening<'t> {
     reading: Reading,
-    first: Leaf<'t>,
+    first: TreeLeaf<'t>,
 }
 
 impl Walker for Lessening<'_> {
@@ -122,7 +122,7 @@ impl Walker for Lessening<'_> {
 
     fn at_leaf(
         &self,
-        leaf: Leaf,
+        leaf: TreeLeaf,
         depth: u64,
         context: &mut Context,
         work: &mut Work,
@@ -146,7 +146,7 @@ impl Walker for Lessening<'_> {
 // The lesser of the answers along the second one's walk, from a leaf of the first.
 fn choose_second(
     reading: &Reading,
-    leaf: Leaf,
+    leaf: TreeLeaf,
     answer: &Answer,
     depth: u64,
     context: &mut Context,
@@ -163,7 +163,7 @@ fn choose_second(
 {
     let below = reading.below(context.mark().width);
     match answer {
-        Answer::Void => choose_at_leaves(&below, leaf, Leaf::Bottom, depth, context, work),
+        Answer::Void => choose_at_leaves(&below, leaf, TreeLeaf::Bottom, depth, context, work),
         Answer::Tree(tree) => {
             let walker = Lessening {
                 reading: below,
@@ -196,7 +196,7 @@ pub(crate) fn choose_answers(
         between: 0,
     };
     match first {
-        Answer::Void => choose_second(&reading, Leaf::Bottom, second, 0, context, work),
+        Answer::Void => choose_second(&reading, TreeLeaf::Bottom, second, 0, context, work),
         Answer::Tree(tree) => walk(&Choosing { reading, second }, tree.root(), 0, context, work),
     }
 }

@@ -13,7 +13,7 @@ use crate::finding::{find_here, find_in_lists};
 use affine_forms::WantOfMemory;
 use context::{Context, Point, Work};
 use quast::Component;
-use quast_walk::{Leaf, Reading, ToolRefusal, spread_list};
+use quast_walk::{Reading, ToolRefusal, TreeLeaf, spread_list};
 
 // A list of the first tree over so many places, of which its own are the first.
 pub(crate) fn first_list(
@@ -57,8 +57,8 @@ fn find_between(
 // The first point at which two leaves differ. Two of different kinds differ everywhere.
 pub(crate) fn find_at_leaves(
     reading: &Reading,
-    first: Leaf,
-    second: Leaf,
+    first: TreeLeaf,
+    second: TreeLeaf,
     context: &mut Context,
     work: &mut Work,
 ) -> Result<Option<Point>, ToolRefusal>
@@ -71,16 +71,16 @@ pub(crate) fn find_at_leaves(
     ensures kept { IsKeptContext context.old context.new }
 {
     match (first, second) {
-        (Leaf::Void, Leaf::Void) => Ok(None),
-        (Leaf::Bottom, Leaf::Bottom) => Ok(None),
-        (Leaf::List(first), Leaf::List(second)) => find_between(
+        (TreeLeaf::Void, TreeLeaf::Void) => Ok(None),
+        (TreeLeaf::Bottom, TreeLeaf::Bottom) => Ok(None),
+        (TreeLeaf::List(first), TreeLeaf::List(second)) => find_between(
             reading, first, second, context, work,
         ),
-        (Leaf::Void, Leaf::Bottom) => find_here(reading, context, work),
-        (Leaf::Void, Leaf::List(_)) => find_here(reading, context, work),
-        (Leaf::Bottom, Leaf::Void) => find_here(reading, context, work),
-        (Leaf::Bottom, Leaf::List(_)) => find_here(reading, context, work),
-        (Leaf::List(_), Leaf::Void) => find_here(reading, context, work),
-        (Leaf::List(_), Leaf::Bottom) => find_here(reading, context, work),
+        (TreeLeaf::Void, TreeLeaf::Bottom) => find_here(reading, context, work),
+        (TreeLeaf::Void, TreeLeaf::List(_)) => find_here(reading, context, work),
+        (TreeLeaf::Bottom, TreeLeaf::Void) => find_here(reading, context, work),
+        (TreeLeaf::Bottom, TreeLeaf::List(_)) => find_here(reading, context, work),
+        (TreeLeaf::List(_), TreeLeaf::Void) => find_here(reading, context, work),
+        (TreeLeaf::List(_), TreeLeaf::Bottom) => find_here(reading, context, work),
     }
 }

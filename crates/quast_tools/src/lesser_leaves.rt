@@ -18,7 +18,7 @@ use crate::rest::Rest;
 use affine_forms::WantOfMemory;
 use context::{Context, Work};
 use quast::{Component, Node};
-use quast_walk::{Leaf, Reading, ToolRefusal, spread_list};
+use quast_walk::{Reading, ToolRefusal, TreeLeaf, spread_list};
 
 // A list of the first tree as a node over so many places, of which its own are the first.
 fn first_node(
@@ -64,8 +64,8 @@ fn choose_between(
 // The lesser of two leaves. Bottom is above every list.
 pub(crate) fn choose_at_leaves(
     reading: &Reading,
-    first: Leaf,
-    second: Leaf,
+    first: TreeLeaf,
+    second: TreeLeaf,
     depth: u64,
     context: &mut Context,
     work: &mut Work,
@@ -80,12 +80,12 @@ pub(crate) fn choose_at_leaves(
 {
     let width = context.mark().width;
     match (first, second) {
-        (Leaf::List(first), Leaf::List(second)) => {
+        (TreeLeaf::List(first), TreeLeaf::List(second)) => {
             choose_between(reading, first, second, depth, context, work)
         }
-        (Leaf::List(first), Leaf::Void) => Ok(first_node(reading, first, width)?),
-        (Leaf::List(first), Leaf::Bottom) => Ok(first_node(reading, first, width)?),
-        (Leaf::Void, second) => Ok(leaf_node(reading, second)?),
-        (Leaf::Bottom, second) => Ok(leaf_node(reading, second)?),
+        (TreeLeaf::List(first), TreeLeaf::Void) => Ok(first_node(reading, first, width)?),
+        (TreeLeaf::List(first), TreeLeaf::Bottom) => Ok(first_node(reading, first, width)?),
+        (TreeLeaf::Void, second) => Ok(leaf_node(reading, second)?),
+        (TreeLeaf::Bottom, second) => Ok(leaf_node(reading, second)?),
     }
 }

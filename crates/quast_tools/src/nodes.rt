@@ -9,7 +9,7 @@ ghost use Rattle.quast_tools.specs.Nodes.{node_answer, AreGiven};
 
 use affine_forms::{Form, Forms, WantOfMemory};
 use quast::{Answer, Component, Node, Quast};
-use quast_walk::{Leaf, Reading, levels, spread_list};
+use quast_walk::{Reading, TreeLeaf, levels, spread_list};
 use std::alloc::Global;
 
 // A node that chooses by the sign of a form.
@@ -69,16 +69,16 @@ pub(crate) fn list_again(alloc: Global, components: &[Component]) -> Result<Node
 }
 
 // A leaf as a node, as it is read.
-pub(crate) fn leaf_node(reading: &Reading, leaf: Leaf) -> Result<Node, WantOfMemory>
+pub(crate) fn leaf_node(reading: &Reading, leaf: TreeLeaf) -> Result<Node, WantOfMemory>
     requires { (w : ℕ) × IsTrue
         (is_scoped w (spread_tree reading.now.parameters reading.now.between (leaf_tree leaf))) }
     ensures { IfOk result (λ made. tree_of made
         ≡ spread_tree reading.now.parameters reading.now.between (leaf_tree leaf.entry)) }
 {
     match leaf {
-        Leaf::Void => Ok(Node::Bottom),
-        Leaf::Bottom => Ok(Node::Bottom),
-        Leaf::List(components) => list(
+        TreeLeaf::Void => Ok(Node::Bottom),
+        TreeLeaf::Bottom => Ok(Node::Bottom),
+        TreeLeaf::List(components) => list(
             reading.alloc,
             components,
             reading.parameters,

@@ -18,7 +18,7 @@ use affine_forms::{Form, Forms, WantOfMemory};
 use context::{Context, Work};
 use pip_problem::Limits;
 use quast::{Answer, Node, Quast};
-use quast_walk::{Leaf, Reading, ToolRefusal, Walker, context_of, levels, point, walk};
+use quast_walk::{Reading, ToolRefusal, TreeLeaf, Walker, context_of, levels, point, walk};
 use std::alloc::Global;
 
 // A walk that keeps each node that chooses whose form has both signs, each new parameter and each leaf.
@@ -65,7 +65,7 @@ impl Walker for Restricting {
 
     fn at_leaf(
         &self,
-        leaf: Leaf,
+        leaf: TreeLeaf,
         _depth: u64,
         _context: &mut Context,
         _work: &mut Work,

@@ -13,7 +13,7 @@ use crate::leaves::find_at_leaves;
 use affine_forms::{Form, WantOfMemory};
 use context::{Context, Point, Work};
 use quast::Answer;
-use quast_walk::{Leaf, Reading, ToolRefusal, Walker, walk};
+use quast_walk::{Reading, ToolRefusal, TreeLeaf, Walker, walk};
 use std::alloc::Global;
 
 // The first answer's walk: the second one is walked from each leaf.
@@ -57,7 +57,7 @@ impl Walker for Searching<'_> {
 
     fn at_leaf(
         &self,
-        leaf: Leaf,
+        leaf: TreeLeaf,
         depth: u64,
         context: &mut Context,
         work: &mut Work,
@@ -92,7 +92,7 @@ impl Walker for Searching<'_> {
 #[derive(Drop)]
 struct Meeting<'t> {
     reading: Reading,
-    first: Leaf<'t>,
+    first: TreeLeaf<'t>,
 }
 
 impl Walker for Meeting<'_> {
@@ -130,7 +130,7 @@ impl Walker for Meeting<'_> {
 
     fn at_leaf(
         &self,
-        leaf: Leaf,
+        leaf: TreeLeaf,
         _depth: u64,
         context: &mut Context,
         work: &mut Work,
@@ -164,7 +164,7 @@ impl Walker for Meeting<'_> {
 // The first point at which the answers differ in the order of the second one's walk, from a leaf of the first.
 fn search_second(
     reading: &Reading,
-    leaf: Leaf,
+    leaf: TreeLeaf,
     answer: &Answer,
     depth: u64,
     context: &mut Context,
@@ -181,7 +181,7 @@ fn search_second(
 {
     let below = reading.below(context.mark().width);
     match answer {
-        Answer::Void => find_at_leaves(&below, leaf, Leaf::Void, context, work),
+        Answer::Void => find_at_leaves(&below, leaf, TreeLeaf::Void, context, work),
         Answer::Tree(tree) => {
             let walker = Meeting {
                 reading: below,
@@ -213,7 +213,7 @@ pub(crate) fn search_answers(
         between: 0,
     };
     match first {
-        Answer::Void => search_second(&reading, Leaf::Void, second, 0, context, work),
+        Answer::Void => search_second(&reading, TreeLeaf::Void, second, 0, context, work),
         Answer::Tree(tree) => walk(
             &Searching { reading, second },
             tree.root(),

@@ -10,15 +10,15 @@ use Rattle.walk_laws.proofs.SecondTree.{second-scoped}
 use Rattle.quast.specs.Trees.{ScopedTree, IsQuast}
 use Rattle.quast_walk.specs.Faults.{by_run_fault}
 use Rattle.quast_walk.specs.Readings.{leaf_answer, leaf_tree, IsTreeAt}
-use Rattle.quast_walk.specs.declared.reading.Leaf as code
+use Rattle.quast_walk.specs.declared.reading.TreeLeaf as code
 use Rattle.quast_walk.proofs.Placing.{spread_tree-none}
 
 -- a leaf of a tree that is read as it stands
-pub leaf_scoped : (m n w : ℕ) (l : code.Leaf) → n ≡ 0 → IsTrue (is_scoped w (spread_tree m n (leaf_tree l))) → IsTrue (is_scoped w (leaf_tree l))
+pub leaf_scoped : (m n w : ℕ) (l : code.TreeLeaf) → n ≡ 0 → IsTrue (is_scoped w (spread_tree m n (leaf_tree l))) → IsTrue (is_scoped w (leaf_tree l))
 leaf_scoped m n w l none h = subst (λ (t : Tree). IsTrue (is_scoped w t)) (ap (λ (k : ℕ). spread_tree m k (leaf_tree l)) none ∙ spread_tree-none m (leaf_tree l)) h
 
 -- so it is the leaf that it is
-pub leaf_whole : (m n : ℕ) (l : code.Leaf) → n ≡ 0 → leaf_answer l ≡ Solved (leaf_tree l) → leaf_answer l ≡ Solved (spread_tree m n (leaf_tree l))
+pub leaf_whole : (m n : ℕ) (l : code.TreeLeaf) → n ≡ 0 → leaf_answer l ≡ Solved (leaf_tree l) → leaf_answer l ≡ Solved (spread_tree m n (leaf_tree l))
 leaf_whole m n l none kind = kind ∙ ap Solved (sym (ap (λ (k : ℕ). spread_tree m k (leaf_tree l)) none ∙ spread_tree-none m (leaf_tree l)))
 
 -- the second tree where it is walked

@@ -9,18 +9,18 @@ use Rattle.quast.specs.Components.{IsComponent}
 use Rattle.context.specs.Scoped.{ScopedForms}
 use Rattle.quast.specs.declared.answer.Answer.{Answer}
 use Rattle.quast.specs.declared.answer.Answer.TheVariants as answer
-use Rattle.quast_walk.specs.declared.reading.Leaf.{Leaf}
-use Rattle.quast_walk.specs.declared.reading.Leaf.TheVariants as leaf
+use Rattle.quast_walk.specs.declared.reading.TreeLeaf.{TreeLeaf}
+use Rattle.quast_walk.specs.declared.reading.TreeLeaf.TheVariants as leaf
 
 -- ---- leaves
 
 -- a leaf as an answer; as a tree, in which void counts as bottom
-abbrev pub leaf_answer : Leaf → model.Answer
+abbrev pub leaf_answer : TreeLeaf → model.Answer
 leaf_answer leaf.Void = model.Void
 leaf_answer leaf.Bottom = model.Solved model.Bottom
 leaf_answer (leaf.List cs) = model.Solved (model.Leaf cs.now)
 
-abbrev pub leaf_tree : Leaf → Tree
+abbrev pub leaf_tree : TreeLeaf → Tree
 leaf_tree leaf.Void = model.Bottom
 leaf_tree leaf.Bottom = model.Bottom
 leaf_tree (leaf.List cs) = model.Leaf cs.now
@@ -46,7 +46,7 @@ pub record IsTreeAt (m n w : ℕ) (t : Tree) : Type 0 where
   pub numbers : IsTrue (tree_fits t)
 
 -- a leaf of such a tree
-pub record IsLeafAt (m n w : ℕ) (l : Leaf) : Type 0 where
+pub record IsLeafAt (m n w : ℕ) (l : TreeLeaf) : Type 0 where
   pub kind : leaf_answer l ≡ model.Solved (leaf_tree l)
   pub tree : IsTreeAt m n w (leaf_tree l)
 

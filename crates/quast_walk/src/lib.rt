@@ -11,7 +11,7 @@ mod steps;
 mod tree_walk;
 
 pub use differences::{above, below, difference, negated};
-pub use reading::{Leaf, Reading};
+pub use reading::{Reading, TreeLeaf};
 pub use refusal::ToolRefusal;
 pub use spreading::{spread, spread_list};
 pub use starting::{context_of, levels, point};

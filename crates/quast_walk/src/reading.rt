@@ -5,7 +5,7 @@ use std::alloc::Global;
 
 /// A leaf of an answer: `void`, a bottom, or a list.
 #[derive(Clone, Copy)]
-pub enum Leaf<'t> {
+pub enum TreeLeaf<'t> {
     Void,
     Bottom,
     List(&'t [Component]),

@@ -14,7 +14,7 @@ ghost use Rattle.quast_walk.specs.Faults.{tool_fault};
 ghost use Rattle.quast_walk.specs.Readings.{leaf_tree, IsTreeAt, IsLeafAt, AreBranches, HasRoom};
 ghost use Rattle.quast_walk.specs.Visits.{visit_of, below_then, both_trees, IsBelow, IsCondition, PassesTo};
 
-use crate::reading::{Leaf, Reading};
+use crate::reading::{Reading, TreeLeaf};
 use crate::refusal::ToolRefusal;
 use crate::spreading::spread;
 use crate::steps::{check_sign, enter, go_below, leave, mark, opposite, sign};
@@ -70,7 +70,7 @@ pub trait Walker {
     /// At a leaf. The context is given back as it was.
     fn at_leaf(
         &self,
-        leaf: Leaf,
+        leaf: TreeLeaf,
         depth: u64,
         context: &mut Context,
         work: &mut Work,
@@ -218,8 +218,8 @@ pub fn walk<W: Walker>(
     ensures kept { IsKeptContext context.old context.new }
 {
     match node {
-        Node::Bottom => walker.at_leaf(Leaf::Bottom, depth, context, work),
-        Node::Leaf(list) => walker.at_leaf(Leaf::List(list.as_slice()), depth, context, work),
+        Node::Bottom => walker.at_leaf(TreeLeaf::Bottom, depth, context, work),
+        Node::Leaf(list) => walker.at_leaf(TreeLeaf::List(list.as_slice()), depth, context, work),
         Node::Select(form, first, second) => {
             let form = read(walker, form)?;
             match sign(walker.reading().alloc, &form, context, work)? {

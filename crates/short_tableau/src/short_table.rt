@@ -21,7 +21,7 @@ use crate::row::ShortRow;
 use crate::rows::{
     coef_at, constant_at, first_below_in, numbers_in, pivot_rows, row_in, turn_rows,
 };
-use crate::wide::widened;
+use crate::wide::widen_numbers;
 use affine_forms::WantOfMemory;
 use std::alloc::Global;
 use std::marker::Model;
@@ -143,7 +143,7 @@ impl ShortTableau {
         ensures row { IsShortReduced self.now.unknowns (model.row_at self.now.rows i) }
     {
         let row = numbers_in(&self.numbers, self.unknowns, self.count, i);
-        widened(alloc, row)
+        widen_numbers(alloc, row)
     }
 
     /// Whether the constant of row i is below 0.

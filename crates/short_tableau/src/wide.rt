@@ -11,7 +11,7 @@ use affine_forms::{WantOfMemory, floor_div, gcd};
 use std::alloc::Global;
 
 // The numbers in 128 bits.
-pub(crate) fn widened(alloc: Global, numbers: &[i64]) -> Result<Vec<i128>, WantOfMemory>
+pub(crate) fn widen_numbers(alloc: Global, numbers: &[i64]) -> Result<Vec<i128>, WantOfMemory>
     ensures { IfOk result (λ wide. wide.items ≡ numbers.now) }
 {
     let mut wide = Vec::with_capacity(alloc, numbers.len())?;

@@ -17,7 +17,7 @@ use pip_problem::Refusal;
 use std::alloc::Global;
 
 // The opposite of a form, whose listed number fits.
-fn turned(form: Form) -> Form
+fn take_opposite(form: Form) -> Form
     requires { IsTrue (all_fit (opposite_listed form)) }
     ensures { result ≡ opposite form }
 {
@@ -69,7 +69,7 @@ fn class_by_points(
         context.keep_room(below);
         return Ok(Class::Plus);
     }
-    class_above(alloc, context, turned(below), work)
+    class_above(alloc, context, take_opposite(below), work)
 }
 
 // The class of the form with these entries: by their signs where they tell it, else by points.

@@ -35,10 +35,10 @@ made_leaves-append P (L ∷ Ls) Ms (ks ∷ kss) jss w e =
     let rest = λ (xs : List LeafProofs). made_leaves P Ms jss >>= λ ys. give (xs ++ ys) in
     let put = λ (p : List Refutation) (ps : List LeafProofs). let qs : List LeafProofs = unshared p ∷ ps in give qs in
     same_after (made_leaf P L ks L.list w) (λ p. made_leaves P (Ls ++ Ms) (kss ++ jss) >>= put p) (λ p. made_leaves P Ls kss >>= put p >>= rest) (λ p v.
-        ap (λ (o : Outcome (List LeafProofs)). go_on o (put p)) (made_leaves-append P Ls Ms kss jss v (omega arith))
-        ∙ grouped (made_leaves P Ls kss v) rest (put p)
-        ∙ same_after (made_leaves P Ls kss v) (λ xs. rest xs >>= put p) (λ xs. put p xs >>= rest) (λ xs u. grouped (made_leaves P Ms jss u) (λ ys. give (xs ++ ys)) (put p))
-        ∙ sym (grouped (made_leaves P Ls kss v) (put p) rest))
+    ap (λ (o : Outcome (List LeafProofs)). go_on o (put p)) (made_leaves-append P Ls Ms kss jss v (omega arith))
+    ∙ grouped (made_leaves P Ls kss v) rest (put p)
+    ∙ same_after (made_leaves P Ls kss v) (λ xs. rest xs >>= put p) (λ xs. put p xs >>= rest) (λ xs u. grouped (made_leaves P Ms jss u) (λ ys. give (xs ++ ys)) (put p))
+    ∙ sym (grouped (made_leaves P Ls kss v) (put p) rest))
     ∙ sym (grouped (made_leaf P L ks L.list w) (λ p. made_leaves P Ls kss >>= put p) rest)
 
 pub length-path_quotients : (n : ℕ) (ks : List PathQuotient) (t : Tree) → length (path_quotients n ks t) ≡ leaves t
@@ -102,8 +102,8 @@ module _ (P : Problem) (s : ℕ) (path : List (List ℤ)) (list : Option (List C
     leaf_same (Some cs) w =
         ap (λ (x : Outcome (List Refutation)). go_on x (all_by cs zs)) (refutations_same 0 (map (row_premises P (case_by ys) cs) P.rows) w)
         ∙ same_after (made_refutations P (case_by ys) ks 0 (map (joined (leaf_forms P (case_by ys))) (map (row_premises P (case_by ys) cs) P.rows)) w) (all_by cs zs) (all_by cs ys) (λ a v.
-            ap (λ (x : Outcome (List Refutation)). go_on x (λ (b : List Refutation). least_by cs zs >>= λ c. give (a ++ b ++ c))) (refutations_same 0 (map (sign_premises P (case_by ys)) cs) v)
-            ∙ same_after (signs_by cs ys v) _ _ (λ b u. ap (λ (x : Outcome (List Refutation)). go_on x (λ (c : List Refutation). give (a ++ b ++ c))) (refutations_same P.unknowns (map (least_premises P (case_by ys)) (fronts_from [] cs)) u)))
+        ap (λ (x : Outcome (List Refutation)). go_on x (λ (b : List Refutation). least_by cs zs >>= λ c. give (a ++ b ++ c))) (refutations_same 0 (map (sign_premises P (case_by ys)) cs) v)
+        ∙ same_after (signs_by cs ys v) _ _ (λ b u. ap (λ (x : Outcome (List Refutation)). go_on x (λ (c : List Refutation). give (a ++ b ++ c))) (refutations_same P.unknowns (map (least_premises P (case_by ys)) (fronts_from [] cs)) u)))
 
   -- where a number of the path does not fit
   module _ (zs : List ℤ) (unfit : all_fit zs ≡ false) where
@@ -202,9 +202,9 @@ module _ (P : Problem) (q : TrailForms) (c : Certificate) (w : Work) where
         ap (λ (x : Outcome (List LeafProofs)). go_on x (adds c)) (leaves-if P q.scope q.forms [] (length q.forms) q.quotients v a b w)
         ∙ grouped first_leaves more (adds c)
         ∙ same_after first_leaves (λ xs. more xs >>= adds c) (λ xs. adds c xs >>= later) (λ xs u.
-            grouped (second u) (λ ys. give (xs ++ ys)) (adds c)
-            ∙ same_after (second u) (λ ys. adds c (xs ++ ys)) (adds (record c { leaves = c.leaves ++ xs }))
-            (λ ys m. ap (λ (ls : List LeafProofs). let f : Certificate = record c { leaves = ls } in give f m) (sym (append_assoc c.leaves xs ys))))
+        grouped (second u) (λ ys. give (xs ++ ys)) (adds c)
+        ∙ same_after (second u) (λ ys. adds c (xs ++ ys)) (adds (record c { leaves = c.leaves ++ xs }))
+        (λ ys m. ap (λ (ls : List LeafProofs). let f : Certificate = record c { leaves = ls } in give f m) (sym (append_assoc c.leaves xs ys))))
         ∙ sym (grouped first_leaves (adds c) later)
         ∙ ap (λ (x : Outcome Certificate). go_on x later) first_is
 

@@ -32,10 +32,10 @@ module _ (P : Problem) (L : LeafCase) (ks : List PathQuotient) (f : ℕ → ℕ)
       let k = r + 1 + length ss in
       let place : r + 1 + length ss ≡ r + length (s ∷ ss) = omega arith in
       same_after (made_refutation P L ks (f r) s w) (λ x. made_from (r + 1) (ss ++ ts) >>= put x) (λ x. made_from (r + 1) ss >>= put x >>= rest k) (λ x v.
-          ap (λ (o : Outcome (List Refutation)). go_on o (put x)) (made_from-append (r + 1) ss ts v)
-          ∙ grouped (made_from (r + 1) ss v) (rest k) (put x)
-          ∙ same_after (made_from (r + 1) ss v) (λ xs. rest k xs >>= put x) (λ xs. put x xs >>= rest k) (λ xs u. grouped (made_from k ts u) (λ ys. give (xs ++ ys)) (put x))
-          ∙ sym (grouped (made_from (r + 1) ss v) (put x) (rest k)))
+      ap (λ (o : Outcome (List Refutation)). go_on o (put x)) (made_from-append (r + 1) ss ts v)
+      ∙ grouped (made_from (r + 1) ss v) (rest k) (put x)
+      ∙ same_after (made_from (r + 1) ss v) (λ xs. rest k xs >>= put x) (λ xs. put x xs >>= rest k) (λ xs u. grouped (made_from k ts u) (λ ys. give (xs ++ ys)) (put x))
+      ∙ sym (grouped (made_from (r + 1) ss v) (put x) (rest k)))
       ∙ sym (grouped (made_refutation P L ks (f r) s w) (λ x. made_from (r + 1) ss >>= put x) (rest k))
       ∙ ap (λ (n : ℕ). go_on (made_from r (s ∷ ss) w) (rest n)) place
 
@@ -108,10 +108,10 @@ module _ (P : Problem) (L : LeafCase) (ks : List PathQuotient) where
           let least_from = made_refutations P L ks P.unknowns least in
           ap (λ (o : Outcome (List Refutation)). go_on o (λ (a : List Refutation). signs_from >>= λ b. least_from >>= each a b)) (made_from-same P L ks f 0 0 rows w h)
           ∙ same_after (made_from P L ks f 0 rows w) (λ a. signs_from >>= λ b. least_from >>= each a b) (λ a. two a >>= last) (λ a v.
-              ap (λ (o : Outcome (List Refutation)). go_on o (λ (b : List Refutation). least_from >>= each a b)) (made_from-same P L ks f 0 (0 + length rows) signs v k)
-              ∙ same_after (made_from P L ks f (0 + length rows) signs v) (λ b. least_from >>= each a b) (λ b. last (a ++ b))
-              (λ b u. ap (λ (o : Outcome (List Refutation)). go_on o (each a b)) (made_from-same P L ks f P.unknowns (0 + length (rows ++ signs)) least u l))
-              ∙ sym (grouped (made_from P L ks f (0 + length rows) signs v) (λ b. give (a ++ b)) last))
+          ap (λ (o : Outcome (List Refutation)). go_on o (λ (b : List Refutation). least_from >>= each a b)) (made_from-same P L ks f 0 (0 + length rows) signs v k)
+          ∙ same_after (made_from P L ks f (0 + length rows) signs v) (λ b. least_from >>= each a b) (λ b. last (a ++ b))
+          (λ b u. ap (λ (o : Outcome (List Refutation)). go_on o (each a b)) (made_from-same P L ks f P.unknowns (0 + length (rows ++ signs)) least u l))
+          ∙ sym (grouped (made_from P L ks f (0 + length rows) signs v) (λ b. give (a ++ b)) last))
           ∙ sym (grouped (made_from P L ks f 0 rows w) two last)
           ∙ ap (λ (o : Outcome (List Refutation)). go_on o last) (sym (made_from-append P L ks f 0 rows signs w))
           ∙ sym (made_from-append P L ks f 0 (rows ++ signs) least w)

@@ -44,7 +44,7 @@ pub fn solve_with_certificate(
     ensures scope { IfOk result (λ r. IsOver problem.now.params r.0) }
     ensures certificate { IfOk result (λ r. IfOk r.1 (IsCertificateOf problem.now (answer_of r.0))) }
 {
-    let certified = certified(alloc, problem, limits);
+    let certified = certificate_from_start(alloc, problem, limits);
     certified
 }
 
@@ -137,7 +137,7 @@ fn if_fits(made: Result<Certificate, Refusal>) -> Result<Result<Certificate, Ove
 }
 
 // The answer and its certificate, from the run's start.
-fn certified(
+fn certificate_from_start(
     alloc: Global,
     problem: &Problem,
     limits: &Limits,

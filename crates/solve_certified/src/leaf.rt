@@ -44,7 +44,7 @@ impl LeafMaking<'_> {
     }
 
     // How many of so many forms that a refutation starts from are the next one's too: of a list's all but the last.
-    fn kept(&self, known: usize) -> usize {
+    fn kept_forms(&self, known: usize) -> usize {
         if self.leaf.list.is_none() {
             return 0;
         }
@@ -87,7 +87,7 @@ impl LeafMaking<'_> {
     {
         let same = known.len().saturating_sub(1);
         self.turn_to(known, r)?;
-        refuter.keep(self.kept(known.len()));
+        refuter.keep(self.kept_forms(known.len()));
         let steps = self
             .scope
             .refute(refuter, known, same, self.unknowns(r), work)?;

@@ -8,14 +8,14 @@ ghost use Rattle.solve_certified.specs.Trails.{below_quotient};
 
 use crate::quotients::PathQuotient;
 use affine_forms::{Form, FormRefusal, WantOfMemory};
-use certificate_check::Path;
+use certificate_check::NodePath;
 use std::alloc::Global;
 use std::marker::Model;
 
 // The way to a node of a tree: its forms, and its quotients.
 #[derive(Drop)]
 pub(crate) struct Trail {
-    path: Path,
+    path: NodePath,
     quotients: Vec<PathQuotient>,
 }
 
@@ -41,7 +41,7 @@ impl Trail {
         ensures { result ≡ record { scope = params; forms = []; quotients = [] } }
     {
         Trail {
-            path: Path::new(alloc, params),
+            path: NodePath::new(alloc, params),
             quotients: Vec::new(alloc),
         }
     }

@@ -15,7 +15,7 @@ use Rattle.tableau_row.specs.Short.{IsShort, IsShortRow}
 use Rattle.tableau.specs.KeptRows.{KeptRows, IsPlace, IsKnown, IsPlain, IsFlat, IsPlainRow, IsUnsealed, row_length, row_kept, rows_kept, with_more}
 use Rattle.tableau.specs.declared.kept.Kept.{Kept}
 use Rattle.tableau.specs.declared.kept.Kept.TheVariants as kept
-use Rattle.tableau.specs.declared.kept.Place.{Place}
+use Rattle.tableau.specs.declared.kept.RowPlace.{RowPlace}
 use Rattle.tableau_row.proofs.Contents.{content-one}
 use Rattle.tableau_row.proofs.Numbers.{row_again}
 use Rattle.tableau_row.proofs.UnitRows.{unit_is}
@@ -50,12 +50,12 @@ plain_one n w zs more (kept.At p) h e = ap is_unit_row (kept_append n w zs more 
 plain_append : (n w : ℕ) (zs more : List ℤ) (ks : List Kept) → All (IsPlace n w (length zs)) ks → All (IsPlain n w zs) ks → All (IsPlain n w (zs ++ more)) ks
 plain_append n w zs more ks places h = λ i d lt. plain_one n w zs more _ (places i d lt) (h i d lt)
 
-last_row : (n w : ℕ) (zs more : List ℤ) (last : Place) → last.first ≡ length zs → length more ≡ row_length n w → row_kept n w (zs ++ more) (kept.At last) ≡ row_of_numbers n more
+last_row : (n w : ℕ) (zs more : List ℤ) (last : RowPlace) → last.first ≡ length zs → length more ≡ row_length n w → row_kept n w (zs ++ more) (kept.At last) ≡ row_of_numbers n more
 last_row n w zs more last f e =
     ap (λ (xs : List ℤ). row_of_numbers n (take (row_length n w) xs)) (drop_at zs more last.first (sym f))
     ∙ ap (row_of_numbers n) (take_all (row_length n w) more (omega (arith, e)))
 
-pub rows_more : (n w : ℕ) (zs more : List ℤ) (ks : List Kept) (last : Place) → All (IsPlace n w (length zs)) ks → last.first ≡ length zs → length more ≡ row_length n w
+pub rows_more : (n w : ℕ) (zs more : List ℤ) (ks : List Kept) (last : RowPlace) → All (IsPlace n w (length zs)) ks → last.first ≡ length zs → length more ≡ row_length n w
     → rows_kept n w (zs ++ more) (ks ++ kept.At last ∷ []) ≡ rows_kept n w zs ks ++ row_of_numbers n more ∷ []
 rows_more n w zs more ks last h f e =
     map-append (row_kept n w (zs ++ more)) ks (kept.At last ∷ [])
@@ -87,7 +87,7 @@ flat_unit rs r e = flat_append rs (r ∷ []) ∙ rw e (append-nil (flat_numbers 
 room_more : (k l : ℕ) → (k + 1) * l ≡ k * l + l
 room_more k l = add-mul k 1 l ∙ omega arith
 
-pub with_plain : (n w : ℕ) (zs more : List ℤ) (ks : List Kept) (last : Place) → IsFlat n w zs ks → last.first ≡ length zs → IsPlainRow n w more last.short → IsFlat n w (zs ++ more) (ks ++ kept.At last ∷ [])
+pub with_plain : (n w : ℕ) (zs more : List ℤ) (ks : List Kept) (last : RowPlace) → IsFlat n w zs ks → last.first ≡ length zs → IsPlainRow n w more last.short → IsFlat n w (zs ++ more) (ks ++ kept.At last ∷ [])
 with_plain n w zs more ks last h f p =
     let e = p.length in
     let rows = rows_more n w zs more ks last h.places f e in
@@ -144,17 +144,17 @@ with_unit n w c zs ks h lt =
 
 -- ---- the row whose numbers stand last
 
-begun : (n w : ℕ) (last : Place) (zs : List ℤ) (ks : List Kept) → IsUnsealed n w last zs ks → last.first ≡ length (take last.first zs)
+begun : (n w : ℕ) (last : RowPlace) (zs : List ℤ) (ks : List Kept) → IsUnsealed n w last zs ks → last.first ≡ length (take last.first zs)
 begun n w last zs ks h = sym (length-take-le last.first zs (omega (arith, h.begun)))
 
-pub sealed : (n w : ℕ) (last : Place) (zs : List ℤ) (ks : List Kept) → IsUnsealed n w last zs ks → is_unit_row (row_of_numbers n (drop last.first zs)) ≡ false
+pub sealed : (n w : ℕ) (last : RowPlace) (zs : List ℤ) (ks : List Kept) → IsUnsealed n w last zs ks → is_unit_row (row_of_numbers n (drop last.first zs)) ≡ false
     → IsFlat n w zs (ks ++ kept.At last ∷ [])
 sealed n w last zs ks h plain =
     let long : length (drop last.first zs) ≡ row_length n w = simp length-drop (omega (arith, h.begun)) in
     subst (λ (xs : List ℤ). IsFlat n w xs (ks ++ kept.At last ∷ [])) (take-append-drop last.first zs)
     (with_plain n w (take last.first zs) (drop last.first zs) ks last h.flat (begun n w last zs ks h) (record { length = long; row = h.row; reduced = h.reduced; short = h.short; plain = plain }))
 
-pub sealed_rows : (n w : ℕ) (last : Place) (zs : List ℤ) (ks : List Kept) → IsUnsealed n w last zs ks
+pub sealed_rows : (n w : ℕ) (last : RowPlace) (zs : List ℤ) (ks : List Kept) → IsUnsealed n w last zs ks
     → rows_kept n w zs (ks ++ kept.At last ∷ []) ≡ rows_kept n w (take last.first zs) ks ++ row_of_numbers n (drop last.first zs) ∷ []
 sealed_rows n w last zs ks h =
     let long : length (drop last.first zs) ≡ row_length n w = simp length-drop (omega (arith, h.begun)) in
@@ -163,7 +163,7 @@ sealed_rows n w last zs ks h =
 
 -- ---- a row's numbers behind those of the others
 
-pub unsealed : (n w : ℕ) (last : Place) (zs all : List ℤ) (ks : List Kept) (r : Row) → all ≡ zs ++ numbers_of r → last.first ≡ length zs → IsFlat n w zs ks → IsRow n w r → IsReduced r
+pub unsealed : (n w : ℕ) (last : RowPlace) (zs all : List ℤ) (ks : List Kept) (r : Row) → all ≡ zs ++ numbers_of r → last.first ≡ length zs → IsFlat n w zs ks → IsRow n w r → IsReduced r
     → (IsTrue last.short → IsShortRow r) → IsUnsealed n w last all ks
 unsealed n w last zs all ks r e f h row reduced short =
     let front : take last.first all ≡ zs = ap (take last.first) e ∙ take_at zs (numbers_of r) last.first (sym f) in

@@ -27,7 +27,7 @@ use Rattle.tableau.specs.KeptRows.{KeptRows, IsFlat, IsRun, IsSolvable, kept_sho
 use Rattle.tableau.specs.Along.{rows_along, IsMadeRow, AreAlong, AreMade, ArePair, IsSolvedPair, IsHere, flat_rows, is_ready, is_ready_middle, is_ready_front, pivoted}
 use Rattle.tableau.specs.declared.kept.Kept.{Kept}
 use Rattle.tableau.specs.declared.kept.Kept.TheVariants as kept
-use Rattle.tableau.specs.declared.kept.Place.{Place}
+use Rattle.tableau.specs.declared.kept.RowPlace.{RowPlace}
 
 -- the first kept row, and the others
 pub first_kept : (ks first rest : List Kept) (x d : Kept) → 0 < length ks → first ≡ take 1 ks → rest ≡ drop 1 ks → x ≡ get_or first 0 d → ks ≡ x ∷ rest
@@ -117,7 +117,7 @@ module _ (n w c to : ℕ) (b : Bool) (p : Row) (f g : List Row → List Row) (pa
       rw (whole, same_first ks first rest x some is_first is_rest is rest_now)
       (made_unit n w k to b (eliminated p c (unit_row n w k)) (g (rows_along n w zs rest)) now rest_now here.0 turned made)
 
-  pub part_at : (q : Place) (s other : Bool) (row behind row_now : List ℤ) → kept.At q ≡ get_or first 0 (kept.At q) → row ≡ take (row_length n w) zs → behind ≡ drop (row_length n w) zs
+  pub part_at : (q : RowPlace) (s other : Bool) (row behind row_now : List ℤ) → kept.At q ≡ get_or first 0 (kept.At q) → row ≡ take (row_length n w) zs → behind ≡ drop (row_length n w) zs
       → row_of_numbers n row_now ≡ eliminated p c (row_of_numbers n row) → IsMadeRow n w s other row_now → (IsTrue b → IsTrue other) → AreMade n w (g (rows_along n w behind rest)) (to + row_length n w) b now rest_now
       → AreMade n w (f (rows_along n w zs ks)) to b (row_now ++ now) (slice_set first 0 (kept.At (record { first = to; short = s })) ++ rest_now)
   part_at q s other row behind row_now is is_row is_behind value own so made =
@@ -172,7 +172,7 @@ module _ (c k : ℕ) (ks first rest : List Kept) (x : Kept) (some : 0 < length k
   pub middle_first : IsTrue (is_ready c x)
   middle_first = ready_parts.0
 
-pub room_behind : (n w c k : ℕ) (zs behind : List ℤ) (ks first rest : List Kept) (q : Place) → 0 < length ks → first ≡ take 1 ks → rest ≡ drop 1 ks → kept.At q ≡ get_or first 0 (kept.At q) → 0 < k → IsTrue (is_ready_middle c k ks)
+pub room_behind : (n w c k : ℕ) (zs behind : List ℤ) (ks first rest : List Kept) (q : RowPlace) → 0 < length ks → first ≡ take 1 ks → rest ≡ drop 1 ks → kept.At q ≡ get_or first 0 (kept.At q) → 0 < k → IsTrue (is_ready_middle c k ks)
     → AreAlong n w true zs ks → behind ≡ drop (row_length n w) zs → row_length n w ≤ length behind
 room_behind n w c k zs behind ks first rest q some f g is h ready along e =
     let here = subst (AreAlong n w true zs) (kept_parts ks first rest (kept.At q) some f g is) along in
@@ -290,7 +290,7 @@ listed_rows n w c p (r ∷ rs) hp column short rows shorts =
 
 -- ---- the rows of a table
 
-pub pair_made : (n w most : ℕ) (zs : List ℤ) (a b : Place) → IsFlat n w zs (kept.At a ∷ kept.At b ∷ []) → a.short ≡ true → b.short ≡ true
+pub pair_made : (n w most : ℕ) (zs : List ℤ) (a b : RowPlace) → IsFlat n w zs (kept.At a ∷ kept.At b ∷ []) → a.short ≡ true → b.short ≡ true
     → ArePair (kept_rows n w most (rows_kept n w zs (kept.At a ∷ kept.At b ∷ []))) (take (row_length n w) zs) (drop (row_length n w) zs)
 pair_made n w most zs a b flat e f =
     let l = row_length n w in
@@ -324,7 +324,7 @@ pub pattern_kept : (ks : List Kept) (x d : Kept) → 0 < length ks → x ≡ get
 pattern_kept [] x d some e = absurd (omega arith)
 pattern_kept (k ∷ ks) x d some e = rw (e, take_all (length (k ∷ ks) - 1) ks (omega arith)) refl
 
-pub laid_at : (next pushed last : KeptRows) (zs row behind : List ℤ) (ks rest : List Kept) (q : Place) → ks ≡ kept.At q ∷ rest → row ≡ take (row_length next.unknowns next.width) zs → behind ≡ drop (row_length next.unknowns next.width) zs
+pub laid_at : (next pushed last : KeptRows) (zs row behind : List ℤ) (ks rest : List Kept) (q : RowPlace) → ks ≡ kept.At q ∷ rest → row ≡ take (row_length next.unknowns next.width) zs → behind ≡ drop (row_length next.unknowns next.width) zs
     → IsReduced (row_of_numbers next.unknowns row) → pushed ≡ with_more next (divided (row_of_numbers next.unknowns row)) → last ≡ with_rows pushed (rows_along pushed.unknowns pushed.width behind rest)
     → last ≡ with_rows next (rows_along next.unknowns next.width zs ks)
 laid_at next pushed last zs row behind ks rest q e f g reduced made laid =
@@ -359,7 +359,7 @@ two_kept (a ∷ []) x y d some few e f = absurd (omega arith)
 two_kept (a ∷ b ∷ []) x y d some few e f = rw (e, f) refl
 two_kept (a ∷ b ∷ k ∷ ks) x y d some few e f = absurd (omega arith)
 
-pub pair_view : (n w most : ℕ) (zs front back : List ℤ) (ks : List Kept) (a b : Place) (t : KeptRows) → ks ≡ kept.At a ∷ kept.At b ∷ [] → IsFlat n w zs ks → a.short ≡ true → b.short ≡ true → kept_rows n w most (rows_kept n w zs ks) ≡ t
+pub pair_view : (n w most : ℕ) (zs front back : List ℤ) (ks : List Kept) (a b : RowPlace) (t : KeptRows) → ks ≡ kept.At a ∷ kept.At b ∷ [] → IsFlat n w zs ks → a.short ≡ true → b.short ≡ true → kept_rows n w most (rows_kept n w zs ks) ≡ t
     → front ≡ take (row_length n w) zs → back ≡ drop (row_length n w) zs → ArePair t front back
 pair_view n w most zs front back ks a b t e flat f g view h k =
     let pair = pair_made n w most zs a b (subst (IsFlat n w zs) e flat) f g in

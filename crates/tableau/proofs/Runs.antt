@@ -13,7 +13,7 @@ use Rattle.tableau.specs.KeptRows.{IsPlace, IsKnown, IsPlain, IsPlainRow, IsFlat
 use Rattle.tableau.specs.declared.kept.Lent.{Lent}
 use Rattle.tableau.specs.declared.kept.Kept.{Kept}
 use Rattle.tableau.specs.declared.kept.Kept.TheVariants as kept
-use Rattle.tableau.specs.declared.kept.Place.{Place}
+use Rattle.tableau.specs.declared.kept.RowPlace.{RowPlace}
 use Rattle.tableau.proofs.Flat.{with_plain, with_unit, rows_more, rows_unit}
 use Rattle.tableau.proofs.Turning.{all_kept, row_is}
 
@@ -146,7 +146,7 @@ with_run n w first to zs xs ks (kept.Unit c ∷ ls) a b le e h lent flat =
 with_run n w first to zs xs ks (kept.At p ∷ ls) a b le e h lent flat =
     let l = row_length n w in
     let more = take l (drop a xs) in
-    let last : Place = record { first = p.first - first + to; short = p.short } in
+    let last : RowPlace = record { first = p.first - first + to; short = p.short } in
     let at : p.first ≡ a = h.0 in
     let within = All-head (IsPlace n w (length xs)) (kept.At p) ls lent.places in
     let long : length more ≡ l = length-take-le l (drop a xs) (rw (length-drop a xs) (omega (arith, within, at))) in

@@ -9,7 +9,7 @@ use Rattle.tableau_row.specs.Flat.{numbers_of, row_of_numbers, is_unit_row}
 use Rattle.tableau.specs.declared.kept.Lent.{Lent}
 use Rattle.tableau.specs.declared.kept.Kept.{Kept}
 use Rattle.tableau.specs.declared.kept.Kept.TheVariants as kept
-use Rattle.tableau.specs.declared.kept.Place.{Place}
+use Rattle.tableau.specs.declared.kept.RowPlace.{RowPlace}
 
 -- rows over so many columns and places, and the number of rows that there is room for
 pub record KeptRows : Type 0 where
@@ -191,7 +191,7 @@ pub record IsPlainRow (n w : ℕ) (numbers : List ℤ) (known : Bool) : Type 0 w
   pub plain : is_unit_row (row_of_numbers n numbers) ≡ false
 
 -- the numbers from the place on are those of one more row
-pub record IsUnsealed (n w : ℕ) (last : Place) (numbers : List ℤ) (ks : List Kept) : Type 0 where
+pub record IsUnsealed (n w : ℕ) (last : RowPlace) (numbers : List ℤ) (ks : List Kept) : Type 0 where
   pub flat : IsFlat n w (take last.first numbers) ks
   pub row : IsRow n w (row_of_numbers n (drop last.first numbers))
   pub reduced : IsReduced (row_of_numbers n (drop last.first numbers))

@@ -2,7 +2,7 @@ ghost use Rattle.std.specs.Prelude.{◌≡◌, ◌+◌, ◌-◌, ◌<◌, ◌≤
 ghost use Rattle.tableau.specs.KeptRows.{IsOver, IsLent, AreLent, IsRun, IsMovable, SameRows, moved_kept, row_length, lent_row, lent_rows, with_more, with_rows};
 
 use crate::flat_rows::FlatRows;
-use crate::kept::{Kept, Lent, Place};
+use crate::kept::{Kept, Lent, RowPlace};
 use crate::pushing::append_kept;
 use affine_forms::WantOfMemory;
 use std::alloc::Global;
@@ -21,13 +21,13 @@ fn append_all_kept(kept: &mut Vec<Kept>, others: &[Kept])
 }
 
 // A kept row whose numbers move with those from a place on to another.
-fn moved(one: Kept, first: usize, to: usize) -> Kept
+fn move_row(one: Kept, first: usize, to: usize) -> Kept
     requires { IsMovable first to one }
     ensures { result ≡ moved_kept first to one }
 {
     match one {
         Kept::Unit(c) => Kept::Unit(c),
-        Kept::At(at) => Kept::At(Place {
+        Kept::At(at) => Kept::At(RowPlace {
             first: at.first - first + to,
             short: at.short,
         }),
@@ -42,7 +42,7 @@ fn append_moved(kept: &mut Vec<Kept>, others: &[Kept], first: usize, to: usize)
     ensures room { vec_capacity kept.old ≤ vec_capacity kept.new }
 {
     for one in others {
-        append_kept(kept, moved(*one, first, to));
+        append_kept(kept, move_row(*one, first, to));
     }
 }
 

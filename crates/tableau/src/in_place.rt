@@ -11,7 +11,7 @@ ghost use Rattle.tableau_row.specs.Views.{row_of};
 
 use crate::copying::copy_kept;
 use crate::flat_rows::FlatRows;
-use crate::kept::{Kept, Place};
+use crate::kept::{Kept, RowPlace};
 use std::mem::swap;
 use tableau_row::{RowView, eliminate, unit_column, view_of};
 
@@ -157,7 +157,7 @@ fn turn_part(
             let size = unknowns + width + 2;
             let (row, behind) = numbers.split_at_mut(size);
             let made = turn_row(row, unknowns, width, p, c);
-            first[0] = Kept::At(Place {
+            first[0] = Kept::At(RowPlace {
                 first: to,
                 short: made.short,
             });
@@ -202,7 +202,7 @@ fn turn_middle(
         Kept::At(_) => {
             let (row, behind) = numbers.split_at_mut(size);
             let made = turn_row(row, unknowns, width, p, c);
-            first[0] = Kept::At(Place {
+            first[0] = Kept::At(RowPlace {
                 first: to,
                 short: made.short,
             });
@@ -273,7 +273,7 @@ fn turn_front(
             );
             let (room, _) = numbers.split_at_mut(size);
             room.copy_from_slice(solved);
-            first[0] = Kept::At(Place {
+            first[0] = Kept::At(RowPlace {
                 first: to,
                 short: true,
             });
@@ -282,7 +282,7 @@ fn turn_front(
         Kept::At(_) => {
             let (row, behind) = numbers.split_at_mut(size);
             let made = turn_row(row, unknowns, width, p, c);
-            first[0] = Kept::At(Place {
+            first[0] = Kept::At(RowPlace {
                 first: to,
                 short: made.short,
             });

@@ -9,7 +9,7 @@ use tableau_row::{RowView, view_of};
 
 // The place of a row's first number, and whether all numbers of the row are known to lie from -(2^63 - 1) to 2^63 - 1.
 #[derive(Clone, Copy)]
-pub(crate) struct Place {
+pub(crate) struct RowPlace {
     pub(crate) first: usize,
     pub(crate) short: bool,
 }
@@ -18,7 +18,7 @@ pub(crate) struct Place {
 #[derive(Clone, Copy)]
 pub(crate) enum Kept {
     Unit(usize),
-    At(Place),
+    At(RowPlace),
 }
 
 // What rows are lent from: the numbers of the rows, and one run of zeros with a 1 for the rows of columns.
@@ -58,7 +58,7 @@ impl<'t> Lent<'t> {
     }
 
     // The row at a place.
-    fn plain(&self, at: Place) -> RowView<'t>
+    fn plain(&self, at: RowPlace) -> RowView<'t>
         requires place { at.first + row_length self.now.unknowns self.now.width ≤ length self.now.numbers.now }
         requires short { IsTrue at.short
             → IsShortRow (row_from_place self.now.unknowns self.now.width self.now.numbers.now at.first) }

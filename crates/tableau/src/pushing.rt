@@ -12,7 +12,7 @@ ghost use Rattle.tableau_row.specs.Rows.{IsRow, IsReduced};
 ghost use Rattle.tableau_row.specs.Views.{row_of};
 
 use crate::flat_rows::FlatRows;
-use crate::kept::{Kept, Place};
+use crate::kept::{Kept, RowPlace};
 use affine_forms::{Form, Overflow};
 use tableau_row::{
     RowView, append_divided, append_eliminated, append_entries, append_rounded, append_solved,
@@ -53,7 +53,13 @@ fn append_form(numbers: &mut Vec<i128>, form: &Form) -> bool
 }
 
 // Keeps the row whose numbers stand last, from the place on: the row of a column as the column.
-fn seal(kept: &mut Vec<Kept>, numbers: &mut Vec<i128>, last: Place, unknowns: usize, width: usize)
+fn seal(
+    kept: &mut Vec<Kept>,
+    numbers: &mut Vec<i128>,
+    last: RowPlace,
+    unknowns: usize,
+    width: usize,
+)
     requires unsealed { IsUnsealed unknowns width last numbers.old.items kept.old.items }
     requires room { vec_len kept.old < vec_capacity kept.old }
     ensures flat { IsFlat unknowns width numbers.new.items kept.new.items }
@@ -92,7 +98,7 @@ impl FlatRows {
     {
         let first = self.numbers.len();
         append_entries(&mut self.numbers, numbers);
-        append_kept(&mut self.kept, Kept::At(Place { first, short }));
+        append_kept(&mut self.kept, Kept::At(RowPlace { first, short }));
     }
 
     // Adds the row of a form over the columns and then the places.
@@ -103,7 +109,7 @@ impl FlatRows {
     {
         let first = self.numbers.len();
         let short = append_form(&mut self.numbers, form);
-        let last = Place { first, short };
+        let last = RowPlace { first, short };
         seal(
             &mut self.kept,
             &mut self.numbers,
@@ -121,7 +127,7 @@ impl FlatRows {
     {
         let first = self.numbers.len();
         let short = append_divided(&mut self.numbers, row);
-        let last = Place { first, short };
+        let last = RowPlace { first, short };
         seal(
             &mut self.kept,
             &mut self.numbers,
@@ -148,7 +154,7 @@ impl FlatRows {
     {
         let first = self.numbers.len();
         let short = append_eliminated(&mut self.numbers, p, c, row, run);
-        let last = Place { first, short };
+        let last = RowPlace { first, short };
         seal(
             &mut self.kept,
             &mut self.numbers,
@@ -170,7 +176,7 @@ impl FlatRows {
     {
         let first = self.numbers.len();
         append_solved(&mut self.numbers, p, c);
-        let last = Place { first, short: true };
+        let last = RowPlace { first, short: true };
         seal(
             &mut self.kept,
             &mut self.numbers,
@@ -191,7 +197,7 @@ impl FlatRows {
     {
         let first = self.numbers.len();
         let short = append_rounded(&mut self.numbers, row, q)?;
-        let last = Place { first, short };
+        let last = RowPlace { first, short };
         seal(
             &mut self.kept,
             &mut self.numbers,
@@ -212,7 +218,7 @@ impl FlatRows {
     {
         let first = self.numbers.len();
         append_widened(&mut self.numbers, row);
-        let last = Place {
+        let last = RowPlace {
             first,
             short: row.is_known_short(),
         };

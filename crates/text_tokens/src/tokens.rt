@@ -190,7 +190,7 @@ fn numeral(place: usize, bytes: &[u8]) -> Lexeme
 }
 
 // The number, with the sign that stands at the front.
-fn signed(bytes: &[u8], number: u64) -> i128
+fn number_with_sign(bytes: &[u8], number: u64) -> i128
     ensures value { result ≡ signed_as bytes.now number }
     ensures fits { Fits result }
 {
@@ -215,7 +215,7 @@ fn short_number(bytes: &[u8]) -> Option<(i128, usize)>
     if digit_len == 0 || value == u64::MAX || digits(behind_stroke(behind)).len() != 0 {
         return None;
     }
-    Some((signed(bytes, value), len))
+    Some((number_with_sign(bytes, value), len))
 }
 
 // The token whose first byte is the first of these.

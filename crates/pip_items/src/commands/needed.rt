@@ -3,12 +3,12 @@ ghost use Rattle.pip_model.specs.Limits.{most_params};
 ghost use Rattle.program_model.specs.ItemKinds as kinds;
 ghost use Rattle.quast.specs.Answers.{IsOver};
 ghost use Rattle.pip_items.specs.Items.{Finds};
-ghost use Rattle.pip_items.specs.Needed.{spoken_found, needed_certificate as needed_certificate_of};
+ghost use Rattle.pip_items.specs.Needed.{commented_found, needed_certificate as needed_certificate_of};
 
 use certificate_parts::Certificate;
 use leaf_certificate::{CertificateRefusal, read_certificate};
 use pip_endings::Ending;
-use quast_text::{Spoken, TextRefusal, read_answer};
+use quast_text::{Commented, TextRefusal, read_answer};
 use std::alloc::Global;
 
 /// The next answer over so many parameters, which has to be there, and the place behind it.
@@ -17,10 +17,10 @@ pub(super) fn needed_answer(
     bytes: &[u8],
     at: usize,
     params: usize,
-) -> Result<(Spoken, usize), Ending>
+) -> Result<(Commented, usize), Ending>
     requires place { at ≤ length bytes.now }
     requires few { params ≤ most_params }
-    ensures { Finds spoken_found (λ s. IsOver params s.answer) (kinds.needed_answer bytes.now params at) at
+    ensures { Finds commented_found (λ s. IsOver params s.answer) (kinds.needed_answer bytes.now params at) at
         (length bytes.now) result }
 {
     match read_answer(alloc, bytes, at, params)? {

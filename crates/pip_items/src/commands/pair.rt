@@ -8,14 +8,14 @@ use super::needed::needed_answer;
 use affine_forms::Forms;
 use pip_endings::Ending;
 use pip_reader::read_context;
-use quast_text::Spoken;
+use quast_text::Commented;
 use std::alloc::Global;
 
 /// A context and an answer over as many parameters.
 #[derive(Drop)]
 pub(crate) struct Pair {
     pub(super) rows: Forms,
-    pub(super) first: Spoken,
+    pub(super) first: Commented,
 }
 
 /// The pair that begins with the first `(` at or behind a place, and the place behind it; none exactly where there is

@@ -1,22 +1,22 @@
 ghost use Rattle.std.specs.Prelude.{length};
 ghost use Rattle.program_model.specs.Commands.{Pieces};
 ghost use Rattle.quast.specs.Answers.{IsOver};
-ghost use Rattle.quast_text.specs.Spoken.{spoken_of};
+ghost use Rattle.quast_text.specs.Commented.{commented_of};
 
 use super::answer::answer_at;
 use crate::items::Items;
 use pip_endings::Ending;
 use pip_words::PiecesOptions;
 use quast_pieces::print_pieces;
-use quast_text::Spoken;
+use quast_text::Commented;
 use std::alloc::Global;
 
 impl Items for PiecesOptions {
-    type Read = Spoken;
+    type Read = Commented;
 
     ghost meaning = { λ o. Pieces o.params };
 
-    ghost seen = { λ _ s. spoken_of s };
+    ghost seen = { λ _ s. commented_of s };
 
     ghost is_item = { λ o s. IsOver o.params s.answer };
 
@@ -27,13 +27,13 @@ impl Items for PiecesOptions {
         alloc: Global,
         bytes: &[u8],
         at: usize,
-    ) -> Result<Option<(Spoken, usize)>, Ending> {
+    ) -> Result<Option<(Commented, usize)>, Ending> {
         answer_at(alloc, bytes, at, self.params)
     }
 
     #[tactic(auto, using(crate::proofs::Pieces::pieces_refused))]
-    fn put(&self, _alloc: Global, spoken: Spoken, text: &mut Vec<u8>) -> Result<(), Ending> {
-        print_pieces(&spoken.comment, &spoken.answer, text)?;
+    fn put(&self, _alloc: Global, commented: Commented, text: &mut Vec<u8>) -> Result<(), Ending> {
+        print_pieces(&commented.comment, &commented.answer, text)?;
         Ok(())
     }
 }

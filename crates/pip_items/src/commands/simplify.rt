@@ -1,22 +1,22 @@
 ghost use Rattle.std.specs.Prelude.{length};
 ghost use Rattle.program_model.specs.Commands.{Simplify};
 ghost use Rattle.quast.specs.Answers.{IsOver};
-ghost use Rattle.quast_text.specs.Spoken.{spoken_of};
+ghost use Rattle.quast_text.specs.Commented.{commented_of};
 
 use super::answer::answer_at;
 use crate::items::Items;
 use pip_endings::Ending;
 use pip_words::SimplifyOptions;
 use quast_simplify::simplify_answer;
-use quast_text::{Spoken, print_answer};
+use quast_text::{Commented, print_answer};
 use std::alloc::Global;
 
 impl Items for SimplifyOptions {
-    type Read = Spoken;
+    type Read = Commented;
 
     ghost meaning = { λ o. Simplify o.params };
 
-    ghost seen = { λ _ s. spoken_of s };
+    ghost seen = { λ _ s. commented_of s };
 
     ghost is_item = { λ o s. IsOver o.params s.answer };
 
@@ -27,12 +27,12 @@ impl Items for SimplifyOptions {
         alloc: Global,
         bytes: &[u8],
         at: usize,
-    ) -> Result<Option<(Spoken, usize)>, Ending> {
+    ) -> Result<Option<(Commented, usize)>, Ending> {
         answer_at(alloc, bytes, at, self.params)
     }
 
-    fn put(&self, _alloc: Global, spoken: Spoken, text: &mut Vec<u8>) -> Result<(), Ending> {
-        let Spoken { comment, answer } = spoken;
+    fn put(&self, _alloc: Global, commented: Commented, text: &mut Vec<u8>) -> Result<(), Ending> {
+        let Commented { comment, answer } = commented;
         print_answer(&comment, &simplify_answer(answer), text)?;
         Ok(())
     }

@@ -8,15 +8,15 @@ use super::needed::needed_answer;
 use affine_forms::Forms;
 use pip_endings::Ending;
 use pip_reader::read_context;
-use quast_text::Spoken;
+use quast_text::Commented;
 use std::alloc::Global;
 
 /// A context and two answers over as many parameters.
 #[derive(Drop)]
 pub(crate) struct Trio {
     pub(super) rows: Forms,
-    pub(super) first: Spoken,
-    pub(super) second: Spoken,
+    pub(super) first: Commented,
+    pub(super) second: Commented,
 }
 
 // The two answers behind a context, and the place behind these.

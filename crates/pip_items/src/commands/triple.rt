@@ -37,11 +37,11 @@ fn rest_of_triple(
     if !problem.integer() {
         return Err(Ending::RationalCertificate);
     }
-    let (spoken, at) = needed_answer(alloc, bytes, at, problem.params())?;
+    let (commented, at) = needed_answer(alloc, bytes, at, problem.params())?;
     let (certificate, at) = needed_certificate(alloc, bytes, at)?;
     let triple = Triple {
         problem,
-        answer: spoken.answer,
+        answer: commented.answer,
         certificate,
     };
     Ok((triple, at))

@@ -8,4 +8,4 @@ returns-in-Some c =
     let name = c.in-Some.name.now in
     let rows = rows_of (found_of c.in-Some.matches.now) in
     let is : subcommand_rows_of c.args.matches.now ≡ Some (name, rows) = grind (arith, common_steps) in
-    rw is c.named.ensures
+    rw is c.command_of_name.ensures

@@ -1,6 +1,6 @@
 use Rattle.std.proofs.Common.{◌≡◌, map, take}
 use Rattle.pip_model.specs.Forms.{tighten}
-use Rattle.pip_solve.proofs.solving.tightened.Given as goal
+use Rattle.pip_solve.proofs.solving.tighten_rows.Given as goal
 
 abbrev pub invariant-loop-row : goal.invariant-loop-row
 invariant-loop-row l = l.forms.items ≡ map tighten (take l.row-index l.rows)

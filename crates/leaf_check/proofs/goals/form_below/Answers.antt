@@ -2,7 +2,7 @@ use Rattle.std.proofs.Common.{◌≡◌, ◌+◌, ℤ, negsuc, List, length, ap,
 use Rattle.pip_model.specs.Forms.{plus}
 use Rattle.pip_model.specs.Check.{not_above}
 use Rattle.leaf_check.proofs.Smaller.{below_is, below_listed, length-smaller, if_ok}
-use Rattle.leaf_check.proofs.goals.below.Goals as goal
+use Rattle.leaf_check.proofs.goals.form_below.Goals as goal
 
 pub returns-clause-listed : goal.returns-clause-listed
 returns-clause-listed c = rw (← (below_listed c.args.width c.args.place c.args.component.now c.requires.place c.requires.within)) (search rules)

@@ -1,6 +1,6 @@
 use Rattle.std.proofs.Common.{◌≡◌, drop, false}
 use Rattle.pip_model.specs.MatrixText.{skipped}
-use Rattle.polylib_reader.proofs.word.skipped.Given as goal
+use Rattle.polylib_reader.proofs.word.skip_blanks.Given as goal
 
 abbrev pub invariant-loop-place : goal.invariant-loop-place
 invariant-loop-place l = skipped l.comment (drop l.place l.bytes) ≡ skipped false l.bytes

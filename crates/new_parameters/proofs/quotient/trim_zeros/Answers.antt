@@ -2,8 +2,8 @@ use Rattle.std.proofs.Common.{rules, ◌≡◌, ◌-◌, pos, false, take, get_o
 use Rattle.std.specs.Ordering.{int_eq}
 use Rattle.new_parameters.specs.Keys.{trimmed}
 use Rattle.new_parameters.proofs.Trimming.{trimmed-take_zero, trimmed-take_other}
-use Rattle.new_parameters.proofs.quotient.trimmed.Goals.{then-loop-count-test+else-numbers-count-eq0, else-loop-count-test}
-use Rattle.new_parameters.proofs.quotient.trimmed.Goals as goal
+use Rattle.new_parameters.proofs.quotient.trim_zeros.Goals.{then-loop-count-test+else-numbers-count-eq0, else-loop-count-test}
+use Rattle.new_parameters.proofs.quotient.trim_zeros.Goals as goal
 
 pub loop-count-preserved : goal.loop-count-preserved
 loop-count-preserved c =

@@ -9,7 +9,7 @@ use Rattle.quast.specs.Trees.{tree_of}
 use Rattle.leaf_check.specs.Faults.{fault_of}
 use Rattle.certificate_check.specs.Paths.{PathForms}
 use Rattle.certificate_check.proofs.Walks.{back_is, back_within, choice_stop, choice_place, choice_next, choice_unfit, definition_place, definition_next, definition_stop, definition_unfit, if_some_along}
-use Rattle.certificate_check.proofs.walk.Walk.+check_node.Goals as goal
+use Rattle.certificate_check.proofs.walk.TreeCheck.+check_node.Goals as goal
 
 pub returns-in_err-second-in-Select-clause-gives : goal.returns-in_err-second-in-Select-clause-gives
 returns-in_err-second-in-Select-clause-gives t c =
@@ -20,12 +20,12 @@ pub go_back-requires : goal.go_back-requires
 go_back-requires t c =
     back_within c.args.path.now c.check_node.new.path (c.in-Select.v ∷ []) c.len-n.result c.scope-scope.result (ap (λ (q : PathForms). q.forms) (c.in_ok-second-in-Select.ensures.path ∙ c.in_ok-push-in-Select.ensures.ok)) c.len-n.ensures.value c.scope-scope.ensures c.len-n.ensures.within
 
-pub refused-requires : goal.refused-requires
-refused-requires t c = choice_place c.args.self.now c.args.l c.args.path.now (tree_of c.args.node.now) c.requires c.in-Select.v (tree_of c.in-Select.a.value) (tree_of c.in-Select.b.value) (ap tree_of c.in-Select.is) c.push.new.self c.in_ok-push-in-Select.ensures.ok c.in_ok-second-in-Select.second (rw c.deref.ensures at c.in_ok-second-in-Select.ensures.next)
+pub refusal_at-requires : goal.refusal_at-requires
+refusal_at-requires t c = choice_place c.args.self.now c.args.l c.args.path.now (tree_of c.args.node.now) c.requires c.in-Select.v (tree_of c.in-Select.a.value) (tree_of c.in-Select.b.value) (ap tree_of c.in-Select.is) c.push.new.self c.in_ok-push-in-Select.ensures.ok c.in_ok-second-in-Select.second (rw c.deref.ensures at c.in_ok-second-in-Select.ensures.next)
 
 pub returns-in-Err-clause-gives : goal.returns-in-Err-clause-gives
 returns-in-Err-clause-gives t c =
-    choice_unfit c.args.self.now c.args.l c.args.path.now (tree_of c.args.node.now) c.requires c.in-Select.v (tree_of c.in-Select.a.value) (tree_of c.in-Select.b.value) (ap tree_of c.in-Select.is) c.push.new.self c.in_ok-push-in-Select.ensures.ok (is_form_overflow c.in-Err.refusal) (fault_of c.refused.result) c.in_ok-second-in-Select.second (rw c.deref.ensures at c.in_ok-second-in-Select.ensures.next) (rw c.deref.ensures at c.in_ok-second-in-Select.ensures.gives) c.in-Err.ensures.listed (rw c.deref-in-Err.ensures at c.refused.ensures)
+    choice_unfit c.args.self.now c.args.l c.args.path.now (tree_of c.args.node.now) c.requires c.in-Select.v (tree_of c.in-Select.a.value) (tree_of c.in-Select.b.value) (ap tree_of c.in-Select.is) c.push.new.self c.in_ok-push-in-Select.ensures.ok (is_form_overflow c.in-Err.refusal) (fault_of c.refusal_at.result) c.in_ok-second-in-Select.second (rw c.deref.ensures at c.in_ok-second-in-Select.ensures.next) (rw c.deref.ensures at c.in_ok-second-in-Select.ensures.gives) c.in-Err.ensures.listed (rw c.deref-in-Err.ensures at c.refusal_at.ensures)
 
 pub returns-in_err-next-in-Select-clause-gives : goal.returns-in_err-next-in-Select-clause-gives
 returns-in_err-next-in-Select-clause-gives t c =
@@ -45,14 +45,14 @@ go_back-requires-in-Select t c =
     let second = pushed ∙ ap (λ (q : PathForms). let r : PathForms = record q { forms = q.forms ++ opposite c.in-Select.v ∷ [] } in r) (gone ∙ back) in
     back_within c.args.path.now c.check_node-in-Select.new.path (opposite c.in-Select.v ∷ []) c.len-n.result c.scope-scope.result (ap (λ (q : PathForms). q.forms) (c.in_ok-next-in-Select.ensures.path ∙ second)) c.len-n.ensures.value c.scope-scope.ensures c.len-n.ensures.within
 
-pub refused-requires-in-Err-push_bounds : goal.refused-requires-in-Err-push_bounds
-refused-requires-in-Err-push_bounds t c = definition_place c.args.self.now c.args.l c.args.path.now (tree_of c.args.node.now) c.requires c.in-Define.v c.in-Define.d (tree_of c.in-Define.a.value) (ap tree_of c.in-Define.is)
+pub refusal_at-requires-in-Err-push_bounds : goal.refusal_at-requires-in-Err-push_bounds
+refusal_at-requires-in-Err-push_bounds t c = definition_place c.args.self.now c.args.l c.args.path.now (tree_of c.args.node.now) c.requires c.in-Define.v c.in-Define.d (tree_of c.in-Define.a.value) (ap tree_of c.in-Define.is)
 
 pub returns-in-Err-push_bounds-clause-gives : goal.returns-in-Err-push_bounds-clause-gives
 returns-in-Err-push_bounds-clause-gives t c =
     let k : Quotient = record { form = c.in-Define.v; den = c.in-Define.d } in
     let unfit : IsTrue (is_form_overflow c.in-Err-push_bounds.refusal) → IsFalse (all_fit (constant (upper_bound (c.args.path.now.scope + 1) c.args.path.now.scope k) ∷ [])) = search rules in
-    definition_unfit c.args.self.now c.args.l c.args.path.now (tree_of c.args.node.now) c.requires c.in-Define.v c.in-Define.d (tree_of c.in-Define.a.value) (ap tree_of c.in-Define.is) (is_form_overflow c.in-Err-push_bounds.refusal) (fault_of c.refused-in-Err-push_bounds.result) unfit (rw c.deref-in-Err-push_bounds.ensures at c.refused-in-Err-push_bounds.ensures)
+    definition_unfit c.args.self.now c.args.l c.args.path.now (tree_of c.args.node.now) c.requires c.in-Define.v c.in-Define.d (tree_of c.in-Define.a.value) (ap tree_of c.in-Define.is) (is_form_overflow c.in-Err-push_bounds.refusal) (fault_of c.refusal_at-in-Err-push_bounds.result) unfit (rw c.deref-in-Err-push_bounds.ensures at c.refusal_at-in-Err-push_bounds.ensures)
 
 pub returns-in_err-next-in-Define-clause-gives : goal.returns-in_err-next-in-Define-clause-gives
 returns-in_err-next-in-Define-clause-gives t c =

@@ -1,6 +1,6 @@
 use Rattle.std.proofs.Common.{◌≡◌, ◌≤◌, length, take}
 use Rattle.new_parameters.specs.Keys.{trimmed}
-use Rattle.new_parameters.proofs.quotient.trimmed.Given as goal
+use Rattle.new_parameters.proofs.quotient.trim_zeros.Given as goal
 
 abbrev pub invariant-loop-count : goal.invariant-loop-count
 invariant-loop-count l = (l.count ≤ length l.numbers) × (trimmed (take l.count l.numbers) ≡ trimmed l.numbers)

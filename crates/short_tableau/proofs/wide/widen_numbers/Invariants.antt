@@ -1,5 +1,5 @@
 use Rattle.std.proofs.Common.{◌≡◌, take}
-use Rattle.short_tableau.proofs.wide.widened.Given as goal
+use Rattle.short_tableau.proofs.wide.widen_numbers.Given as goal
 
 abbrev pub invariant-loop-number : goal.invariant-loop-number
 invariant-loop-number l = l.wide.items ≡ take l.number-index l.numbers
