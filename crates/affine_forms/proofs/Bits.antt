@@ -1,11 +1,5 @@
 -- Numbers as code holds them: written to bits and read back.
-use Rattle.std.proofs.Common.{◌≡◌, ◌^◌, ◌<◌, ℤ, pos, negsuc, ◌-ℤ◌, ◌*ℤ◌, ◌≤ℤ◌, neg_ℤ, to_z, of_z, unsigned_abs, arith}
-use Rattle.std.specs.Int.{w64, w128}
-use Rattle.std.proofs.lemmas.Int.{ints, to_z-of_z, fits_signed_from_abs}
-use Rattle.std.proofs.lemmas.Bool.{ltb-true}
-use Rattle.pip_model.specs.Numbers.{floor_div, floor_mod}
-use Rattle.pip_model.proofs.Fitting.{fits-floor, fits-neg}
-use Rattle.affine_forms.specs.Checks.{Fits}
+use Rattle.affine_forms.proofs.Words.{◌≡◌, ◌^◌, ◌<◌, ℤ, pos, negsuc, ◌-ℤ◌, ◌*ℤ◌, ◌≤ℤ◌, neg_ℤ, to_z, of_z, unsigned_abs, arith, w64, w128, ints, to_z-of_z, fits_signed_from_abs, ltb-true, floor_div, floor_mod, fits-floor, fits-neg, Fits}
 use Rattle.affine_forms.proofs.Short.{product_fits}
 
 below : (z : ℤ) → Fits z → unsigned_abs z < 2 ^ 127

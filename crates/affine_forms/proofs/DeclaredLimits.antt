@@ -1,5 +1,5 @@
 -- The code's limits are those of the definitions.
-use Rattle.std.proofs.Common.{◌≡◌, refl}
+use Rattle.affine_forms.proofs.Words.{◌≡◌, refl}
 use Rattle.pip_model.specs.Limits.{most_unknowns, most_params, most_rows, most_context_rows, most_components, most_nesting}
 use Rattle.affine_forms.specs.declared.limits.TheConstants.{MOST_UNKNOWNS, MOST_PARAMETERS, MOST_ROWS, MOST_CONTEXT_ROWS, MOST_COMPONENTS, MOST_NESTING}
 

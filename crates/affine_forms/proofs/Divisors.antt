@@ -1,14 +1,7 @@
 -- The greatest common divisors of the definitions.
-use Rattle.std.proofs.Common.{◌≡◌, ℕ, zero, suc, ◌+◌, ◌<◌, ℤ, pos, negsuc, ◌≤ℤ◌, ◌+ℤ◌, ◌*ℤ◌, true, refl, arith, List, [], ◌∷◌, length, drop, get_or}
-use Rattle.std.proofs.lemmas.Int.{ints}
-use Rattle.std.proofs.lemmas.List.{drop_more}
-use Rattle.std.specs.Prelude.{All, IsTrue}
+use Rattle.affine_forms.proofs.Words.{◌≡◌, ℕ, zero, suc, ◌+◌, ◌<◌, ℤ, pos, negsuc, ◌≤ℤ◌, ◌+ℤ◌, ◌*ℤ◌, true, refl, arith, List, [], ◌∷◌, length, drop, get_or, ints, drop_more, All, IsTrue, All-from_recursion, recursion_from_All, gcd, gcd_of, floor_div, floor_mod, divides, is_zero, floor_divided, scale, Multiple, gcd-divides, gcd_of-divides, all_through, floor-exact}
 use Rattle.std.specs.List.{AllByRecursion}
-use Rattle.std.proofs.lemmas.List.Elements.{All-from_recursion, recursion_from_All}
-use Rattle.pip_model.specs.Numbers.{gcd, gcd_of, floor_div, floor_mod, divides, is_zero}
-use Rattle.pip_model.specs.Forms.{floor_divided, scale}
 pub use Rattle.pip_model.proofs.Gcd.{gcd_assoc, gcd_one, floor_divided_one}
-use Rattle.pip_model.proofs.Division.{Multiple, gcd-divides, gcd_of-divides, all_through, floor-exact}
 use Rattle.pip_model.proofs.Laws.{floor_mod-law}
 
 pub gcd_step : (found : ℤ) (entries : List ℤ) (i : ℕ) → i < length entries

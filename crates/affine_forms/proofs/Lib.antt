@@ -1,3 +1,4 @@
+mod Words
 pub mod Bits
 pub mod QuotientForms
 pub mod Combined

@@ -1,8 +1,5 @@
 -- A list whose first elements were mapped in place.
-use Rattle.std.proofs.Common.{◌≡◌, ℕ, ◌+◌, ◌<◌, List, [], ◌∷◌, ◌++◌, map, length, get_or, set, take, drop, sym, ap, subst, ◌∙◌, arith, append_assoc}
-use Rattle.std.specs.Prelude.{All}
-use Rattle.std.proofs.lemmas.List.Elements.{All-push}
-use Rattle.std.proofs.lemmas.List.{drop_more, map_more, set_at, get_or_at, length-map, length-take}
+use Rattle.affine_forms.proofs.Words.{◌≡◌, ℕ, ◌+◌, ◌<◌, List, [], ◌∷◌, ◌++◌, map, length, get_or, set, take, drop, sym, ap, subst, ◌∙◌, arith, append_assoc, All, All-push, drop_more, map_more, set_at, get_or_at, length-map, length-take}
 
 abbrev pub mapped : {X : Type 0} → (X → X) → ℕ → List X → List X
 mapped f i old = map f (take i old) ++ drop i old

@@ -1,9 +1,5 @@
 -- The opposite of a form, made in place.
-use Rattle.std.proofs.Common.{◌≡◌, sym, ℕ, ◌+◌, ℤ, pos, negsuc, ◌+ℤ◌, ◌-ℤ◌, neg_ℤ, arith, List, length}
-use Rattle.std.specs.Prelude.{slice_set}
-use Rattle.std.proofs.lemmas.Int.{ints}
-use Rattle.std.proofs.lemmas.List.{length-map, get_or-map}
-use Rattle.pip_model.specs.Forms.{entry, negate, opposite, width}
+use Rattle.affine_forms.proofs.Words.{◌≡◌, sym, ℕ, ◌+◌, ℤ, pos, negsuc, ◌+ℤ◌, ◌-ℤ◌, neg_ℤ, arith, List, length, slice_set, ints, length-map, get_or-map, entry, negate, opposite, width}
 use Rattle.affine_forms.proofs.Units.{add_last}
 
 less_one : (x : ℤ) → x -ℤ pos 1 ≡ x +ℤ negsuc 0

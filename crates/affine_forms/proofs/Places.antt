@@ -1,13 +1,7 @@
 -- Places of a form that come and go.
-use Rattle.std.proofs.Common.{◌≡◌, refl, ap, sym, ◌∙◌, ℕ, zero, suc, ◌+◌, ◌-◌, ◌<◌, ℤ, pos, arith, List, [], ◌∷◌, ◌++◌, length, take, get_or, set, replicate, append_assoc, append-nil, length-append}
-use Rattle.std.specs.Prelude.{remove as removed, swap}
-use Rattle.std.proofs.lemmas.List.{set_at, get_or_at, length-take, length-replicate, take_all}
+use Rattle.affine_forms.proofs.Words.{◌≡◌, refl, ap, sym, ◌∙◌, ℕ, zero, suc, ◌+◌, ◌-◌, ◌<◌, ℤ, pos, arith, List, [], ◌∷◌, ◌++◌, length, take, get_or, set, replicate, append_assoc, append-nil, length-append, swap, set_at, get_or_at, length-take, length-replicate, take_all, All-append, All-take, All-replicate, All-nil, All-cons, coefficients, constant, widen, remove, Fits, IsForm, form-parts}
+use Rattle.std.specs.Prelude.{remove as removed}
 use Rattle.std.proofs.lemmas.List.Edits.{swap_is}
-use Rattle.std.proofs.lemmas.List.Elements.{All-append, All-take, All-replicate, All-nil, All-cons}
-use Rattle.pip_model.specs.Forms.{coefficients, constant, widen, remove}
-use Rattle.affine_forms.specs.Checks.{Fits}
-use Rattle.affine_forms.specs.Forms.{IsForm}
-use Rattle.pip_model.proofs.Division.{form-parts}
 
 pub remove_same : (c : List ℤ) (i : ℕ) → removed c i ≡ remove i c
 remove_same [] zero = refl

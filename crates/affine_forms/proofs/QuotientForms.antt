@@ -1,11 +1,5 @@
 -- The form of a quotient, `-g + d*q`, and the form with a number added, as they are made in place.
-use Rattle.std.proofs.Common.{◌≡◌, ℕ, ◌+◌, ◌-◌, ◌<◌, ◌≤◌, ℤ, pos, ◌+ℤ◌, neg_ℤ, List, length, [], ◌∷◌, refl, ap, sym, ◌∙◌, arith}
-use Rattle.std.specs.Prelude.{slice_set, IsTrue}
-use Rattle.std.proofs.lemmas.Int.{ints}
-use Rattle.std.proofs.lemmas.List.{length-map, get_or-map}
-use Rattle.pip_model.specs.Forms.{width, constant, entry, negate, plus, widen_to}
-use Rattle.pip_model.specs.Listed.{all_fit}
-use Rattle.affine_forms.specs.Checks.{Fits}
+use Rattle.affine_forms.proofs.Words.{◌≡◌, ℕ, ◌+◌, ◌-◌, ◌<◌, ◌≤◌, ℤ, pos, ◌+ℤ◌, neg_ℤ, List, length, [], ◌∷◌, refl, ap, sym, ◌∙◌, arith, slice_set, IsTrue, ints, length-map, get_or-map, width, constant, entry, negate, plus, widen_to, all_fit, Fits}
 use Rattle.pip_model.specs.Cuts.{rounding}
 use Rattle.pip_model.proofs.Forms.{length-widened, entry-widened, constant-plus}
 use Rattle.affine_forms.proofs.Units.{add_unit, add_last}

@@ -1,13 +1,6 @@
 -- Steps of a list whose entries are raised to multiples.
-use Rattle.std.proofs.Common.{◌≡◌, refl, ap, ◌∙◌, ℕ, ◌+◌, ◌<◌, ◌≤◌, ℤ, pos, Bool, true, ◌&&◌, List, [], ◌∷◌, ◌++◌, length, map, take, drop, get_or, subst}
-use Rattle.std.specs.Prelude.{All, IsFalse}
-use Rattle.std.proofs.lemmas.List.{drop_more, take_more, take_all}
+use Rattle.affine_forms.proofs.Words.{◌≡◌, refl, ap, ◌∙◌, ℕ, ◌+◌, ◌<◌, ◌≤◌, ℤ, pos, Bool, true, ◌&&◌, List, [], ◌∷◌, ◌++◌, length, map, take, drop, get_or, subst, All, IsFalse, drop_more, take_more, take_all, All-push, fits, all_fit, Fits, raised}
 use Rattle.std.proofs.lemmas.List.Folds.{list_all-append}
-use Rattle.std.proofs.lemmas.List.Elements.{All-push}
-use Rattle.pip_model.specs.Numbers.{fits}
-use Rattle.pip_model.specs.Listed.{all_fit}
-use Rattle.affine_forms.specs.Checks.{Fits}
-use Rattle.affine_forms.specs.Forms.{raised}
 
 module _ (d : ℤ) (xs : List ℤ) (i : ℕ) where
   parts : i < length xs → all_fit (map (raised d) (drop i xs)) ≡ (fits (raised d (get_or xs i (pos 0))) && all_fit (map (raised d) (drop (i + 1) xs)))

@@ -1,11 +1,6 @@
 -- Products of numbers of 64 bits.
-use Rattle.std.proofs.Common.{◌≡◌, refl, sym, ◌^◌, ◌-◌, ◌<◌, ℤ, ◌*ℤ◌, ◌-ℤ◌, unsigned_abs, arith, [], ◌∷◌}
-use Rattle.std.specs.Prelude.{IsTrue}
-use Rattle.std.proofs.lemmas.Int.{unsigned_abs-mul}
+use Rattle.affine_forms.proofs.Words.{◌≡◌, refl, sym, ◌^◌, ◌-◌, ◌<◌, ℤ, ◌*ℤ◌, ◌-ℤ◌, unsigned_abs, arith, [], ◌∷◌, IsTrue, unsigned_abs-mul, lt-ltb, all_fit, Fits}
 use Rattle.std.proofs.lemmas.Nat.{mul-le}
-use Rattle.std.proofs.lemmas.Bool.{lt-ltb}
-use Rattle.pip_model.specs.Listed.{all_fit}
-use Rattle.affine_forms.specs.Checks.{Fits}
 
 pub product_fits : (a b : ℤ) → unsigned_abs a < 2 ^ 63 → unsigned_abs b < 2 ^ 63 → unsigned_abs (a *ℤ b) < 2 ^ 126
 product_fits a b x y =

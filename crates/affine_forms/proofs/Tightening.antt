@@ -1,10 +1,5 @@
 -- Tightening, by the size of the divisor.
-use Rattle.std.proofs.Common.{◌≡◌, refl, sym, zero, suc, ℤ, pos, negsuc, ◌≤ℤ◌, ◌<ℤ◌, arith, List}
-use Rattle.std.proofs.lemmas.Int.{ints}
-use Rattle.std.specs.Prelude.{if◌then◌else◌}
-use Rattle.pip_model.specs.Numbers.{gcd_of, is_zero}
-use Rattle.pip_model.specs.Forms.{coefficients, floor_divided, tighten}
-use Rattle.pip_model.proofs.Gcd.{floor_divided_one}
+use Rattle.affine_forms.proofs.Words.{◌≡◌, refl, sym, zero, suc, ℤ, pos, negsuc, ◌≤ℤ◌, ◌<ℤ◌, arith, List, ints, if◌then◌else◌, gcd_of, is_zero, coefficients, floor_divided, tighten, floor_divided_one}
 
 by_divisor : (e : ℤ) (c : List ℤ) → pos 1 <ℤ e → (if is_zero e then c else floor_divided e c) ≡ floor_divided e c
 by_divisor (pos zero) c h = absurd (omega (arith, ints))

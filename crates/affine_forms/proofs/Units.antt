@@ -1,8 +1,5 @@
 -- Sums with a form that has one coefficient alone.
-use Rattle.std.proofs.Common.{◌≡◌, refl, ap, ◌∙◌, ℕ, zero, suc, ◌+◌, ◌-◌, ◌≤◌, ℤ, pos, ◌+ℤ◌, neg_ℤ, arith, List, [], ◌∷◌, ◌++◌, length, replicate}
-use Rattle.std.specs.Prelude.{slice_set}
-use Rattle.std.proofs.lemmas.Int.{ints}
-use Rattle.pip_model.specs.Forms.{entry, add, negate, constant_form, unit_form}
+use Rattle.affine_forms.proofs.Words.{◌≡◌, refl, ap, ◌∙◌, ℕ, zero, suc, ◌+◌, ◌-◌, ◌≤◌, ℤ, pos, ◌+ℤ◌, neg_ℤ, arith, List, [], ◌∷◌, ◌++◌, length, replicate, slice_set, ints, entry, add, negate, constant_form, unit_form}
 pub use Rattle.pip_model.proofs.Forms.{widen_same}
 
 plus_zero : (x : ℤ) → x +ℤ pos 0 ≡ x

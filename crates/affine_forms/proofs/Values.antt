@@ -1,13 +1,6 @@
 -- Steps of a form's value, which is summed product by product.
-use Rattle.std.proofs.Common.{◌≡◌, refl, ap, sym, ◌∙◌, true, arith, ℕ, ◌+◌, ◌<◌, ℤ, pos, ◌+ℤ◌, ◌*ℤ◌, List, [], ◌∷◌, ◌++◌, length, drop, get_or}
-use Rattle.std.specs.Prelude.{IsTrue}
-use Rattle.std.proofs.lemmas.List.{drop_more, drop_all}
-use Rattle.std.proofs.lemmas.Int.{ints}
-use Rattle.affine_forms.specs.Checks.{Fits}
+use Rattle.affine_forms.proofs.Words.{◌≡◌, refl, ap, sym, ◌∙◌, true, arith, ℕ, ◌+◌, ◌<◌, ℤ, pos, ◌+ℤ◌, ◌*ℤ◌, List, [], ◌∷◌, ◌++◌, length, drop, get_or, IsTrue, drop_more, drop_all, ints, Fits, dot, all_fit, dot_listed, fit_behind}
 use Rattle.std.proofs.Math.IntN.{+ℤ_assoc}
-use Rattle.pip_model.specs.Forms.{dot}
-use Rattle.pip_model.specs.Listed.{all_fit, dot_listed}
-use Rattle.pip_model.proofs.Fitting.{fit_behind}
 
 -- the vector's numbers from place i on, and the 1 of the constant
 abbrev pub vector_from : ℕ → List ℤ → List ℤ

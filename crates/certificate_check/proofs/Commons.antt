@@ -1,14 +1,7 @@
 -- Steps that refutations share, one after another.
-use Rattle.std.proofs.Common.{◌≡◌, refl, ap, ap₂, sym, ◌∙◌, ℕ, zero, suc, ◌+◌, ◌<◌, ◌≤◌, ℤ, Bool, true, false, ◌&&◌, List, [], ◌∷◌, ◌++◌, length, map, take, drop, get_or, replicate, append_assoc, append-nil, arith, inl, inr}
+use Rattle.certificate_check.proofs.Words.{◌≡◌, refl, ap, ap₂, sym, ◌∙◌, ℕ, zero, suc, ◌+◌, ◌<◌, ◌≤◌, ℤ, Bool, true, false, ◌&&◌, List, [], ◌∷◌, ◌++◌, length, map, take, drop, get_or, replicate, append_assoc, append-nil, arith, inl, inr, length-append, length-map, length-replicate, length-drop, drop_more, drop_all, take_more, take_all, map-append, get_or-map, same_number, Step, Refutation, LeafProofs, Premises, lowered, renumbered, moved_index, shareable, same_terms, common_front, shared_by, after_shared, IsCommon, same_number_yes, same_number_no, sized, counts_from}
 use Rattle.std.proofs.lemmas.Bool.{cases_lt}
-use Rattle.std.proofs.lemmas.List.{length-append, length-map, length-replicate, length-drop, drop_more, drop_all, take_more, take_all, map-append, get_or-map}
-use Rattle.pip_model.specs.Numbers.{same_number}
-use Rattle.pip_model.specs.Certificate.{Step, Refutation, LeafProofs}
-use Rattle.pip_model.specs.Check.{Premises}
-use Rattle.pip_model.specs.Share.{lowered, renumbered, moved_index, shareable, same_terms, common_front, shared_by, after_shared, IsCommon}
-use Rattle.pip_model.proofs.Tests.{same_number_yes, same_number_no}
 use Rattle.check_laws.proofs.Fronts.{shared-fronts, shareable-short}
-use Rattle.certificate_check.specs.Sharing.{sized, counts_from}
 
 -- ---- pairs
 

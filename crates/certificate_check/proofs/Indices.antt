@@ -1,10 +1,6 @@
 -- Indices that fit.
-use Rattle.std.proofs.Common.{◌≡◌, ℕ, ◌+◌, ◌<◌, ◌^◌, ℤ, pos, negsuc, ◌+ℤ◌, ◌-ℤ◌, ◌≤ℤ◌, ◌<ℤ◌, unsigned_abs, true, arith}
-use Rattle.std.specs.Prelude.{nat_lt}
-use Rattle.std.proofs.lemmas.Int.{ints}
+use Rattle.certificate_check.proofs.Words.{◌≡◌, ℕ, ◌+◌, ◌<◌, ◌^◌, ℤ, pos, negsuc, ◌+ℤ◌, ◌-ℤ◌, ◌≤ℤ◌, ◌<ℤ◌, unsigned_abs, true, arith, nat_lt, ints, fits, fits-le}
 use Rattle.std.proofs.lemmas.Bool.Decides.{nat_tests}
-use Rattle.pip_model.specs.Numbers.{fits}
-use Rattle.pip_model.proofs.Fitting.{fits-le}
 
 pub fits_down : (i : ℤ) (n : ℕ) → pos n ≤ℤ i → fits i ≡ true → fits (i -ℤ pos n) ≡ true
 fits_down (pos m) n h f = fits-le (pos m -ℤ pos n) (pos m) (omega (arith, ints)) f

@@ -1,16 +1,5 @@
 -- The numbers of a leaf's path: where those fit that come first, a check goes on as if there were none of them.
-use Rattle.std.proofs.Common.{◌≡◌, refl, ap, ap₂, sym, ◌∙◌, ℕ, ◌+◌, ℤ, Bool, true, false, List, [], ◌∷◌, ◌++◌, length, map, drop, append_assoc, Ok, Err}
-use Rattle.std.specs.Prelude.{◌==◌, Option, Some, None}
-use Rattle.pip_model.specs.Reading.{◌>>=◌, ◌>>◌}
-use Rattle.pip_model.specs.Listed.{all_fit, opposite_listed}
-use Rattle.pip_model.specs.Problem.{Problem}
-use Rattle.pip_model.specs.Certificate.{Refutation, LeafProofs}
-use Rattle.pip_model.specs.Check.{Spot, spot, Checks, holds, fit, after_steps, Premises, LeafCase, joined, check_refutation, check_refutations, check_proofs, is_whole_list, leaf_forms, leaf_premises, check_leaf, check_leaves, leaf_cases, ends_absurd}
-use Rattle.pip_model.specs.Cuts.{Quotient, lower_bound, upper_bound}
-use Rattle.pip_model.specs.Forms.{opposite, constant}
-use Rattle.pip_model.specs.Tree.{Tree, Bottom, Leaf, If, NewParm, Component, leaves}
-use Rattle.check_laws.proofs.CheckLoops.{check_leaves-if}
-use Rattle.pip_model.proofs.Fitting.{fit_behind}
+use Rattle.certificate_check.proofs.Words.{◌≡◌, refl, ap, ap₂, sym, ◌∙◌, ℕ, ◌+◌, ℤ, Bool, true, false, List, [], ◌∷◌, ◌++◌, length, map, drop, append_assoc, Ok, Err, ◌==◌, Option, Some, None, ◌>>=◌, ◌>>◌, all_fit, opposite_listed, Problem, Refutation, LeafProofs, Spot, spot, Checks, holds, fit, after_steps, Premises, LeafCase, joined, check_refutation, check_refutations, check_proofs, is_whole_list, leaf_forms, leaf_premises, check_leaf, check_leaves, leaf_cases, ends_absurd, Quotient, lower_bound, upper_bound, opposite, constant, Tree, Bottom, Leaf, If, NewParm, Component, leaves, check_leaves-if, fit_behind}
 
 -- the premises with more numbers before theirs
 abbrev pub with_numbers : List ℤ → Premises → Premises

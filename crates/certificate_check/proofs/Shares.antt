@@ -1,24 +1,8 @@
 -- The shared proofs of leaves by the numbers of their forms alone, and what an accepted certificate has of refutations.
-use Rattle.std.proofs.Common.{◌≡◌, refl, ap, ap₂, sym, ◌∙◌, ℕ, zero, suc, ◌+◌, ◌<◌, ◌≤◌, ℤ, Bool, true, List, [], ◌∷◌, ◌++◌, length, map, drop, get_or, replicate, append_assoc, subst, arith, Ok, eqb-true}
-use Rattle.std.specs.Prelude.{◌==◌, Option, Some, None}
-use Rattle.std.proofs.lemmas.List.{length-append, length-map, length-replicate, drop-drop, drop_more, map-append}
-use Rattle.pip_model.specs.Forms.{opposite, constant, widen_to}
-use Rattle.pip_model.specs.Listed.{opposite_listed}
-use Rattle.pip_model.specs.Cuts.{Quotient, lower_bound, upper_bound}
-use Rattle.pip_model.specs.Problem.{Problem, is_vector}
-use Rattle.pip_model.specs.Tree.{Tree, Bottom, Leaf, If, NewParm, Component, Answer, Void, Solved, leaves}
-use Rattle.pip_model.specs.Certificate.{Refutation, LeafProofs, Certificate}
-use Rattle.pip_model.specs.Reading.{◌>>=◌, ◌>>◌}
-use Rattle.pip_model.specs.Check.{spot, holds, fit, after_steps, joined, carried, listed_before, check_refutations, places_from, scope_forms, unknown_forms, row_form, Premises, LeafCase, leaf_cases, leaf_forms, leaf_premises, row_premises, sign_premises, least_premises, smaller_from, fronts_from, check_proofs, check_leaf, check_leaves, is_whole_list, check_context, check_void, check_tree, check_by, void_forms, void_premises, proofs_at, Accepted}
-use Rattle.pip_model.specs.Share.{shareable, common_front, shared_by, after_shared, share_leaf, share_leaves, shared_leaves, renumbered, moved_index}
-use Rattle.check_laws.proofs.CheckLoops.{check_leaves-if}
+use Rattle.certificate_check.proofs.Words.{◌≡◌, refl, ap, ap₂, sym, ◌∙◌, ℕ, zero, suc, ◌+◌, ◌<◌, ◌≤◌, ℤ, Bool, true, List, [], ◌∷◌, ◌++◌, length, map, drop, get_or, replicate, append_assoc, subst, arith, Ok, eqb-true, ◌==◌, Option, Some, None, length-append, length-map, length-replicate, drop-drop, drop_more, map-append, opposite, constant, widen_to, opposite_listed, Quotient, lower_bound, upper_bound, Problem, is_vector, Tree, Bottom, Leaf, If, NewParm, Component, Answer, Void, Solved, leaves, Refutation, LeafProofs, Certificate, ◌>>=◌, ◌>>◌, spot, holds, fit, after_steps, joined, carried, listed_before, check_refutations, places_from, scope_forms, unknown_forms, row_form, Premises, LeafCase, leaf_cases, leaf_forms, leaf_premises, row_premises, sign_premises, least_premises, smaller_from, fronts_from, check_proofs, check_leaf, check_leaves, is_whole_list, check_context, check_void, check_tree, check_by, void_forms, void_premises, proofs_at, Accepted, shareable, common_front, shared_by, after_shared, share_leaf, share_leaves, shared_leaves, renumbered, moved_index, check_leaves-if, goal_count, no_proofs, counts_from, own_sizes, sized, share_sized, share_at, share_below, IsCounted, IsCountedAt, own_goals}
 use Rattle.check_laws.proofs.Paths.{length-leaf_cases}
 use Rattle.check_laws.proofs.Refutations.{then_ok, holds_ok}
 use Rattle.check_laws.proofs.ShareReadable.{length-places}
-use Rattle.leaf_check.specs.Leaves.{goal_count}
-use Rattle.certificate_check.specs.Paths.{no_proofs}
-use Rattle.certificate_check.specs.Sharing.{counts_from, own_sizes, sized, share_sized, share_at, share_below, IsCounted, IsCountedAt}
-use Rattle.leaf_check.proofs.Owned.{own_goals}
 
 -- a leaf's proofs that are checked are as many as there are to be
 count_checked : (shares : Bool) (l w : ℕ) (start : Premises) (own : List Premises) (p : LeafProofs) → check_proofs shares l w start own p ≡ Ok tt → length p.refutations ≡ length own

@@ -1,26 +1,10 @@
 -- The leaves below a node: first those of its first tree, and the first of them where a number of the path does not fit.
-use Rattle.std.proofs.Common.{◌≡◌, refl, ap, ap₂, sym, ◌∙◌, ℕ, zero, suc, ◌+◌, ◌<◌, ◌≤◌, ℤ, Bool, true, false, ◌&&◌, List, [], ◌∷◌, ◌++◌, length, map, take, drop, get_or, arith, subst, Ok, Err, eqb-true, if◌then◌else◌}
-use Rattle.std.specs.Prelude.{◌==◌, All, Option, Some, None, IfSome}
+use Rattle.certificate_check.proofs.Words.{◌≡◌, refl, ap, ap₂, sym, ◌∙◌, ℕ, zero, suc, ◌+◌, ◌<◌, ◌≤◌, ℤ, Bool, true, false, ◌&&◌, List, [], ◌∷◌, ◌++◌, length, map, take, drop, get_or, arith, subst, Ok, Err, eqb-true, if◌then◌else◌, ◌==◌, All, Option, Some, None, IfSome, drop-drop, drop_more, take_at, ◌>>=◌, ◌>>◌, opposite, constant, all_fit, opposite_listed, Quotient, lower_bound, upper_bound, Problem, Tree, Bottom, Leaf, If, NewParm, Component, leaves, Refutation, LeafProofs, Spot, spot, CheckFault, Rejected, Unfit, Checks, holds, fit, after_steps, Premises, LeafCase, leaf_cases, leaf_forms, leaf_premises, joined, check_refutation, check_refutations, check_leaf, check_leaves, is_whole_list, both, fit_never, check_leaves-if, goal_count, PathForms, first_list, path_fault, no_proofs, own_goals, whole_count}
 use Rattle.std.specs.List.{list_all}
-use Rattle.std.proofs.lemmas.List.{drop-drop, drop_more, take_at}
-use Rattle.pip_model.specs.Reading.{◌>>=◌, ◌>>◌}
-use Rattle.pip_model.specs.Forms.{opposite, constant}
-use Rattle.pip_model.specs.Listed.{all_fit, opposite_listed}
-use Rattle.pip_model.specs.Cuts.{Quotient, lower_bound, upper_bound}
-use Rattle.pip_model.specs.Problem.{Problem}
-use Rattle.pip_model.specs.Tree.{Tree, Bottom, Leaf, If, NewParm, Component, leaves}
-use Rattle.pip_model.specs.Certificate.{Refutation, LeafProofs}
 use Rattle.pip_model.specs.Printed.{steps_fit, shared_fit, leaf_fits}
-use Rattle.pip_model.specs.Check.{Spot, spot, CheckFault, Rejected, Unfit, Checks, holds, fit, after_steps, Premises, LeafCase, leaf_cases, leaf_forms, leaf_premises, joined, check_refutation, check_refutations, check_leaf, check_leaves, is_whole_list}
-use Rattle.pip_model.proofs.Tests.{both}
-use Rattle.pip_model.proofs.Fitting.{fit_never}
-use Rattle.check_laws.proofs.CheckLoops.{check_leaves-if}
-use Rattle.leaf_check.specs.Leaves.{goal_count}
-use Rattle.certificate_check.specs.Paths.{PathForms, first_list, path_fault, no_proofs}
 use Rattle.certificate_check.specs.Walks.{below, IsAt}
 use Rattle.certificate_check.specs.declared.walk.TreeCheck.{TreeCheck}
 use Rattle.certificate_check.proofs.Numbers.{leaves_same}
-use Rattle.leaf_check.proofs.Owned.{own_goals, whole_count}
 
 -- ---- tests of a list
 

@@ -1,43 +1,15 @@
 -- All numbers of the certificate that is made fit.
-use Rattle.std.proofs.Common.{◌≡◌, refl, ap, sym, subst, ◌∙◌, ℕ, zero, suc, ◌+◌, ◌-◌, ◌*◌, ◌≤◌, arith, Option, Some, None, List, [], ◌∷◌, ◌++◌, append_assoc, drop, length, length-append, Bool, true, false, eqb-true, ℤ, pos, ◌*ℤ◌}
-use Rattle.std.specs.Prelude.{map, replicate, ◌==◌, slice_index_or, if◌then◌else◌}
-use Rattle.std.specs.List.{list_all, AllByRecursion}
-use Rattle.pip_model.specs.Limits.{most_unknowns, most_params, most_rows, most_context_rows, most_nesting}
-use Rattle.pip_model.specs.Numbers.{fits, is_nonneg, same_number}
-use Rattle.pip_model.specs.Forms.{constant, coefficients, width, scale, add, widen_to, opposite}
-use Rattle.pip_model.specs.Listed.{all_fit, opposite_listed}
-use Rattle.pip_model.specs.Problem.{Problem}
-use Rattle.pip_model.specs.Printed.{component_fits, step_fits, vector_fits, certificate_fits, tree_fits, leaf_fits}
-use Rattle.pip_model.specs.Tree.{Tree, Leaf, Component, Answer, Void, Solved, is_scoped, nesting}
-use Rattle.pip_model.specs.Right.{IsRight}
-use Rattle.pip_model.specs.WellFormed.{IsProblem}
-use Rattle.pip_model.specs.Certificate.{Refutation, LeafProofs, Certificate}
-use Rattle.pip_model.specs.Check.{LeafCase, leaf_cases, places_from, scope_forms, unknown_forms, row_form, plus_term, is_whole_list, put_in, put_in_listed, Premises, row_premises, sign_premises, least_premises, smaller_from, fronts_from, leaf_premises, joined, leaf_forms}
-use Rattle.pip_model.specs.Run.{Budget, IsBudget, Work, start_work, Outcome, Done, Refused, Overflow, Counted, go_on, ◌>>=◌, ◌>>◌, give, listed, left, Plus, Minus, root, run_from, numbers_of, point_setting, point_run, point, setting, answer_from, solve, first_node}
-use Rattle.pip_model.specs.Refuting.{indices, positive_terms, refute}
-use Rattle.pip_model.specs.Made.{PathQuotient, path_quotients, quotient_step, quotient_steps, narrow_to, steps_or_none, made_refutation, made_refutations, made_leaf, made_leaves, void_leaf, run_certificate, solve_with_certificate, unshared}
-use Rattle.pip_model.proofs.Tests.{both, both_true, every-append, every-parts}
-use Rattle.pip_model.proofs.Fitting.{fit_parts, fit_head, fit_take, fit_drop, fit_entry, fit_widen}
+use Rattle.certificate_laws.proofs.Words.{◌≡◌, refl, ap, sym, subst, ◌∙◌, ℕ, zero, suc, ◌+◌, ◌-◌, ◌*◌, ◌≤◌, arith, Option, Some, None, List, [], ◌∷◌, ◌++◌, append_assoc, drop, length, length-append, Bool, true, false, eqb-true, ℤ, pos, ◌*ℤ◌, map, replicate, ◌==◌, slice_index_or, if◌then◌else◌, list_all, AllByRecursion, most_unknowns, most_params, most_rows, most_context_rows, most_nesting, fits, is_nonneg, same_number, constant, coefficients, width, scale, add, widen_to, opposite, all_fit, opposite_listed, Problem, component_fits, step_fits, vector_fits, certificate_fits, tree_fits, leaf_fits, Tree, Leaf, Component, Answer, Void, Solved, is_scoped, nesting, IsRight, IsProblem, Refutation, LeafProofs, Certificate, LeafCase, leaf_cases, places_from, scope_forms, unknown_forms, row_form, plus_term, is_whole_list, put_in, put_in_listed, Premises, row_premises, sign_premises, least_premises, smaller_from, fronts_from, leaf_premises, joined, leaf_forms, Budget, IsBudget, Work, start_work, Outcome, Done, Refused, Overflow, Counted, go_on, ◌>>=◌, ◌>>◌, give, listed, left, Plus, Minus, root, run_from, numbers_of, point_setting, point_run, point, setting, answer_from, solve, first_node, indices, positive_terms, refute, PathQuotient, path_quotients, quotient_step, quotient_steps, narrow_to, steps_or_none, made_refutation, made_refutations, made_leaf, made_leaves, void_leaf, run_certificate, solve_with_certificate, unshared, both, both_true, every-append, every-parts, fit_parts, fit_head, fit_take, fit_drop, fit_entry, fit_widen, OnDone, Ensures, ensures-bind, ensures-give, length_map, start_fits, solve_good, narrow_rows, IsPointOf, point_right, IsRefutedPoint, IfSteps, refute-same, length-places, list_all-append}
 use Rattle.pip_model.proofs.Fuel.{AtMost, falls-point, falls-run_from, falls-class}
-use Rattle.run_laws.proofs.Ensured.{OnDone, Ensures, ensures-bind, ensures-give}
-use Rattle.run_laws.proofs.Lengths.{length_map}
-use Rattle.run_laws.proofs.FitRows.{start_fits}
 use Rattle.run_laws.proofs.FitRun.{ClassFits, TreeFits, AnswerFits, run_from_fits, solve-fits, fitting_rows}
 use Rattle.run_laws.proofs.Budgets.{solve-nested}
-use Rattle.run_laws.proofs.SolveRight.{solve_good, narrow_rows}
-use Rattle.run_laws.proofs.PointRight.{IsPointOf, point_right}
 use Rattle.certificate_laws.proofs.TreeShape.{Shaped}
 use Rattle.certificate_laws.proofs.LeafFacts.{AllPairs, pairs-kept, AllQuotients, LeafFacts, SizedList, leaf_facts}
-use Rattle.pip_model.specs.RefutedPoint.{IsRefutedPoint}
-use Rattle.refutation_laws.proofs.Traces.{IfSteps}
-use Rattle.refutation_laws.proofs.SameRun.{refute-same}
 use Rattle.certificate_laws.proofs.MadeRefutation.{IsPremises, narrow_context, known_long}
 use Rattle.certificate_laws.proofs.MadeLeaves.{Ready, leaf_ready}
 use Rattle.certificate_laws.proofs.FitSteps.{most_index, UpTo, AllUpTo, fits_up_to, up_to_indices, term_fits, positive_fits, StepsFit, steps_fit_append, AllFit, refute_fits, fit_widened}
 use Rattle.certificate_laws.proofs.Accepted.{void_whole, void_none, void_known, tree_shaped, answer_of, done_by, fitting_done, certified_by, certified-answer}
 use Rattle.certificate_laws.proofs.FitForms.{places_fit, narrowed_fit, row_forms_fit, opposite_fits, put_in_fits, smaller_fit, ListFits, QuotientsFit, MaybeListFits, FitFacts, fit_facts}
-use Rattle.check_laws.proofs.ShareReadable.{length-places}
-use Rattle.std.proofs.lemmas.List.Folds.{list_all-append}
 
 -- ---- parts that begin with at most n left
 

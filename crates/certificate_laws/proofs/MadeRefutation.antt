@@ -1,38 +1,15 @@
 -- A refutation that is made succeeds, where no whole vector makes its known forms >= 0.
-use Rattle.std.proofs.Common.{◌≡◌, refl, ap, ap₂, sym, subst, ◌∙◌, ℕ, zero, suc, ◌+◌, ◌<◌, ◌≤◌, arith, Option, Some, None, List, [], ◌∷◌, ◌++◌, append_assoc, length, length-append, true, ℤ, pos}
-use Rattle.std.proofs.Math.ListN.{get_or-append}
-use Rattle.std.proofs.Math.Seq.{get_or-append_seam}
-use Rattle.std.proofs.lemmas.List.{get_or-append-add, get_or-map}
-use Rattle.std.specs.Prelude.{map, slice_index_or, if◌then◌else◌}
-use Rattle.pip_model.specs.Forms.{entry, unit_form, widen_to}
-use Rattle.pip_model.specs.Problem.{Problem}
-use Rattle.pip_model.specs.Certificate.{Refutation}
-use Rattle.pip_model.specs.Check.{LeafCase, places_from, Premises}
-use Rattle.pip_model.specs.Conditions.{named, known_at_end}
+use Rattle.certificate_laws.proofs.Words.{◌≡◌, refl, ap, ap₂, sym, subst, ◌∙◌, ℕ, zero, suc, ◌+◌, ◌<◌, ◌≤◌, arith, Option, Some, None, List, [], ◌∷◌, ◌++◌, append_assoc, length, length-append, true, ℤ, pos, get_or-append, get_or-append_seam, get_or-append-add, get_or-map, map, slice_index_or, if◌then◌else◌, entry, unit_form, widen_to, Problem, Refutation, LeafCase, places_from, Premises, named, known_at_end, all_fit, Work, Refusal, Outcome, Done, Refused, ◌>>=◌, give, listed, point, indices, refute, PathQuotient, quotient_steps, narrow_to, steps_or_none, made_refutation, every-append, OnDone, Ensures, OnMade, Makes, ensures-bind, ensures-give, ends-listed, Narrow, InScope, IsPointOf, point_right, length_map, IfSteps, IsRefutedPoint, refute-same, length-places, every-kept}
 use Rattle.pip_model.specs.Contexts.{IsPointRefusal}
-use Rattle.pip_model.specs.Listed.{all_fit}
-use Rattle.pip_model.specs.Run.{Work, Refusal, Outcome, Done, Refused, ◌>>=◌, give, listed, point}
-use Rattle.pip_model.specs.Refuting.{indices, refute}
-use Rattle.pip_model.specs.Made.{PathQuotient, quotient_steps, narrow_to, steps_or_none, made_refutation}
-use Rattle.pip_model.proofs.Tests.{every-append}
 use Rattle.run_laws.proofs.ContextRight.{context_of}
-use Rattle.run_laws.proofs.Ensured.{OnDone, Ensures, OnMade, Makes, ensures-bind, ensures-give, ends-listed}
 use Rattle.run_laws.proofs.PointRefusals.{point-refusal}
-use Rattle.run_laws.proofs.Scopes.{Narrow, InScope}
-use Rattle.run_laws.proofs.PointRight.{IsPointOf, point_right}
-use Rattle.run_laws.proofs.Lengths.{length_map}
 use Rattle.certificate_laws.proofs.Deriving.{Names, GoodSteps, Refutes, refutes-append, front_at_end}
 use Rattle.certificate_laws.proofs.Totals.{AllWide, AllNamed, entries_at, entries-more, entries-append, all_named_more}
 use Rattle.certificate_laws.proofs.Tracing.{one_at}
-use Rattle.refutation_laws.proofs.Traces.{IfSteps}
 use Rattle.certificate_laws.proofs.FirstTrace.{units_from, units-append, Within, AllWithin, length_narrow, indices_named, Starts, refute_right}
-use Rattle.pip_model.specs.RefutedPoint.{IsRefutedPoint}
-use Rattle.refutation_laws.proofs.SameRun.{refute-same}
 use Rattle.certificate_laws.proofs.LeafFacts.{AllQuotients}
 use Rattle.certificate_laws.proofs.QuotientSteps.{entry-unit_form, Places, Stands, quotient_steps_good, length-quotient_steps}
 use Rattle.pip_model.proofs.RingLaws.{one-*ℤ}
-use Rattle.check_laws.proofs.ShareReadable.{length-places}
-use Rattle.check_laws.proofs.StartingForms.{every-kept}
 
 -- ---- places among the known forms
 

@@ -1,16 +1,7 @@
 -- A context without forms or without places: its run ends at its first rows.
-use Rattle.std.proofs.Common.{◌≡◌, ◌∙◌, refl, ap, ℕ, zero, suc, ◌+◌, ◌-◌, ℤ, arith, Bool, true, false, ◌&&◌, Option, Some, None, is_none, List, [], ◌∷◌, length, map, take, replicate, pos}
-use Rattle.std.specs.Prelude.{if◌then◌else◌, filter, ◌++◌}
-use Rattle.std.specs.List.{list_all}
-use Rattle.std.proofs.lemmas.List.{length-map}
-use Rattle.pip_model.specs.Numbers.{is_nonneg, is_positive}
-use Rattle.pip_model.specs.Forms.{width, coefficients, constant, entry, widen_to}
-use Rattle.pip_model.specs.Rows.{Row, row_at, form_row, unit_row, count_from, fraction_from}
-use Rattle.pip_model.specs.Run.{Work, Done}
-use Rattle.pip_model.proofs.Forms.{length-count}
+use Rattle.context.proofs.Words.{◌≡◌, ◌∙◌, refl, ap, ℕ, zero, suc, ◌+◌, ◌-◌, ℤ, arith, Bool, true, false, ◌&&◌, Option, Some, None, is_none, List, [], ◌∷◌, length, map, take, replicate, pos, if◌then◌else◌, filter, list_all, length-map, is_nonneg, is_positive, width, coefficients, constant, entry, widen_to, Row, row_at, form_row, unit_row, count_from, fraction_from, Work, Done, length-count, negative_from, has_point, finds_point}
+use Rattle.std.specs.Prelude.{◌++◌}
 use Rattle.run_laws.proofs.Scopes.{constant-end}
-use Rattle.context.specs.Turns.{negative_from}
-use Rattle.context.specs.Remembered.{has_point, finds_point}
 use Rattle.context.proofs.Ending.{finds_here, finds_none}
 use Rattle.context.proofs.OneFormMore.{alone_is}
 

@@ -1,14 +1,7 @@
 -- A copied run is that from which it was copied.
-use Rattle.std.proofs.Common.{◌≡◌, refl, ap, sym, subst, ℕ, ◌+◌, ◌≤◌, ℤ, Bool, true, false, arith, List, [], ◌∷◌, ◌++◌, length, take, length-append}
-use Rattle.std.specs.Prelude.{IsTrue}
-use Rattle.std.proofs.lemmas.List.{take-take, take-append-le, length-take-le}
-use Rattle.pip_model.specs.Contexts.{IsContext}
-use Rattle.pip_model.specs.Rows.{Row}
-use Rattle.tableau.specs.Tableaus.{TableauRows}
+use Rattle.context.proofs.Words.{◌≡◌, refl, ap, sym, subst, ℕ, ◌+◌, ◌≤◌, ℤ, Bool, true, false, arith, List, [], ◌∷◌, ◌++◌, length, take, length-append, IsTrue, take-take, take-append-le, length-take-le, IsContext, Row, TableauRows, Remembered, IsFormed, IsReplay, IsSameReplay, IsRemembered, IsKnown, first_rows}
 use Rattle.context.proofs.Retracing.{retraces-made}
-use Rattle.context.specs.declared.remembered.Remembered.{Remembered}
 use Rattle.context.specs.declared.remembered.Replay.{Replay}
-use Rattle.context.specs.Remembered.{IsFormed, IsReplay, IsSameReplay, IsRemembered, IsKnown, first_rows}
 
 formed_same : (m copy : Replay) → IsSameReplay m copy → IsFormed m → IsFormed copy
 formed_same m copy same is = record {

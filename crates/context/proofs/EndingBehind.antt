@@ -1,16 +1,5 @@
 -- Where a run shows a point, the first row behind its own that is below 0 ends it where no column enters there.
-use Rattle.std.proofs.Common.{◌≡◌, ◌∙◌, refl, ap, sym, ℕ, suc, ◌+◌, ◌-◌, arith, Bool, true, false, Option, Some, None, is_none, List, [], ◌∷◌, ◌++◌, length}
-use Rattle.std.specs.Prelude.{if◌then◌else◌}
-use Rattle.std.proofs.lemmas.List.{get_or-append_right}
-use Rattle.pip_model.specs.Numbers.{is_nonneg}
-use Rattle.pip_model.specs.Forms.{constant, entry}
-use Rattle.pip_model.specs.Rows.{Row, row_at, form_row, candidates, first_fraction}
-use Rattle.pip_model.specs.Run.{Work, Done}
-use Rattle.pip_model.specs.Refuting.{Trace, refute_from, with_step, last_step}
-use Rattle.pip_model.proofs.Tests.{both}
-use Rattle.context.specs.Turns.{negative_from, node_of}
-use Rattle.context.specs.Remembered.{is_end}
-use Rattle.context.specs.Traces.{IsClosing, steps_if}
+use Rattle.context.proofs.Words.{◌≡◌, ◌∙◌, refl, ap, sym, ℕ, suc, ◌+◌, ◌-◌, arith, Bool, true, false, Option, Some, None, is_none, List, [], ◌∷◌, ◌++◌, length, if◌then◌else◌, get_or-append_right, is_nonneg, constant, entry, Row, row_at, form_row, candidates, first_fraction, Work, Done, Trace, refute_from, with_step, last_step, both, negative_from, node_of, is_end, IsClosing, steps_if}
 use Rattle.context.proofs.Ending.{none_of, no_candidates, no_column, closes}
 use Rattle.context.proofs.Tracing.{next-bottom, refutes-bottom}
 

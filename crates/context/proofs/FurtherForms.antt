@@ -1,20 +1,5 @@
 -- The kept run of some forms with others behind them.
-use Rattle.std.proofs.Common.{◌≡◌, ◌∙◌, refl, ap, ap₂, sym, subst, ℕ, zero, suc, ◌+◌, ◌<◌, arith, ℤ, Bool, false, List, [], ◌∷◌, ◌++◌, All, length, length-append, map, get_or, take, drop, Option, Some, None}
-use Rattle.std.specs.Prelude.{IfSome, nat_eq}
-use Rattle.std.proofs.lemmas.List.{map-append, length-map, length-take-le, take-append-drop}
-use Rattle.std.proofs.lemmas.List.Elements.{All-head, All-tail}
-use Rattle.pip_model.specs.Contexts.{IsContext}
-use Rattle.pip_model.specs.Made.{narrow_to}
-use Rattle.pip_model.specs.Certificate.{Refutation}
-use Rattle.pip_model.specs.Forms.{constant, widen_to}
-use Rattle.pip_model.specs.Rows.{Row, form_row, unit_row, count_from}
-use Rattle.pip_model.specs.Run.{Work, Outcome, Done, Refused, Refusal, go_on}
-use Rattle.pip_model.specs.Refuting.{Trace, refute, refute_from, refute_by, first_trace}
-use Rattle.run_laws.proofs.RowsAt.{length_slice_set}
-use Rattle.context.specs.Turns.{node_of}
-use Rattle.context.specs.Remembered.{replayed, first_rows, IsRemembered}
-use Rattle.context.specs.Traces.{exchanged, exchanges, IsTraced, steps_if}
-use Rattle.context.specs.declared.remembered.Remembered.{Remembered}
+use Rattle.context.proofs.Words.{◌≡◌, ◌∙◌, refl, ap, ap₂, sym, subst, ℕ, zero, suc, ◌+◌, ◌<◌, arith, ℤ, Bool, false, List, [], ◌∷◌, ◌++◌, All, length, length-append, map, get_or, take, drop, Option, Some, None, IfSome, nat_eq, map-append, length-map, length-take-le, take-append-drop, All-head, All-tail, IsContext, narrow_to, Refutation, constant, widen_to, Row, form_row, unit_row, count_from, Work, Outcome, Done, Refused, Refusal, go_on, Trace, refute, refute_from, refute_by, first_trace, length_slice_set, node_of, replayed, first_rows, IsRemembered, exchanged, exchanges, IsTraced, steps_if, Remembered}
 use Rattle.context.proofs.FurtherRows.{append-assoc}
 use Rattle.context.proofs.Tracing.{first-traced, refute_by_run}
 

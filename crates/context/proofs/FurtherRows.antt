@@ -1,16 +1,7 @@
 -- Rows behind all others: while another is below 0 they are not chosen, so the pivots are the same with them and without them.
-use Rattle.std.proofs.Common.{◌≡◌, ◌∙◌, refl, ap, sym, ℕ, zero, suc, ◌+◌, ◌-◌, ◌<◌, ◌≤◌, ℤ, arith, List, [], ◌∷◌, ◌++◌, length, map, take, drop, Bool, true, false, ◌&&◌, Some}
-use Rattle.std.specs.Prelude.{slice_set, flat_map, if◌then◌else◌, nat_lt}
+use Rattle.context.proofs.Words.{◌≡◌, ◌∙◌, refl, ap, sym, ℕ, zero, suc, ◌+◌, ◌-◌, ◌<◌, ◌≤◌, ℤ, arith, List, [], ◌∷◌, ◌++◌, length, map, take, drop, Bool, true, false, ◌&&◌, Some, flat_map, if◌then◌else◌, nat_lt, map-append, take-append-le, drop-append-le, flat_map-append, fits, is_nonneg, constant, all_fit, Row, row_at, other_rows, pivot, pivot_listed, entering, entering_listed, eliminated, eliminated_listed, Setting, Node, Again, MinusAt, Work, Outcome, Done, Refused, Pivots, Overflow, go_on, give, listed, left, turn, turn_by, run, run_from, count_pivot, point_setting, negative_from, node_of, turned}
+use Rattle.std.specs.Prelude.{slice_set}
 use Rattle.std.proofs.lemmas.Bool.{ltb-true}
-use Rattle.std.proofs.lemmas.List.{map-append, take-append-le, drop-append-le}
-use Rattle.std.proofs.lemmas.Grind.{flat_map-append}
-use Rattle.pip_model.specs.Numbers.{fits, is_nonneg}
-use Rattle.pip_model.specs.Forms.{constant}
-use Rattle.pip_model.specs.Listed.{all_fit}
-use Rattle.pip_model.specs.Rows.{Row, row_at, other_rows, pivot, pivot_listed, entering, entering_listed, eliminated, eliminated_listed}
-use Rattle.pip_model.specs.Run.{Setting, Node, Again, MinusAt, Work, Outcome, Done, Refused, Pivots, Overflow, go_on, give, listed, left, turn, turn_by, run, run_from, count_pivot, point_setting}
-use Rattle.context.specs.Turns.{negative_from, node_of}
-use Rattle.context.specs.Remembered.{turned}
 use Rattle.context.proofs.Turning.{signs_of, turn_is}
 
 pub append-assoc : {A : Type 0} (xs ys zs : List A) → (xs ++ ys) ++ zs ≡ xs ++ (ys ++ zs)

@@ -1,17 +1,6 @@
 -- A run remembered goes on with further rows behind its first ones: they are turned by its pivots, and stand behind its last rows.
-use Rattle.std.proofs.Common.{◌≡◌, ◌∙◌, refl, ap, sym, subst, ℕ, ◌+◌, ◌-◌, ◌<◌, ℤ, arith, List, [], ◌∷◌, ◌++◌, length, map, take, get_or, drop, Bool, true, false}
-use Rattle.std.specs.Prelude.{flat_map, if◌then◌else◌, ◌&&◌, IsTrue, Result, Ok, Err, OnOk, is_ok}
-use Rattle.std.proofs.lemmas.List.{map-append, drop_more, take_all, take_rest, take-append-drop}
-use Rattle.std.proofs.lemmas.Grind.{flat_map-append}
-use Rattle.pip_model.specs.Contexts.{IsContext}
-use Rattle.pip_model.specs.Listed.{all_fit}
-use Rattle.pip_model.specs.Rows.{Row, row_at, form_row, eliminated, eliminated_listed}
-use Rattle.pip_model.specs.Run.{Work, Outcome, Done, Refused, Overflow, ◌>>◌, go_on, give, listed, count_pivot, run_from, point_setting}
-use Rattle.pip_model.specs.Refuting.{refute_from}
-use Rattle.context.specs.Turns.{node_of}
-use Rattle.context.specs.Remembered.{turned, replayed, RetracesTo, IsTurned, IsRemembered, IsKnown}
-use Rattle.context.specs.Traces.{exchanges}
-use Rattle.context.specs.declared.remembered.Remembered.{Remembered}
+use Rattle.context.proofs.Words.{◌≡◌, ◌∙◌, refl, ap, sym, subst, ℕ, ◌+◌, ◌-◌, ◌<◌, ℤ, arith, List, [], ◌∷◌, ◌++◌, length, map, take, get_or, drop, Bool, true, false, flat_map, if◌then◌else◌, IsTrue, Result, Ok, Err, OnOk, is_ok, map-append, drop_more, take_all, take_rest, take-append-drop, flat_map-append, IsContext, all_fit, Row, row_at, form_row, eliminated, eliminated_listed, Work, Outcome, Done, Refused, Overflow, ◌>>◌, go_on, give, listed, count_pivot, run_from, point_setting, refute_from, node_of, turned, replayed, RetracesTo, IsTurned, IsRemembered, IsKnown, exchanges, Remembered}
+use Rattle.std.specs.Prelude.{◌&&◌}
 use Rattle.context.proofs.FurtherRows.{append-assoc, all_fit-append}
 use Rattle.context.proofs.Replaying.{Reaches}
 

@@ -1,9 +1,6 @@
 -- Kept forms that are the first of known ones.
-use Rattle.std.proofs.Common.{◌≡◌, ◌∙◌, ap, sym, ℕ, ◌≤◌, ℤ, List, length, map, take, Result, Ok, Err, arith}
-use Rattle.std.specs.Prelude.{OnOk}
-use Rattle.std.proofs.lemmas.List.{length-map, length-take, length-take-le, take-take}
-use Rattle.pip_model.specs.Made.{narrow_to}
-use Rattle.context.specs.Scoped.{KeptForms, AreFirst, AreFirstWithin}
+use Rattle.context.proofs.Words.{◌≡◌, ◌∙◌, ap, sym, ℕ, ◌≤◌, ℤ, List, length, map, take, arith, OnOk, length-map, length-take, length-take-le, take-take, narrow_to, KeptForms, AreFirst, AreFirstWithin}
+use Rattle.std.proofs.Common.{Result, Ok, Err}
 
 pub first-within : (k : KeptForms) (known : List (List ℤ)) → AreFirst k known → length k.forms ≤ length known
 first-within k known h =

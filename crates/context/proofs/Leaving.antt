@@ -1,8 +1,5 @@
 -- The rows and the context that parts of a run leave together.
-use Rattle.std.proofs.Common.{refl, ◌∙◌, arith}
-use Rattle.tableau.specs.Tableaus.{TableauRows}
-use Rattle.context.specs.Scoped.{ScopedForms, IsKeptContext}
-use Rattle.context.specs.Turns.{HasSameScope}
+use Rattle.context.proofs.Words.{refl, ◌∙◌, arith, TableauRows, ScopedForms, IsKeptContext, HasSameScope}
 
 pub scope_none : (t : TableauRows) → HasSameScope t t
 scope_none t = record { unknowns = refl; width = refl; rows = λ h. h }

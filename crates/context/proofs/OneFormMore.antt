@@ -1,18 +1,6 @@
 -- What a run with one row more behind its first rows tells of a context with one form more.
-use Rattle.std.proofs.Common.{◌≡◌, ◌∙◌, refl, ap, sym, subst, ℕ, zero, suc, ℤ, Bool, List, [], ◌∷◌, ◌++◌, map, is_some, Option, Some, None, arith, append-nil}
-use Rattle.std.specs.Prelude.{Result, IfSome}
-use Rattle.std.proofs.lemmas.List.{map-append}
-use Rattle.pip_model.specs.Forms.{widen_to}
-use Rattle.pip_model.specs.Tree.{Tree}
-use Rattle.pip_model.specs.Rows.{Row, form_row, unit_row, count_from}
-use Rattle.pip_model.specs.Run.{Work, Outcome, Done, Refused, go_on, give, run_from, numbers_of, point, point_run, point_setting}
-use Rattle.pip_model.specs.Agreement.{AgreesCounted}
-use Rattle.pip_problem.specs.Faults.{run_fault}
+use Rattle.context.proofs.Words.{◌≡◌, ◌∙◌, refl, ap, sym, subst, ℕ, zero, suc, ℤ, Bool, List, [], ◌∷◌, ◌++◌, map, is_some, Option, Some, None, arith, append-nil, Result, IfSome, map-append, widen_to, Tree, Row, form_row, unit_row, count_from, Work, Outcome, Done, Refused, go_on, give, run_from, numbers_of, point, point_run, point_setting, AgreesCounted, run_fault, IsCountedRun, node_of, has_point, finds_point, replayed, asked, first_rows, IsReplay, IsRemembered, Remembered}
 use Rattle.pip_problem.specs.declared.refusal.Refusal as code
-use Rattle.run_counts.specs.Counts.{IsCountedRun}
-use Rattle.context.specs.Turns.{node_of}
-use Rattle.context.specs.Remembered.{has_point, finds_point, replayed, asked, first_rows, IsReplay, IsRemembered}
-use Rattle.context.specs.declared.remembered.Remembered.{Remembered}
 use Rattle.context.proofs.FurtherRows.{append-assoc}
 use Rattle.context.proofs.Ending.{finds_here}
 

@@ -1,14 +1,7 @@
 -- What a point's answer tells of its context, and why a refutation is refused.
-use Rattle.std.proofs.Common.{Option, Some, None, List, ℤ, ℕ, ◌≡◌, refl, subst}
-use Rattle.std.specs.Prelude.{Result, Ok, Err, IfOk, IfErr, IfSome}
+use Rattle.context.proofs.Words.{Option, Some, None, List, ℤ, ℕ, ◌≡◌, refl, subst, Result, Ok, Err, IfOk, IfErr, IfSome, Refutation, Work, Outcome, Done, Refused, point, refute, IsContext, PointTells, IsPointRefusal, AgreesCounted, run_fault}
 use Rattle.pip_model.specs.Run as run
-use Rattle.pip_model.specs.Certificate.{Refutation}
-use Rattle.pip_model.specs.Run.{Work, Outcome, Done, Refused, point}
-use Rattle.pip_model.specs.Refuting.{refute}
 use Rattle.pip_model.specs.RefutedPoint.{IsRefutedPoint}
-use Rattle.pip_model.specs.Contexts.{IsContext, PointTells, IsPointRefusal}
-use Rattle.pip_model.specs.Agreement.{AgreesCounted}
-use Rattle.pip_problem.specs.Faults.{run_fault}
 use Rattle.pip_problem.specs.declared.refusal.Refusal.{Refusal}
 use Rattle.run_laws.proofs.ContextRight.{point-tells, narrow_of}
 use Rattle.run_laws.proofs.PointRefusals.{point-refusal}

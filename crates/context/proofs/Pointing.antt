@@ -1,18 +1,6 @@
 -- The run without parameters, from one turn to the next, and what it answers.
-use Rattle.std.proofs.Common.{◌≡◌, refl, ap, sym, ◌∙◌, ℕ, zero, suc, ◌<◌, ◌≤◌, ℤ, Bool, true, false, Option, Some, None, List, [], ◌∷◌, length, map, take, is_some, arith, length-append}
-use Rattle.std.specs.Prelude.{IfSome, Result, Ok, Err}
-use Rattle.std.proofs.lemmas.List.{length-map}
-use Rattle.pip_model.specs.Forms.{constant}
-use Rattle.pip_model.specs.Tree.{Tree, Component}
-use Rattle.pip_model.specs.Rows.{Row, start}
-use Rattle.pip_model.specs.Run.{Work, Outcome, Done, Refused, Refusal, Turn, Again, Closed, go_on, give, left, leaf, turn, run_from, numbers_of, point, point_run, point_setting, row_component}
-use Rattle.pip_model.specs.Agreement.{AgreesCounted}
-use Rattle.pip_model.proofs.Forms.{length-count}
-use Rattle.pip_model.proofs.Fuel.{again_less, again_run, closed_run_from, refused_run_from, falls-constant_class}
-use Rattle.pip_problem.specs.Faults.{run_fault}
+use Rattle.context.proofs.Words.{◌≡◌, refl, ap, sym, ◌∙◌, ℕ, zero, suc, ◌<◌, ◌≤◌, ℤ, Bool, true, false, Option, Some, None, List, [], ◌∷◌, length, map, take, is_some, arith, length-append, IfSome, Result, Ok, Err, length-map, constant, Tree, Component, Row, start, Work, Outcome, Done, Refused, Refusal, Turn, Again, Closed, go_on, give, left, leaf, turn, run_from, numbers_of, point, point_run, point_setting, row_component, AgreesCounted, length-count, again_less, again_run, closed_run_from, refused_run_from, falls-constant_class, run_fault, node_of, first_rows, finds_point, ended}
 use Rattle.pip_problem.specs.declared.refusal.Refusal as code
-use Rattle.context.specs.Turns.{node_of}
-use Rattle.context.specs.Remembered.{first_rows, finds_point, ended}
 
 -- ---- the run from its first rows
 

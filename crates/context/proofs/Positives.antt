@@ -1,11 +1,6 @@
 -- Indices with positive multipliers, one by one; indices from 0 on.
-use Rattle.std.proofs.Common.{◌≡◌, refl, ap, ◌∙◌, ℕ, zero, suc, ◌+◌, ◌<◌, ◌≤◌, ℤ, pos, true, false, List, [], ◌∷◌, ◌++◌, length, length-append, take, drop, map, arith, sym}
-use Rattle.std.proofs.lemmas.List.{drop_more, take-append-le}
+use Rattle.context.proofs.Words.{◌≡◌, refl, ap, ◌∙◌, ℕ, zero, suc, ◌+◌, ◌<◌, ◌≤◌, ℤ, pos, true, false, List, [], ◌∷◌, ◌++◌, length, length-append, take, drop, map, arith, sym, drop_more, take-append-le, is_positive, entry, count_from, positive_terms, indices}
 use Rattle.std.proofs.Math.Seq.{append_snoc}
-use Rattle.pip_model.specs.Numbers.{is_positive}
-use Rattle.pip_model.specs.Forms.{entry}
-use Rattle.pip_model.specs.Rows.{count_from}
-use Rattle.pip_model.specs.Refuting.{positive_terms, indices}
 
 module _ (is ms : List ℤ) (i : ℕ) (h : i < length is) (k : length ms ≡ length is) where
   pub positive-here : is_positive (entry ms i) ≡ true → positive_terms (drop i is) (drop i ms) ≡ (entry is i, entry ms i) ∷ positive_terms (drop (i + 1) is) (drop (i + 1) ms)

@@ -1,13 +1,5 @@
 -- A run remembered: from one pivot to the next.
-use Rattle.std.proofs.Common.{◌≡◌, ◌∙◌, refl, ap, sym, ℕ, ◌+◌, ◌<◌, arith, List, [], ◌∷◌, ◌++◌, length, map, get_or, drop, Bool, true, false}
-use Rattle.std.specs.Prelude.{flat_map, if◌then◌else◌}
-use Rattle.std.proofs.lemmas.List.{drop_more}
-use Rattle.pip_model.specs.Listed.{all_fit}
-use Rattle.pip_model.specs.Rows.{Row, row_at, form_row, pivot, eliminated, eliminated_listed}
-use Rattle.pip_model.specs.Run.{Work, Outcome, Done, Refused, Overflow, Counted, ◌>>◌, go_on, give, listed, count_pivot, run_from, point_setting}
-use Rattle.tableau.specs.Tableaus.{TableauRows}
-use Rattle.context.specs.Turns.{node_of}
-use Rattle.context.specs.Remembered.{turned, replayed}
+use Rattle.context.proofs.Words.{◌≡◌, ◌∙◌, refl, ap, sym, ℕ, ◌+◌, ◌<◌, arith, List, [], ◌∷◌, ◌++◌, length, map, get_or, drop, Bool, true, false, flat_map, if◌then◌else◌, drop_more, all_fit, Row, row_at, form_row, pivot, eliminated, eliminated_listed, Work, Outcome, Done, Refused, Overflow, Counted, ◌>>◌, go_on, give, listed, count_pivot, run_from, point_setting, TableauRows, node_of, turned, replayed}
 use Rattle.context.proofs.FurtherRows.{IsStep, step-front}
 
 -- the two parts of a replay

@@ -1,13 +1,5 @@
 -- The run that keeps a trace, with further rows behind those whose pivots are remembered.
-use Rattle.std.proofs.Common.{◌≡◌, ◌∙◌, refl, ap, sym, subst, ℕ, zero, suc, ◌+◌, ◌<◌, arith, List, [], ◌∷◌, ◌++◌, length, length-append, get_or, map}
-use Rattle.std.specs.Prelude.{flat_map}
-use Rattle.pip_model.specs.Rows.{Row, row_at, pivot, eliminated, eliminated_listed}
-use Rattle.pip_model.specs.Run.{Work, Outcome, Done, Refused, Again, go_on, give, listed, count_pivot, turn, point_setting, Node}
-use Rattle.pip_model.specs.Refuting.{Trace, refute_from}
-use Rattle.refutation_laws.proofs.RefuteSteps.{next_trace, refute-again, refute-refused}
-use Rattle.context.specs.Turns.{node_of}
-use Rattle.context.specs.Remembered.{turned, replayed, RetracesTo}
-use Rattle.context.specs.Traces.{exchanged, exchanges}
+use Rattle.context.proofs.Words.{◌≡◌, ◌∙◌, refl, ap, sym, subst, ℕ, zero, suc, ◌+◌, ◌<◌, arith, List, [], ◌∷◌, ◌++◌, length, length-append, get_or, map, flat_map, Row, row_at, pivot, eliminated, eliminated_listed, Work, Outcome, Done, Refused, Again, go_on, give, listed, count_pivot, turn, point_setting, Node, Trace, refute_from, next_trace, refute-again, refute-refused, node_of, turned, replayed, RetracesTo, exchanged, exchanges}
 use Rattle.context.proofs.FurtherRows.{IsStep, negative-front, entering-front, turn-behind}
 use Rattle.context.proofs.Replaying.{replayed-append, given}
 use Rattle.context.proofs.Tracing.{next-pivot}

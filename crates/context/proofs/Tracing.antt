@@ -1,22 +1,6 @@
 -- The trace of the run without parameters, from one turn to the next, and what it gives.
-use Rattle.std.proofs.Common.{◌≡◌, refl, ap, sym, ◌∙◌, ℕ, zero, suc, ◌+◌, ◌<◌, ℤ, Bool, true, false, Option, Some, None, List, [], ◌∷◌, ◌++◌, length, slice_set, length-append}
-use Rattle.std.specs.Prelude.{if◌then◌else◌, map}
-use Rattle.std.proofs.lemmas.List.{get_or_append_left, length-map}
-use Rattle.pip_model.specs.Numbers.{is_nonneg}
-use Rattle.pip_model.specs.Forms.{constant, entry, widen_to}
-use Rattle.pip_model.specs.Tree.{Bottom}
-use Rattle.pip_model.specs.Rows.{Row, row_at, form_row, entering, first_fraction, start}
-use Rattle.pip_model.specs.Cuts.{constant_cut}
-use Rattle.pip_model.specs.Certificate.{Refutation}
-use Rattle.pip_model.specs.Run.{Work, Outcome, Done, Turn, Again, Closed, MinusAt, left, turn, point_setting}
-use Rattle.pip_model.specs.Refuting.{Trace, traced, pivot_trace, cut_trace, with_step, last_step, refute_from, refute_by, refute, first_trace, indices}
-use Rattle.pip_model.proofs.Forms.{length-count}
-use Rattle.pip_model.proofs.Fuel.{again_less, falls-constant_class}
-use Rattle.run_laws.proofs.RowsAt.{length_slice_set}
-use Rattle.refutation_laws.proofs.RefuteSteps.{signs_from, next_trace, refute-again, refute-closed}
-use Rattle.tableau.specs.Tableaus.{TableauRows}
-use Rattle.context.specs.Turns.{negative_from, node_of}
-use Rattle.context.specs.Traces.{with_cut, steps_if, IsTraced}
+use Rattle.context.proofs.Words.{◌≡◌, refl, ap, sym, ◌∙◌, ℕ, zero, suc, ◌+◌, ◌<◌, ℤ, Bool, true, false, Option, Some, None, List, [], ◌∷◌, ◌++◌, length, slice_set, length-append, if◌then◌else◌, get_or_append_left, length-map, is_nonneg, constant, entry, widen_to, Bottom, Row, row_at, form_row, entering, first_fraction, start, constant_cut, Refutation, Work, Outcome, Done, Turn, Again, Closed, MinusAt, left, turn, point_setting, Trace, traced, pivot_trace, cut_trace, with_step, last_step, refute_from, refute_by, refute, first_trace, indices, length-count, again_less, falls-constant_class, length_slice_set, signs_from, next_trace, refute-again, refute-closed, TableauRows, negative_from, node_of, with_cut, steps_if, IsTraced}
+use Rattle.std.specs.Prelude.{map}
 use Rattle.context.proofs.Turning.{signs_of}
 
 -- ---- the next trace, by the turn

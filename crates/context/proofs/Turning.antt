@@ -1,12 +1,5 @@
 -- The turns of the run without parameters.
-use Rattle.std.proofs.Common.{◌≡◌, refl, ap, ℕ, ◌+◌, ℤ, Bool, true, false, Option, Some, None, List, [], ◌∷◌, ◌++◌, length, arith}
-use Rattle.std.specs.Prelude.{if◌then◌else◌, IfSome}
-use Rattle.pip_model.specs.Numbers.{is_nonneg, floor_div, gcd, gcd_of}
-use Rattle.pip_model.specs.Forms.{constant, coefficients, entry, floor_divided}
-use Rattle.pip_model.specs.Rows.{Row, row_at, first_fraction, is_whole}
-use Rattle.pip_model.specs.Cuts.{constant_cut}
-use Rattle.pip_model.specs.Run.{Work, Outcome, Done, Refused, Refusal, Node, Setting, Plus, Minus, Signs, AllPlus, MinusAt, go_on, scan, scan_on, turn, turn_by, last_turn, cut_turn, count_cut, give, row_component, Again, point_setting}
-use Rattle.context.specs.Turns.{negative_from, node_of, counted_cut}
+use Rattle.context.proofs.Words.{◌≡◌, refl, ap, ℕ, ◌+◌, ℤ, Bool, true, false, Option, Some, None, List, [], ◌∷◌, ◌++◌, length, arith, if◌then◌else◌, IfSome, is_nonneg, floor_div, gcd, gcd_of, constant, coefficients, entry, floor_divided, Row, row_at, first_fraction, is_whole, constant_cut, Work, Outcome, Done, Refused, Refusal, Node, Setting, Plus, Minus, Signs, AllPlus, MinusAt, go_on, scan, scan_on, turn, turn_by, last_turn, cut_turn, count_cut, give, row_component, Again, point_setting, negative_from, node_of, counted_cut}
 
 abbrev pub signs_of : Option ℕ → Signs
 signs_of None = AllPlus

@@ -1,10 +1,5 @@
 -- The row of a form that is read over all columns.
-use Rattle.std.proofs.Common.{◌≡◌, refl, ap, sym, ◌∙◌, ℕ, ◌+◌, ◌-◌, ◌<◌, ◌≤◌, ℤ, pos, arith, List, [], ◌∷◌, ◌++◌, length, map, take, get_or, drop, replicate, length-append, append_assoc}
-use Rattle.std.proofs.lemmas.List.{drop_more, drop_all, take_all, take-append-le, drop-append-le, length-take-le, length-replicate, map_more, map-append}
-use Rattle.pip_model.specs.Numbers.{gcd, gcd_of, floor_div}
-use Rattle.pip_model.specs.Forms.{floor_divided, width, coefficients, constant, widen_to}
-use Rattle.pip_model.specs.Rows.{Row, divided, form_row, unit_row, count_from, start}
-use Rattle.tableau.specs.Tableaus.{TableauRows}
+use Rattle.context.proofs.Words.{◌≡◌, refl, ap, sym, ◌∙◌, ℕ, ◌+◌, ◌-◌, ◌<◌, ◌≤◌, ℤ, pos, arith, List, [], ◌∷◌, ◌++◌, length, map, take, get_or, drop, replicate, length-append, append_assoc, drop_more, drop_all, take_all, take-append-le, drop-append-le, length-take-le, length-replicate, map_more, map-append, gcd, gcd_of, floor_div, floor_divided, width, coefficients, constant, widen_to, Row, divided, form_row, unit_row, count_from, start, TableauRows}
 use Rattle.affine_forms.proofs.Divisors.{gcd_one, floor_divided_one}
 
 abbrev whole_row : List ℤ → List ℤ → Row

@@ -1,3 +1,4 @@
+mod Words
 pub mod Residues
 pub mod Roundings
 pub mod Wholes

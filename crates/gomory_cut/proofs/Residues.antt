@@ -1,15 +1,8 @@
 -- The entries of a residue.
-use Rattle.std.proofs.Common.{◌≡◌, refl, sym, ap, ◌∙◌, ℕ, zero, suc, ◌+◌, ◌-◌, ◌<◌, ◌%◌, ℤ, pos, negsuc, neg_ℤ, ◌≤ℤ◌, List, [], ◌∷◌, ◌++◌, length, take, append_assoc, length-append, arith}
-use Rattle.std.specs.Prelude.{All}
+use Rattle.gomory_cut.proofs.Words.{◌≡◌, refl, sym, ap, ◌∙◌, ℕ, zero, suc, ◌+◌, ◌-◌, ◌<◌, ◌%◌, ℤ, pos, negsuc, neg_ℤ, ◌≤ℤ◌, List, [], ◌∷◌, ◌++◌, length, take, append_assoc, length-append, arith, All, length-take, length-map, get_or-map, map-append, take-map, ints, floor_mod, coefficients, constant, entry, residue, widen, Row, widened, residue_of}
 use Rattle.std.proofs.Math.Nat.{mod-lt, mod-eq_of_lt}
 use Rattle.std.proofs.Math.Seq.{get_or-append_seam}
-use Rattle.std.proofs.lemmas.List.{length-take, length-map, get_or-map, map-append, take-map}
-use Rattle.std.proofs.lemmas.Int.{ints}
 use Rattle.std.proofs.lemmas.List.Elements.{All-map}
-use Rattle.pip_model.specs.Numbers.{floor_mod}
-use Rattle.pip_model.specs.Forms.{coefficients, constant, entry, residue, widen}
-use Rattle.pip_model.specs.Rows.{Row, widened}
-use Rattle.pip_model.specs.Cuts.{residue_of}
 use Rattle.affine_forms.specs.Forms.{IsResidue}
 
 mod_is_residue : (z d : ℤ) → pos 1 ≤ℤ d → IsResidue d (floor_mod z d)

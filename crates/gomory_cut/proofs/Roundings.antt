@@ -1,12 +1,5 @@
 -- The cut by a quotient, as it is made.
-use Rattle.std.proofs.Common.{◌≡◌, refl, ap, sym, ◌∙◌, ℕ, ◌+◌, ◌<◌, ℤ, pos, ◌+ℤ◌, neg_ℤ, arith, List, length, map}
-use Rattle.std.specs.Prelude.{slice_set}
-use Rattle.std.proofs.lemmas.Int.{ints}
-use Rattle.std.proofs.lemmas.List.{length-map, get_or-map}
-use Rattle.pip_model.specs.Numbers.{floor_mod}
-use Rattle.pip_model.specs.Forms.{entry, negate, residue, width}
-use Rattle.pip_model.specs.Rows.{Row, divided}
-use Rattle.pip_model.specs.Cuts.{residue_of, rounding, parametric_cut}
+use Rattle.gomory_cut.proofs.Words.{◌≡◌, refl, ap, sym, ◌∙◌, ℕ, ◌+◌, ◌<◌, ℤ, pos, ◌+ℤ◌, neg_ℤ, arith, List, length, map, slice_set, ints, length-map, get_or-map, floor_mod, entry, negate, residue, width, Row, divided, residue_of, rounding, parametric_cut}
 use Rattle.tableau.specs.Tableaus.{row_from}
 use Rattle.affine_forms.proofs.Units.{add_unit, widen_same}
 

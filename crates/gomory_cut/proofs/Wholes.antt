@@ -1,8 +1,5 @@
 -- All is whole over the denominator 1.
-use Rattle.std.proofs.Common.{◌≡◌, refl, ap, ◌∙◌, ℤ, pos, negsuc, true, arith, List, [], ◌∷◌}
-use Rattle.std.proofs.lemmas.Int.{ints}
-use Rattle.pip_model.specs.Numbers.{floor_mod}
-use Rattle.pip_model.specs.Rows.{is_whole}
+use Rattle.gomory_cut.proofs.Words.{◌≡◌, refl, ap, ◌∙◌, ℤ, pos, negsuc, true, arith, List, [], ◌∷◌, ints, floor_mod, is_whole}
 
 mod_one : (z : ℤ) → floor_mod z (pos 1) ≡ pos 0
 mod_one (pos n) = omega (arith, ints)

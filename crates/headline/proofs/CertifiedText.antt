@@ -1,24 +1,6 @@
 -- The text that `solve` makes of a problem with certificates is that of a right answer and of a certificate that the check does not reject.
-use Rattle.std.proofs.Common.{◌≡◌, refl, ap, sym, subst, ◌∙◌, arith, ℕ, ◌+◌, ◌-◌, length, length-append, Bool, true, false, Option, Some, None, List, [], ◌∷◌, ◌++◌, append_assoc, drop}
-use Rattle.std.specs.Prelude.{Ok, Err, codes, IsTrue, if◌then◌else◌}
-use Rattle.pip_model.specs.Problem.{Problem}
-use Rattle.pip_model.specs.Tree.{Answer}
-use Rattle.pip_model.specs.Printed.{certificate_fits}
-use Rattle.pip_model.specs.TreeText.{newline, spell_answer, spell, read_answer}
-use Rattle.pip_model.specs.Certificate.{Certificate, spell_certificate, read_certificate}
-use Rattle.pip_model.specs.Reading.{◌>>◌}
-use Rattle.pip_model.specs.Run.{Budget, IsBudget, Work, Outcome, Done, Refused}
+use Rattle.headline.proofs.Words.{◌≡◌, refl, ap, sym, subst, ◌∙◌, arith, ℕ, ◌+◌, ◌-◌, length, length-append, Bool, true, false, Option, Some, None, List, [], ◌∷◌, ◌++◌, append_assoc, drop, Ok, Err, codes, IsTrue, if◌then◌else◌, Problem, Answer, certificate_fits, newline, spell_answer, spell, read_answer, Certificate, spell_certificate, read_certificate, ◌>>◌, Budget, IsBudget, Work, Outcome, Done, Refused, rational_certificate, certified_answer_text, certified_outcome, certified_text, IsCertified, solve-right, leaves-reached, solve-printable, read_answer-spell_first, read_certificate-spell, Whole, certificate-fits, certified-answer, certificate-not_rejected}
 use Rattle.pip_model.specs.Made.{solve_with_certificate}
-use Rattle.program_model.specs.Endings.{rational_certificate}
-use Rattle.program_model.specs.ItemTexts.{certified_answer_text, certified_outcome, certified_text}
-use Rattle.program_model.specs.RightTexts.{IsCertified}
-use Rattle.run_laws.proofs.SolveRight.{solve-right, leaves-reached}
-use Rattle.run_laws.proofs.Printable.{solve-printable}
-use Rattle.text_laws.proofs.AnswerTexts.{read_answer-spell_first}
-use Rattle.text_laws.proofs.CertificateTexts.{read_certificate-spell}
-use Rattle.text_laws.proofs.ReadProblems.{Whole}
-use Rattle.certificate_laws.proofs.FitCertificate.{certificate-fits}
-use Rattle.certificate_laws.proofs.Accepted.{certified-answer, certificate-not_rejected}
 
 -- ---- the text of an answer and its certificate
 

@@ -1,17 +1,6 @@
 -- The law of each command: what it reads ends further on, and what it makes of that is right.
-use Rattle.std.proofs.Common.{◌≡◌, ℕ, ◌≤◌, Bool, true, false, List, length}
-use Rattle.std.specs.Prelude.{Ok, Err, IfOk, IfSome, ⊤, if◌then◌else◌}
+use Rattle.headline.proofs.Words.{◌≡◌, ℕ, ◌≤◌, Bool, true, false, List, length, Ok, Err, IfOk, IfSome, ⊤, if◌then◌else◌, most_nesting, Problem, IsCommented, IsBudget, Ending, problem_item, matrix_item, solved_text, certified_text, Way, SolveOptions, Command, Solve, Eval, Simplify, CheckAll, ShareAll, Trial, Restrict, Same, Least, Pieces, way, IsSolvedText, IsCertified, Whole}
 use Rattle.std.specs.Bool.{MatchBool}
-use Rattle.pip_model.specs.Limits.{most_nesting}
-use Rattle.pip_model.specs.Problem.{Problem}
-use Rattle.pip_model.specs.Printed.{IsCommented}
-use Rattle.pip_model.specs.Run.{IsBudget}
-use Rattle.program_model.specs.Endings.{Ending}
-use Rattle.program_model.specs.ItemKinds.{problem_item, matrix_item}
-use Rattle.program_model.specs.ItemTexts.{solved_text, certified_text}
-use Rattle.program_model.specs.Commands.{Way, SolveOptions, Command, Solve, Eval, Simplify, CheckAll, ShareAll, Trial, Restrict, Same, Least, Pieces, way}
-use Rattle.program_model.specs.RightTexts.{IsSolvedText, IsCertified}
-use Rattle.text_laws.proofs.ReadProblems.{Whole}
 use Rattle.headline.proofs.CertifiedText.{certified_text-right}
 use Rattle.headline.proofs.ReadItems.{IsRead, IsTriple, IsPair, IsTrio, one-reads, problem-reads, matrix-reads, answer-reads, triple-reads, pair-reads, trio-reads}
 use Rattle.headline.proofs.RightAnswers.{solved_right, simplified_right, verdict_right, sharing_right}

@@ -1,21 +1,8 @@
 -- The value of an answer that is read can be printed as an answer over no parameters.
-use Rattle.std.proofs.Common.{◌≡◌, subst, refl, arith, ℕ, ◌+◌, ◌≤◌, ℤ, pos, ◌*ℤ◌, ◌+ℤ◌, ◌<ℤ◌, Bool, true, false, Option, Some, None, List, [], ◌∷◌, ◌++◌}
+use Rattle.headline.proofs.Words.{◌≡◌, subst, refl, arith, ℕ, ◌+◌, ◌≤◌, ℤ, pos, ◌*ℤ◌, ◌+ℤ◌, ◌<ℤ◌, Bool, true, false, Option, Some, None, List, [], ◌∷◌, ◌++◌, IfSome, int_le, nat_le, map, flat_map, if◌then◌else◌, AllByRecursion, list_all, most_components, all_fit, dot_listed, value_listed, fits, is_nonneg, floor_div, gcd, gcd_of, same_number, dot, value, Tree, Bottom, Leaf, If, NewParm, Component, reduced, component_value, Ratio, Answer, Void, Solved, tree_value, is_scoped, is_component, is_form, Row, value_tree, tree_value_listed, answer_at, answer_at_listed, IsCommentedAnswer, IsPrintableAnswer, component_fits, tree_fits, fit_head, fit_parts, fits-floor, var, num, ◌⊕◌, ring, both, three, both_true, all_three, all_passed, one_at_least, one_le, same_number_yes, component-is}
 use Rattle.std.proofs.lemmas.Bool.Decides.{nat_tests}
 use Rattle.std.proofs.lemmas.List.{length-map}
-use Rattle.std.specs.Prelude.{IfSome, int_le, nat_le, length, map, flat_map, if◌then◌else◌}
-use Rattle.std.specs.List.{AllByRecursion, list_all}
-use Rattle.pip_model.specs.Limits.{most_components}
-use Rattle.pip_model.specs.Listed.{all_fit, dot_listed, value_listed}
-use Rattle.pip_model.specs.Numbers.{fits, is_nonneg, floor_div, gcd, gcd_of, same_number}
-use Rattle.pip_model.specs.Forms.{dot, value}
-use Rattle.pip_model.specs.Tree.{Tree, Bottom, Leaf, If, NewParm, Component, reduced, component_value, Ratio, Answer, Void, Solved, tree_value, is_scoped, is_component, is_form}
-use Rattle.pip_model.specs.Rows.{Row}
-use Rattle.pip_model.specs.Values.{value_tree, tree_value_listed, answer_at, answer_at_listed}
-use Rattle.pip_model.specs.Printed.{IsCommentedAnswer, IsPrintableAnswer, component_fits, tree_fits}
-use Rattle.pip_model.proofs.Fitting.{fit_head, fit_parts, fits-floor}
-use Rattle.pip_model.proofs.Polynomials.{var, num, ◌⊕◌, ring}
-use Rattle.pip_model.proofs.Tests.{both, three, both_true, all_three, all_passed, one_at_least, one_le, same_number_yes}
-use Rattle.run_laws.proofs.Components.{component-is}
+use Rattle.std.specs.Prelude.{length}
 
 -- ---- the last partial sum of a value is the value
 

@@ -1,12 +1,6 @@
 -- A certificate is read part by part.
-use Rattle.std.proofs.Common.{◌≡◌, refl, ℕ, ℤ, Bool, List, Ok, Err, codes}
-use Rattle.std.specs.Prelude.{Option, IfSome}
-use Rattle.pip_model.specs.declared.Kind.TheVariants.{LeftParen}
-use Rattle.pip_model.specs.Reading.{Fault, expect}
-use Rattle.pip_model.specs.TreeText.{expect_word}
-use Rattle.pip_model.specs.Certificate.{Certificate, version, vector, certificate_at}
+use Rattle.leaf_certificate.proofs.Words.{◌≡◌, refl, ℕ, ℤ, Bool, List, Ok, Err, codes, Option, IfSome, LeftParen, Fault, expect, expect_word, Certificate, version, vector, certificate_at, leaves_to_end}
 use Rattle.text_reading.proofs.Binds.{refused_by}
-use Rattle.leaf_certificate.specs.Sequences.{leaves_to_end}
 
 module _ (bytes : List ℕ) (place first word behind : ℕ) (shares : Bool) (opened : expect bytes LeftParen place ≡ Ok first) (named : expect_word bytes (codes "certificate") first ≡ Ok word) (formed : version bytes word ≡ Ok (shares, behind)) where
   pub vector_refused : (fault : Option Fault) → IfSome fault (λ f. vector bytes behind ≡ Err f) → IfSome fault (λ f. certificate_at bytes place ≡ Err f)

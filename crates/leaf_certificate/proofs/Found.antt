@@ -1,8 +1,5 @@
 -- What is read of a certificate's text, by what the definitions read.
-use Rattle.std.proofs.Common.{◌≡◌, refl, ℕ, Bool, true, Ok, Err, Result, ◌↔◌, IsTrue}
-use Rattle.std.specs.Prelude.{Option, Some, None, IfOk, IfSome}
-use Rattle.pip_model.specs.Reading.{Fault}
-use Rattle.pip_model.specs.Certificate.{Certificate}
+use Rattle.leaf_certificate.proofs.Words.{◌≡◌, refl, ℕ, Bool, true, Ok, Err, Result, ◌↔◌, IsTrue, Option, Some, None, IfOk, IfSome, Fault, Certificate}
 use Rattle.pip_model.specs.Agreement.{Agrees}
 use Rattle.leaf_certificate.specs.declared.refusal.CertificateRefusal.{CertificateRefusal}
 use Rattle.leaf_certificate.specs.Faults.{certificate_fault}

@@ -1,3 +1,4 @@
+mod Words
 pub mod Spellings
 pub mod Sequences
 pub mod Certificates

@@ -1,9 +1,6 @@
 -- Values up to a closing bracket, by the next one.
-use Rattle.std.proofs.Common.{◌≡◌, ◌∙◌, refl, sym, ap, ℕ, zero, suc, ◌+◌, ◌-◌, ◌<◌, ◌≤◌, arith, sub-one, true, false, Ok, Err, List, [], ◌∷◌, ◌++◌, length, append-nil, length-append}
-use Rattle.std.specs.Prelude.{Option, IfSome}
+use Rattle.leaf_certificate.proofs.Words.{◌≡◌, ◌∙◌, refl, sym, ap, ℕ, zero, suc, ◌+◌, ◌-◌, ◌<◌, ◌≤◌, arith, sub-one, true, false, Ok, Err, List, [], ◌∷◌, ◌++◌, length, append-nil, length-append, Option, IfSome, token, Fault, Reads, same_bracket, up_to}
 use Rattle.pip_model.specs.declared.Kind.{Kind}
-use Rattle.pip_model.specs.Tokens.{token}
-use Rattle.pip_model.specs.Reading.{Fault, Reads, same_bracket, up_to}
 use Rattle.text_reading.specs.Fronts.{with_front}
 use Rattle.text_reading.proofs.Fronts.{one_more, step_more, refused_more}
 

@@ -1,8 +1,6 @@
 -- Texts of lists.
-use Rattle.std.proofs.Common.{◌≡◌, ◌∙◌, refl, ap, append_assoc, ℕ, ℤ, Bool, List, [], ◌∷◌, ◌++◌, flat_map}
-use Rattle.std.specs.Prelude.{Result, Ok, Err, OnOk}
-use Rattle.pip_model.specs.Certificate.{Refutation, LeafProofs, spell_terms, spell_steps, spell_refutations, spell_leaves}
-use Rattle.leaf_certificate.specs.Printing.{spell_term, spell_step, spell_refutation, spell_leaf}
+use Rattle.leaf_certificate.proofs.Words.{◌≡◌, ◌∙◌, refl, ap, append_assoc, ℕ, ℤ, Bool, List, [], ◌∷◌, ◌++◌, flat_map, OnOk, Refutation, LeafProofs, spell_terms, spell_steps, spell_refutations, spell_leaves, spell_term, spell_step, spell_refutation, spell_leaf}
+use Rattle.std.specs.Prelude.{Result, Ok, Err}
 
 pub terms_flat : (ts : List (ℤ × ℤ)) → flat_map spell_term ts ≡ spell_terms ts
 terms_flat [] = refl

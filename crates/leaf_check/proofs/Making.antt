@@ -1,10 +1,6 @@
 -- Forms that are made for a leaf, and lists of them.
-use Rattle.std.proofs.Common.{◌≡◌, refl, ap, ap₂, sym, ◌∙◌, ℕ, zero, suc, ◌+◌, ◌-◌, ◌<◌, ◌≤◌, ℤ, pos, List, [], ◌∷◌, ◌++◌, length, take, drop, set, replicate, append_assoc, arith}
-use Rattle.std.proofs.lemmas.List.{length-append, length-replicate, set_split, take-replicate, drop-replicate, take_at, take_all, drop_at, get_or_at, length-drop}
-use Rattle.pip_model.specs.Forms.{width, coefficients, constant, unit_form, widen_to}
-use Rattle.pip_model.specs.Check.{places_from, row_form}
+use Rattle.leaf_check.proofs.Words.{◌≡◌, refl, ap, ap₂, sym, ◌∙◌, ℕ, zero, suc, ◌+◌, ◌-◌, ◌<◌, ◌≤◌, ℤ, pos, List, [], ◌∷◌, ◌++◌, length, take, drop, set, replicate, append_assoc, arith, length-append, length-replicate, set_split, take-replicate, drop-replicate, take_at, take_all, drop_at, get_or_at, length-drop, width, coefficients, constant, unit_form, widen_to, places_from, row_form, length-coefficients}
 use Rattle.pip_model.proofs.Division.{form-parts}
-use Rattle.pip_model.proofs.Forms.{length-coefficients}
 
 pub unit_made : (w i : ℕ) (z : ℤ) → i < w → set (replicate (w + 1) (pos 0)) i z ≡ unit_form w i z
 unit_made w i z h =

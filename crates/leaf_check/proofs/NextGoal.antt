@@ -1,14 +1,5 @@
 -- From the forms of one goal of a list to those of the next.
-use Rattle.std.proofs.Common.{◌≡◌, refl, ap, sym, ◌∙◌, ℕ, zero, suc, ◌+◌, ◌-◌, ◌<◌, ◌≤◌, ℤ, pos, negsuc, List, [], ◌∷◌, ◌++◌, length, take, drop, map, get_or, append_assoc, arith, inl, inr}
-use Rattle.std.specs.Prelude.{slice_index_or, Some, ◌⊎◌}
-use Rattle.std.proofs.lemmas.List.{length-append, length-map, length-take, take_at, take_more, take-take, drop_at, get_or_append_left, get_or-append_right, get_or-map}
-use Rattle.pip_model.specs.Forms.{constant, plus}
-use Rattle.pip_model.specs.Problem.{Problem}
-use Rattle.pip_model.specs.Tree.{Component}
-use Rattle.pip_model.specs.Check.{LeafCase, Premises, leaf_premises, unknown_forms, row_premises, sign_premises, least_premises, fronts_from, not_above, smaller_from}
-use Rattle.leaf_check.specs.Known.{KnownForms}
-use Rattle.leaf_check.specs.Leaves.{nothing}
-use Rattle.leaf_check.specs.Goals.{without_last}
+use Rattle.leaf_check.proofs.Words.{◌≡◌, refl, ap, sym, ◌∙◌, ℕ, zero, suc, ◌+◌, ◌-◌, ◌<◌, ◌≤◌, ℤ, pos, negsuc, List, [], ◌∷◌, ◌++◌, length, take, drop, map, get_or, append_assoc, arith, inl, inr, slice_index_or, Some, ◌⊎◌, length-append, length-map, length-take, take_at, take_more, take-take, drop_at, get_or_append_left, get_or-append_right, get_or-map, constant, plus, Problem, Component, LeafCase, Premises, leaf_premises, unknown_forms, row_premises, sign_premises, least_premises, fronts_from, not_above, smaller_from, KnownForms, nothing, without_last}
 use Rattle.leaf_check.proofs.Owned.{own_least}
 use Rattle.leaf_check.proofs.Smaller.{not_aboves, not_aboves_more, smaller_is}
 

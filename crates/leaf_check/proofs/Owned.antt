@@ -1,16 +1,8 @@
 -- What each refutation of a leaf starts from beside the leaf's forms.
-use Rattle.std.proofs.Common.{◌≡◌, refl, ap, sym, ◌∙◌, ℕ, zero, suc, ◌+◌, ◌-◌, ◌*◌, ◌<◌, pos, List, [], ◌∷◌, ◌++◌, length, take, map, get_or, append_assoc, arith, eqb-true, IsTrue, Bool, true, false, ◌&&◌, Err}
-use Rattle.std.specs.Prelude.{slice_index_or, Option, Some, None, ◌==◌}
+use Rattle.leaf_check.proofs.Words.{◌≡◌, refl, ap, sym, ◌∙◌, ℕ, zero, suc, ◌+◌, ◌-◌, ◌*◌, ◌<◌, pos, List, [], ◌∷◌, ◌++◌, length, take, map, get_or, append_assoc, arith, eqb-true, Bool, true, false, ◌&&◌, Err, slice_index_or, Option, Some, None, ◌==◌, length-map, length-append, get_or-append_right, get_or-map, same_number, Problem, Component, ◌>>◌, LeafProofs, spot, Rejected, Checks, holds, check_leaf, Premises, LeafCase, leaf_premises, row_premises, sign_premises, least_premises, fronts_from, is_whole_list, nothing, goal_count, has_shape}
+use Rattle.std.proofs.Common.{IsTrue}
 use Rattle.std.specs.List.{list_all}
-use Rattle.std.proofs.lemmas.List.{length-map, length-append, get_or-append_right, get_or-map}
-use Rattle.pip_model.specs.Numbers.{same_number}
-use Rattle.pip_model.specs.Problem.{Problem}
-use Rattle.pip_model.specs.Tree.{Component}
-use Rattle.pip_model.specs.Reading.{◌>>◌}
-use Rattle.pip_model.specs.Certificate.{LeafProofs}
-use Rattle.pip_model.specs.Check.{spot, Rejected, Checks, holds, check_leaf, Premises, LeafCase, leaf_premises, row_premises, sign_premises, least_premises, fronts_from, is_whole_list}
 use Rattle.pip_model.proofs.Tests.{both}
-use Rattle.leaf_check.specs.Leaves.{nothing, goal_count, has_shape}
 
 pub length-fronts : (front cs : List Component) → length (fronts_from front cs) ≡ length cs
 length-fronts front [] = refl

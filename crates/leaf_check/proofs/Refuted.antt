@@ -1,11 +1,5 @@
 -- A refutation and the numbers of its starting forms.
-use Rattle.std.proofs.Common.{◌≡◌, refl, ap, ap₂, sym, ◌∙◌, ℕ, ◌+◌, ◌<◌, ℤ, List, [], ◌∷◌, ◌++◌, length, take, drop, map, get_or, arith, Ok, Err}
-use Rattle.std.proofs.lemmas.List.{length-append, length-map, take-take, take_at, drop_more, get_or-map}
-use Rattle.std.specs.Prelude.{Option, Some, None, IfSome}
-use Rattle.pip_model.specs.Reading.{◌>>◌}
-use Rattle.pip_model.specs.Certificate.{Refutation}
-use Rattle.pip_model.specs.Check.{CheckFault, Checks, Premises, joined, check_refutation, check_refutations}
-use Rattle.leaf_check.specs.Leaves.{nothing}
+use Rattle.leaf_check.proofs.Words.{◌≡◌, refl, ap, ap₂, sym, ◌∙◌, ℕ, ◌+◌, ◌<◌, ℤ, List, [], ◌∷◌, ◌++◌, length, take, drop, map, get_or, arith, Ok, Err, length-append, length-map, take-take, take_at, drop_more, get_or-map, Option, Some, None, IfSome, ◌>>◌, Refutation, CheckFault, Checks, Premises, joined, check_refutation, check_refutations, nothing}
 
 abbrev pub bare : List (List ℤ) → Premises
 bare known = record { known = known; listed = [] }

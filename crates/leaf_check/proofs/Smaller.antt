@@ -1,16 +1,6 @@
 -- The goals of a list's refutations.
-use Rattle.std.proofs.Common.{◌≡◌, refl, ap, sym, ◌∙◌, ℕ, zero, suc, ◌+◌, ◌-◌, ◌<◌, ◌≤◌, ℤ, pos, negsuc, ◌+ℤ◌, ◌-ℤ◌, neg_ℤ, Bool, true, List, [], ◌∷◌, ◌++◌, length, take, drop, get_or, append_assoc, arith, Ok, Err, Result}
-use Rattle.std.specs.Prelude.{IsTrue, IsFalse, slice_index_or, IfOk}
-use Rattle.std.proofs.lemmas.Int.{ints}
-use Rattle.std.proofs.lemmas.List.{drop_more, drop_all, take_more, length-map, length-append, length-take, get_or-map, get_or_at, take_all}
-use Rattle.pip_model.specs.Forms.{entry, constant, add, negate, plus, opposite, unit_form, widen_to}
-use Rattle.pip_model.specs.Listed.{all_fit, opposite_listed}
+use Rattle.leaf_check.proofs.Words.{◌≡◌, refl, ap, sym, ◌∙◌, ℕ, zero, suc, ◌+◌, ◌-◌, ◌<◌, ◌≤◌, ℤ, pos, negsuc, ◌+ℤ◌, ◌-ℤ◌, neg_ℤ, Bool, true, List, [], ◌∷◌, ◌++◌, length, take, drop, get_or, append_assoc, arith, Ok, Err, Result, IsTrue, IsFalse, slice_index_or, IfOk, ints, drop_more, drop_all, take_more, length-map, length-append, length-take, get_or-map, get_or_at, take_all, entry, constant, add, negate, plus, opposite, unit_form, widen_to, all_fit, opposite_listed, Component, plus_term, plus_term_listed, put_in, put_in_listed, not_above, smaller_from, IsChecked, fit_behind, fit_never, length-add, length-plus, constant-plus, length-widened}
 use Rattle.pip_model.specs.Cuts.{rounding, lower_bound}
-use Rattle.pip_model.specs.Tree.{Component}
-use Rattle.pip_model.specs.Check.{plus_term, plus_term_listed, put_in, put_in_listed, not_above, smaller_from}
-use Rattle.pip_model.specs.Agreement.{IsChecked}
-use Rattle.pip_model.proofs.Fitting.{fit_behind, fit_never}
-use Rattle.pip_model.proofs.Forms.{length-add, length-plus, constant-plus, length-widened}
 use Rattle.affine_forms.proofs.Units.{negate_unit}
 use Rattle.leaf_check.proofs.Making.{length-unit}
 

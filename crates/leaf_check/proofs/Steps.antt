@@ -1,9 +1,5 @@
 -- The steps of a refutation, one after another, and its last form.
-use Rattle.std.proofs.Common.{◌≡◌, refl, ap, ◌∙◌, ℕ, suc, ◌+◌, ◌-◌, ◌<◌, ℤ, pos, List, [], ◌∷◌, ◌++◌, length, replicate, Bool, true, false, arith, Ok, Err}
-use Rattle.std.specs.Prelude.{slice_index_or, int_le}
-use Rattle.pip_model.specs.Reading.{◌>>=◌, ◌>>◌}
-use Rattle.pip_model.specs.Certificate.{Step}
-use Rattle.pip_model.specs.Check.{Spot, Checks, holds, sum_of, is_divisible, derived, after_step, is_absurd, ends_absurd}
+use Rattle.leaf_check.proofs.Words.{◌≡◌, refl, ap, ◌∙◌, ℕ, suc, ◌+◌, ◌-◌, ◌<◌, ℤ, pos, List, [], ◌∷◌, ◌++◌, length, replicate, Bool, true, false, arith, Ok, Err, slice_index_or, int_le, ◌>>=◌, ◌>>◌, Step, Spot, Checks, holds, sum_of, is_divisible, derived, after_step, is_absurd, ends_absurd}
 use Rattle.leaf_check.specs.Steps.{derived_from}
 
 pub last_absurd : (known : List (List ℤ)) (d : List ℤ) → 0 < length known → is_absurd (slice_index_or known (length known - 1) d) ≡ ends_absurd known

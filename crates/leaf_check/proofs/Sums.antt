@@ -1,14 +1,6 @@
 -- Steps of a sum to which a multiple of a form is added in place, entry by entry, and of a sum of terms.
-use Rattle.std.proofs.Common.{◌≡◌, refl, ap, sym, ◌∙◌, ℕ, ◌+◌, ◌<◌, ◌≤◌, ℤ, ◌+ℤ◌, ◌*ℤ◌, pos, Bool, true, false, ◌&&◌, List, [], ◌∷◌, ◌++◌, length, take, drop, set, get_or, append_assoc, arith, Ok, Err}
-use Rattle.std.specs.Prelude.{IsTrue, IsFalse, nat_lt, unsigned_abs, slice_index_or, Option, Some, None, IfSome}
-use Rattle.std.proofs.lemmas.List.{drop_more, drop_all, take_more_set, drop-set-lt}
+use Rattle.leaf_check.proofs.Words.{◌≡◌, refl, ap, sym, ◌∙◌, ℕ, ◌+◌, ◌<◌, ◌≤◌, ℤ, ◌+ℤ◌, ◌*ℤ◌, pos, Bool, true, false, ◌&&◌, List, [], ◌∷◌, ◌++◌, length, take, drop, set, get_or, append_assoc, arith, Ok, Err, IsTrue, IsFalse, nat_lt, unsigned_abs, slice_index_or, Option, Some, None, IfSome, drop_more, drop_all, take_more_set, drop-set-lt, fits, is_nonneg, scale, all_fit, ◌>>=◌, ◌>>◌, Spot, CheckFault, Checks, plus_term, plus_term_listed, sum_of, holds, fit, fit_behind, fit_never}
 use Rattle.std.proofs.lemmas.List.Folds.{list_all-append}
-use Rattle.pip_model.specs.Numbers.{fits, is_nonneg}
-use Rattle.pip_model.specs.Forms.{scale}
-use Rattle.pip_model.specs.Listed.{all_fit}
-use Rattle.pip_model.specs.Reading.{◌>>=◌, ◌>>◌}
-use Rattle.pip_model.specs.Check.{Spot, CheckFault, Checks, plus_term, plus_term_listed, sum_of, holds, fit}
-use Rattle.pip_model.proofs.Fitting.{fit_behind, fit_never}
 
 -- ---- a multiple
 

@@ -1,10 +1,6 @@
 -- Certificates of both formats and their check: texts and ends that an independent program gave.
-use Rattle.std.proofs.Common.{refl, [], ◌∷◌}
-use Rattle.std.specs.Prelude.{codes}
+use Rattle.model_rows.proofs.Words.{refl, [], ◌∷◌, codes, ending, finished, CheckAll, IsOutput}
 use Rattle.std.specs.Fmt.{digits}
-use Rattle.program_model.specs.Endings.{ending, finished}
-use Rattle.program_model.specs.Commands.{CheckAll}
-use Rattle.program_model.specs.Output.{IsOutput}
 
 record CertificateRowsHold : Type 0 where
   format_0 : IsOutput CheckAll (codes "((a) 1 0 1 0 -1 1 (#[1 -3]) ())((a)\n(list\n#[ 3]\n)\n)\n(certificate 0 #[] (() () ((1 1 1 2 1))))") ([]) (ending 3 (codes "unsupported certificate 0"))

@@ -1,3 +1,4 @@
+mod Words
 mod Rows
 mod StartRows
 mod LimitRows

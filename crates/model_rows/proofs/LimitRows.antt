@@ -1,11 +1,6 @@
 -- Rows at the limits of unknowns, parameters, rows, columns and components, which an independent program gave.
-use Rattle.std.proofs.Common.{refl, true, false, [], ◌∷◌}
-use Rattle.std.specs.Prelude.{codes}
+use Rattle.model_rows.proofs.Words.{refl, true, false, [], ◌∷◌, codes, standard_budget, ending, finished, Command, Solve, Eval, Simplify, IsOutput}
 use Rattle.std.specs.Fmt.{digits}
-use Rattle.pip_model.specs.Run.{standard_budget}
-use Rattle.program_model.specs.Endings.{ending, finished}
-use Rattle.program_model.specs.Commands.{Command, Solve, Eval, Simplify}
-use Rattle.program_model.specs.Output.{IsOutput}
 
 abbrev solve : Command
 solve = Solve (record { polylib = false; simplify = false; certificate = false; budget = standard_budget })

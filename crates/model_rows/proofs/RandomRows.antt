@@ -1,10 +1,6 @@
 -- Random problems, whose answers an independent program in another language gave (outside/rows.py).
-use Rattle.std.proofs.Common.{refl, ℕ, false, [], ◌∷◌}
-use Rattle.std.specs.Prelude.{codes}
+use Rattle.model_rows.proofs.Words.{refl, ℕ, false, [], ◌∷◌, codes, ending, finished, Command, Solve, IsOutput}
 use Rattle.std.specs.Fmt.{digits}
-use Rattle.program_model.specs.Endings.{ending, finished}
-use Rattle.program_model.specs.Commands.{Command, Solve}
-use Rattle.program_model.specs.Output.{IsOutput}
 
 abbrev solve_in : ℕ → ℕ → ℕ → ℕ → Command
 solve_in p c s n = Solve (record { polylib = false; simplify = false; certificate = false; budget = record { pivots = p; cuts = c; splits = s; nesting = n } })

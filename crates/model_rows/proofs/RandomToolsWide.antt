@@ -1,11 +1,6 @@
 -- Random commands on trees, whose texts and ends an independent program gave.
-use Rattle.std.proofs.Common.{refl, ℕ, [], ◌∷◌}
-use Rattle.std.specs.Prelude.{codes}
+use Rattle.model_rows.proofs.Words.{refl, ℕ, [], ◌∷◌, codes, Budget, ending, finished, Restrict, Same, Least, Pieces, IsOutput}
 use Rattle.std.specs.Fmt.{digits}
-use Rattle.pip_model.specs.Run.{Budget}
-use Rattle.program_model.specs.Endings.{ending, finished}
-use Rattle.program_model.specs.Commands.{Restrict, Same, Least, Pieces}
-use Rattle.program_model.specs.Output.{IsOutput}
 
 abbrev budget : ℕ → ℕ → ℕ → ℕ → Budget
 budget p c s n = record { pivots = p; cuts = c; splits = s; nesting = n }

@@ -1,14 +1,9 @@
-use Rattle.std.proofs.Common.{refl, ◌≡◌, ℕ, pos, negsuc, true, false, List, [], ◌∷◌, ◌++◌, ◌-◌}
-use Rattle.std.specs.Prelude.{codes, Option, Some, Result, Ok, length}
+use Rattle.model_rows.proofs.Words.{refl, ◌≡◌, ℕ, pos, negsuc, true, false, List, [], ◌∷◌, ◌++◌, ◌-◌, codes, Option, Some, Result, Ok, length, Budget, ending, finished, Command, Solve, Eval, Simplify, CheckAll, Trial, IsOutput}
 use Rattle.std.specs.Fmt.{digits}
 use Rattle.pip_model.specs.Tree.{Answer, Solved, Bottom, Leaf, If, NewParm}
 use Rattle.pip_model.specs.TreeText.{spell, read_answer}
 use Rattle.pip_model.specs.Certificate.{Certificate, read_certificate, spell_certificate}
 use Rattle.pip_model.specs.Reading.{Fault}
-use Rattle.pip_model.specs.Run.{Budget}
-use Rattle.program_model.specs.Endings.{ending, finished}
-use Rattle.program_model.specs.Commands.{Command, Solve, Eval, Simplify, CheckAll, Trial}
-use Rattle.program_model.specs.Output.{IsOutput}
 
 -- the default budgets, but for these
 abbrev budget : ℕ → ℕ → ℕ → ℕ → Budget

@@ -1,17 +1,10 @@
 -- Quotients by key and by place.
-use Rattle.std.proofs.Common.{◌≡◌, ℕ, zero, suc, ◌+◌, ◌-◌, ◌<◌, ◌≤◌, ℤ, pos, Bool, true, false, Option, Some, None, List, [], ◌∷◌, ◌++◌, length, take, get_or, refl, ap, sym, ◌∙◌, arith, cond, subst, length-append, ltb-false}
-use Rattle.std.specs.Prelude.{nat_lt, position, slice_get, unwrap_or}
+use Rattle.new_parameters.proofs.Words.{◌≡◌, ℕ, zero, suc, ◌+◌, ◌-◌, ◌<◌, ◌≤◌, ℤ, pos, Bool, true, false, Option, Some, None, List, [], ◌∷◌, ◌++◌, length, take, get_or, refl, ap, sym, ◌∙◌, arith, cond, subst, length-append, ltb-false, nat_lt, position, slice_get, unwrap_or, get_or-take, length-replicate, width, coefficients, entry, Quotient, same_quotient, find_from, trimmed, is_same_key, IsQuotient, AreQuotients, length-coefficients, entry-padded}
 use Rattle.std.specs.List.{position_or_len, list_any}
 use Rattle.std.proofs.lemmas.List.Quantifiers.{position-Some}
 use Rattle.std.proofs.lemmas.List.Sums.{fails_before_first}
-use Rattle.std.proofs.lemmas.List.{get_or-take, length-replicate}
-use Rattle.pip_model.specs.Forms.{width, coefficients, entry}
-use Rattle.pip_model.specs.Cuts.{Quotient, same_quotient, find_from}
-use Rattle.new_parameters.specs.Keys.{trimmed, is_same_key}
-use Rattle.new_parameters.specs.Scopes.{IsQuotient, AreQuotients}
 use Rattle.new_parameters.proofs.Trimming.{trimmed_is}
 use Rattle.new_parameters.proofs.SameKeys.{same_quotient_is_key, same_key}
-use Rattle.pip_model.proofs.Forms.{length-coefficients, entry-padded}
 
 -- ---- lists of quotients
 

@@ -1,3 +1,4 @@
+mod Words
 pub mod Trimming
 pub mod SameKeys
 pub mod Finding

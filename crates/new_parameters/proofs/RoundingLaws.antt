@@ -1,21 +1,15 @@
 -- The upper bound of a quotient fits, since the constant of its form lies in 0 .. d - 1.
-use Rattle.std.proofs.Common.{◌≡◌, ℕ, ◌+◌, ◌-◌, ◌<◌, ◌≤◌, ℤ, pos, ◌+ℤ◌, ◌-ℤ◌, ◌≤ℤ◌, neg_ℤ, refl, Bool, true, false, List, [], ◌∷◌, length, ap, sym, ◌∙◌, arith, length-append, length-set}
-use Rattle.std.specs.Prelude.{slice_set, IsTrue, IsFalse}
+use Rattle.new_parameters.proofs.Words.{◌≡◌, ℕ, ◌+◌, ◌-◌, ◌<◌, ◌≤◌, ℤ, pos, ◌+ℤ◌, ◌-ℤ◌, ◌≤ℤ◌, neg_ℤ, refl, Bool, true, false, List, [], ◌∷◌, length, ap, sym, ◌∙◌, arith, length-append, length-set, slice_set, IsTrue, IsFalse, length-map, length-replicate, get_or-map, get_or-set_other, width, coefficients, constant, entry, negate, widen_to, Quotient, rounding, upper_bound, length-coefficients, length-widened, constant-plus, IsQuotient}
 use Rattle.std.proofs.Math.Seq.{get_or-append_seam}
 use Rattle.std.proofs.lemmas.Int.{ints}
-use Rattle.std.proofs.lemmas.List.{length-map, length-replicate, get_or-map, get_or-set_other}
-use Rattle.pip_model.specs.Forms.{width, coefficients, constant, entry, negate, widen_to}
 use Rattle.pip_model.specs.Listed.{all_fit}
-use Rattle.pip_model.specs.Cuts.{Quotient, rounding, upper_bound}
 use Rattle.pip_model.proofs.Fitting.{fits-below, fit_cons}
-use Rattle.pip_model.proofs.Forms.{length-coefficients, length-widened, constant-plus}
 use Rattle.pip_model.proofs.Bounds.{length-rounding}
 use Rattle.affine_forms.specs.Checks.{Fits, is_form_overflow}
 use Rattle.affine_forms.specs.declared.memory.FormRefusal.{FormRefusal}
 use Rattle.affine_forms.specs.declared.memory.FormRefusal.TheVariants.{Overflow}
 use Rattle.affine_forms.specs.Forms.{IsResidue}
 use Rattle.affine_forms.proofs.QuotientForms.{rounding_made}
-use Rattle.new_parameters.specs.Scopes.{IsQuotient}
 use Rattle.new_parameters.proofs.Trimming.{padded}
 
 widened_last : (w : ℕ) (c : List ℤ) → width c ≤ w → entry (widen_to w c) w ≡ constant c

@@ -1,18 +1,10 @@
 -- Two quotients are one key exactly where their divisors are equal, and their forms over the wider scope.
-use Rattle.std.proofs.Common.{◌≡◌, ℕ, ◌+◌, ◌-◌, ◌≤◌, ℤ, pos, negsuc, Bool, true, ◌&&◌, List, [], ◌∷◌, ◌++◌, length, drop, get_or, replicate, refl, ap, sym, ◌∙◌, arith, append_assoc, length-append, eqb, max}
-use Rattle.std.specs.Prelude.{unsigned_abs}
+use Rattle.new_parameters.proofs.Words.{◌≡◌, ℕ, ◌+◌, ◌-◌, ◌≤◌, ℤ, pos, negsuc, Bool, true, ◌&&◌, List, [], ◌∷◌, ◌++◌, length, drop, get_or, replicate, refl, ap, sym, ◌∙◌, arith, append_assoc, length-append, eqb, max, unsigned_abs, int_eq, Decides-int_eq, Decides-eqb, Decides-and, length-replicate, replicate-append-replicate, same_from_push, width, coefficients, constant, same_form, widen_to, Quotient, same_quotient, trimmed, is_same_key, length-coefficients}
 use Rattle.std.specs.Bool.{Decides, one_answer}
 use Rattle.std.specs.Cmp.Rules.{signed_items}
 use Rattle.std.specs.Cmp.Lexicographic.{pointwise}
-use Rattle.std.specs.Ordering.{int_eq}
-use Rattle.std.proofs.lemmas.Bool.Decides.{Decides-int_eq, Decides-eqb, Decides-and}
-use Rattle.std.proofs.lemmas.List.{length-replicate, replicate-append-replicate, same_from_push}
 use Rattle.pip_model.specs.Numbers.{same_number}
-use Rattle.pip_model.specs.Forms.{width, coefficients, constant, same_form, widen_to}
-use Rattle.pip_model.specs.Cuts.{Quotient, same_quotient}
-use Rattle.new_parameters.specs.Keys.{trimmed, is_same_key}
 use Rattle.new_parameters.proofs.Trimming.{padded, trimmed-padded, trimmed_is}
-use Rattle.pip_model.proofs.Forms.{length-coefficients}
 
 -- ---- tests that decide
 

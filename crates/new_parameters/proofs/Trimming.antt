@@ -1,9 +1,5 @@
 -- Numbers without the zeros at their end.
-use Rattle.std.proofs.Common.{◌≡◌, ℕ, zero, suc, ◌-◌, ◌<◌, ◌≤◌, ℤ, pos, Bool, true, false, List, [], ◌∷◌, ◌++◌, length, take, get_or, replicate, refl, ap, sym, ◌∙◌, arith}
-use Rattle.std.specs.Ordering.{int_eq}
-use Rattle.std.proofs.lemmas.List.{take_more}
-use Rattle.std.proofs.lemmas.Bool.Decides.{Decides-int_eq}
-use Rattle.new_parameters.specs.Keys.{trimmed, trimmed_with}
+use Rattle.new_parameters.proofs.Words.{◌≡◌, ℕ, zero, suc, ◌-◌, ◌<◌, ◌≤◌, ℤ, pos, Bool, true, false, List, [], ◌∷◌, ◌++◌, length, take, get_or, replicate, refl, ap, sym, ◌∙◌, arith, int_eq, take_more, Decides-int_eq, trimmed, trimmed_with}
 
 pub trimmed-zero : (xs : List ℤ) → trimmed (xs ++ pos 0 ∷ []) ≡ trimmed xs
 trimmed-zero [] = refl

@@ -1,17 +1,10 @@
 -- A command that the words give may be asked for.
-use Rattle.std.proofs.Common.{◌≡◌, refl, arith, ℕ, ℤ, ◌-◌, ◌^◌, ◌≤◌, List, [], ◌∷◌, Option, Some, None, Bool, true, false, ◌&&◌, ◌==◌, not, nat_le, length}
+use Rattle.pip_cli.proofs.Words.{◌≡◌, refl, arith, ℕ, ℤ, ◌-◌, ◌^◌, ◌≤◌, List, [], ◌∷◌, Option, Some, None, Bool, true, false, ◌&&◌, ◌==◌, not, nat_le, length, IfSome, MatchBool, if◌then◌else◌, codes, list_all, most_params, most_pivots, most_cuts, most_splits, most_nesting, Budget, IsBudget, standard_budget, Command, Eval, Simplify, Pieces, Restrict, Same, Least, MayBeAsked, IsWithin}
 use Rattle.std.proofs.lemmas.Bool.{leb-true}
-use Rattle.std.specs.Prelude.{IfSome, MatchBool, if◌then◌else◌, codes}
-use Rattle.std.specs.List.{list_all}
 use Rattle.std.specs.Str.{bytes_eq}
 use Rattle.std.specs.Option.{option_map}
 use Rattle.clap.specs.Words.{Row, Text, fault_of, subcommand_of, first_of, all_of}
 use Rattle.pip_model.specs.Tokens.{is_digit, natural_of}
-use Rattle.pip_model.specs.Limits.{most_params, most_pivots, most_cuts, most_splits, most_nesting}
-use Rattle.pip_model.specs.Run.{Budget, IsBudget, standard_budget}
-use Rattle.program_model.specs.Commands.{Command, Eval, Simplify, Pieces, Restrict, Same, Least}
-use Rattle.program_model.specs.Output.{MayBeAsked}
-use Rattle.pip_items.specs.Outputs.{IsWithin}
 use Rattle.pip_words.specs.Numbers.{number_of, most_drawn}
 use Rattle.pip_words.specs.Words.{pip_app, Spelling, spellings, named_in, counted_of, walked_of, command_of, command_in, solve_of, solve_with, flag_of, budget_of, budget_by, walk_of, limit_of, number_or, needed_of, trial_of, is_accepted, parameters_of, texts_of, ◌>>=◌}
 

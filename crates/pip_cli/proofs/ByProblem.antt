@@ -1,25 +1,10 @@
 -- How a run of any command ends, also of the one that reads problem by problem, by its status.
-use Rattle.std.proofs.Common.{◌≡◌, ◌≢◌, ◌⊎◌, inl, inr, refl, sym, subst, ◌∙◌, ap, arith, ℕ, ◌<◌, List, [], Option, Some, None, Bool, true, false, not, length}
-use Rattle.std.specs.Prelude.{Result, Ok, Err, IfSome, MatchBool}
-use Rattle.std.specs.List.{concat}
-use Rattle.std.specs.Io.KnownBytes.{Appends}
-use Rattle.pip_model.specs.Limits.{most_input_bytes}
-use Rattle.program_model.specs.Endings.{Ending, finished}
+use Rattle.pip_cli.proofs.Words.{◌≡◌, ◌≢◌, ◌⊎◌, inl, inr, refl, sym, subst, ◌∙◌, ap, arith, ℕ, ◌<◌, List, [], Option, Some, None, Bool, true, false, not, length, Result, Ok, Err, IfSome, MatchBool, concat, Appends, most_input_bytes, Ending, finished, Command, SolveOptions, Solve, way, item_text, IsOutput, IsFirstOutput, MayBeAsked, output-right, first_output-right, output-unique, told, or_memory, Gained, GainedFront, IsRead, WritesOutput, bytes_read, AreEnded, AreBefore, AreAll, ReadsWhole, WritesTillEnd, WritesByProblem, WritesOf, AreFirst, AreFirstEnded, AreFirstBefore, EndsByProblem, HasEndedByProblem, EndsAs, AnswersRight, Completes, IsShort, IsAfterInput, IsWordsEnding, WhereTold}
 use Rattle.program_model.specs.Items.{IsItself}
-use Rattle.program_model.specs.Commands.{Command, SolveOptions, Solve, way, item_text}
-use Rattle.program_model.specs.Output.{IsOutput, IsFirstOutput, MayBeAsked}
 use Rattle.headline.proofs.FirstItems.{first_items-first}
-use Rattle.headline.proofs.OutputRight.{output-right, first_output-right}
-use Rattle.headline.proofs.OutputUnique.{output-unique}
-use Rattle.pip_endings.specs.Endings.{told, or_memory}
 use Rattle.pip_endings.specs.declared.ending.Ending.{Ending as Refused}
 use Rattle.pip_endings.specs.declared.ending.Ending.TheVariants as ending
-use Rattle.pip_items.specs.Items.{Gained, GainedFront}
-use Rattle.pip_items.specs.Outputs.{IsRead, WritesOutput, bytes_read}
-use Rattle.pip_items.specs.ByProblem.{AreEnded, AreBefore, AreAll, ReadsWhole, WritesTillEnd, WritesByProblem, WritesOf}
 use Rattle.pip_items.proofs.Outputs.{all_read}
-use Rattle.pip_cli.specs.Ends.{AreFirst, AreFirstEnded, AreFirstBefore, EndsByProblem, HasEndedByProblem, EndsAs, AnswersRight, Completes, IsShort, IsAfterInput}
-use Rattle.pip_cli.specs.Runs.{IsWordsEnding, WhereTold}
 use Rattle.pip_cli.proofs.Asked.{IsAsked}
 use Rattle.pip_cli.proofs.Ends.{IsItemEnd, item_end, ending_from, ends-by, answers-right, completes-by}
 

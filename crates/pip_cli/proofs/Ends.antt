@@ -1,29 +1,15 @@
 -- How a run ends, by its status.
-use Rattle.std.proofs.Common.{◌≡◌, ◌≢◌, ◌⊎◌, inl, inr, refl, sym, subst, ◌∙◌, ap, arith, ℕ, ◌≤◌, List, [], Option, Some, None}
+use Rattle.pip_cli.proofs.Words.{◌≡◌, ◌≢◌, ◌⊎◌, inl, inr, refl, sym, subst, ◌∙◌, ap, arith, ℕ, ◌≤◌, List, [], Option, Some, None, Result, Ok, Err, IfSome, option_map, concat, Appends, Keeps, Refusal, Overflow, Pivots, Cuts, Splits, Nesting, Ending, finished, fault_ending, refusal_ending, tool_ending, notes_of, Command, IsOutput, IsFirstOutput, output-right, first_output-right, output-unique, told, or_memory, ending_of, IsOfItem, Gained, GainedFront, WritesTill, WritesOutput, IsWithin, IsTooLong, bytes_read, ending_by, GainsLine, IsNoted, AreFirst, EndsWith, HasEnded, AnswersRight, Completes, WhereTold}
 use Rattle.std.proofs.lemmas.List.{append-nil}
-use Rattle.std.specs.Prelude.{Result, Ok, Err, IfSome, option_map}
-use Rattle.std.specs.List.{concat}
-use Rattle.std.specs.Io.KnownBytes.{Appends, Keeps}
 use Rattle.pip_outside.specs.Bytes.{WritesBytes}
 use Rattle.pip_model.specs.Reading.{Fault, Syntax, Wide, Limit, BigParameter, OptionWord, TooNested, Components, Version}
-use Rattle.pip_model.specs.Run.{Refusal, Overflow, Pivots, Cuts, Splits, Nesting}
-use Rattle.program_model.specs.Endings.{Ending, finished, fault_ending, refusal_ending, tool_ending, notes_of}
-use Rattle.program_model.specs.Commands.{Command}
-use Rattle.program_model.specs.Output.{IsOutput, IsFirstOutput}
 use Rattle.pip_problem.specs.Faults.{run_fault, read_fault}
 use Rattle.quast_text.specs.Faults.{text_fault}
 use Rattle.pip_model.specs.Walks.{ToolRefusal, ByRun, Negative, Lengths}
 use Rattle.quast_walk.specs.Faults.{tool_fault}
 use Rattle.leaf_certificate.specs.Faults.{certificate_fault}
-use Rattle.headline.proofs.OutputRight.{output-right, first_output-right}
-use Rattle.headline.proofs.OutputUnique.{output-unique}
-use Rattle.pip_endings.specs.Endings.{told, or_memory, ending_of, IsOfItem}
 use Rattle.pip_endings.specs.declared.ending.Ending.{Ending as Refused}
 use Rattle.pip_endings.specs.declared.ending.Ending.TheVariants as ending
-use Rattle.pip_items.specs.Items.{Gained, GainedFront, WritesTill}
-use Rattle.pip_items.specs.Outputs.{WritesOutput, IsWithin, IsTooLong, bytes_read}
-use Rattle.pip_cli.specs.Ends.{ending_by, GainsLine, IsNoted, AreFirst, EndsWith, HasEnded, AnswersRight, Completes}
-use Rattle.pip_cli.specs.Runs.{WhereTold}
 use Rattle.pip_cli.proofs.Asked.{IsAsked}
 
 -- ---- statuses

@@ -1,3 +1,4 @@
+mod Words
 pub mod Asked
 pub mod Ends
 pub mod ByProblem

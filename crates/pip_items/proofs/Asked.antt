@@ -1,24 +1,8 @@
 -- That the source is not called again once the group of a refused problem has ended.
-use Rattle.std.proofs.Common.{◌≡◌, refl, sym, ap, subst, ◌∙◌, ℕ, ◌+◌, ◌≤◌, inl, inr, arith, true, false, List, [], ◌∷◌, length, length-drop, drop}
-use Rattle.std.specs.Prelude.{Option, Some, None, IfSome, Result, Ok, Err}
-use Rattle.pip_outside.specs.Calls.{Takes, CallsWithin}
-use Rattle.pip_outside.proofs.Calls.{takes-then}
-use Rattle.pip_outside.specs.Windows.{HeldBytes}
-use Rattle.pip_model.specs.Problem.{Problem}
-use Rattle.pip_model.specs.Reading.{Fault}
-use Rattle.pip_model.specs.Moved.{moved}
-use Rattle.pip_model.specs.NativeText.{read_native}
-use Rattle.program_model.specs.Endings.{Ending}
-use Rattle.program_model.specs.Items.{ItemAt, Gives, FirstItemsTo, IsItself, or_ending, text_with, text_of_item}
-use Rattle.program_model.specs.Commands.{Command, SolveOptions, Solve, text_of}
-use Rattle.text_laws.proofs.LocalProblems.{read_native-ends}
-use Rattle.pip_reader.specs.Groups.{first_group_end}
-use Rattle.pip_stream.specs.Windows.{taken_by}
-use Rattle.pip_stream.specs.Asked.{AsksWhileOpen}
+use Rattle.pip_items.proofs.Words.{◌≡◌, refl, sym, ap, subst, ◌∙◌, ℕ, ◌+◌, ◌≤◌, inl, inr, arith, true, false, List, [], ◌∷◌, length, length-drop, drop, IfSome, Result, Ok, Err, Takes, CallsWithin, takes-then, HeldBytes, Problem, Fault, moved, read_native, Ending, ItemAt, Gives, FirstItemsTo, IsItself, or_ending, text_with, text_of_item, Command, SolveOptions, Solve, text_of, read_native-ends, first_group_end, taken_by, AsksWhileOpen, if-some, reads_by_problem, StopsAtRefused}
+use Rattle.std.specs.Prelude.{Option, Some, None}
 use Rattle.pip_stream.proofs.Groups.{group_end-ends}
-use Rattle.pip_stream.proofs.Dropping.{if-some}
 use Rattle.pip_stream.proofs.Taking.{ended-by}
-use Rattle.pip_items.specs.ByProblem.{reads_by_problem, StopsAtRefused}
 use Rattle.pip_items.proofs.ByProblem.{text, text-is, Follows}
 
 -- ---- items one after the other

@@ -1,47 +1,19 @@
 -- What the loop over the problems of an input has written so far, and what it is at each of its ends.
-use Rattle.std.proofs.Common.{◌≡◌, refl, sym, ap, subst, ◌∙◌, ℕ, ◌+◌, ◌-◌, ◌<◌, ◌≤◌, inl, inr, arith, true, false, List, [], length, length-append, length-drop, take, drop}
-use Rattle.std.proofs.KnownBytes.{Appends-nil}
-use Rattle.std.proofs.lemmas.List.{drop-drop, drop-take}
-use Rattle.std.specs.Prelude.{◌⊎◌, ◌↔◌, Option, Some, None, IfSome, Result, Ok, Err, IfErr, IsErrOf, Vec, if◌then◌else◌}
-use Rattle.std.specs.declared.alloc.Global.{Global}
-use Rattle.pip_items.specs.Inputs.{IsOfInput}
+use Rattle.pip_items.proofs.Words.{◌≡◌, refl, sym, ap, subst, ◌∙◌, ℕ, ◌+◌, ◌-◌, ◌<◌, ◌≤◌, inl, inr, arith, true, false, List, [], length, length-append, length-drop, take, drop, Appends-nil, drop-drop, drop-take, ◌⊎◌, ◌↔◌, IfSome, Result, Ok, Err, IfErr, IsErrOf, Vec, if◌then◌else◌, Global, IsOfInput, list_all, Appends, AppendsFront, HeldBytes, most_input_bytes, Problem, Fault, moved, is_closed, read_native, Ending, finished, fault_ending, matrix_item, problem_item, ItemAt, or_ending, text_with, text_of_item, IsItself, NoEnd, Ends, SolveOptions, Solve, item_text, text_of, read_native-moved, first_items-end, group_behind, first_group_end, taken_by, bytes_from, if-some, ReadsNext, ReadsNone, IsSpared, StaysOpen, HoldsRest, FindsNext, IsReady, told, IsOfItem, Gained, GainedFront, counts-none, counts-as, counts-refused, TakesInputAtMost, EndsByFaults, AreEnded, AreBefore, AreAll, WritesTillEnd, WritesByProblem}
+use Rattle.std.specs.Prelude.{Option, Some, None}
 use Rattle.std.specs.Option.{option_map}
-use Rattle.std.specs.List.{list_all}
-use Rattle.std.specs.Io.KnownBytes.{Appends}
-use Rattle.pip_outside.specs.Bytes.{AppendsFront}
-use Rattle.pip_outside.specs.Windows.{HeldBytes}
-use Rattle.pip_model.specs.Limits.{most_input_bytes}
-use Rattle.pip_model.specs.Problem.{Problem}
-use Rattle.pip_model.specs.Reading.{Fault}
-use Rattle.pip_model.specs.Moved.{moved, is_closed}
-use Rattle.pip_model.specs.NativeText.{read_native}
-use Rattle.program_model.specs.Endings.{Ending, finished, fault_ending}
-use Rattle.program_model.specs.ItemKinds.{matrix_item, problem_item}
-use Rattle.program_model.specs.Items.{ItemAt, or_ending, text_with, text_of_item, IsItself, NoEnd, Ends}
-use Rattle.program_model.specs.Commands.{SolveOptions, Solve, item_text, text_of}
 use Rattle.program_model.specs.Output.{IsFirstOutput}
-use Rattle.text_laws.proofs.LocalProblems.{read_native-moved}
 use Rattle.text_laws.proofs.ReadProblems.{read_native-none}
 use Rattle.text_laws.proofs.Items.{next_open-closed}
-use Rattle.headline.proofs.FirstItems.{first_items-end}
 use Rattle.pip_problem.specs.Faults.{read_fault}
 use Rattle.pip_problem.specs.declared.refusal.ReadRefusal.{ReadRefusal}
-use Rattle.pip_reader.specs.Groups.{group_behind, first_group_end}
-use Rattle.pip_stream.specs.Windows.{taken_by, bytes_from}
-use Rattle.pip_stream.proofs.Dropping.{if-some}
-use Rattle.pip_stream.specs.Next.{ReadsNext, ReadsNone, IsSpared, StaysOpen, HoldsRest, FindsNext, IsReady}
 use Rattle.pip_stream.specs.declared.refusal.NextRefusal.{NextRefusal}
 use Rattle.pip_stream.specs.declared.refusal.NextRefusal.TheVariants as next
-use Rattle.pip_endings.specs.Endings.{told, IsOfItem}
 use Rattle.pip_endings.specs.Inputs.{next_ending}
 use Rattle.pip_endings.specs.declared.ending.Ending.{Ending as Refused}
 use Rattle.pip_endings.specs.declared.ending.Ending.TheVariants as ending
-use Rattle.pip_items.specs.Items.{Gained, GainedFront}
 use Rattle.pip_outside.specs.Faults.{HasRisen, CountsFaults}
-use Rattle.pip_outside.proofs.Faults.{counts-none, counts-as, counts-refused}
-use Rattle.pip_items.specs.Outputs.{TakesInputAtMost, EndsByFaults}
 use Rattle.pip_items.specs.Answered.{Answers, IsUnread, IsUnanswered, AnswersNext}
-use Rattle.pip_items.specs.ByProblem.{AreEnded, AreBefore, AreAll, WritesTillEnd, WritesByProblem}
 use Rattle.pip_items.proofs.Written.{LeadTo, nothing, one_more, front_of_one}
 
 module _ (o : SolveOptions) (bytes : List ℕ) where

@@ -1,15 +1,8 @@
 -- From an answer with its certificate to their text, or the end.
-use Rattle.std.proofs.Common.{◌≡◌, ◌∙◌, refl, ap, ◌++◌, List, ℕ, Bool, true, false, Option, Some, None, option_map}
-use Rattle.std.specs.Prelude.{Result, Ok, Err, IfSome, if◌then◌else◌}
-use Rattle.pip_model.specs.Certificate.{Certificate, spell_certificate}
+use Rattle.pip_items.proofs.Words.{◌≡◌, ◌∙◌, refl, ap, ◌++◌, List, ℕ, Bool, true, false, Option, Some, None, option_map, Result, Ok, Err, IfSome, if◌then◌else◌, Certificate, spell_certificate, certified_answer_text, certified_outcome, certified_text, Problem, ◌>>◌, Answer, spell}
 use Rattle.program_model.specs.Endings as model
-use Rattle.program_model.specs.ItemTexts.{certified_answer_text, certified_outcome, certified_text}
 use Rattle.pip_model.specs.Made.{solve_with_certificate}
-use Rattle.pip_model.specs.Problem.{Problem}
-use Rattle.pip_model.specs.Reading.{◌>>◌}
 use Rattle.pip_model.specs.Run.{Budget, Outcome, Done, Refused, Refusal, Overflow, answered}
-use Rattle.pip_model.specs.Tree.{Answer}
-use Rattle.pip_model.specs.TreeText.{spell}
 use Rattle.affine_forms.specs.declared.numbers.Overflow.{Overflow as Unfit}
 use Rattle.quast.specs.declared.answer.Answer as code
 use Rattle.quast.specs.Answers.{answer_of}

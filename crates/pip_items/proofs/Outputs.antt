@@ -1,17 +1,7 @@
 -- What is written of the items of an input that was read is its output.
-use Rattle.std.proofs.Common.{◌≡◌, refl, sym, subst, inl, inr, ℕ, ◌≤◌, Bool, true, false, List, [], length, Option, Some, None}
-use Rattle.std.specs.Prelude.{Result, Ok, Err, IfSome, IfErr, MatchBool, Vec, ⊤, if◌then◌else◌}
-use Rattle.std.specs.declared.alloc.Global.{Global}
-use Rattle.std.specs.Io.KnownBytes.{Keeps}
-use Rattle.pip_model.specs.Limits.{most_input_bytes}
-use Rattle.program_model.specs.Commands.{Command, way, item_text}
-use Rattle.pip_endings.specs.Endings.{IsOfItem}
+use Rattle.pip_items.proofs.Words.{◌≡◌, refl, sym, subst, inl, inr, ℕ, ◌≤◌, Bool, true, false, List, [], length, Option, Some, None, Result, Ok, Err, IfSome, IfErr, MatchBool, Vec, ⊤, if◌then◌else◌, Global, Keeps, most_input_bytes, Command, way, item_text, IsOfItem, ReadsInput, IsOfInput, WritesItems, WritesOutput, TakesInput, bytes_read, reads_by_problem, WritesOf}
 use Rattle.pip_endings.specs.declared.ending.Ending.{Ending}
 use Rattle.pip_endings.specs.declared.ending.Ending.TheVariants as ending
-use Rattle.pip_items.specs.Inputs.{ReadsInput, IsOfInput}
-use Rattle.pip_items.specs.Items.{WritesItems}
-use Rattle.pip_items.specs.Outputs.{WritesOutput, TakesInput, bytes_read}
-use Rattle.pip_items.specs.ByProblem.{reads_by_problem, WritesOf}
 
 -- an item's refusal, or a failed write
 abbrev pub IsOwn : Result (Unit {0}) Ending → Type 0

@@ -1,11 +1,6 @@
 -- The text of an answer's pieces, or its end.
-use Rattle.std.proofs.Common.{◌≡◌, refl, false, IsTrue}
-use Rattle.std.specs.Prelude.{Err, IfSome, IsFalse}
-use Rattle.pip_model.specs.Listed.{all_fit}
-use Rattle.program_model.specs.ItemTexts.{pieces_text}
+use Rattle.pip_items.proofs.Words.{◌≡◌, refl, false, IsTrue, Err, IfSome, IsFalse, all_fit, pieces_text, Commented, told, pieces_ending}
 use Rattle.pip_model.specs.PieceText.{answer_listed}
-use Rattle.pip_model.specs.TreeText.{Commented}
-use Rattle.pip_endings.specs.Endings.{told, pieces_ending}
 use Rattle.quast_pieces.specs.Pieces.{is_pieces_overflow}
 use Rattle.quast_pieces.specs.declared.refusal.PiecesRefusal.{PiecesRefusal}
 use Rattle.quast_pieces.specs.declared.refusal.PiecesRefusal.TheVariants as refusal

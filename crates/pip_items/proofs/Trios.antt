@@ -1,10 +1,5 @@
 -- A context and two answers, read one after the other.
-use Rattle.std.proofs.Common.{◌≡◌, ◌∙◌, ap, ℕ, ℤ, List, Option, Some, None}
-use Rattle.std.specs.Prelude.{Result, Ok, Err, IfSome}
-use Rattle.program_model.specs.Endings.{Ending}
-use Rattle.program_model.specs.ItemKinds.{needed_answer, trio_by}
-use Rattle.pip_model.specs.Reading.{◌>>=◌}
-use Rattle.pip_model.specs.TreeText.{Commented}
+use Rattle.pip_items.proofs.Words.{◌≡◌, ◌∙◌, ap, ℕ, ℤ, List, Option, Some, None, Result, Ok, Err, IfSome, Ending, needed_answer, trio_by, ◌>>=◌, Commented}
 
 -- two steps, of which the second goes by what the first gives
 module _ {A B C E : Type 0} (r : Result A E) (s : A → Result B E) (both : A → B → C) where

@@ -1,13 +1,8 @@
 -- From what the check finds to the texts of check and share.
-use Rattle.std.proofs.Common.{◌≡◌}
-use Rattle.std.specs.Prelude.{Ok, Err, IfSome}
-use Rattle.pip_model.specs.Certificate.{Certificate}
+use Rattle.pip_items.proofs.Words.{◌≡◌, Ok, Err, IfSome, Certificate, verdict_text, certificate_text, told, if-map}
 use Rattle.pip_model.specs.Check.{Checks}
 use Rattle.program_model.specs.Endings as model
-use Rattle.program_model.specs.ItemTexts.{verdict_text, certificate_text}
-use Rattle.pip_endings.specs.Endings.{told}
 use Rattle.pip_endings.specs.declared.ending.Ending.{Ending}
-use Rattle.pip_stream.proofs.Dropping.{if-map}
 use Rattle.pip_items.specs.Triples.{verdict, IsFound}
 
 verdict_err : (found : Checks (Unit {0})) (e : model.Ending) → verdict found ≡ Err e → verdict_text found ≡ Err e

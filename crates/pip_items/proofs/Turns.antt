@@ -1,14 +1,5 @@
 -- That each call of a source but the last takes a byte, through a whole run.
-use Rattle.std.proofs.Common.{◌≡◌, ℕ, ◌+◌, ◌<◌, inr, arith, Bool, true, false, List, Option, Some, None}
-use Rattle.std.specs.Prelude.{IfSome, Result, Ok, Err}
-use Rattle.std.specs.Io.KnownBytes.{Consumes}
-use Rattle.pip_outside.specs.Calls.{Takes, AsksOn}
-use Rattle.pip_outside.proofs.Calls.{takes-none, takes-more, takes-then, asks-none, asks-then}
-use Rattle.pip_outside.specs.Windows.{HeldBytes}
-use Rattle.program_model.specs.Commands.{SolveOptions}
-use Rattle.pip_stream.specs.Asked.{AsksUntil, AsksInTurns, AsksWhileOpen, CallsFor}
-use Rattle.pip_stream.specs.Windows.{taken_by}
-use Rattle.pip_stream.proofs.Dropping.{if-map}
+use Rattle.pip_items.proofs.Words.{◌≡◌, ℕ, ◌+◌, ◌<◌, inr, arith, Bool, true, false, List, Option, Some, None, IfSome, Result, Ok, Err, Consumes, Takes, AsksOn, takes-none, takes-more, takes-then, asks-none, asks-then, HeldBytes, SolveOptions, AsksUntil, AsksInTurns, AsksWhileOpen, CallsFor, taken_by, if-map}
 use Rattle.pip_items.proofs.ByProblem.{Follows, told-on}
 
 module _ {S : Type 0} (Calls : S → S → Type 0) (taken : S → ℕ) where

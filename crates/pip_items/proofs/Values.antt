@@ -1,13 +1,9 @@
 -- The value of a tree, from the place where its vector leads.
-use Rattle.std.proofs.Common.{◌≡◌, refl, sym, ap, ◌∙◌, ℕ, ◌+◌, ◌<◌, suc, ℤ, pos, List, [], ◌∷◌, ◌++◌, length, get_or, drop, map, Option, Some, None, true, add-one, drop-cons, append_assoc}
-use Rattle.std.specs.Prelude.{Ok}
+use Rattle.pip_items.proofs.Words.{◌≡◌, refl, sym, ap, ◌∙◌, ℕ, ◌+◌, ◌<◌, suc, ℤ, pos, List, [], ◌∷◌, ◌++◌, length, get_or, drop, map, Option, Some, None, true, add-one, drop-cons, append_assoc, Ok, all_fit, Tree, Bottom, Leaf, Component, reduced, Ratio, component_value, leaf_of, leaf_point, tree_value, ratios_of, tree_valued}
 use Rattle.pip_model.specs.Forms.{value}
-use Rattle.pip_model.specs.Listed.{all_fit}
-use Rattle.pip_model.specs.Tree.{Tree, Bottom, Leaf, Component, reduced, Ratio, component_value, leaf_of, leaf_point, tree_value}
 use Rattle.pip_model.specs.Values.{tree_value_listed, value_tree}
 use Rattle.pip_model.proofs.Values.{tree_value-leaf}
 use Rattle.quast.specs.Places.{landed}
-use Rattle.pip_items.specs.Values.{ratios_of, tree_valued}
 
 -- one ratio more
 pub ratios_more : (made cs : List Component) (ns : List ℤ) (i : ℕ) (c : Component) (n : ℤ) → i < length cs → i < length ns → c ≡ get_or cs i c → n ≡ get_or ns i (pos 0) → made ++ ratios_of (drop i cs) (drop i ns) ≡ ratios_of cs ns

@@ -1,12 +1,8 @@
 -- From what a walk answers to its text.
-use Rattle.std.proofs.Common.{◌≡◌, ap, List, ℕ, Option, Some, None, option_map}
-use Rattle.std.specs.Prelude.{Ok, Err, IfSome}
+use Rattle.pip_items.proofs.Words.{◌≡◌, ap, List, ℕ, Option, Some, None, option_map, Ok, Err, IfSome, made_text, made_line, sameness_text, Answer, spell}
 use Rattle.program_model.specs.Endings as model
-use Rattle.program_model.specs.ItemTexts.{made_text, made_line, sameness_text}
 use Rattle.pip_model.specs.ToolAgreement.{without_counts}
 use Rattle.pip_model.specs.Tools.{Sameness}
-use Rattle.pip_model.specs.Tree.{Answer}
-use Rattle.pip_model.specs.TreeText.{spell}
 use Rattle.pip_model.specs.Walks.{ToolRefusal, Walked, Made, Stopped}
 
 pub made_ok : (comment : List ℕ) (w : Walked Answer) (a : Answer) → without_counts w ≡ Ok a → made_text comment w ≡ Ok (spell comment a)

@@ -1,20 +1,9 @@
 -- What the loop over the items has written so far, and what it is at each of its ends.
-use Rattle.std.proofs.Common.{◌≡◌, refl, sym, subst, ◌∙◌, ap, ℕ, List, [], ◌∷◌, ◌++◌, Option, Some, None}
-use Rattle.std.proofs.KnownBytes.{Appends-nil, Appends-trans}
-use Rattle.std.proofs.lemmas.List.{append-nil}
+use Rattle.pip_items.proofs.Words.{◌≡◌, refl, sym, subst, ◌∙◌, ap, ℕ, List, [], ◌∷◌, ◌++◌, Option, Some, None, Appends-nil, Appends-trans, append-nil, Ok, Err, IfSome, concat, Appends, AppendsFront, Ending, finished, ItemAt, Ends, FirstItems, FirstItemsTo, Items, IsItself, NoEnd, first_items-more, first_items-first, first_items-end, told, IsOfItem, Gained, GainedFront, WritesTill, Writes}
 use Rattle.std.proofs.lemmas.List.Folds.{concat-append}
-use Rattle.std.specs.Prelude.{Ok, Err, IfSome}
-use Rattle.std.specs.List.{concat}
-use Rattle.std.specs.Io.KnownBytes.{Appends}
-use Rattle.pip_outside.specs.Bytes.{AppendsFront}
 use Rattle.pip_outside.proofs.Parts.{front_after}
-use Rattle.program_model.specs.Endings.{Ending, finished}
-use Rattle.program_model.specs.Items.{ItemAt, Ends, FirstItems, FirstItemsTo, Items, IsItself, NoEnd}
-use Rattle.headline.proofs.FirstItems.{first_items-more, first_items-first, first_items-end}
-use Rattle.pip_endings.specs.Endings.{told, IsOfItem}
 use Rattle.pip_endings.specs.declared.ending.Ending.{Ending as Refused}
 use Rattle.pip_endings.specs.declared.ending.Ending.TheVariants as ending
-use Rattle.pip_items.specs.Items.{Gained, GainedFront, WritesTill, Writes}
 
 concat-more : (ts : List (List ℕ)) (t : List ℕ) → concat (ts ++ t ∷ []) ≡ concat ts ++ t
 concat-more ts t = concat-append ts (t ∷ []) ∙ ap (λ s. concat ts ++ s) (append-nil t)

@@ -1,7 +1,5 @@
 -- The lengths of a quotient's forms: `-g + D*q` and its two bounds.
-use Rattle.std.proofs.Common.{◌≡◌, ◌∙◌, sym, ℕ, suc, ◌-◌, ◌≤◌, pos, ◌-ℤ◌, arith, length}
-use Rattle.std.proofs.lemmas.List.{length-map}
-use Rattle.pip_model.specs.Forms.{negate, unit_form, widen_to}
+use Rattle.pip_model.proofs.Words.{◌≡◌, ◌∙◌, sym, ℕ, suc, ◌-◌, ◌≤◌, pos, ◌-ℤ◌, arith, length, length-map, negate, unit_form, widen_to}
 use Rattle.pip_model.specs.Cuts.{Quotient, rounding, lower_bound, upper_bound}
 use Rattle.pip_model.proofs.Vectors.{length-unit_form, length-widen_to}
 use Rattle.pip_model.proofs.Forms.{length-add, length-plus}

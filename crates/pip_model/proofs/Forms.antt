@@ -1,12 +1,6 @@
 -- Forms that are made of others: their lengths, entries and products.
-use Rattle.std.proofs.Common.{◌≡◌, ◌∙◌, refl, ap, sym, ℕ, zero, suc, ◌+◌, ◌-◌, ◌<◌, ◌≤◌, ℤ, pos, ◌+ℤ◌, ◌-ℤ◌, ◌*ℤ◌, neg_ℤ, arith, Bool, true, false, List, [], ◌∷◌, ◌++◌, length, append-nil, length-append, eqb-true, ltb-true, ltb-false}
-use Rattle.std.proofs.lemmas.Int.{ints}
+use Rattle.pip_model.proofs.Words.{◌≡◌, ◌∙◌, refl, ap, sym, ℕ, zero, suc, ◌+◌, ◌-◌, ◌<◌, ◌≤◌, ℤ, pos, ◌+ℤ◌, ◌-ℤ◌, ◌*ℤ◌, neg_ℤ, arith, Bool, true, false, List, [], ◌∷◌, ◌++◌, length, append-nil, length-append, eqb-true, ltb-true, ltb-false, ints, length-map, length-replicate, length-take, get_or-take, take, replicate, nat_lt, dot, width, entry, coefficients, constant, add, negate, plus, opposite, scale, combine, constant_form, widen_to, is_whole, count_from, is_form}
 use Rattle.std.proofs.Math.ListN.{get_or-append, get_or-map}
-use Rattle.std.proofs.lemmas.List.{length-map, length-replicate, length-take, get_or-take}
-use Rattle.std.specs.Prelude.{take, replicate, nat_lt}
-use Rattle.pip_model.specs.Forms.{dot, width, entry, coefficients, constant, add, negate, plus, opposite, scale, combine, constant_form, widen_to}
-use Rattle.pip_model.specs.Rows.{is_whole, count_from}
-use Rattle.pip_model.specs.Tree.{is_form}
 use Rattle.pip_model.proofs.RingLaws.{one-*ℤ}
 use Rattle.pip_model.proofs.Division.{form-parts}
 

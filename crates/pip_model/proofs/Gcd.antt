@@ -1,13 +1,5 @@
 -- Greatest common divisors: of natural numbers, of integers, of lists; of multiples, and what is left in lowest terms.
-use Rattle.std.proofs.Common.{◌≡◌, ◌∙◌, refl, ap, sym, subst, ℕ, zero, suc, ◌+◌, ◌*◌, ◌/◌, ◌%◌, ◌<◌, ◌≤◌, ℤ, pos, negsuc, neg_ℤ, ◌≤ℤ◌, nat_abs, unsigned_abs, arith, List, [], ◌∷◌, length}
-use Rattle.std.proofs.lemmas.Int.{ints, unsigned_abs-mul}
-use Rattle.std.proofs.lemmas.Nat.Gcd.{IsGcd-swap, IsGcd-from_zero, IsGcd-from_mod, same_from_IsGcd, mod-eq-zero_of_dvd, le_of_dvd, dvd_refl, dvd_trans, dvd_antisymm}
-use Rattle.std.proofs.Math.Nat.{div-add-mod, mod-lt, mul-add-mod_self_left, mod-eq_of_lt, mul-lt-mul_of_pos_left, one-dvd, pos_of_dvd_of_pos, dvd-mul_right}
-use Rattle.std.specs.Int.{IsGcd, ◌∣◌}
-use Rattle.std.specs.Prelude.{slice_set}
-use Rattle.std.specs.List.{AllByRecursion}
-use Rattle.pip_model.specs.Numbers.{floor_div, euclid, gcd, gcd_of}
-use Rattle.pip_model.specs.Forms.{entry, negate, remove, floor_divided}
+use Rattle.pip_model.proofs.Words.{◌≡◌, ◌∙◌, refl, ap, sym, subst, ℕ, zero, suc, ◌+◌, ◌*◌, ◌/◌, ◌%◌, ◌<◌, ◌≤◌, ℤ, pos, negsuc, neg_ℤ, ◌≤ℤ◌, nat_abs, unsigned_abs, arith, List, [], ◌∷◌, length, ints, unsigned_abs-mul, IsGcd-swap, IsGcd-from_zero, IsGcd-from_mod, same_from_IsGcd, mod-eq-zero_of_dvd, le_of_dvd, dvd_refl, dvd_trans, dvd_antisymm, div-add-mod, mod-lt, mul-add-mod_self_left, mod-eq_of_lt, mul-lt-mul_of_pos_left, one-dvd, pos_of_dvd_of_pos, dvd-mul_right, IsGcd, ◌∣◌, slice_set, AllByRecursion, floor_div, euclid, gcd, gcd_of, entry, negate, remove, floor_divided}
 use Rattle.pip_model.proofs.Division.{Multiple, signed, gcd-divides, gcd_of-divides, all_through, floor-exact, gcd_of-natural, euclid-IsGcd}
 
 -- ---- natural numbers

@@ -1,12 +1,7 @@
 -- The row whose constant is moved to the end.
-use Rattle.std.proofs.Common.{◌≡◌, ℕ, suc, ◌+◌, ◌-◌, ◌<◌, ℤ, pos, List, ◌∷◌, ◌++◌, length, take, drop, get_or, refl, length-append, length-take, length-drop, arith}
-use Rattle.std.specs.Prelude.{All, map, Ok, Err}
+use Rattle.pip_reader.proofs.Words.{◌≡◌, ℕ, suc, ◌+◌, ◌-◌, ◌<◌, ℤ, pos, List, ◌∷◌, ◌++◌, length, take, drop, get_or, refl, length-append, length-take, length-drop, arith, All, map, Ok, Err, Reads, ◌>>=◌, row, rows, form_of_row, one_more, read_as, form_row, form_rows}
 use Rattle.std.proofs.lemmas.List.Elements.{All-append, All-take, All-drop, All-get_or, All-push}
 use Rattle.affine_forms.specs.Checks.{Fits}
-use Rattle.pip_model.specs.Reading.{Reads, ◌>>=◌, row, rows}
-use Rattle.pip_model.specs.NativeText.{form_of_row}
-use Rattle.text_reading.proofs.Fronts.{one_more, read_as}
-use Rattle.pip_reader.specs.Rows.{form_row, form_rows}
 
 pub form_of_row_length : (n : ℕ) (row : List ℤ) → n < length row → length (form_of_row n row) ≡ length row
 form_of_row_length n row h = simp (length-append, length-take, length-drop) (omega arith)

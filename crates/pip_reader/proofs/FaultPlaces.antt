@@ -1,19 +1,10 @@
 -- The place of a fault of a native text lies within the bytes, or at their end, and none is for an option word.
-use Rattle.std.proofs.Common.{◌≡◌, refl, ℕ, zero, suc, ◌+◌, ◌-◌, ◌≤◌, ℤ, pos, arith, List, length, length-drop, Bool, true, false}
-use Rattle.std.specs.Prelude.{◌&&◌, ◌==◌, drop, Result, Ok, Err, Option, Some, None, IfOk, IfErr, if◌then◌else◌, int_le, unsigned_abs}
+use Rattle.pip_reader.proofs.Words.{◌≡◌, refl, ℕ, zero, suc, ◌+◌, ◌-◌, ◌≤◌, ℤ, pos, arith, List, length, length-drop, Bool, true, false, ◌&&◌, ◌==◌, Result, Ok, Err, Option, Some, None, IfOk, IfErr, if◌then◌else◌, int_le, unsigned_abs, LeftParen, RightParen, LeftRow, RightRow, Number, WideNumber, Unknowns, Parameters, Rows, ContextRows, most_unknowns, most_params, most_rows, most_context_rows, token, IsGroup, Fault, Syntax, Wide, Limit, BigParameter, OptionWord, ◌>>=◌, same_bracket, expect, number, number_of, numbers, row, rows, block, closing, group, group_to, within, no_big_parameter, next_open, item_at, problem_at, read_native, next_open-first, row-reads, AreRows, rows-reads, block-reads, InRange, within-reads, big-reads, group-reads}
+use Rattle.std.specs.Prelude.{drop}
 use Rattle.pip_model.specs.declared.Kind.{Kind}
-use Rattle.pip_model.specs.declared.Kind.TheVariants.{LeftParen, RightParen, LeftRow, RightRow, Number, WideNumber}
 use Rattle.pip_model.specs.declared.LimitKind.{LimitKind}
-use Rattle.pip_model.specs.declared.LimitKind.TheVariants.{Unknowns, Parameters, Rows, ContextRows}
-use Rattle.pip_model.specs.Limits.{most_unknowns, most_params, most_rows, most_context_rows}
-use Rattle.pip_model.specs.Tokens.{token}
-use Rattle.pip_model.specs.Printed.{IsGroup}
-use Rattle.pip_model.specs.Reading.{Fault, Syntax, Wide, Limit, BigParameter, OptionWord, ◌>>=◌, same_bracket, expect, number, number_of, numbers, row, rows, block, closing, group, group_to, within, no_big_parameter, next_open, item_at}
-use Rattle.pip_model.specs.NativeText.{problem_at, read_native}
 use Rattle.text_laws.proofs.Places.{token-lies}
-use Rattle.text_laws.proofs.Items.{next_open-first}
 use Rattle.text_laws.proofs.ReadPlaces.{Between, Read, Opens, expect-opens, expect-reads, number-reads, Fitting, Numbers, numbers-reads, any}
-use Rattle.text_laws.proofs.ReadProblems.{row-reads, AreRows, rows-reads, block-reads, InRange, within-reads, big-reads, group-reads}
 
 -- a place that the fault tells is at most n, and it is for no option word
 abbrev pub FaultWithin : ℕ → Fault → Type 0

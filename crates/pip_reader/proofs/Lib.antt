@@ -1,3 +1,4 @@
+mod Words
 pub mod Constants
 pub mod Stepwise
 pub mod FaultPlaces

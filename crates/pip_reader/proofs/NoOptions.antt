@@ -1,11 +1,6 @@
 -- What a call that agrees with the definition answers: a native text has no option words.
-use Rattle.std.proofs.Common.{◌≡◌, ℕ, Bool, true, subst}
-use Rattle.std.specs.Prelude.{Option, None, Result, Ok, Err, IfOk, IfErr, IsTrue, ◌↔◌}
-use Rattle.pip_model.specs.Reading.{Fault}
-use Rattle.pip_model.specs.Agreement.{Agrees}
-use Rattle.pip_problem.specs.declared.refusal.ReadRefusal.{ReadRefusal}
+use Rattle.pip_reader.proofs.Words.{◌≡◌, ℕ, Bool, true, subst, Option, None, Result, Ok, Err, IfOk, IfErr, IsTrue, ◌↔◌, Fault, Agrees, ReadRefusal, read_fault}
 use Rattle.pip_problem.specs.declared.refusal.ReadRefusal.TheVariants as refusal
-use Rattle.pip_problem.specs.Faults.{read_fault}
 use Rattle.pip_reader.specs.Refusals.{IsNoOption}
 use Rattle.pip_reader.proofs.FaultPlaces.{FaultWithin}
 

@@ -1,14 +1,7 @@
 -- What the rest of a context is read as, by its next row.
-use Rattle.std.proofs.Common.{◌≡◌, ℕ, zero, suc, ◌+◌, ◌-◌, arith, sub-one, false, ◌==◌, pos, List}
+use Rattle.pip_reader.proofs.Words.{◌≡◌, ℕ, zero, suc, ◌+◌, ◌-◌, arith, sub-one, false, pos, List, RightParen, LeftRow, ContextRows, most_context_rows, token, Limit, ◌>>=◌, same_bracket, expect, row, context_rows, behind, list_by, full_by, next_row}
+use Rattle.std.proofs.Common.{◌==◌}
 use Rattle.std.proofs.lemmas.Bool.Decides.{nat_tests}
-use Rattle.pip_model.specs.declared.Kind.TheVariants.{RightParen, LeftRow}
-use Rattle.pip_model.specs.declared.LimitKind.TheVariants.{ContextRows}
-use Rattle.pip_model.specs.Limits.{most_context_rows}
-use Rattle.pip_model.specs.Tokens.{token}
-use Rattle.pip_model.specs.Reading.{Limit, ◌>>=◌, same_bracket, expect, row}
-use Rattle.pip_model.specs.ContextText.{context_rows}
-use Rattle.text_reading.proofs.Ends.{behind, list_by, full_by}
-use Rattle.pip_reader.specs.Contexts.{next_row}
 
 some_left : (n : ℕ) → (suc n == 0) ≡ false
 some_left n = grind (arith, nat_tests)

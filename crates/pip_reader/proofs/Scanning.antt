@@ -1,12 +1,9 @@
 -- The end of the first group of a text, piece by piece.
-use Rattle.std.proofs.Common.{◌≡◌, ◌≢◌, ◌∙◌, refl, sym, ap, ℕ, zero, suc, ◌+◌, ◌-◌, ◌<◌, ◌≤◌, false, ◌⊎◌, inl, inr, List, [], ◌∷◌, ◌++◌, length, drop, append_assoc, add-one, zero-add, drop-cons, take, arith}
+use Rattle.pip_reader.proofs.Words.{◌≡◌, ◌≢◌, ◌∙◌, refl, sym, ap, ℕ, zero, suc, ◌+◌, ◌-◌, ◌<◌, ◌≤◌, false, ◌⊎◌, inl, inr, List, [], ◌∷◌, ◌++◌, length, drop, append_assoc, add-one, zero-add, drop-cons, take, arith, length_push, take_more, length-take-le, drop-drop, take-append-drop, Option, Some, None, IfNone, fold, slice_index, ◌==◌, All, open_after, closing, next_open, NoBracket, group_behind, first_group_end, group_end_from, IsScanned, place_behind}
 use Rattle.std.proofs.lemmas.Bool.{ne_eqb, cases_Bool}
-use Rattle.std.proofs.lemmas.List.{length_push, take_more, length-take-le, length-drop, drop-drop, take-append-drop}
+use Rattle.std.proofs.lemmas.List.{length-drop}
 use Rattle.std.proofs.Math.Seq.{take-add}
 use Rattle.std.proofs.lemmas.List.Sums.{fold-append}
-use Rattle.std.specs.Prelude.{Option, Some, None, IfNone, fold, slice_index, ◌==◌, All}
-use Rattle.pip_model.specs.Reading.{open_after, closing, next_open}
-use Rattle.pip_reader.specs.Groups.{NoBracket, group_behind, first_group_end, group_end_from, IsScanned, place_behind}
 
 from_closing : (now place : ℕ) (bs : List ℕ) → (now == 0) ≡ false → group_end_from now place bs ≡ closing now place bs
 from_closing zero place bs e = cc

@@ -1,17 +1,11 @@
 -- What holds of the run's answers holds of those that are given.
-use Rattle.std.proofs.Common.{◌≡◌, refl, subst, Result, Ok, Err}
-use Rattle.std.specs.Prelude.{IfOk}
-use Rattle.pip_model.specs.Problem.{Problem}
+use Rattle.pip_solve.proofs.Words.{◌≡◌, refl, subst, Result, Ok, Err, IfOk, Problem, Budget, IsBudget, Work, Outcome, Done, Refused, answered, solve, IsProblem, IsWellFormedAnswer, Agrees, run_fault}
 use Rattle.pip_model.specs.Tree as model
-use Rattle.pip_model.specs.Run.{Budget, IsBudget, Work, Outcome, Done, Refused, answered, solve}
 use Rattle.pip_model.specs.Right.{IsRight}
 use Rattle.pip_model.specs.Leaves.{IsReached}
-use Rattle.pip_model.specs.WellFormed.{IsProblem, IsWellFormedAnswer}
-use Rattle.pip_model.specs.Agreement.{Agrees}
 use Rattle.run_laws.proofs.SolveRight.{solve-right, leaves-reached}
 use Rattle.run_laws.proofs.Headline.{solve-well_formed_answer}
 use Rattle.pip_problem.specs.declared.refusal.Refusal as code
-use Rattle.pip_problem.specs.Faults.{run_fault}
 use Rattle.quast.specs.declared.answer.Answer as answer
 use Rattle.quast.specs.Answers.{answer_of}
 

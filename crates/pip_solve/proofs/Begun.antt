@@ -1,10 +1,5 @@
 -- The answer of a problem whose context has a point.
-use Rattle.std.proofs.Common.{◌≡◌, ◌∙◌, ap, ℤ, true, Option, Some, None, List, is_some}
-use Rattle.std.specs.Prelude.{IfSome}
-use Rattle.pip_model.specs.Problem.{Problem}
-use Rattle.pip_model.specs.Tree.{Tree, Solved}
-use Rattle.pip_model.specs.Run.{Work, Outcome, Done, Refused, Refusal, go_on, give, point, answer, answer_from, run_from, setting, first_node}
-use Rattle.context.specs.Remembered.{has_point}
+use Rattle.pip_solve.proofs.Words.{◌≡◌, ◌∙◌, ap, ℤ, true, Option, Some, None, List, is_some, IfSome, Problem, Tree, Solved, Work, Outcome, Done, Refused, Refusal, go_on, give, point, answer, answer_from, run_from, setting, first_node, has_point}
 
 module _ (P : Problem) (w v : Work) (given : has_point P.params P.context w ≡ Done true v) where
   pointed : answer P w ≡ go_on (run_from (setting P) (first_node P) v) (λ t. give (Solved t))

@@ -1,8 +1,5 @@
 -- Cuts by a quotient.
-use Rattle.std.proofs.Common.{◌≡◌, refl, ℕ, Some}
-use Rattle.pip_model.specs.Cuts.{rounding, residue_of}
-use Rattle.pip_model.specs.Rows.{Row}
-use Rattle.pip_model.specs.Run.{Work, Done, Node, Setting, Class, scope, quotient_cut, known_cut}
+use Rattle.pip_solve.proofs.Words.{◌≡◌, refl, ℕ, Some, rounding, residue_of, Row, Work, Done, Node, Setting, Class, scope, quotient_cut, known_cut}
 
 module _ (S : Setting) (N : Node) (i : ℕ) (R : Row) (q : ℕ) (w v : Work) where
   -- a cut by a known quotient, by the class of what the quotient leaves

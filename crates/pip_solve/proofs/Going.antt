@@ -1,23 +1,7 @@
 -- What is in hand after a turn, and after a tree.
-use Rattle.std.proofs.Common.{◌≡◌, sym, ap, ◌∙◌, ℕ, ◌+◌, ◌++◌, ◌∷◌, [], map, take, List, ℤ, length, arith}
-use Rattle.std.proofs.Math.Seq.{take-append_seam}
-use Rattle.std.proofs.lemmas.List.{append-nil, length-append, length-take-le}
-use Rattle.pip_model.specs.Forms.{opposite}
-use Rattle.pip_model.specs.Tree.{If, NewParm}
-use Rattle.pip_model.specs.Rows.{row_at, widened}
-use Rattle.pip_model.specs.Cuts.{Quotient, lower_bound, upper_bound, parametric_cut}
-use Rattle.pip_model.specs.Run.{Work, ◌>>=◌, go_on, give, run_from}
-use Rattle.tableau.specs.Tableaus.{TableauRows}
-use Rattle.context.specs.declared.context.ContextMark.{ContextMark}
-use Rattle.new_parameters.specs.Scopes.{Scope, size}
-use Rattle.quast.specs.Trees.{ScopedTree}
-use Rattle.pip_solve.specs.declared.path.Path.{Path}
-use Rattle.pip_solve.specs.declared.pending.Frame.{Frame}
+use Rattle.pip_solve.proofs.Words.{◌≡◌, sym, ap, ◌∙◌, ℕ, ◌+◌, ◌++◌, ◌∷◌, [], map, take, List, ℤ, length, arith, take-append_seam, append-nil, length-append, length-take-le, opposite, If, NewParm, row_at, widened, Quotient, lower_bound, upper_bound, parametric_cut, Work, ◌>>=◌, go_on, give, run_from, TableauRows, ContextMark, Scope, size, ScopedTree, Path, Frame, node_of, setting_of, IsBelow, IsBack, under, below, node_run, gone_back, path_under, finished, whole_run, turned_run, AreMarks, Waits}
 use Rattle.pip_solve.specs.declared.pending.Frame.TheVariants as frame
 use Rattle.pip_solve.specs.declared.turn.Turn.TheVariants as code
-use Rattle.pip_solve.specs.Nodes.{node_of, setting_of, IsBelow, IsBack}
-use Rattle.pip_solve.specs.Turns.{under, below}
-use Rattle.pip_solve.specs.Frames.{node_run, gone_back, path_under, finished, whole_run, turned_run, AreMarks, Waits}
 use Rattle.pip_solve.proofs.Running.{grouped, same_after, node_same, Grown, finished_grown, grown_below}
 
 -- ---- an if: the second tree is due back here

@@ -1,29 +1,10 @@
 -- What is in hand keeps what the run needs of it.
-use Rattle.std.proofs.Common.{◌≡◌, refl, sym, ap, subst, ◌∙◌, ℕ, ◌+◌, ◌-◌, ◌*◌, ◌<◌, ◌≤◌, ◌++◌, ◌∷◌, [], Bool, Option, Some, None, List, ℤ, length, arith}
-use Rattle.std.specs.Prelude.{IfSome}
-use Rattle.std.proofs.lemmas.List.{length-append, length-take-le}
+use Rattle.pip_solve.proofs.Words.{◌≡◌, refl, sym, ap, subst, ◌∙◌, ℕ, ◌+◌, ◌-◌, ◌*◌, ◌<◌, ◌≤◌, ◌++◌, ◌∷◌, [], Bool, Option, Some, None, List, ℤ, length, arith, IfSome, length-append, length-take-le, opposite, most_nesting, Tree, If, nesting, Quotient, Work, Budget, Setting, Node, Done, Refused, Refusal, ◌>>=◌, give, go_on, turn, run_from, class, left, Falls, AtMost, Progress, falls-class, falls-turn, refused_run_from, TableauRows, ContextMark, Scope, size, ScopedTree, Path, Frame, node_of, setting_of, IsNode, IsKept, IsBelow, IsBack, IsCondition, turn_of, after, IsNewParameter, TurnIs, Waiting, node_run, gone_back, path_under, finished, whole_run, turned_run, HasRoom, AreMarks, Waits, IsRunning, IsTurned, IsNextNode, weight, dues}
 use Rattle.pip_model.specs.Contexts.{IsContext}
-use Rattle.pip_model.specs.Forms.{opposite}
-use Rattle.pip_model.specs.Limits.{most_nesting}
-use Rattle.pip_model.specs.Tree.{Tree, If, nesting}
-use Rattle.pip_model.specs.Cuts.{Quotient}
-use Rattle.pip_model.specs.Run.{Work, Budget, Setting, Node, Done, Refused, Refusal, ◌>>=◌, give, go_on, turn, run_from, class, left}
-use Rattle.pip_model.proofs.Fuel.{Falls, AtMost, Progress, falls-class, falls-turn, refused_run_from}
 use Rattle.pip_model.proofs.Fuel as fuel
-use Rattle.tableau.specs.Tableaus.{TableauRows}
-use Rattle.context.specs.declared.context.ContextMark.{ContextMark}
-use Rattle.new_parameters.specs.Scopes.{Scope, size}
-use Rattle.quast.specs.Trees.{ScopedTree}
-use Rattle.pip_solve.specs.declared.path.Path.{Path}
-use Rattle.pip_solve.specs.declared.pending.Frame.{Frame}
 use Rattle.pip_solve.specs.declared.pending.Frame.TheVariants as frame
 use Rattle.pip_solve.specs.declared.turn.Turn as turns
 use Rattle.pip_solve.specs.declared.turn.Turn.TheVariants as code
-use Rattle.pip_solve.specs.Nodes.{node_of, setting_of, IsNode, IsKept, IsBelow, IsBack}
-use Rattle.pip_solve.specs.Signs.{IsCondition}
-use Rattle.pip_solve.specs.Turns.{turn_of, after, IsNewParameter, TurnIs}
-use Rattle.pip_solve.specs.Waiting.{Waiting}
-use Rattle.pip_solve.specs.Frames.{node_run, gone_back, path_under, finished, whole_run, turned_run, HasRoom, AreMarks, Waits, IsRunning, IsTurned, IsNextNode, weight, dues}
 use Rattle.pip_solve.proofs.Running.{same_after, by_turn, node_same, finished_grown, waits_grown, grown_kept, grown_below}
 use Rattle.pip_solve.proofs.Going.{forms_back, quotients_back, back_again, second_grown}
 

@@ -1,11 +1,6 @@
 -- The forms that are known stay known while the context stays.
-use Rattle.std.proofs.Common.{◌≡◌, ap, ◌⊎◌, inl, inr, ℕ, ℤ, ◌-◌, List, [], ◌∷◌, ◌++◌, length, arith}
-use Rattle.std.proofs.lemmas.List.Elements.{All-push, All-same}
-use Rattle.pip_model.specs.Run.{Work, Budget, Done, Plus, class}
+use Rattle.pip_solve.proofs.Words.{◌≡◌, ap, ◌⊎◌, inl, inr, ℕ, ℤ, ◌-◌, List, [], ◌∷◌, ◌++◌, length, arith, All-push, All-same, Work, Budget, Done, Plus, class, Counts, ScopedForms, IsKeptContext, KnownForm, IsKnownForm, AreKnown}
 use Rattle.run_laws.proofs.CountedAgain.{class-again}
-use Rattle.run_counts.specs.declared.work.Counts.{Counts}
-use Rattle.context.specs.Scoped.{ScopedForms, IsKeptContext}
-use Rattle.pip_solve.specs.Known.{KnownForm, IsKnownForm, AreKnown}
 
 -- a form whose class was Plus is known with what was counted
 pub found_known : (K : List (List ℤ)) (w : ℕ) (entries : List ℤ) (before after : Work) (counts : Counts) → class K w entries before ≡ Done Plus after

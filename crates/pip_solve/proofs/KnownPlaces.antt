@@ -1,11 +1,5 @@
 -- The forms at places among numbers, where more numbers come behind these.
-use Rattle.std.proofs.Common.{◌≡◌, ◌∙◌, ◌⊎◌, inl, inr, refl, ap, ◌+◌, ◌-◌, ◌<◌, ◌≤◌, ℕ, ℤ, Bool, true, false, List, [], ◌∷◌, ◌++◌, length, map, take, drop, slice_range, get_or, arith, length-drop}
-use Rattle.std.specs.Prelude.{All, Contains, if◌then◌else◌}
-use Rattle.std.proofs.lemmas.List.{take-append-le, drop-append-le, get_or-map, map-append, length-map, take_all}
-use Rattle.std.proofs.Math.Seq.{drop-append_seam}
-use Rattle.std.proofs.lemmas.List.Elements.{All-head, All-tail}
-use Rattle.run_counts.specs.declared.work.Counts.{Counts}
-use Rattle.pip_solve.specs.declared.known.KnownPlace.{KnownPlace}
+use Rattle.pip_solve.proofs.Words.{◌≡◌, ◌∙◌, ◌⊎◌, inl, inr, refl, ap, ◌+◌, ◌-◌, ◌<◌, ◌≤◌, ℕ, ℤ, Bool, true, false, List, [], ◌∷◌, ◌++◌, length, map, take, drop, slice_range, get_or, arith, length-drop, All, Contains, if◌then◌else◌, take-append-le, drop-append-le, get_or-map, map-append, length-map, take_all, drop-append_seam, All-head, All-tail, Counts, KnownPlace}
 use Rattle.pip_solve.specs.KnownPlaces.{form_at, IsPlaceIn}
 
 module _ (ns es : List ℤ) where

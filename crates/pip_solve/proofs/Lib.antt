@@ -1,3 +1,4 @@
+mod Words
 pub mod Running
 pub mod Begun
 pub mod Going

@@ -1,24 +1,9 @@
 -- The rows and the path below a new parameter.
-use Rattle.std.proofs.Common.{◌≡◌, sym, subst, ap, ℕ, ◌+◌, ◌-◌, ◌<◌, ◌≤◌, ℤ, pos, List, [], ◌∷◌, ◌++◌, length, map, All, true, append_assoc, arith}
-use Rattle.std.proofs.Math.Seq.{get_or-append_seam}
-use Rattle.std.proofs.lemmas.List.{get_or-map}
-use Rattle.std.proofs.lemmas.List.Elements.{All-from_recursion}
-use Rattle.pip_model.specs.Forms.{tighten}
-use Rattle.pip_model.specs.Rows.{Row, row_at, form_row, widened, started, start}
-use Rattle.pip_model.specs.Cuts.{Quotient}
-use Rattle.pip_model.specs.Problem.{Problem}
-use Rattle.pip_model.specs.Limits.{most_nesting}
-use Rattle.pip_model.specs.WellFormed.{IsRow, IsProblem}
+use Rattle.pip_solve.proofs.Words.{◌≡◌, sym, subst, ap, ℕ, ◌+◌, ◌-◌, ◌<◌, ◌≤◌, ℤ, pos, List, [], ◌∷◌, ◌++◌, length, map, true, append_assoc, arith, get_or-append_seam, get_or-map, All-from_recursion, tighten, Row, row_at, form_row, widened, started, start, Quotient, Problem, most_nesting, IsRow, IsProblem, TableauRows, Scope, size, quotient_at, Path, IsNode, Waiting, Waits, IsRunning, Frame}
+use Rattle.std.proofs.Common.{All}
 use Rattle.run_laws.proofs.Started.{started_formed}
-use Rattle.tableau.specs.Tableaus.{TableauRows}
 use Rattle.context.proofs.Pointing.{length_start}
-use Rattle.new_parameters.specs.Scopes.{Scope, size, quotient_at}
-use Rattle.pip_solve.specs.declared.path.Path.{Path}
-use Rattle.pip_solve.specs.Nodes.{IsNode}
 use Rattle.pip_solve.specs.Starts.{IsFirstPath}
-use Rattle.pip_solve.specs.Waiting.{Waiting}
-use Rattle.pip_solve.specs.Frames.{Waits, IsRunning}
-use Rattle.pip_solve.specs.declared.pending.Frame.{Frame}
 
 -- the quotient that was added last
 pub quotient_at-added : (q : Scope) (k : Quotient) → quotient_at (record q { quotients = q.quotients ++ k ∷ [] }) (size q) ≡ k

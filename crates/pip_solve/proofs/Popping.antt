@@ -1,22 +1,6 @@
 -- Frames that are closed over a tree.
-use Rattle.std.proofs.Common.{◌≡◌, refl, sym, ap, subst, ◌∙◌, ℕ, ◌+◌, ◌-◌, ◌<◌, ◌≤◌, ◌∷◌, [], List, ℤ, length, arith}
-use Rattle.std.specs.Prelude.{max}
-use Rattle.std.proofs.lemmas.List.{append-nil, length-append}
-use Rattle.pip_model.specs.Forms.{opposite}
-use Rattle.pip_model.specs.Limits.{most_nesting}
-use Rattle.pip_model.specs.Tree.{If, NewParm, nesting}
-use Rattle.pip_model.specs.Run.{Work}
-use Rattle.tableau.specs.Tableaus.{TableauRows}
-use Rattle.context.specs.declared.context.ContextMark.{ContextMark}
-use Rattle.new_parameters.specs.Scopes.{Scope}
-use Rattle.quast.specs.Trees.{ScopedTree}
-use Rattle.pip_solve.specs.declared.path.Path.{Path}
-use Rattle.pip_solve.specs.declared.pending.Frame.{Frame}
+use Rattle.pip_solve.proofs.Words.{◌≡◌, refl, sym, ap, subst, ◌∙◌, ℕ, ◌+◌, ◌-◌, ◌<◌, ◌≤◌, ◌∷◌, [], List, ℤ, length, arith, max, append-nil, length-append, opposite, most_nesting, If, NewParm, nesting, Work, TableauRows, ContextMark, Scope, ScopedTree, Path, Frame, IsBelow, IsBack, IsCondition, Waiting, finished, whole_run, HasRoom, AreMarks, Waits, IsClosing, IsNextNode, dues}
 use Rattle.pip_solve.specs.declared.pending.Frame.TheVariants as frame
-use Rattle.pip_solve.specs.Nodes.{IsBelow, IsBack}
-use Rattle.pip_solve.specs.Signs.{IsCondition}
-use Rattle.pip_solve.specs.Waiting.{Waiting}
-use Rattle.pip_solve.specs.Frames.{finished, whole_run, HasRoom, AreMarks, Waits, IsClosing, IsNextNode, dues}
 use Rattle.pip_solve.proofs.Running.{Grown, finished_grown, waits_grown}
 use Rattle.pip_solve.proofs.Going.{second_on}
 use Rattle.pip_solve.proofs.Handing.{second_running, back_room}

@@ -1,19 +1,6 @@
 -- How a run goes on from a node in hand to the next.
-use Rattle.std.proofs.Common.{◌≡◌, refl, sym, ap, ◌∙◌, ℕ, ◌+◌, ◌-◌, ◌≤◌, ◌++◌, ◌∷◌, [], take, Bool, List, ℤ, length, arith}
-use Rattle.std.proofs.lemmas.List.{append-nil, length-append, take-append-le, length-take-le}
-use Rattle.pip_model.specs.Forms.{opposite}
-use Rattle.pip_model.specs.Tree.{Tree, If, NewParm}
-use Rattle.pip_model.specs.Run.{Work, Outcome, Done, Refused, Counted, ◌>>=◌, go_on, Turn, Closed, Again, Below, Split, turn, run_from, class}
-use Rattle.pip_model.proofs.Fuel.{falls-class, closed_run_from, again_run, below_run, split_run}
-use Rattle.tableau.specs.Tableaus.{TableauRows}
-use Rattle.context.specs.declared.context.ContextMark.{ContextMark}
-use Rattle.new_parameters.specs.Scopes.{Scope, size}
-use Rattle.pip_solve.specs.declared.path.Path.{Path}
-use Rattle.pip_solve.specs.declared.pending.Frame.{Frame}
+use Rattle.pip_solve.proofs.Words.{◌≡◌, refl, sym, ap, ◌∙◌, ℕ, ◌+◌, ◌-◌, ◌≤◌, ◌++◌, ◌∷◌, [], take, Bool, List, ℤ, length, arith, append-nil, length-append, take-append-le, length-take-le, opposite, Tree, If, NewParm, Work, Outcome, Done, Refused, Counted, ◌>>=◌, go_on, Turn, Closed, Again, Below, Split, turn, run_from, class, falls-class, closed_run_from, again_run, below_run, split_run, TableauRows, ContextMark, Scope, size, Path, Frame, node_of, setting_of, IsKept, IsBelow, after, node_run, gone_back, path_under, finished, AreMarks, IsDue, Waits}
 use Rattle.pip_solve.specs.declared.pending.Frame.TheVariants as frame
-use Rattle.pip_solve.specs.Nodes.{node_of, setting_of, IsKept, IsBelow}
-use Rattle.pip_solve.specs.Turns.{after}
-use Rattle.pip_solve.specs.Frames.{node_run, gone_back, path_under, finished, AreMarks, IsDue, Waits}
 
 -- ---- parts in a row
 

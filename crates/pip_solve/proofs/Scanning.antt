@@ -1,15 +1,9 @@
 -- The scan of a node's rows, from one row to the next.
 use Rattle.std.specs.List.{list_all}
 use Rattle.pip_model.specs.Numbers.{is_nonneg}
-use Rattle.std.proofs.Common.{◌≡◌, refl, sym, ◌∙◌, ap, ℕ, ◌+◌, ◌<◌, ℤ, Option, Some, None, List, [], ◌∷◌, length, drop, zero, suc, pos, true, replicate}
-use Rattle.std.specs.Prelude.{IfSome}
-use Rattle.std.proofs.lemmas.List.{drop_more}
-use Rattle.pip_model.specs.Rows.{Row, row_at, form_row}
-use Rattle.pip_model.specs.Run.{Work, Outcome, Done, Refused, Refusal, Node, Setting, Class, Plus, Minus, Unknown, Signs, AllPlus, MinusAt, keep, go_on, scan, scan_on, scope, class, turn, turn_by}
+use Rattle.pip_solve.proofs.Words.{◌≡◌, refl, sym, ◌∙◌, ap, ℕ, ◌+◌, ◌<◌, ℤ, Option, Some, None, List, [], ◌∷◌, length, drop, zero, suc, pos, true, replicate, IfSome, drop_more, Row, row_at, form_row, Work, Outcome, Done, Refused, Refusal, Node, Setting, Class, Plus, Minus, Unknown, Signs, AllPlus, MinusAt, keep, go_on, scan, scan_on, scope, class, turn, turn_by, class_of, scanned, keep_class}
 use Rattle.sign_split.specs.declared.classes.Class as Code
 use Rattle.sign_split.specs.declared.classes.Class.TheVariants as code
-use Rattle.sign_split.specs.Classes.{class_of}
-use Rattle.pip_solve.specs.Signs.{scanned, keep_class}
 
 -- a node's scan is that of its context
 pub scan-scanned : (S : Setting) (N : Node) → S.class ≡ class → (i : ℕ) (kept : Signs) (rows : List Row) (w : Work) → scan S N i kept rows w ≡ scanned N.context (scope S N) i kept rows w

@@ -1,14 +1,8 @@
 -- A turn, and the context of its path.
-use Rattle.std.proofs.Common.{◌≡◌, refl, ap, ◌∙◌, List, ℤ, Result, Ok, Err, Option}
+use Rattle.pip_solve.proofs.Words.{◌≡◌, refl, ap, ◌∙◌, List, ℤ, Result, Ok, Err, Option, Work, Outcome, Done, AgreesCounted, TableauRows, ScopedForms, Path, turn_of}
 use Rattle.pip_model.specs.Run as run
-use Rattle.pip_model.specs.Run.{Work, Outcome, Done}
-use Rattle.pip_model.specs.Agreement.{AgreesCounted}
-use Rattle.tableau.specs.Tableaus.{TableauRows}
-use Rattle.context.specs.Scoped.{ScopedForms}
-use Rattle.pip_solve.specs.declared.path.Path.{Path}
 use Rattle.pip_solve.specs.declared.turn.Turn.{Turn}
 use Rattle.pip_solve.specs.declared.turn.Turn.TheVariants as code
-use Rattle.pip_solve.specs.Turns.{turn_of}
 
 -- of the context a turn sees the forms alone
 pub in_context : (t : TableauRows) (path : Path) (k : ScopedForms) → k.forms ≡ path.context.forms → (T : Turn) → turn_of t (record path { context = k }) T ≡ turn_of t path T

@@ -1,22 +1,7 @@
 -- That the source is called only while the group at hand is open.
-use Rattle.std.proofs.Common.{◌≡◌, refl, sym, ap, subst, ◌∙◌, ℕ, ◌+◌, ◌-◌, ◌<◌, inl, inr, arith, Bool, true, false, List, ◌++◌, length, length-drop, take}
-use Rattle.std.proofs.Math.Seq.{take-length}
-use Rattle.std.proofs.lemmas.List.{take-append-drop}
-use Rattle.std.specs.Prelude.{◌⊎◌, Option, Some, None, IfSome, Result, Ok, Err}
-use Rattle.std.specs.List.{list_all}
+use Rattle.pip_stream.proofs.Words.{◌≡◌, refl, sym, ap, subst, ◌∙◌, ℕ, ◌+◌, ◌-◌, ◌<◌, inl, inr, arith, Bool, true, false, List, ◌++◌, length, length-drop, take, take-length, take-append-drop, ◌⊎◌, Option, Some, None, IfSome, Result, Ok, Err, list_all, HeldBytes, is_closed, next_open, group_behind, first_group_end, place_behind, next_open-closed, Problem, AsksWhileOpen, AsksInTurns, CallsFor, Seeks, TakesMore, is_ended, is_there, IsRead, NextRefusal, taken_by, bytes_from, Skips, DropsClosed}
 use Rattle.pip_outside.specs.Calls.{Takes, AsksOn, CallsWithin}
 use Rattle.pip_outside.proofs.Calls.{takes-none, takes-more, takes-then, asks-none, asks-once, asks-then}
-use Rattle.pip_outside.specs.Windows.{HeldBytes}
-use Rattle.pip_model.specs.Moved.{is_closed}
-use Rattle.pip_model.specs.Reading.{next_open}
-use Rattle.pip_reader.specs.Groups.{group_behind, first_group_end, place_behind}
-use Rattle.text_laws.proofs.Items.{next_open-closed}
-use Rattle.pip_model.specs.Problem.{Problem}
-use Rattle.pip_stream.specs.Asked.{AsksWhileOpen, AsksInTurns, CallsFor, Seeks, TakesMore, is_ended, is_there}
-use Rattle.pip_stream.specs.Ended.{IsRead}
-use Rattle.pip_stream.specs.declared.refusal.NextRefusal.{NextRefusal}
-use Rattle.pip_stream.specs.Windows.{taken_by, bytes_from, Skips}
-use Rattle.pip_stream.specs.Open.{DropsClosed}
 use Rattle.pip_stream.proofs.Dropping.{if-map, if-some, skipped, skips-nothing, skips-more, skips-closed, skips-restart, taken-closed}
 use Rattle.pip_stream.proofs.Finding.{group-behind, stays}
 use Rattle.pip_stream.proofs.Groups.{group_end-behind}

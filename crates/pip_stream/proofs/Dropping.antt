@@ -1,14 +1,5 @@
 -- Bytes that are dropped, and bytes that come: what is told of the input through each step.
-use Rattle.std.proofs.Common.{◌≡◌, refl, sym, ap, subst, ◌∙◌, ℕ, ◌+◌, ◌-◌, arith, List, ◌++◌, length, Bool, true, length-append, length-drop, take, drop}
-use Rattle.std.proofs.Math.Seq.{take-add}
-use Rattle.std.proofs.lemmas.List.{drop-drop, drop-append-le, take-append-le}
-use Rattle.std.proofs.lemmas.List.Folds.{list_all-append}
-use Rattle.std.specs.Prelude.{Option, Some, None, IfSome}
-use Rattle.std.specs.List.{list_all}
-use Rattle.pip_outside.specs.Windows.{HeldBytes}
-use Rattle.pip_model.specs.Moved.{is_closed}
-use Rattle.pip_stream.specs.Windows.{taken_by, bytes_from, Drops, Skips, Grows}
-use Rattle.pip_stream.specs.Open.{DropsClosed}
+use Rattle.pip_stream.proofs.Words.{◌≡◌, refl, sym, ap, subst, ◌∙◌, ℕ, ◌+◌, ◌-◌, arith, List, ◌++◌, length, Bool, true, length-append, length-drop, take, drop, take-add, drop-drop, drop-append-le, take-append-le, list_all-append, Option, Some, None, IfSome, list_all, HeldBytes, is_closed, taken_by, bytes_from, Drops, Skips, Grows, DropsClosed}
 
 abbrev Bytes : Type 0
 Bytes = List ℕ

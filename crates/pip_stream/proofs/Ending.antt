@@ -1,14 +1,5 @@
 -- The window where the search for the end of a group ends, and where it goes on.
-use Rattle.std.proofs.Common.{◌≡◌, refl, sym, ap, subst, ◌∙◌, ℕ, ◌+◌, ◌-◌, ◌<◌, ◌≤◌, inl, inr, arith, List, ◌++◌, length, length-append, length-take, take, drop}
-use Rattle.std.proofs.lemmas.List.{take-append-drop, take_at, append-nil, nil_from_length}
-use Rattle.std.specs.Prelude.{Some, None, Ok, Err}
-use Rattle.pip_outside.specs.Windows.{HeldBytes}
-use Rattle.pip_model.specs.Limits.{most_input_bytes}
-use Rattle.pip_model.specs.Reading.{next_open}
-use Rattle.pip_reader.specs.Groups.{first_group_end, IsScanned, place_behind}
-use Rattle.pip_stream.specs.Windows.{taken_by, Grows, IsMore}
-use Rattle.pip_stream.specs.Ended.{HoldsItem, IsEnded}
-use Rattle.pip_stream.specs.declared.refusal.NextRefusal.{NextRefusal}
+use Rattle.pip_stream.proofs.Words.{◌≡◌, refl, sym, ap, subst, ◌∙◌, ℕ, ◌+◌, ◌-◌, ◌<◌, ◌≤◌, inl, inr, arith, List, ◌++◌, length, length-append, length-take, take, drop, take-append-drop, take_at, append-nil, nil_from_length, Some, None, Ok, Err, HeldBytes, most_input_bytes, next_open, first_group_end, IsScanned, place_behind, taken_by, Grows, IsMore, HoldsItem, IsEnded, NextRefusal}
 use Rattle.pip_stream.specs.declared.refusal.NextRefusal.TheVariants as next
 use Rattle.pip_stream.proofs.Groups.{group_end-ends}
 use Rattle.pip_stream.proofs.Scanned.{open-longer, ends-later}

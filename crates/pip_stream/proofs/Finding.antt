@@ -1,23 +1,5 @@
 -- What is read of the bytes of an item alone is what is read of the input.
-use Rattle.std.proofs.Common.{◌≡◌, refl, sym, ap, subst, ◌∙◌, ℕ, suc, ◌+◌, ◌-◌, ◌≤◌, inl, inr, arith, List, [], ◌++◌, length, true, length-append, length-drop, length-take, take, drop}
-use Rattle.std.proofs.Math.Seq.{take-append-add, take-length}
-use Rattle.std.proofs.lemmas.List.{take-append-drop, take-append-le, drop-append-le, drop-drop, append-nil}
-use Rattle.std.specs.Prelude.{Option, Some, None, IfSome, Result, Ok, Err}
-use Rattle.std.specs.List.{list_all}
-use Rattle.pip_outside.specs.Windows.{HeldBytes}
-use Rattle.pip_model.specs.Problem.{Problem}
-use Rattle.pip_model.specs.Reading.{Fault, Syntax, Wide, next_open, closing, item_at}
-use Rattle.pip_model.specs.NativeText.{problem_at, read_native}
-use Rattle.pip_model.specs.Moved.{moved, is_closed}
-use Rattle.pip_problem.specs.Faults.{read_fault}
-use Rattle.pip_problem.specs.declared.refusal.ReadRefusal.{ReadRefusal}
-use Rattle.pip_reader.specs.Groups.{group_behind, first_group_end, place_behind}
-use Rattle.text_laws.proofs.Items.{next_open-append, next_open-closed}
-use Rattle.text_laws.proofs.LocalProblems.{read_native-alone, read_native-moved}
-use Rattle.text_laws.proofs.ReadProblems.{read_native-none}
-use Rattle.pip_stream.specs.Windows.{taken_by, bytes_from, Drops, Skips}
-use Rattle.pip_stream.specs.Ended.{IsItem, HoldsItem}
-use Rattle.pip_stream.specs.Next.{ReadsNext, ReadsNone, IsSpared, RefusesNext, StaysOpen}
+use Rattle.pip_stream.proofs.Words.{◌≡◌, refl, sym, ap, subst, ◌∙◌, ℕ, suc, ◌+◌, ◌-◌, ◌≤◌, inl, inr, arith, List, [], ◌++◌, length, true, length-append, length-drop, length-take, take, drop, take-append-add, take-length, take-append-drop, take-append-le, drop-append-le, drop-drop, append-nil, Option, Some, None, IfSome, Result, Ok, Err, list_all, HeldBytes, Problem, Fault, Syntax, Wide, next_open, closing, item_at, problem_at, read_native, moved, is_closed, read_fault, ReadRefusal, group_behind, first_group_end, place_behind, next_open-append, next_open-closed, read_native-alone, read_native-moved, read_native-none, taken_by, bytes_from, Drops, Skips, IsItem, HoldsItem, ReadsNext, ReadsNone, IsSpared, RefusesNext, StaysOpen}
 use Rattle.pip_stream.proofs.Groups.{group_end-behind, group_end-ends}
 use Rattle.pip_stream.proofs.Scanned.{begins, ends-later}
 

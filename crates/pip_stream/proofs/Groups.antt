@@ -1,15 +1,6 @@
 -- Where the first group of a text ends.
-use Rattle.std.proofs.Common.{◌≡◌, refl, sym, ap, ◌∙◌, ℕ, suc, ◌+◌, ◌-◌, ◌<◌, ◌≤◌, arith, List, [], ◌∷◌, ◌++◌, append_assoc, length, Bool, true, false, length-append, length-take, take, drop}
-use Rattle.std.proofs.Math.Seq.{take-append-add, drop-append-add}
-use Rattle.std.proofs.lemmas.List.{take-append-drop}
-use Rattle.std.proofs.lemmas.List.Folds.{list_all-append}
-use Rattle.std.specs.Prelude.{◌==◌, Option, Some, None, if◌then◌else◌}
-use Rattle.std.specs.List.{list_all}
-use Rattle.pip_model.specs.Moved.{is_closed}
-use Rattle.pip_model.specs.Reading.{open_after, closing, next_open}
-use Rattle.text_laws.proofs.Items.{next_open-append, next_open-closed, next_open-first, next_open-none}
+use Rattle.pip_stream.proofs.Words.{◌≡◌, refl, sym, ap, ◌∙◌, ℕ, suc, ◌+◌, ◌-◌, ◌<◌, ◌≤◌, arith, List, [], ◌∷◌, ◌++◌, append_assoc, length, Bool, true, false, length-append, length-take, take, drop, take-append-add, drop-append-add, take-append-drop, list_all-append, ◌==◌, Option, Some, None, if◌then◌else◌, list_all, is_closed, open_after, closing, next_open, next_open-append, next_open-closed, next_open-first, next_open-none, group_behind, first_group_end, place_behind}
 use Rattle.text_laws.proofs.Groups.{closing-append, closing-closes}
-use Rattle.pip_reader.specs.Groups.{group_behind, first_group_end, place_behind}
 
 -- bytes with a first `(`
 pub record Opened (bytes : List ℕ) (place : ℕ) : Type 0 where

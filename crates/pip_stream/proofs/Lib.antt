@@ -1,3 +1,4 @@
+mod Words
 pub mod Groups
 pub mod Dropping
 pub mod Scanned

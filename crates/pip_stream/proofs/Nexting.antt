@@ -1,18 +1,6 @@
 -- What a call for the next problem finds, by the step that ends it.
-use Rattle.std.proofs.Common.{◌≡◌, refl, sym, ap, subst, ◌∙◌, ℕ, ◌+◌, ◌-◌, ◌<◌, ◌≤◌, arith, false, List, [], length, length-drop, drop}
-use Rattle.std.proofs.Math.Seq.{take-length}
-use Rattle.std.specs.Prelude.{Option, Some, None, IfOk, IfSome, Result, Ok, Err}
+use Rattle.pip_stream.proofs.Words.{◌≡◌, refl, sym, ap, subst, ◌∙◌, ℕ, ◌+◌, ◌-◌, ◌<◌, ◌≤◌, arith, false, List, [], length, length-drop, drop, take-length, Option, Some, None, IfOk, IfSome, Result, Ok, Err, HeldBytes, most_input_bytes, Problem, next_open, first_group_end, taken_by, Skips, IsOpened, HoldsItem, IsEnded, IsRead, ReadsNext, IsSpared, RefusesNext, FindsNext, LeavesWindow, IsReady, IsPeak, NextRefusal}
 use Rattle.std.specs.Io.KnownBytes.{IsAtEnd}
-use Rattle.pip_outside.specs.Windows.{HeldBytes}
-use Rattle.pip_model.specs.Limits.{most_input_bytes}
-use Rattle.pip_model.specs.Problem.{Problem}
-use Rattle.pip_model.specs.Reading.{next_open}
-use Rattle.pip_reader.specs.Groups.{first_group_end}
-use Rattle.pip_stream.specs.Windows.{taken_by, Skips}
-use Rattle.pip_stream.specs.Open.{IsOpened}
-use Rattle.pip_stream.specs.Ended.{HoldsItem, IsEnded, IsRead}
-use Rattle.pip_stream.specs.Next.{ReadsNext, IsSpared, RefusesNext, FindsNext, LeavesWindow, IsReady, IsPeak}
-use Rattle.pip_stream.specs.declared.refusal.NextRefusal.{NextRefusal}
 use Rattle.pip_stream.specs.declared.refusal.NextRefusal.TheVariants as next
 use Rattle.pip_stream.proofs.Groups.{group_end-ends}
 use Rattle.pip_stream.proofs.Scanned.{begins_some}

@@ -1,14 +1,5 @@
 -- A window whose bytes before the first `(` are dropped.
-use Rattle.std.proofs.Common.{◌≡◌, ap, ◌∙◌, ℕ, ◌+◌, arith, true, false, ◌∷◌, length, length-append, take, drop}
-use Rattle.std.proofs.Math.Seq.{take-length}
-use Rattle.std.proofs.lemmas.List.{take_at, drop_at, drop_all}
-use Rattle.std.specs.Prelude.{Some, None}
-use Rattle.std.specs.List.{list_all}
-use Rattle.pip_outside.specs.Windows.{HeldBytes}
-use Rattle.pip_model.specs.Moved.{is_closed}
-use Rattle.pip_model.specs.Reading.{next_open}
-use Rattle.text_laws.proofs.Items.{next_open-none}
-use Rattle.pip_stream.specs.Open.{DropsClosed}
+use Rattle.pip_stream.proofs.Words.{◌≡◌, ap, ◌∙◌, ℕ, ◌+◌, arith, true, false, ◌∷◌, length, length-append, take, drop, take-length, take_at, drop_at, drop_all, Some, None, list_all, HeldBytes, is_closed, next_open, next_open-none, DropsClosed}
 use Rattle.pip_stream.proofs.Groups.{opened}
 
 pub drops-to_open : (w new : HeldBytes) (place : ℕ) → next_open 0 w.held ≡ Some place → new ≡ record w { held = drop place w.held; base = w.base + place } → DropsClosed w new true

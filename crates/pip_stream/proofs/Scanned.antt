@@ -1,11 +1,6 @@
 -- The bytes of a group that were scanned, and those behind them.
-use Rattle.std.proofs.Common.{◌≡◌, refl, sym, ap, ◌∙◌, ℕ, ◌-◌, ◌<◌, inl, inr, arith, List, ◌∷◌, ◌++◌, length, take, drop}
-use Rattle.std.proofs.Math.Seq.{take-add}
+use Rattle.pip_stream.proofs.Words.{◌≡◌, refl, sym, ap, ◌∙◌, ℕ, ◌-◌, ◌<◌, inl, inr, arith, List, ◌∷◌, ◌++◌, length, take, drop, take-add, nil_from_length, Some, None, next_open, first_group_end}
 use Rattle.std.proofs.lemmas.Bool.{cases_lt}
-use Rattle.std.proofs.lemmas.List.{nil_from_length}
-use Rattle.std.specs.Prelude.{Some, None}
-use Rattle.pip_model.specs.Reading.{next_open}
-use Rattle.pip_reader.specs.Groups.{first_group_end}
 use Rattle.pip_stream.proofs.Groups.{opened, group_end-ends}
 
 -- the first byte is a `(`

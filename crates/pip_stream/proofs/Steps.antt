@@ -1,12 +1,5 @@
 -- Facts of a step that asks for more bytes, or drops some, as the loops need them.
-use Rattle.std.proofs.Common.{◌≡◌, sym, ap, subst, ℕ, ◌+◌, ◌≤◌, arith, true, false, Bool, [], length, length-append, length-drop}
-use Rattle.std.proofs.lemmas.List.{nil_from_length}
-use Rattle.std.specs.Prelude.{Ok, Err}
-use Rattle.pip_outside.specs.Windows.{HeldBytes}
-use Rattle.pip_model.specs.Limits.{most_input_bytes}
-use Rattle.pip_stream.specs.Windows.{taken_by, IsMore}
-use Rattle.pip_stream.specs.Open.{DropsClosed, IsOpened}
-use Rattle.pip_stream.specs.declared.refusal.NextRefusal.{NextRefusal}
+use Rattle.pip_stream.proofs.Words.{◌≡◌, sym, ap, subst, ℕ, ◌+◌, ◌≤◌, arith, true, false, Bool, [], length, length-append, length-drop, nil_from_length, Ok, Err, HeldBytes, most_input_bytes, taken_by, IsMore, DropsClosed, IsOpened, NextRefusal}
 use Rattle.pip_stream.specs.declared.refusal.NextRefusal.TheVariants as next
 use Rattle.pip_stream.proofs.Dropping.{taken-grown}
 

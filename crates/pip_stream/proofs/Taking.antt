@@ -1,22 +1,8 @@
 -- The problem that is read of an item's bytes.
-use Rattle.std.proofs.Common.{◌≡◌, sym, ap, subst, ◌∙◌, ℕ, zero, suc, ◌+◌, ◌<◌, ◌≤◌, inl, inr, arith, List, ◌∷◌, length, take, drop}
-use Rattle.std.proofs.Math.Seq.{take-length}
-use Rattle.std.specs.Prelude.{Option, Some, None, IfOk, IfErr, IfSome, Result, Ok, Err}
-use Rattle.pip_outside.specs.Windows.{HeldBytes}
-use Rattle.pip_model.specs.Problem.{Problem}
-use Rattle.pip_model.specs.Moved.{Ended}
-use Rattle.pip_model.specs.Reading.{Fault, Syntax, Wide, next_open}
-use Rattle.pip_model.specs.NativeText.{read_native}
-use Rattle.pip_problem.specs.Faults.{read_fault}
-use Rattle.pip_problem.specs.declared.refusal.ReadRefusal.{ReadRefusal}
+use Rattle.pip_stream.proofs.Words.{◌≡◌, sym, ap, subst, ◌∙◌, ℕ, zero, suc, ◌+◌, ◌<◌, ◌≤◌, inl, inr, arith, List, ◌∷◌, length, take, drop, take-length, Option, Some, None, IfOk, IfErr, IfSome, Result, Ok, Err, HeldBytes, Problem, Ended, Fault, Syntax, Wide, next_open, read_native, read_fault, ReadRefusal, group_behind, first_group_end, next_open-closed, read_native-none, read_native-ends, IsItem, HoldsItem, IsRead}
 use Rattle.pip_problem.specs.declared.refusal.ReadRefusal.TheVariants as read
-use Rattle.pip_reader.specs.Groups.{group_behind, first_group_end}
 use Rattle.pip_reader.proofs.FaultPlaces.{FaultWithin, read_native-fault}
-use Rattle.text_laws.proofs.Items.{next_open-closed}
-use Rattle.text_laws.proofs.ReadProblems.{read_native-none}
-use Rattle.text_laws.proofs.LocalProblems.{read_native-ends}
 use Rattle.pip_stream.specs.Refusals.{place_told}
-use Rattle.pip_stream.specs.Ended.{IsItem, HoldsItem, IsRead}
 use Rattle.pip_stream.proofs.Groups.{group_end-ends}
 use Rattle.pip_stream.proofs.Scanned.{begins, begins_some}
 

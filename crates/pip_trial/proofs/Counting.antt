@@ -1,13 +1,7 @@
 -- What is counted of the run of a problem, and the room for it.
-use Rattle.std.proofs.Common.{◌≡◌, refl, ℕ, ◌+◌, ◌*◌, ◌-◌, ◌<◌, ◌≤◌, ◌^◌, suc, arith, lit<}
-use Rattle.std.proofs.Math.Nat.{pow-le-pow_right}
-use Rattle.std.specs.Prelude.{Ok}
-use Rattle.pip_model.specs.Problem.{Problem}
-use Rattle.pip_model.specs.Tree.{Answer, Void, Solved, size, nesting}
+use Rattle.pip_trial.proofs.Words.{◌≡◌, refl, ℕ, ◌+◌, ◌*◌, ◌-◌, ◌<◌, ◌≤◌, ◌^◌, suc, arith, lit<, pow-le-pow_right, Ok, Problem, Answer, Void, Solved, size, nesting, Tally, after_draws, draws_of, problem_drawn, tally_outcome, tally, trial_budget, HasRoom, answer_size}
 use Rattle.pip_model.specs.Run.{Outcome, Done, Refused, answered, solve}
-use Rattle.program_model.specs.Trial.{Tally, after_draws, draws_of, problem_drawn, tally_outcome, tally, trial_budget}
 use Rattle.run_laws.proofs.Budgets.{solve-nested}
-use Rattle.pip_trial.specs.Tallies.{HasRoom, answer_size}
 use Rattle.pip_trial.proofs.Rooms.{less_room, room_after, size-nesting}
 
 -- a tree of the nesting 100 has less than 2 ^ 101 nodes

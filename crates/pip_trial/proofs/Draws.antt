@@ -1,16 +1,12 @@
 -- What is drawn, part by part, and that drawn problems are within the limits.
-use Rattle.std.proofs.Common.{◌≡◌, ◌∙◌, refl, sym, ap, ℕ, zero, suc, ◌+◌, ◌*◌, ◌<◌, ◌^◌, ◌/◌, ℤ, pos, ◌-ℤ◌, arith, true, List, [], ◌∷◌, ◌++◌, length, drop, unsigned_abs, lit<}
-use Rattle.std.proofs.lemmas.List.{length-append, take_at, drop_at, drop-drop, get_or_at}
+use Rattle.pip_trial.proofs.Words.{◌≡◌, ◌∙◌, refl, sym, ap, ℕ, zero, suc, ◌+◌, ◌*◌, ◌<◌, ◌^◌, ◌/◌, ℤ, pos, ◌-ℤ◌, arith, true, List, [], ◌∷◌, ◌++◌, length, drop, unsigned_abs, lit<, length-append, take_at, drop_at, drop-drop, get_or_at, form_of_row, Problem, after_draw, after_draws, drawn, numbers_drawn, ranges, row_ranges, rows_drawn, problem_drawn, draws_of}
 use Rattle.std.proofs.lemmas.Nat.{mod_below}
 use Rattle.std.proofs.lemmas.Int.{ints}
 use Rattle.std.proofs.lemmas.Bool.{lt-ltb}
 use Rattle.std.specs.List.{AllByRecursion}
 use Rattle.pip_model.specs.Numbers.{fits}
 use Rattle.pip_model.specs.Listed.{all_fit}
-use Rattle.pip_model.specs.NativeText.{form_of_row}
-use Rattle.pip_model.specs.Problem.{Problem}
 use Rattle.pip_model.specs.WellFormed.{IsRow, IsProblem}
-use Rattle.program_model.specs.Trial.{after_draw, after_draws, drawn, numbers_drawn, ranges, row_ranges, rows_drawn, problem_drawn, draws_of}
 use Rattle.pip_model.proofs.Fitting.{fit_cons, fit_join}
 
 pub after_draws-add : (a b s : ℕ) → after_draws (a + b) s ≡ after_draws b (after_draws a s)

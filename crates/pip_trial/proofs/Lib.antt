@@ -1,3 +1,4 @@
+mod Words
 pub mod Draws
 pub mod Rooms
 pub mod Steps

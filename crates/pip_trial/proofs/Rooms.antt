@@ -1,9 +1,5 @@
 -- A tree is counted within the room for its nodes, of which there are at most two to the power of its nesting and one.
-use Rattle.std.proofs.Common.{◌≡◌, ℕ, ◌+◌, ◌<◌, ◌≤◌, ◌^◌, max, suc, arith, lit<}
-use Rattle.std.proofs.Math.Nat.{pow-suc, pow-le-pow_right}
-use Rattle.pip_model.specs.Tree.{Tree, Bottom, Leaf, If, NewParm, size, nesting}
-use Rattle.program_model.specs.Trial.{Tally, tally_tree}
-use Rattle.pip_trial.specs.Tallies.{HasRoom}
+use Rattle.pip_trial.proofs.Words.{◌≡◌, ℕ, ◌+◌, ◌<◌, ◌≤◌, ◌^◌, max, suc, arith, lit<, pow-suc, pow-le-pow_right, Tree, Bottom, Leaf, If, NewParm, size, nesting, Tally, tally_tree, HasRoom}
 
 pub less_room : (j k : ℕ) (n : Tally) → j ≤ k → HasRoom k n → HasRoom j n
 less_room j k n h r = record { lists = omega arith; bottoms = omega arith; quotients = omega arith; refused = omega arith }

@@ -1,11 +1,5 @@
 -- The steps of the loops that draw: what is left to draw, at the next state.
-use Rattle.std.proofs.Common.{◌≡◌, ◌∙◌, refl, sym, ap, ℕ, suc, ◌+◌, ◌-◌, ◌*◌, ◌<◌, ◌≤◌, ℤ, pos, ◌-ℤ◌, arith, List, [], ◌∷◌, ◌++◌}
-use Rattle.std.specs.Prelude.{All}
-use Rattle.std.proofs.lemmas.List.{append_assoc, append-nil}
-use Rattle.std.proofs.lemmas.List.Elements.{All-push}
-use Rattle.pip_model.specs.NativeText.{form_of_row}
-use Rattle.program_model.specs.Trial.{after_draw, after_draws, drawn, numbers_drawn, ranges, row_ranges, rows_drawn}
-use Rattle.affine_forms.specs.Checks.{Fits}
+use Rattle.pip_trial.proofs.Words.{◌≡◌, ◌∙◌, refl, sym, ap, ℕ, suc, ◌+◌, ◌-◌, ◌*◌, ◌<◌, ◌≤◌, ℤ, pos, ◌-ℤ◌, arith, List, [], ◌∷◌, ◌++◌, All, append_assoc, append-nil, All-push, form_of_row, after_draw, after_draws, drawn, numbers_drawn, ranges, row_ranges, rows_drawn, Fits}
 use Rattle.pip_trial.proofs.Draws.{after_draws-add}
 
 -- nothing is left, behind what was taken

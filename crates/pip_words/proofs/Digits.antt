@@ -1,9 +1,6 @@
 -- The number that digits spell only grows.
-use Rattle.std.proofs.Common.{arith, refl, ◌≡◌, ℕ, zero, suc, ◌+◌, ◌*◌, ◌-◌, ◌<◌, ◌≤◌, ◌&&◌, ◌==◌, ◌∷◌, List, [], Some, None, Bool, true, false, not, take, length, get_or, fold, if◌then◌else◌}
+use Rattle.pip_words.proofs.Words.{arith, refl, ◌≡◌, ℕ, zero, suc, ◌+◌, ◌*◌, ◌-◌, ◌<◌, ◌≤◌, ◌&&◌, ◌==◌, ◌∷◌, List, [], Some, None, Bool, true, false, not, take, length, get_or, fold, if◌then◌else◌, list_all, is_digit, natural_of, number_of}
 use Rattle.std.proofs.lemmas.Bool.{lt-leb}
-use Rattle.std.specs.List.{list_all}
-use Rattle.pip_model.specs.Tokens.{is_digit, natural_of}
-use Rattle.pip_words.specs.Numbers.{number_of}
 
 -- the number that digits spell behind a number
 abbrev from : ℕ → List ℕ → ℕ

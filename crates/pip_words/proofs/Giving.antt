@@ -1,8 +1,6 @@
 -- What the words give, seen otherwise.
-use Rattle.std.proofs.Common.{◌≡◌, ◌∙◌, ap, Option, None, option_map}
+use Rattle.pip_words.proofs.Words.{◌≡◌, ◌∙◌, ap, Option, None, option_map, Command, Gives, meaning_of}
 use Rattle.std.specs.Prelude.{Result, Ok, Err, Some, IfOk, IfErr}
-use Rattle.program_model.specs.Commands.{Command}
-use Rattle.pip_words.specs.Words.{Gives, meaning_of}
 use Rattle.pip_words.specs.declared.command.Command.{Command as Given}
 use Rattle.pip_words.specs.declared.refusal.WordsRefusal.{WordsRefusal}
 use Rattle.pip_words.specs.declared.refusal.WordsRefusal.TheVariants as refusal

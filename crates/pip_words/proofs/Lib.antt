@@ -1,3 +1,4 @@
+mod Words
 pub mod Digits
 pub mod Folds
 pub mod Giving

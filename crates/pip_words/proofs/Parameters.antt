@@ -1,7 +1,5 @@
 -- The parameters of a list of texts, one more at a time.
-use Rattle.std.proofs.Common.{◌≡◌, ◌∙◌, ap, refl, arith, ℕ, zero, suc, ◌<◌, List, [], ◌∷◌, ◌++◌, map, take, length, Option, Some, None, Bor, cond, slice_index_or, Bool, true, false, ℤ}
-use Rattle.pip_words.specs.Numbers.{parameter_of}
-use Rattle.pip_words.specs.Words.{all_parameters, ◌>>=◌}
+use Rattle.pip_words.proofs.Words.{◌≡◌, ◌∙◌, ap, refl, arith, ℕ, zero, suc, ◌<◌, List, [], ◌∷◌, ◌++◌, map, take, length, Option, Some, None, Bor, cond, slice_index_or, Bool, true, false, ℤ, parameter_of, all_parameters, ◌>>=◌}
 
 abbrev texts_in : List (Bor (List ℕ)) → List (List ℕ)
 texts_in = map (λ text. text.now)

@@ -1,12 +1,9 @@
 -- From clap's clauses to the command that the words give.
-use Rattle.std.proofs.Common.{◌≡◌, ◌∙◌, refl, sym, subst, ap, ap₂, true, cond, List, [], ◌∷◌, Option, None, inl, inr}
-use Rattle.clap.specs.Words.{App, HasKind, HasMatchesOf, IsAmong, Kinds, Text, fault_of, is_simple, is_simple_and_free, kind_of, subcommand_of, subcommand_rows_of}
+use Rattle.pip_words.proofs.Words.{◌≡◌, ◌∙◌, refl, sym, subst, ap, ap₂, true, cond, List, [], ◌∷◌, Option, None, inl, inr, App, HasKind, HasMatchesOf, IsAmong, Kinds, Text, fault_of, is_simple, is_simple_and_free, kind_of, subcommand_of, subcommand_rows_of, Command, pip_app, command_of, command_in, is_accepted}
 use Rattle.clap.specs.declared.ArgMatches.{ArgMatches}
 use Rattle.clap.specs.declared.Error.{Error}
 use Rattle.clap.specs.declared.error.ErrorKind.{ErrorKind}
 use Rattle.clap.specs.declared.error.ErrorKind.TheVariants as kind
-use Rattle.program_model.specs.Commands.{Command}
-use Rattle.pip_words.specs.Words.{pip_app, command_of, command_in, is_accepted}
 
 is_free : is_simple_and_free pip_app ≡ true
 is_free = refl

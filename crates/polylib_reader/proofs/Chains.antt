@@ -1,11 +1,6 @@
 -- The rows of a matrix, one more at a time.
-use Rattle.std.proofs.Common.{◌≡◌, refl, ℕ, List, ◌++◌, suc}
+use Rattle.polylib_reader.proofs.Words.{◌≡◌, refl, ℕ, List, ◌++◌, suc, LimitKind, ◌>>=◌, matrix_numbers, inequalities, matrix_rows, bind_assoc, row_head}
 use Rattle.std.specs.Prelude.{Ok}
-use Rattle.pip_model.specs.declared.LimitKind.{LimitKind}
-use Rattle.pip_model.specs.Reading.{◌>>=◌}
-use Rattle.pip_model.specs.MatrixText.{matrix_numbers, inequalities, matrix_rows}
-use Rattle.text_reading.proofs.Binds.{bind_assoc}
-use Rattle.polylib_reader.specs.Matrices.{row_head}
 
 -- a row and then the others
 pub matrix_rows-more : (bytes : List ℕ) (kind : LimitKind) (most n count left place : ℕ)

@@ -1,11 +1,5 @@
 -- A list that is being read, with what was read before it.
-use Rattle.std.proofs.Common.{◌≡◌, ◌∙◌, ℕ, suc, ◌+◌, ◌-◌, ◌<◌, ℤ, List, ◌++◌, Bool, Ok, Err, refl, sym, ap, arith}
-use Rattle.pip_model.specs.declared.LimitKind.{LimitKind}
-use Rattle.pip_model.specs.Reading.{Fault, Reads, ◌>>=◌}
-use Rattle.pip_model.specs.MatrixText.{matrix_number, matrix_numbers, inequalities, matrix_rows}
-use Rattle.text_reading.specs.Fronts.{with_front}
-use Rattle.text_reading.proofs.Fronts.{one_more, front_front}
-use Rattle.polylib_reader.specs.Matrices.{row_head}
+use Rattle.polylib_reader.proofs.Words.{◌≡◌, ◌∙◌, ℕ, suc, ◌+◌, ◌-◌, ◌<◌, ℤ, List, ◌++◌, Bool, Ok, Err, refl, sym, ap, arith, LimitKind, Fault, Reads, ◌>>=◌, matrix_number, matrix_numbers, inequalities, matrix_rows, with_front, one_more, front_front, row_head}
 use Rattle.polylib_reader.proofs.Chains.{matrix_rows-more}
 
 -- the same chain as `with_front` after its first two steps

@@ -1,8 +1,5 @@
 -- Option words, one more at a time.
-use Rattle.std.proofs.Common.{◌≡◌, ◌∙◌, ℕ, suc, ◌+◌, ◌-◌, ◌<◌, List, length, Bool, false, Ok, Err, Result, sym, ap, arith}
-use Rattle.std.specs.Prelude.{◌==◌}
-use Rattle.pip_model.specs.Reading.{Fault, ◌>>=◌}
-use Rattle.pip_model.specs.MatrixText.{Word, word, accepted_option, options}
+use Rattle.polylib_reader.proofs.Words.{◌≡◌, ◌∙◌, ℕ, suc, ◌+◌, ◌-◌, ◌<◌, List, length, Bool, false, Ok, Err, Result, sym, ap, arith, ◌==◌, Fault, ◌>>=◌, Word, word, accepted_option, options}
 
 options-more : (bytes : List ℕ) (integer : Bool) (n i place : ℕ) (w : Word) → w ≡ word bytes place → i < n → (length w.text == 0) ≡ false
     → options bytes (n - i) integer place ≡ (accepted_option w >>= λ after. options bytes (n - (i + 1)) false after)

@@ -1,15 +1,11 @@
 -- A problem in matrices, step by step.
-use Rattle.std.proofs.Common.{◌≡◌, ◌∙◌, refl, subst, ℕ, ℤ, List, length, true, Bool}
-use Rattle.std.specs.Prelude.{codes, Result, Ok, Err, IfOk}
+use Rattle.polylib_reader.proofs.Words.{◌≡◌, ◌∙◌, refl, subst, ℕ, ℤ, List, length, true, Bool, codes, IfOk, Fault, ◌>>=◌, options, read_matrices, context_matrix, big_parameter, constraint_matrix, bind_assoc}
+use Rattle.std.specs.Prelude.{Result, Ok, Err}
 use Rattle.pip_model.specs.Problem.{Problem}
-use Rattle.pip_model.specs.Reading.{Fault, ◌>>=◌}
 use Rattle.pip_model.specs.Printed.{IsGroup}
 use Rattle.pip_model.specs.WellFormed.{IsProblem}
-use Rattle.pip_model.specs.MatrixText.{options, read_matrices}
 use Rattle.text_laws.proofs.ReadProblems.{Whole}
 use Rattle.text_laws.proofs.ReadMatrices.{read_matrices-reads}
-use Rattle.polylib_reader.specs.Matrices.{context_matrix, big_parameter, constraint_matrix}
-use Rattle.text_reading.proofs.Binds.{bind_assoc}
 
 -- a matrix that was read: its size and its forms, and the place behind it
 abbrev pub Read : Type 0

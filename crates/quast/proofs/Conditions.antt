@@ -1,15 +1,6 @@
 -- Tests that are true, and what they tell.
-use Rattle.std.proofs.Common.{◌≡◌, ◌≤◌, ◌+◌, ℕ, ℤ, pos, ◌≤ℤ◌, refl, sym, arith, Bool, true, IsTrue, List, [], ◌∷◌, length, eqb-true}
-use Rattle.std.proofs.lemmas.Int.{ints}
-use Rattle.std.proofs.lemmas.Bool.{and_from}
+use Rattle.quast.proofs.Words.{◌≡◌, ◌≤◌, ◌+◌, ℕ, ℤ, pos, ◌≤ℤ◌, refl, sym, arith, Bool, true, IsTrue, List, [], ◌∷◌, length, eqb-true, ints, and_from, All-head, All-tail, All, nat_le, int_le, list_all, fits, all_fit, is_form, Fits}
 use Rattle.std.proofs.lemmas.Bool.Decides.{nat_tests}
-use Rattle.std.proofs.lemmas.List.Elements.{All-head, All-tail}
-use Rattle.std.specs.Prelude.{All, nat_le, int_le}
-use Rattle.std.specs.List.{list_all}
-use Rattle.pip_model.specs.Numbers.{fits}
-use Rattle.pip_model.specs.Listed.{all_fit}
-use Rattle.pip_model.specs.Tree.{is_form}
-use Rattle.affine_forms.specs.Checks.{Fits}
 
 pub is_form_from : (w : ℕ) (v : List ℤ) → length v ≡ w + 1 → IsTrue (is_form w v)
 is_form_from w v e = grind (arith, nat_tests)

@@ -1,3 +1,4 @@
+mod Words
 pub mod Conditions
 pub mod Scopes
 pub mod Lists

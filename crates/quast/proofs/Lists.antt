@@ -1,12 +1,6 @@
 -- Components of one list.
-use Rattle.std.proofs.Common.{◌≡◌, ◌<◌, ◌+◌, ℕ, arith, List, [], ◌∷◌, length, get_or, ap, subst, sym}
-use Rattle.std.proofs.lemmas.Bool.{and_parts}
-use Rattle.std.proofs.lemmas.List.Elements.{All-head}
-use Rattle.std.specs.Prelude.{All, int_le, ◌&&◌, pos}
-use Rattle.pip_model.specs.Numbers.{gcd, gcd_of, same_number}
-use Rattle.pip_model.specs.Forms.{width}
-use Rattle.pip_model.specs.Tree.{Component, is_form}
-use Rattle.quast.specs.Components.{IsComponent, width_of}
+use Rattle.quast.proofs.Words.{◌≡◌, ◌<◌, ◌+◌, ℕ, arith, List, [], ◌∷◌, length, get_or, ap, subst, sym, and_parts, All-head, All, int_le, gcd, gcd_of, same_number, width, Component, is_form, IsComponent, width_of}
+use Rattle.std.specs.Prelude.{◌&&◌, pos}
 use Rattle.quast.proofs.Conditions.{form_length}
 
 -- the form of a component over w places

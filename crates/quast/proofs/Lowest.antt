@@ -1,15 +1,6 @@
 -- A form over a denominator, both divided by their greatest common divisor, is a component: in lowest terms, with numbers that fit.
-use Rattle.std.proofs.Common.{◌≡◌, refl, ℕ, ◌+◌, ◌<◌, ℤ, pos, ◌≤ℤ◌, arith, List, length, ◌&&◌, int_le, IsTrue, All}
-use Rattle.std.proofs.lemmas.Int.{ints}
-use Rattle.std.proofs.lemmas.Bool.{and_parts, and_from}
-use Rattle.std.proofs.lemmas.List.{length-map}
-use Rattle.pip_model.specs.Numbers.{fits, floor_div, gcd, gcd_of, same_number}
-use Rattle.pip_model.specs.Forms.{width, remove, floor_divided}
-use Rattle.pip_model.specs.Simplified.{component_without}
-use Rattle.pip_model.specs.Listed.{all_fit}
-use Rattle.pip_model.specs.Tree.{Component, reduced, is_form}
-use Rattle.affine_forms.specs.Checks.{Fits}
-use Rattle.quast.specs.Components.{IsComponent, LacksPlace}
+use Rattle.quast.proofs.Words.{◌≡◌, refl, ℕ, ◌+◌, ◌<◌, ℤ, pos, ◌≤ℤ◌, arith, List, length, ◌&&◌, IsTrue, ints, and_parts, and_from, length-map, fits, floor_div, gcd, gcd_of, same_number, width, remove, floor_divided, component_without, all_fit, Component, reduced, is_form, Fits, IsComponent, LacksPlace}
+use Rattle.std.proofs.Common.{int_le, All}
 use Rattle.quast.proofs.Conditions.{is_form_from, one_le_from, all_fit_from}
 use Rattle.pip_model.proofs.Gcd.{gcd_between, quotient_positive, lowest, gcd_of-remove}
 use Rattle.pip_model.proofs.Vectors.{length-remove}

@@ -1,12 +1,5 @@
 -- The numbers of the values of a list's components.
-use Rattle.std.proofs.Common.{◌≡◌, ◌∙◌, ap, refl, ℕ, ◌+◌, ◌<◌, ◌≤◌, ℤ, true, false, ◌&&◌, List, [], ◌∷◌, length, take, get_or, flat_map}
-use Rattle.std.proofs.lemmas.List.{take_all}
-use Rattle.std.proofs.lemmas.List.Folds.{list_all-append, list_all_more, list_all_at}
-use Rattle.std.specs.List.{list_all}
-use Rattle.pip_model.specs.Numbers.{fits}
-use Rattle.pip_model.specs.Listed.{all_fit, value_listed}
-use Rattle.pip_model.specs.Tree.{Component}
-use Rattle.quast.specs.Places.{value_fits}
+use Rattle.quast.proofs.Words.{◌≡◌, ◌∙◌, ap, refl, ℕ, ◌+◌, ◌<◌, ◌≤◌, ℤ, true, false, ◌&&◌, List, [], ◌∷◌, length, take, get_or, flat_map, take_all, list_all-append, list_all_more, list_all_at, list_all, fits, all_fit, value_listed, Component, value_fits}
 
 -- the numbers of all fit where those of each do
 pub numbers-fit : (u : List ℤ) (cs : List Component) → all_fit (flat_map (λ (c : Component). value_listed c.form u) cs) ≡ list_all (value_fits u) cs

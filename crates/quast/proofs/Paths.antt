@@ -1,12 +1,6 @@
 -- The listed numbers of a tree's value are those on the path, and those of the list that it leads to.
-use Rattle.std.proofs.Common.{◌≡◌, ◌∙◌, ap, sym, refl, ℤ, Bool, true, false, ◌&&◌, List, [], ◌∷◌, ◌++◌, if◌then◌else◌}
-use Rattle.std.proofs.lemmas.List.Folds.{list_all-append}
-use Rattle.pip_model.specs.Numbers.{fits, is_nonneg, floor_div}
-use Rattle.pip_model.specs.Forms.{value}
-use Rattle.pip_model.specs.Listed.{all_fit, value_listed}
-use Rattle.pip_model.specs.Tree.{Tree, Bottom, Leaf, If, NewParm, leaf_of}
+use Rattle.quast.proofs.Words.{◌≡◌, ◌∙◌, ap, sym, refl, ℤ, Bool, true, false, ◌&&◌, List, [], ◌∷◌, ◌++◌, if◌then◌else◌, list_all-append, fits, is_nonneg, floor_div, value, all_fit, value_listed, Tree, Bottom, Leaf, If, NewParm, leaf_of, path_listed, list_listed}
 use Rattle.pip_model.specs.Values.{tree_value_listed}
-use Rattle.quast.specs.Places.{path_listed, list_listed}
 
 regroup : (a b c : Bool) → (a && (b && c)) ≡ ((a && b) && c)
 regroup true b c = refl

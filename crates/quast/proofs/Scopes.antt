@@ -1,16 +1,7 @@
 -- Trees that are joined are well formed, and so are the parts of a tree.
-use Rattle.std.proofs.Common.{◌≡◌, ◌≤◌, ◌<◌, ◌+◌, ℕ, ℤ, pos, ◌≤ℤ◌, arith, ◌&&◌, List, length}
-use Rattle.std.proofs.lemmas.Bool.{and_from}
-use Rattle.std.specs.Prelude.{All, int_le, nat_le}
-use Rattle.std.specs.List.{list_all}
+use Rattle.quast.proofs.Words.{◌≡◌, ◌≤◌, ◌<◌, ◌+◌, ℕ, ℤ, pos, ◌≤ℤ◌, arith, ◌&&◌, List, length, and_from, All, int_le, nat_le, list_all, fits, all_fit, Tree, Leaf, If, NewParm, Component, is_form, is_component, is_scoped, nesting, Fits, IsComponent, ScopedTree, IsQuast}
 use Rattle.pip_model.specs.Limits.{most_components, most_nesting}
-use Rattle.pip_model.specs.Numbers.{fits}
-use Rattle.pip_model.specs.Listed.{all_fit}
-use Rattle.pip_model.specs.Tree.{Tree, Leaf, If, NewParm, Component, is_form, is_component, is_scoped, nesting}
 use Rattle.pip_model.specs.Printed.{tree_fits, component_fits}
-use Rattle.affine_forms.specs.Checks.{Fits}
-use Rattle.quast.specs.Components.{IsComponent}
-use Rattle.quast.specs.Trees.{ScopedTree, IsQuast}
 use Rattle.quast.proofs.Conditions.{is_form_from, all_fit_from, one_le_from, nat_le_from, list_all_from}
 
 -- the tree over w places

@@ -1,15 +1,8 @@
 -- The common denominator, fraction by fraction, and the numerators over it.
-use Rattle.std.proofs.Common.{◌≡◌, ◌∙◌, refl, ap, sym, ℕ, ◌+◌, ◌<◌, ◌≤◌, ℤ, pos, Bool, true, false, ◌&&◌, IsTrue, IsFalse, List, [], ◌∷◌, ◌++◌, length, take, drop, get_or, map}
-use Rattle.std.proofs.lemmas.List.{drop_more, take_more, take_all, map-append}
-use Rattle.std.specs.Prelude.{All, Err}
-use Rattle.affine_forms.specs.Checks.{Fits}
+use Rattle.quast_text.proofs.Words.{◌≡◌, ◌∙◌, refl, ap, sym, ℕ, ◌+◌, ◌<◌, ◌≤◌, ℤ, pos, Bool, true, false, ◌&&◌, IsTrue, IsFalse, List, [], ◌∷◌, ◌++◌, length, take, drop, get_or, map, drop_more, take_more, take_all, map-append, All, Fits, fits, lcm, all_fit, common_denominators, last_of, component_of, Wide, numerator_of}
+use Rattle.std.specs.Prelude.{Err}
 use Rattle.quast.proofs.Conditions.{all_fit_from}
 use Rattle.std.proofs.lemmas.List.Folds.{list_all-map, list_all_at}
-use Rattle.pip_model.specs.Numbers.{fits, lcm}
-use Rattle.pip_model.specs.Listed.{all_fit}
-use Rattle.pip_model.specs.TreeText.{common_denominators, last_of, component_of}
-use Rattle.pip_model.specs.Reading.{Wide}
-use Rattle.quast_text.specs.Fractions.{numerator_of}
 
 -- one fraction more
 common_step : (d : ℤ) (fs : List (ℤ × ℤ)) (i : ℕ) (f : ℤ × ℤ) → i < length fs → f ≡ get_or fs i f → common_denominators d (drop i fs) ≡ lcm d f.1 ∷ common_denominators (lcm d f.1) (drop (i + 1) fs)

@@ -1,12 +1,9 @@
 -- What is read of an answer's text, by what the definitions read.
-use Rattle.std.proofs.Common.{◌≡◌, refl, ℕ, Bool, true, Ok, Err, Result, ◌↔◌, IsTrue}
-use Rattle.std.specs.Prelude.{Option, Some, None, IfOk, IfSome}
-use Rattle.pip_model.specs.Reading.{Fault}
+use Rattle.quast_text.proofs.Words.{◌≡◌, refl, ℕ, Bool, true, Ok, Err, Result, ◌↔◌, IsTrue, Option, Some, None, IfOk, IfSome, Fault, text_fault}
 use Rattle.pip_model.specs.TreeText as text
 use Rattle.pip_model.specs.Agreement.{Agrees}
 use Rattle.quast_text.specs.declared.read.Commented.{Commented}
 use Rattle.quast_text.specs.declared.refusal.TextRefusal.{TextRefusal}
-use Rattle.quast_text.specs.Faults.{text_fault}
 use Rattle.quast_text.specs.Commented.{commented_of, found_of}
 
 pub found_none : (r : Result (Option (Commented × ℕ)) TextRefusal) (model : Result (Option (text.Commented × ℕ)) Fault) (closed : Bool) → ((model ≡ Ok None) ↔ (closed ≡ true)) → Agrees found_of text_fault r model → IfOk r (λ o. (o ≡ None) ↔ IsTrue closed)

@@ -1,3 +1,4 @@
+mod Words
 pub mod Spellings
 pub mod Fronts
 pub mod Lowest

@@ -1,13 +1,7 @@
 -- What the rest of a list is read as, by its next component.
-use Rattle.std.proofs.Common.{◌≡◌, ℕ, zero, suc, ◌+◌, ◌-◌, arith, sub-one, false, ◌==◌, pos, List}
+use Rattle.quast_text.proofs.Words.{◌≡◌, ℕ, zero, suc, ◌+◌, ◌-◌, arith, sub-one, false, ◌==◌, pos, List, RightParen, LeftRow, most_components, Components, ◌>>=◌, same_bracket, expect, component, components, behind, list_by, full_by, next_component}
 use Rattle.std.proofs.lemmas.Bool.Decides.{nat_tests}
-use Rattle.pip_model.specs.declared.Kind.TheVariants.{RightParen, LeftRow}
-use Rattle.pip_model.specs.Limits.{most_components}
 use Rattle.pip_model.specs.Tokens.{token}
-use Rattle.pip_model.specs.Reading.{Components, ◌>>=◌, same_bracket, expect}
-use Rattle.pip_model.specs.TreeText.{component, components}
-use Rattle.text_reading.proofs.Ends.{behind, list_by, full_by}
-use Rattle.quast_text.specs.Trees.{next_component}
 
 some_left : (n : ℕ) → (suc n == 0) ≡ false
 some_left n = grind (arith, nat_tests)

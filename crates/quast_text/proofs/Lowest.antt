@@ -1,17 +1,10 @@
 -- Lowest terms: their divisor, and components that are in them.
-use Rattle.std.proofs.Common.{◌≡◌, ◌∙◌, refl, ap, sym, length, ℕ, zero, suc, ◌<◌, ◌≤◌, ℤ, pos, negsuc, ◌≤ℤ◌, ◌*ℤ◌, unsigned_abs, arith, List}
-use Rattle.std.proofs.lemmas.Int.{ints}
-use Rattle.std.proofs.Math.Nat.{le_of_dvd}
-use Rattle.pip_model.specs.Numbers.{floor_div, gcd, gcd_of, lcm, same_number}
+use Rattle.quast_text.proofs.Words.{◌≡◌, ◌∙◌, refl, ap, sym, length, ℕ, zero, suc, ◌<◌, ◌≤◌, ℤ, pos, negsuc, ◌≤ℤ◌, ◌*ℤ◌, unsigned_abs, arith, List, ints, le_of_dvd, floor_div, gcd, gcd_of, lcm, same_number, int_le, Component, reduced, is_form, component, Read, ok_value, common-IsGcd, quotient_positive, floor_divided_one, div_one}
 use Rattle.pip_model.proofs.Order.{mul_pp}
 use Rattle.quast_text.proofs.Spellings.{gcd_positive}
-use Rattle.std.specs.Prelude.{Ok, int_le}
-use Rattle.pip_model.specs.Tree.{Component, reduced, is_form}
-use Rattle.pip_model.specs.TreeText.{component}
+use Rattle.std.specs.Prelude.{Ok}
 use Rattle.pip_model.proofs.Tests.{three, same_number_is}
-use Rattle.text_laws.proofs.ReadPlaces.{Read, ok_value}
 use Rattle.text_laws.proofs.ReadComponents.{IsRead, component-reads}
-use Rattle.pip_model.proofs.Gcd.{common-IsGcd, quotient_positive, floor_divided_one, div_one}
 
 pub gcd_below : (c d : ℤ) → pos 1 ≤ℤ d → gcd c d ≤ℤ d
 gcd_below c (negsuc n) h = absurd (omega (arith, ints))

@@ -1,16 +1,7 @@
 -- Texts of lists, and numbers over a denominator.
-use Rattle.std.proofs.Common.{◌≡◌, ◌∙◌, refl, ap, sym, append_assoc, codes, if◌then◌else◌, ℕ, ◌%◌, ℤ, pos, negsuc, ◌≤ℤ◌, ◌<◌, unsigned_abs, Bool, true, false, arith, List, [], ◌∷◌, ◌++◌, flat_map}
-use Rattle.std.proofs.lemmas.Int.{ints}
-use Rattle.std.proofs.lemmas.List.{append-nil}
-use Rattle.std.specs.Fmt.{signed_decimal}
-use Rattle.std.proofs.Math.Nat.{pos_of_dvd_of_pos}
-use Rattle.std.specs.Prelude.{Result, Ok, Err, OnOk, is_err}
-use Rattle.pip_model.specs.Numbers.{floor_div, gcd, same_number, euclid}
-use Rattle.pip_model.specs.Tree.{Component}
-use Rattle.pip_model.specs.TreeText.{spell_fraction, spell_fractions, spell_components}
+use Rattle.quast_text.proofs.Words.{◌≡◌, ◌∙◌, refl, ap, sym, append_assoc, codes, if◌then◌else◌, ℕ, ◌%◌, ℤ, pos, negsuc, ◌≤ℤ◌, ◌<◌, unsigned_abs, Bool, true, false, arith, List, [], ◌∷◌, ◌++◌, flat_map, ints, append-nil, signed_decimal, pos_of_dvd_of_pos, OnOk, is_err, floor_div, gcd, same_number, euclid, Component, spell_fraction, spell_fractions, spell_components, spell_denominator, spell_term, spell_component, common-IsGcd, div_one}
+use Rattle.std.specs.Prelude.{Result, Ok, Err}
 use Rattle.text_printing.specs.Printing.{Begins}
-use Rattle.quast_text.specs.Printing.{spell_denominator, spell_term, spell_component}
-use Rattle.pip_model.proofs.Gcd.{common-IsGcd, div_one}
 
 pub fractions_flat : (d : ℤ) (cs : List ℤ) → flat_map (spell_term d) cs ≡ spell_fractions d cs
 fractions_flat d [] = refl

@@ -1,14 +1,6 @@
 -- What a tree is read as, by its `(` and the word behind it.
-use Rattle.std.proofs.Common.{◌≡◌, ◌∙◌, refl, sym, ℕ, zero, suc, ◌-◌, ◌<◌, arith, sub-one, Ok, Err, List, [], ◌∷◌}
-use Rattle.std.specs.Prelude.{Option, Some, None, IfSome}
-use Rattle.pip_model.specs.declared.Kind.TheVariants.{LeftParen}
-use Rattle.pip_model.specs.Tree.{Tree, Bottom, Leaf, Component}
-use Rattle.pip_model.specs.Limits.{most_components}
-use Rattle.pip_model.specs.Reading.{Fault, TooNested, Reads, ◌>>=◌, expect}
-use Rattle.pip_model.specs.TreeText.{Head, Ends, Lists, Chooses, Defines, head, room_for, behind_head, tree_by, tree, component, components}
-use Rattle.text_reading.specs.Fronts.{with_front}
+use Rattle.quast_text.proofs.Words.{◌≡◌, ◌∙◌, refl, sym, ℕ, zero, suc, ◌-◌, ◌<◌, arith, sub-one, Ok, Err, List, [], ◌∷◌, Option, Some, None, IfSome, LeftParen, Tree, Bottom, Leaf, Component, most_components, Fault, TooNested, Reads, ◌>>=◌, expect, Head, Ends, Lists, Chooses, Defines, head, room_for, behind_head, tree_by, tree, component, components, with_front, opening, components_behind, list_at, choice_at, define_at}
 use Rattle.text_reading.proofs.Binds.{bind_assoc}
-use Rattle.quast_text.specs.Trees.{opening, components_behind, list_at, choice_at, define_at}
 
 -- the tree by its opening
 abbrev behind : List ℕ → ℕ → (ℕ → ℕ → Reads Tree) → ℕ → Head × ℕ → Reads Tree

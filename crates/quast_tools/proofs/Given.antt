@@ -1,24 +1,14 @@
 -- What is known of rows, of answers over them and of what is made.
-use Rattle.std.proofs.Common.{◌≡◌, subst, arith, ℕ, suc, ◌+◌, ◌≤◌, List, [], ◌∷◌, length, All, ℤ, Option, Some, None}
-use Rattle.std.specs.Prelude.{IfSome}
+use Rattle.quast_tools.proofs.Words.{◌≡◌, subst, arith, ℕ, suc, ◌+◌, ◌≤◌, List, [], ◌∷◌, length, All, ℤ, Option, Some, None, IfSome, Work, Budget, start_work, Made, least, IsSameness, answer_of, tree_of, IsQuast, answer_nesting, node_answer, sameness_of, DiffersOver}
 use Rattle.pip_model.specs.Contexts.{IsContext}
 use Rattle.pip_model.specs.Printed.{IsPrintableAnswer}
-use Rattle.pip_model.specs.Run.{Work, Budget, start_work}
 use Rattle.pip_model.specs.Tree as model
-use Rattle.pip_model.specs.Walks.{Made}
-use Rattle.pip_model.specs.Tools.{least}
-use Rattle.pip_model.specs.ToolLaws.{IsSameness}
 use Rattle.pip_model.specs.WellFormed.{IsWellFormedAnswer}
 use Rattle.run_laws.proofs.ContextRight.{scope_of}
 use Rattle.walk_laws.proofs.Depths.{least-nested}
-use Rattle.quast.specs.Answers.{answer_of}
-use Rattle.quast.specs.Trees.{tree_of, IsQuast}
 use Rattle.quast.specs.declared.answer.Answer.{Answer}
 use Rattle.quast.specs.declared.answer.Answer.TheVariants as code
 use Rattle.quast.specs.declared.node.Node.{Node}
-use Rattle.quast_walk.specs.Readings.{answer_nesting}
-use Rattle.quast_tools.specs.Nodes.{node_answer}
-use Rattle.quast_tools.specs.Samenesses.{sameness_of, DiffersOver}
 use Rattle.quast_tools.specs.declared.sameness.Sameness.{Sameness}
 use Rattle.quast_tools.specs.declared.sameness.Sameness.TheVariants as sameness
 

@@ -1,12 +1,5 @@
 -- The steps by which the lesser of two lists is made.
-use Rattle.std.proofs.Common.{◌≡◌, ◌∙◌, ap, sym, ℕ, ◌+◌, ◌<◌, true, List, ◌∷◌, length, get_or, drop, ℤ}
-use Rattle.pip_model.specs.Listed.{all_fit}
-use Rattle.pip_model.specs.Tree.{Tree, Component}
-use Rattle.pip_model.specs.Run.{Work, listed}
-use Rattle.pip_model.specs.Walks.{Walking, walk_on, by_run, Visit}
-use Rattle.pip_model.specs.Tools.{difference, difference_listed, not_below, least_lists}
-use Rattle.quast_tools.specs.Choices.{chosen_by}
-use Rattle.quast_walk.proofs.Defining.{listed_goes}
+use Rattle.quast_tools.proofs.Words.{◌≡◌, ◌∙◌, ap, sym, ℕ, ◌+◌, ◌<◌, true, List, ◌∷◌, length, get_or, drop, ℤ, all_fit, Tree, Component, Work, listed, Walking, walk_on, by_run, Visit, difference, difference_listed, not_below, least_lists, chosen_by, listed_goes}
 use Rattle.quast_tools.proofs.SameSteps.{drop_at}
 
 module _ (A B : Tree) (cs ds : List Component) (i : ℕ) (h : Visit) where

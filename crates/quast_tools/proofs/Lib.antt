@@ -1,3 +1,4 @@
+mod Words
 pub mod Lists
 pub mod Given
 pub mod SameSteps

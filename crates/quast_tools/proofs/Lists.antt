@@ -1,20 +1,11 @@
 -- Lists where they are read over further places.
-use Rattle.std.proofs.Common.{◌≡◌, ◌∙◌, ap, ap₂, sym, subst, refl, ℕ, suc, ◌+◌, ◌-◌, ◌≤◌, arith, true, List, [], ◌∷◌, ◌++◌, length, take, drop, replicate, map, ℤ, pos, All, Bool, eq-eqb, IsTrue}
-use Rattle.std.specs.Prelude.{if◌then◌else◌}
+use Rattle.quast_tools.proofs.Words.{◌≡◌, ◌∙◌, ap, ap₂, sym, subst, refl, ℕ, suc, ◌+◌, ◌-◌, ◌≤◌, arith, true, List, [], ◌∷◌, ◌++◌, length, take, drop, replicate, map, ℤ, pos, All, Bool, eq-eqb, IsTrue, if◌then◌else◌, drop-append_seam, width, coefficients, constant, widen_to, Work, Tree, Leaf, Component, is_component, is_scoped, spread, spread_component, spread_tree, widened_component, widened_components, least_lists, least_leaves, Walked, stop, Lengths, Visit, length_map, scoped_of, component_wide}
 use Rattle.std.specs.List.{list_all}
-use Rattle.std.proofs.Math.Seq.{drop-append_seam}
-use Rattle.pip_model.specs.Forms.{width, coefficients, constant, widen_to}
-use Rattle.pip_model.specs.Run.{Work}
-use Rattle.pip_model.specs.Tree.{Tree, Leaf, Component, is_component, is_scoped}
-use Rattle.pip_model.specs.Tools.{spread, spread_component, spread_tree, widened_component, widened_components, least_lists, least_leaves}
-use Rattle.pip_model.specs.Walks.{Walked, stop, Lengths, Visit}
 use Rattle.pip_model.proofs.Division.{form-parts}
 use Rattle.pip_model.proofs.Tests.{both}
-use Rattle.run_laws.proofs.Lengths.{length_map}
 use Rattle.walk_laws.proofs.Spread.{widened-scoped}
 use Rattle.quast.specs.Components.{IsComponent, width_of}
 use Rattle.quast.specs.Places.{IsListOver}
-use Rattle.quast_walk.proofs.Placing.{scoped_of, component_wide}
 use Rattle.quast_tools.specs.Pairs.{AreMet, AreLists}
 
 own_width : (w : ℕ) (xs : List Component) → IsListOver w xs → w ≡ width_of xs

@@ -1,24 +1,9 @@
 -- The steps of a comparison of two lists, and of two leaves.
-use Rattle.std.proofs.Common.{◌≡◌, ◌∙◌, ap, sym, subst, ℕ, suc, ◌+◌, ◌<◌, arith, true, false, List, [], ◌∷◌, ◌++◌, length, get_or, take, drop, ℤ, Bool, eq-eqb, Option, Some, None, Result, Ok, Err, IsTrue, IsFalse}
-use Rattle.std.specs.Prelude.{IfSome, is_some, if◌then◌else◌}
-use Rattle.std.proofs.Math.Seq.{drop-cons}
-use Rattle.pip_model.specs.Listed.{all_fit}
-use Rattle.pip_model.specs.Tree.{Component, Leaf, Solved, is_scoped}
-use Rattle.pip_model.specs.Run.{Work, point}
+use Rattle.quast_tools.proofs.Words.{◌≡◌, ◌∙◌, ap, sym, subst, ℕ, suc, ◌+◌, ◌<◌, arith, true, false, List, [], ◌∷◌, ◌++◌, length, get_or, take, drop, ℤ, Bool, eq-eqb, Option, Some, None, Result, Ok, Err, IsTrue, IsFalse, IfSome, is_some, if◌then◌else◌, drop-cons, all_fit, Component, Leaf, Solved, is_scoped, Work, point, Walked, Made, Stopped, Walking, walk_on, make, by_run, Visit, difference, difference_listed, first_numbers, differ_or, differ_here, same_lists, same_leaves, widened_components, AgreesWalked, ScopedForms, IsKeptContext, tool_fault, of_form, visit_of, IsUnder, listed_goes, unfit_stops, scoped_of, all_wide, kept_visit, point_or, above_or_below, component_or, Finds}
 use Rattle.pip_model.specs.Walks as walks
-use Rattle.pip_model.specs.Walks.{Walked, Made, Stopped, Walking, walk_on, make, by_run, Visit}
-use Rattle.pip_model.specs.Tools.{difference, difference_listed, first_numbers, differ_or, differ_here, same_lists, same_leaves, widened_components}
-use Rattle.pip_model.specs.ToolAgreement.{AgreesWalked}
 use Rattle.affine_forms.specs.Checks.{is_form_overflow}
 use Rattle.affine_forms.specs.declared.memory.FormRefusal.{FormRefusal}
-use Rattle.context.specs.Scoped.{ScopedForms, IsKeptContext}
-use Rattle.quast_walk.specs.Faults.{tool_fault, of_form}
-use Rattle.quast_walk.specs.Visits.{visit_of, IsUnder}
 use Rattle.quast_walk.specs.declared.refusal.ToolRefusal.{ToolRefusal}
-use Rattle.quast_walk.proofs.Defining.{listed_goes, unfit_stops}
-use Rattle.quast_walk.proofs.Placing.{scoped_of, all_wide}
-use Rattle.quast_walk.proofs.Walking.{kept_visit}
-use Rattle.quast_tools.specs.Searches.{point_or, above_or_below, component_or, Finds}
 
 -- of the same, more is found
 pub finds_as : (r : Result (Option (List ℤ)) ToolRefusal) (now : Work) (next : Walking (Option (List ℤ))) (m n : Walked (Option (List ℤ))) → m ≡ n → Finds r now m next → Finds r now n next

@@ -1,10 +1,5 @@
 -- The walk of a node that chooses, from what the calls at it answered.
-use Rattle.std.proofs.Common.{◌≡◌, ◌∙◌, ap, sym, ℕ, List, ℤ, Option, Some, None}
-use Rattle.std.specs.Prelude.{IfSome}
-use Rattle.pip_model.specs.Tree.{Tree, If}
-use Rattle.pip_model.specs.Run.{Work}
-use Rattle.pip_model.specs.Walks.{ToolRefusal, Stopped, Walking, Walker}
-use Rattle.pip_model.specs.Tools.{spread, spread_tree}
+use Rattle.quast_walk.proofs.Words.{◌≡◌, ◌∙◌, ap, sym, ℕ, List, ℤ, Option, Some, None, IfSome, Tree, If, Work, ToolRefusal, Stopped, Walking, Walker, spread, spread_tree}
 
 -- a node that chooses, as it is read
 pub read_if : (m n : ℕ) (v f : List ℤ) → f ≡ spread m n v → (t a b : Tree) → t ≡ If v a b → spread_tree m n t ≡ If f (spread_tree m n a) (spread_tree m n b)

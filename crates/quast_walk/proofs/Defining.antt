@@ -1,18 +1,7 @@
 -- The walk of a new parameter, from what the calls at it answered.
-use Rattle.std.proofs.Common.{◌≡◌, ◌∙◌, refl, ap, sym, arith, ℕ, ◌+◌, Bool, true, false, List, [], ◌∷◌, ◌++◌, ℤ, IsTrue, IsFalse}
-use Rattle.std.specs.Prelude.{IfSome, if◌then◌else◌}
-use Rattle.pip_model.specs.Listed.{all_fit}
-use Rattle.pip_model.specs.Tree.{Tree, NewParm}
-use Rattle.pip_model.specs.Cuts.{Quotient, lower_bound, upper_bound}
-use Rattle.pip_model.specs.Run.{Work, Overflow, Done, Refused, class, listed}
-use Rattle.pip_model.specs.Tools.{spread, spread_tree}
-use Rattle.pip_model.specs.Walks.{Walked, Made, Stopped, Walking, walk_on, make, walked_as, by_run, ByRun, Visit, below_listed, Walker, not_negative}
-use Rattle.affine_forms.specs.Checks.{is_form_overflow}
+use Rattle.quast_walk.proofs.Words.{◌≡◌, ◌∙◌, refl, ap, sym, arith, ℕ, ◌+◌, Bool, true, false, List, [], ◌∷◌, ◌++◌, ℤ, IsTrue, IsFalse, IfSome, if◌then◌else◌, all_fit, Tree, NewParm, Quotient, lower_bound, upper_bound, Work, Overflow, Done, Refused, class, listed, spread, spread_tree, Walked, Made, Stopped, Walking, walk_on, make, walked_as, by_run, ByRun, Visit, below_listed, Walker, not_negative, is_form_overflow, ScopedForms, IsKeptContext, tool_fault, of_form, checked_sign, below_then, IsBelow}
 use Rattle.affine_forms.specs.declared.memory.FormRefusal.{FormRefusal}
 use Rattle.affine_forms.specs.declared.memory.FormRefusal.TheVariants as refused
-use Rattle.context.specs.Scoped.{ScopedForms, IsKeptContext}
-use Rattle.quast_walk.specs.Faults.{tool_fault, of_form}
-use Rattle.quast_walk.specs.Visits.{checked_sign, below_then, IsBelow}
 use Rattle.quast_walk.specs.declared.refusal.ToolRefusal.{ToolRefusal}
 use Rattle.quast_walk.proofs.Walking.{in_two}
 

@@ -1,3 +1,4 @@
+mod Words
 pub mod Placing
 pub mod Walking
 pub mod Narrow

@@ -1,6 +1,5 @@
 -- The widths of a new parameter's bounds, and those of trees and their forms.
-use Rattle.std.proofs.Common.{◌≡◌, ap, ℕ, ◌+◌, ◌≤◌, arith, ℤ, List, length}
-use Rattle.pip_model.specs.Cuts.{Quotient, lower_bound, upper_bound}
+use Rattle.quast_walk.proofs.Words.{◌≡◌, ap, ℕ, ◌+◌, ◌≤◌, arith, ℤ, List, length, Quotient, lower_bound, upper_bound}
 use Rattle.pip_model.proofs.Bounds.{length-bounds}
 
 pub lower_long : (x : List ℤ) (w p : ℕ) (k : Quotient) → x ≡ lower_bound w p k → 1 ≤ length k.form → length k.form ≤ w + 1 → p ≤ w → length x ≡ w + 1

@@ -1,19 +1,9 @@
 -- Lists that are cut, and forms that are read with further places.
-use Rattle.std.proofs.Common.{◌≡◌, ◌∙◌, ap, ap₂, sym, subst, refl, arith, ℕ, ◌+◌, ◌<◌, ◌≤◌, true, IsTrue, List, [], ◌∷◌, ◌++◌, length, take, drop, get_or, map, ℤ, pos, All, int_le, eqb-true, append-nil}
-use Rattle.std.specs.Prelude.{nat_le}
-use Rattle.std.specs.List.{list_all}
-use Rattle.std.proofs.lemmas.List.{take_min, drop_min, take-append-drop, map_more}
-use Rattle.std.proofs.lemmas.List.Elements.{All-cons, All-nil}
+use Rattle.quast_walk.proofs.Words.{◌≡◌, ◌∙◌, ap, ap₂, sym, subst, refl, arith, ℕ, ◌+◌, ◌<◌, ◌≤◌, true, IsTrue, List, [], ◌∷◌, ◌++◌, length, take, drop, get_or, map, ℤ, pos, All, int_le, eqb-true, append-nil, nat_le, list_all, take_min, drop_min, take-append-drop, map_more, All-cons, All-nil, gcd, gcd_of, same_number, floor_div, floor_divided, width, Tree, Bottom, Leaf, If, NewParm, Component, reduced, is_form, is_component, is_scoped, spread, spread_component, spread_tree, three, both, same_number_is, IsOwnComponent}
 use Rattle.std.proofs.lemmas.Bool.{leb-true}
-use Rattle.pip_model.specs.Numbers.{gcd, gcd_of, same_number, floor_div}
-use Rattle.pip_model.specs.Forms.{floor_divided, width}
 use Rattle.pip_model.specs.Limits.{most_components}
-use Rattle.pip_model.specs.Tree.{Tree, Bottom, Leaf, If, NewParm, Component, reduced, is_form, is_component, is_scoped}
-use Rattle.pip_model.specs.Tools.{spread, spread_component, spread_tree}
-use Rattle.pip_model.proofs.Tests.{three, both, same_number_is}
 use Rattle.quast.specs.Components.{IsComponent}
 use Rattle.quast.specs.Places.{IsListOver}
-use Rattle.quast_walk.specs.Readings.{IsOwnComponent}
 use Rattle.pip_model.proofs.Gcd.{div_one, floor_divided_one}
 
 pub ruleset cut_lemmas = (take_min, drop_min)

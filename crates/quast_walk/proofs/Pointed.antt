@@ -1,12 +1,7 @@
 -- The numbers of a context's point.
-use Rattle.std.proofs.Common.{◌≡◌, ℕ, ◌==◌, List, ℤ, Option, Some, None, length, map, eqb-true}
-use Rattle.std.specs.Prelude.{IfSome}
-use Rattle.std.specs.List.{list_all}
+use Rattle.quast_walk.proofs.Words.{◌≡◌, ℕ, ◌==◌, List, ℤ, Option, Some, None, length, map, eqb-true, IfSome, list_all, widen_to, is_nonneg, both}
 use Rattle.pip_model.specs.Contexts.{PointTells}
-use Rattle.pip_model.specs.Forms.{widen_to}
 use Rattle.pip_model.specs.Problem.{is_vector, all_nonneg}
-use Rattle.pip_model.specs.Numbers.{is_nonneg}
-use Rattle.pip_model.proofs.Tests.{both}
 
 -- it has one for each place
 abbrev pub HasPlaces : ℕ → Option (List ℤ) → Type 0

@@ -1,15 +1,7 @@
 -- What is known of the trees that are walked, and of their leaves.
-use Rattle.std.proofs.Common.{◌≡◌, ◌∙◌, ap, sym, subst, ℕ, ◌-◌, ◌≤◌, arith, [], Option, Some, None, IsTrue}
-use Rattle.std.specs.Prelude.{IfSome}
-use Rattle.pip_model.specs.Tree.{Tree, Solved, is_scoped}
+use Rattle.quast_walk.proofs.Words.{◌≡◌, ◌∙◌, ap, sym, subst, ℕ, ◌-◌, ◌≤◌, arith, [], Option, Some, None, IsTrue, IfSome, Tree, Solved, is_scoped, Work, Counted, Refused, Stopped, by_run, walked_as, Visit, spread_tree, ScopedTree, IsQuast, by_run_fault, leaf_answer, leaf_tree, IsTreeAt}
 use Rattle.pip_model.specs.Run as run
-use Rattle.pip_model.specs.Run.{Work, Counted, Refused}
-use Rattle.pip_model.specs.Walks.{Stopped, by_run, walked_as, Visit}
-use Rattle.pip_model.specs.Tools.{spread_tree}
 use Rattle.walk_laws.proofs.SecondTree.{second-scoped}
-use Rattle.quast.specs.Trees.{ScopedTree, IsQuast}
-use Rattle.quast_walk.specs.Faults.{by_run_fault}
-use Rattle.quast_walk.specs.Readings.{leaf_answer, leaf_tree, IsTreeAt}
 use Rattle.quast_walk.specs.declared.reading.TreeLeaf as code
 use Rattle.quast_walk.proofs.Placing.{spread_tree-none}
 

@@ -1,11 +1,6 @@
 -- The steps of a walk, from what the calls at a node answered: a part that stops a walk stops it, and after one that is made the walk goes on.
-use Rattle.std.proofs.Common.{◌≡◌, ◌∙◌, ap, subst, refl, ℕ, arith, List, ℤ, Option, Some, None, Result}
-use Rattle.std.specs.Prelude.{IfSome}
-use Rattle.pip_model.specs.Run.{Work}
-use Rattle.pip_model.specs.Walks.{ToolRefusal, Walked, Made, Stopped, Walking, walk_on, ◌>>=◌}
+use Rattle.quast_walk.proofs.Words.{◌≡◌, ◌∙◌, ap, subst, refl, ℕ, arith, List, ℤ, Option, Some, None, Result, IfSome, Work, ToolRefusal, Walked, Made, Stopped, Walking, walk_on, ◌>>=◌, ScopedForms, IsKeptContext, visit_of}
 use Rattle.pip_model.specs.ToolAgreement.{AgreesWalked}
-use Rattle.context.specs.Scoped.{ScopedForms, IsKeptContext}
-use Rattle.quast_walk.specs.Visits.{visit_of}
 
 -- ---- where the walk stands
 

@@ -1,3 +1,4 @@
+mod Words
 pub mod Signs
 pub mod Traces
 pub mod SameRun

@@ -1,23 +1,11 @@
 -- A refutation is made exactly where the context has no point, with the point's refusals and counters.
-use Rattle.std.proofs.Common.{◌≡◌, refl, ◌∙◌, ℕ, zero, suc, ◌+◌, arith, Option, List, [], ◌∷◌, length, ℤ}
-use Rattle.pip_model.proofs.Tests.{every-append}
+use Rattle.refutation_laws.proofs.Words.{◌≡◌, refl, ◌∙◌, ℕ, zero, suc, ◌+◌, arith, Option, List, [], ◌∷◌, length, ℤ, every-append, map, negate, residue, widen_to, Tree, Bottom, Leaf, Row, row_at, unit_row, form_row, count_from, start, constant_cut, Work, Outcome, Done, Refused, Counted, go_on, ◌>>=◌, give, Node, Turn, Closed, Again, Signs, AllPlus, scan, turn_by, point_setting, left, run, root, numbers_of, point_run, point, Trace, traced, refute_run, first_trace, refute_by, refute, Progress, turned, falls-constant_class, OnDone, FormsWide, wide_form_at, forms_more, forms_pivot, Refutation}
 use Rattle.std.proofs.lemmas.List.{length-drop}
-use Rattle.std.specs.Prelude.{map}
-use Rattle.pip_model.specs.Forms.{negate, residue, widen_to}
-use Rattle.pip_model.specs.Tree.{Tree, Bottom, Leaf}
-use Rattle.pip_model.specs.Rows.{Row, row_at, unit_row, form_row, count_from, start}
-use Rattle.pip_model.specs.Cuts.{constant_cut}
-use Rattle.pip_model.specs.Run.{Work, Outcome, Done, Refused, Counted, go_on, ◌>>=◌, give, Node, Turn, Closed, Again, Signs, AllPlus, scan, turn_by, point_setting, left, run, root, numbers_of, point_run, point}
-use Rattle.pip_model.specs.Refuting.{Trace, traced, refute_run, first_trace, refute_by, refute}
 use Rattle.pip_model.specs.RefutedPoint.{IsRefutedPoint}
-use Rattle.pip_model.proofs.Fuel.{Progress, turned, falls-constant_class}
-use Rattle.run_laws.proofs.Ensured.{OnDone}
-use Rattle.run_laws.proofs.RowsAt.{FormsWide, wide_form_at, forms_more, forms_pivot}
 use Rattle.run_laws.proofs.CutsAt.{length_residue}
 use Rattle.run_laws.proofs.Lengths.{length_floors, length_negate}
 use Rattle.run_laws.proofs.Scopes.{Narrow, length-widen_to}
 use Rattle.refutation_laws.proofs.Traces.{Traces, Kept, turn_kept}
-use Rattle.pip_model.specs.Certificate.{Refutation}
 use Rattle.refutation_laws.proofs.Signs.{IsSigns, scan_signs}
 
 pub length_cut : (R : Row) → length R.constant ≡ 1 → length (constant_cut R).constant ≡ 1

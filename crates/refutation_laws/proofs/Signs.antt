@@ -1,12 +1,5 @@
 -- The signs that the scan of rows without parameters gives, and rows put behind one another.
-use Rattle.std.proofs.Common.{◌≡◌, ℕ, suc, ◌+◌, ◌<◌, arith, List, [], ◌∷◌, length, true}
-use Rattle.std.specs.Prelude.{if◌then◌else◌}
-use Rattle.pip_model.specs.Numbers.{is_nonneg}
-use Rattle.pip_model.specs.Forms.{constant}
-use Rattle.pip_model.specs.Rows.{Row, row_at}
-use Rattle.pip_model.specs.Run.{Node, scope, Class, Plus, Minus, Unknown, Signs, AllPlus, MinusAt, UnknownBy, scan, scan_on, constant_class, point_setting}
-use Rattle.pip_model.proofs.Tests.{true_or_not}
-use Rattle.run_laws.proofs.Ensured.{Ensures, ensures-bind, ensures-give, ensures-weaken}
+use Rattle.refutation_laws.proofs.Words.{◌≡◌, ℕ, suc, ◌+◌, ◌<◌, arith, List, [], ◌∷◌, length, true, if◌then◌else◌, is_nonneg, constant, Row, row_at, Node, scope, Class, Plus, Minus, Unknown, Signs, AllPlus, MinusAt, UnknownBy, scan, scan_on, constant_class, point_setting, true_or_not, Ensures, ensures-bind, ensures-give, ensures-weaken}
 
 -- the rows from place i on have been scanned: the first below 0, or none is
 abbrev pub IsSigns : List Row → ℕ → Signs → Type 0

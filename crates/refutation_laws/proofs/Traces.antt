@@ -1,18 +1,7 @@
 -- What a pivot, a cut and a bottom keep of the trace holds along the run without parameters.
-use Rattle.std.proofs.Common.{◌≡◌, refl, subst, ℕ, zero, suc, ◌<◌, arith, Option, Some, None, List, [], ◌∷◌, ◌++◌, take, length, Bool, true, false}
-use Rattle.std.specs.Prelude.{if◌then◌else◌}
-use Rattle.pip_model.specs.Numbers.{is_nonneg}
-use Rattle.pip_model.specs.Forms.{entry, constant, coefficients}
+use Rattle.refutation_laws.proofs.Words.{◌≡◌, refl, subst, ℕ, zero, suc, ◌<◌, arith, Option, Some, None, List, [], ◌∷◌, ◌++◌, take, length, Bool, true, false, if◌then◌else◌, is_nonneg, entry, constant, coefficients, Bottom, Leaf, Row, row_at, pivot, pivot_listed, entering, entering_listed, is_whole, first_fraction, constant_cut, residue_of, find_from, Refutation, Counted, ◌>>=◌, ◌>>◌, give, listed, count_pivot, count_cut, Node, Turn, Closed, Again, Signs, AllPlus, MinusAt, UnknownBy, scan, pivot_turn, last_turn, quotient_cut, leaf, turn_by, point_setting, Trace, last_step, pivot_trace, cut_trace, traced, refute_run, Ensures, ensures-bind, ensures-then, ensures-give, after_listed, FormsWide, wide_form_at}
 use Rattle.pip_model.specs.Listed.{all_fit}
-use Rattle.pip_model.specs.Tree.{Bottom, Leaf}
-use Rattle.pip_model.specs.Rows.{Row, row_at, pivot, pivot_listed, entering, entering_listed, is_whole, first_fraction}
-use Rattle.pip_model.specs.Cuts.{constant_cut, residue_of, find_from}
-use Rattle.pip_model.specs.Certificate.{Refutation}
-use Rattle.pip_model.specs.Run.{Counted, ◌>>=◌, ◌>>◌, give, listed, count_pivot, count_cut, Node, Turn, Closed, Again, Signs, AllPlus, MinusAt, UnknownBy, scan, pivot_turn, last_turn, quotient_cut, leaf, turn_by, point_setting}
-use Rattle.pip_model.specs.Refuting.{Trace, last_step, pivot_trace, cut_trace, traced, refute_run}
 use Rattle.pip_model.proofs.Forms.{no_coefficients}
-use Rattle.run_laws.proofs.Ensured.{Ensures, ensures-bind, ensures-then, ensures-give, after_listed}
-use Rattle.run_laws.proofs.RowsAt.{FormsWide, wide_form_at}
 use Rattle.run_laws.proofs.Fractions.{fraction_some, below_take}
 use Rattle.refutation_laws.proofs.Signs.{IsSigns, scan_signs}
 

@@ -1,13 +1,6 @@
 -- A part of a run that was counted once gives the same from any other work of its budget, and counts as much, where there is room for that.
-use Rattle.std.proofs.Common.{◌≡◌, ◌∙◌, refl, sym, ap, subst, ℕ, ◌+◌, ◌-◌, ◌≤◌, arith, List, [], ◌∷◌, ◌++◌, Bool, true, false}
-use Rattle.std.specs.Prelude.{ℤ, nat_lt, nat_le, map, if◌then◌else◌}
-use Rattle.pip_model.specs.Forms.{tighten, widen_to, opposite}
-use Rattle.pip_model.specs.Listed.{all_fit}
-use Rattle.pip_model.specs.Rows.{row_at}
-use Rattle.pip_model.specs.Cuts.{residue_of, rounding}
-use Rattle.pip_model.specs.Run.{Budget, Work, Refusal, Overflow, Outcome, Done, Refused, Counted, go_on, give, left, Setting, Node, scope, Class, turn, run_from, point, point_setting, root, class}
-use Rattle.pip_model.proofs.Fuel.{enough_fuel, falls-constant_class}
-use Rattle.pip_model.proofs.Tests.{above}
+use Rattle.run_laws.proofs.Words.{◌≡◌, ◌∙◌, refl, sym, ap, subst, ℕ, ◌+◌, ◌-◌, ◌≤◌, arith, List, [], ◌∷◌, ◌++◌, Bool, true, false, nat_lt, nat_le, map, if◌then◌else◌, tighten, widen_to, opposite, all_fit, row_at, residue_of, rounding, Budget, Work, Refusal, Overflow, Outcome, Done, Refused, Counted, go_on, give, left, Setting, Node, scope, Class, turn, run_from, point, point_setting, root, class, enough_fuel, falls-constant_class, above}
+use Rattle.std.specs.Prelude.{ℤ}
 use Rattle.run_laws.proofs.Turns.{Leads, leads_all}
 use Rattle.run_laws.proofs.Logics.{Any, Logic, all_told, turn_law, fuel_law, point_law, class_law}
 

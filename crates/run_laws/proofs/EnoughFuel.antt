@@ -1,9 +1,5 @@
 -- The fuel of a run does not end before it: each turn but a leaf leaves less of the budgets, and any more fuel gives the same.
-use Rattle.std.proofs.Common.{◌≡◌, sym, subst, refl, ◌⊎◌, inl, inr, ℕ, ◌<◌, ◌≤◌, arith, List, ℤ}
-use Rattle.pip_model.specs.Problem.{Problem}
-use Rattle.pip_model.specs.Tree.{Tree}
-use Rattle.pip_model.specs.Run.{Work, Done, go_on, left, Setting, Node, Turn, Closed, turn, run, run_from, setting, point_setting}
-use Rattle.pip_model.proofs.Fuel.{Falls, Progress, turned, enough_fuel, falls-class, falls-constant_class}
+use Rattle.run_laws.proofs.Words.{◌≡◌, sym, subst, refl, ◌⊎◌, inl, inr, ℕ, ◌<◌, ◌≤◌, arith, List, ℤ, Problem, Tree, Work, Done, go_on, left, Setting, Node, Turn, Closed, turn, run, run_from, setting, point_setting, Falls, Progress, turned, enough_fuel, falls-class, falls-constant_class}
 
 -- ---- turns
 

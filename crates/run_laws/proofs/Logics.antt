@@ -1,17 +1,7 @@
 -- What holds of the parts of a run by any logic that goes from part to part: how a turn comes about, and the run, points and classes.
-use Rattle.std.proofs.Common.{◌≡◌, refl, sym, subst, ◌⊎◌, inl, inr, ℕ, zero, suc, ◌+◌, ◌<◌, arith, List, [], ◌∷◌, ◌++◌, length, take, Bool, true, false}
-use Rattle.std.specs.Prelude.{ℤ, nat_lt, nat_le, map, slice_set, ◌&&◌, not, Option, Some, None, if◌then◌else◌}
-use Rattle.std.specs.List.{list_all, AllByRecursion}
-use Rattle.pip_model.specs.Numbers.{is_nonneg, is_positive, is_negative}
-use Rattle.pip_model.specs.Forms.{widen_to, opposite, constant, coefficients}
-use Rattle.pip_model.specs.Listed.{all_fit, opposite_listed}
-use Rattle.pip_model.specs.Tree.{Tree, Bottom, NewParm, If}
-use Rattle.pip_model.specs.Rows.{Row, row_at, pivot, pivot_listed, entering, entering_listed, first_fraction, is_whole, widened}
-use Rattle.pip_model.specs.Cuts.{residue_of, find_from, rounding, lower_bound, upper_bound, constant_cut, parametric_cut, rounded, rounded_listed}
-use Rattle.pip_model.specs.Run.{Work, Done, Refusal, Overflow, Pivots, Cuts, Splits, Nesting, Refused, Counted, ◌>>=◌, ◌>>◌, give, listed, count_pivot, count_cut, count_split, check_nesting, Setting, Node, scope, Turn, Closed, Again, Below, Split, Class, Plus, Minus, Unknown, Signs, AllPlus, MinusAt, UnknownBy, keep, scan, scan_on, turn, turn_by, pivot_turn, split_turn, leaf, last_turn, cut_turn, quotient_cut, known_cut, run, run_from, point, point_run, point_setting, root, numbers_of, class_of, class_above, class_below, class_by_points}
-use Rattle.pip_model.specs.Contexts.{IsPointRefusal}
+use Rattle.run_laws.proofs.Words.{◌≡◌, refl, sym, subst, ◌⊎◌, inl, inr, ℕ, zero, suc, ◌+◌, ◌<◌, arith, List, [], ◌∷◌, ◌++◌, length, take, Bool, true, false, nat_lt, nat_le, map, slice_set, not, if◌then◌else◌, list_all, AllByRecursion, is_nonneg, is_positive, is_negative, widen_to, opposite, constant, coefficients, all_fit, opposite_listed, Tree, Bottom, NewParm, If, Row, row_at, pivot, pivot_listed, entering, entering_listed, first_fraction, is_whole, widened, residue_of, find_from, rounding, lower_bound, upper_bound, constant_cut, parametric_cut, rounded, rounded_listed, Work, Done, Refusal, Overflow, Pivots, Cuts, Splits, Nesting, Refused, Counted, ◌>>=◌, ◌>>◌, give, listed, count_pivot, count_cut, count_split, check_nesting, Setting, Node, scope, Turn, Closed, Again, Below, Split, Class, Plus, Minus, Unknown, Signs, AllPlus, MinusAt, UnknownBy, keep, scan, scan_on, turn, turn_by, pivot_turn, split_turn, leaf, last_turn, cut_turn, quotient_cut, known_cut, run, run_from, point, point_run, point_setting, root, numbers_of, class_of, class_above, class_below, class_by_points, IsPointRefusal, if_cases}
+use Rattle.std.specs.Prelude.{ℤ, ◌&&◌, Option, Some, None}
 use Rattle.run_laws.proofs.Ensured.{OnEnd, Ends, Free, ensures-bind, ensures-give, ensures-weaken, ends-listed}
-use Rattle.pip_model.proofs.Tests.{if_cases}
 use Rattle.run_laws.proofs.Turns.{Leads}
 use Rattle.run_laws.proofs.Fractions.{fraction_some, below_take}
 

@@ -1,10 +1,5 @@
 -- The vectors on the two sides of a form, and those with a floor at a new place.
-use Rattle.std.proofs.Common.{◌≡◌, ◌∙◌, ap, sym, subst, ℕ, suc, ◌+◌, arith, List, [], ◌∷◌, ◌++◌, length, length-append, ℤ, pos, ◌+ℤ◌, ◌-ℤ◌, ◌*ℤ◌, neg_ℤ, ◌≤ℤ◌, ◌<ℤ◌}
-use Rattle.std.proofs.lemmas.Int.{ints}
-use Rattle.pip_model.specs.Numbers.{floor_div}
-use Rattle.pip_model.specs.Forms.{value, opposite}
-use Rattle.pip_model.specs.Cuts.{Quotient, lower_bound, upper_bound}
-use Rattle.pip_model.proofs.Laws.{value-opposite}
+use Rattle.run_laws.proofs.Words.{◌≡◌, ◌∙◌, ap, sym, subst, ℕ, suc, ◌+◌, arith, List, [], ◌∷◌, ◌++◌, length, length-append, ℤ, pos, ◌+ℤ◌, ◌-ℤ◌, ◌*ℤ◌, neg_ℤ, ◌≤ℤ◌, ◌<ℤ◌, ints, floor_div, value, opposite, Quotient, lower_bound, upper_bound, value-opposite}
 use Rattle.run_laws.proofs.Tableaux.{NonNegativeAt}
 use Rattle.run_laws.proofs.Floors.{floor_law, floor_nn, floor_only}
 use Rattle.run_laws.proofs.Scopes.{affine, value-affine, bounds-at, split_last, nn_front, nn_more, Narrow, AllHold, InScope, narrow_both, narrow_wider, hold_front, hold_both, hold_wider, hold_narrower, more_context, last_holds, length-opposite, length-bounds}

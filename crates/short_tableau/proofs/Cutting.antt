@@ -1,18 +1,6 @@
 -- The cut by a short row.
-use Rattle.std.proofs.Common.{◌≡◌, refl, ap, sym, ◌∙◌, subst, ℕ, ◌+◌, ◌-◌, ◌*◌, ◌<◌, ◌≤◌, ℤ, neg_ℤ, List, [], ◌∷◌, length, map, take, drop, arith, append-nil}
-use Rattle.std.specs.Prelude.{slice_range}
-use Rattle.std.proofs.lemmas.List.{take_all, drop_all, take-append-drop, length-map}
+use Rattle.short_tableau.proofs.Words.{◌≡◌, refl, ap, sym, ◌∙◌, subst, ℕ, ◌+◌, ◌-◌, ◌*◌, ◌<◌, ◌≤◌, ℤ, neg_ℤ, List, [], ◌∷◌, length, map, take, drop, arith, append-nil, slice_range, take_all, drop_all, take-append-drop, length-map, constant_cut, fractional_parts, residue_of, negate, residue, floor_mod, Row, row_at, mapped, row_of_numbers, numbers_of, IsShortRow, row_from, content-divided, row_size, rows_in, IsShortReduced, IsDense}
 use Rattle.std.proofs.lemmas.Simd.{map-map}
-use Rattle.pip_model.specs.Cuts.{constant_cut, fractional_parts, residue_of}
-use Rattle.pip_model.specs.Forms.{negate, residue}
-use Rattle.pip_model.specs.Numbers.{floor_mod}
-use Rattle.pip_model.specs.Rows.{Row, row_at}
-use Rattle.affine_forms.proofs.Mapped.{mapped}
-use Rattle.tableau.specs.Flat.{row_of_numbers, numbers_of}
-use Rattle.tableau.specs.Short.{IsShortRow}
-use Rattle.tableau.specs.Tableaus.{row_from}
-use Rattle.tableau.proofs.Contents.{content-divided}
-use Rattle.short_tableau.specs.Dense.{row_size, rows_in, IsShortReduced, IsDense}
 use Rattle.short_tableau.proofs.Places.{IsSplit, split_twice, split_read, split_row}
 use Rattle.short_tableau.proofs.ShortParts.{short_row, divided_positive}
 

@@ -1,10 +1,5 @@
 -- A number of a row by its place among all numbers.
-use Rattle.std.proofs.Common.{◌≡◌, ◌∙◌, ap, ℕ, zero, suc, ◌+◌, ◌-◌, ◌*◌, ◌<◌, ◌≤◌, ℤ, pos, List, length, take, drop, arith, length-drop}
-use Rattle.std.proofs.lemmas.List.{get_or-drop, get_or-take, length-take-le}
-use Rattle.std.proofs.Math.Nat.{suc-mul}
-use Rattle.pip_model.specs.Forms.{constant, entry}
-use Rattle.pip_model.specs.Rows.{row_at}
-use Rattle.short_tableau.specs.Dense.{row_size, rows_in}
+use Rattle.short_tableau.proofs.Words.{◌≡◌, ◌∙◌, ap, ℕ, zero, suc, ◌+◌, ◌-◌, ◌*◌, ◌<◌, ◌≤◌, ℤ, pos, List, length, take, drop, arith, length-drop, get_or-drop, get_or-take, length-take-le, suc-mul, constant, entry, row_at, row_size, rows_in}
 
 rest_long : (l i k z : ℕ) → z ≡ suc k * l → z - l ≡ k * l
 rest_long l i k z e = let whole = suc-mul k l in omega (arith, e, whole)

@@ -1,27 +1,9 @@
 -- A row that is made in two steps, and what shows that it is not short.
-use Rattle.std.proofs.Common.{rules, ◌≡◌, refl, ap, sym, ◌∙◌, ℕ, zero, suc, ◌+◌, ◌<◌, ◌≤◌, ℤ, pos, negsuc, ◌≤ℤ◌, ◌*ℤ◌, ◌-ℤ◌, Bool, true, false, ◌&&◌, List, [], ◌∷◌, ◌++◌, length, take, drop, get_or, set, arith, append-nil, append_assoc, length-append, length-drop, length-set}
-use Rattle.std.proofs.lemmas.Int.{ints}
+use Rattle.short_tableau.proofs.Words.{rules, ◌≡◌, refl, ap, sym, ◌∙◌, ℕ, zero, suc, ◌+◌, ◌<◌, ◌≤◌, ℤ, pos, negsuc, ◌≤ℤ◌, ◌*ℤ◌, ◌-ℤ◌, Bool, true, false, ◌&&◌, List, [], ◌∷◌, ◌++◌, length, take, drop, get_or, set, arith, append-nil, append_assoc, length-append, length-drop, length-set, ints, and-false, lt-ltb, take_at, drop_at, take_all, drop_all, take-append-drop, length-take, length-map, drop_more, take_more, set_at, get_or_at, map-set, map-append, get_or-map, get_or-set_same, list_all-append, list_all_at, slice_set, None, list_all, length-combine, entry-combine, gcd, gcd_of, floor_div, combine, entry, floor_divided, Row, divided, gcd_assoc, gcd_zero, gcd_exchanged, gcd_step, combined, is_short, row_from, finished, begun_coefs, begun_constant, begun_row, begun_divisor, IsBegun, AreEnds, is_short_row, IsDenominatorOf}
 use Rattle.std.proofs.Math.IntN.{*ℤ_comm}
-use Rattle.std.proofs.Math.Bool.{and-false}
-use Rattle.std.proofs.lemmas.Bool.{lt-ltb}
-use Rattle.std.proofs.lemmas.List.{take_at, drop_at, take_all, drop_all, take-append-drop, length-take, length-map, drop_more, take_more, set_at, get_or_at, map-set, map-append, get_or-map, get_or-set_same}
-use Rattle.std.proofs.lemmas.List.Folds.{list_all-append, list_all_at}
-use Rattle.std.specs.Prelude.{slice_set, None}
-use Rattle.std.specs.List.{list_all}
-use Rattle.pip_model.proofs.Forms.{length-combine, entry-combine}
-use Rattle.pip_model.specs.Numbers.{gcd, gcd_of, floor_div}
-use Rattle.pip_model.specs.Forms.{combine, entry, floor_divided}
-use Rattle.pip_model.specs.Rows.{Row, divided}
-use Rattle.pip_model.proofs.Gcd.{gcd_assoc, gcd_zero, gcd_exchanged}
-use Rattle.affine_forms.proofs.Divisors.{gcd_step}
 use Rattle.tableau_row.proofs.Places.{take_combine, drop_combine}
 use Rattle.short_numbers.proofs.Quotients.{quotient_short}
 use Rattle.tableau_row.proofs.RowLaws.{divided_row}
-use Rattle.tableau.proofs.Combining.{combined}
-use Rattle.tableau.specs.Short.{is_short}
-use Rattle.tableau.specs.Tableaus.{row_from}
-use Rattle.short_tableau.specs.Begun.{finished, begun_coefs, begun_constant, begun_row, begun_divisor, IsBegun, AreEnds}
-use Rattle.short_tableau.specs.Turned.{is_short_row, IsDenominatorOf}
 use Rattle.short_tableau.specs.declared.begun.Begun.{Begun}
 use Rattle.short_tableau.specs.declared.begun.Ends.{Ends}
 

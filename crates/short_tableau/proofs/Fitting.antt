@@ -1,16 +1,6 @@
 -- Short numbers make numbers that fit.
-use Rattle.std.proofs.Common.{refl, sym, ◌∙◌, ℕ, zero, suc, ◌+◌, ◌<◌, ℤ, Bool, true, false, ◌&&◌, List, [], ◌∷◌, length, take, drop, arith}
-use Rattle.std.specs.Prelude.{All, IsTrue, flat_map, if◌then◌else◌}
-use Rattle.std.proofs.lemmas.List.Folds.{list_all-append}
-use Rattle.std.proofs.lemmas.List.Elements.{All-head, All-tail, All-take, All-drop, All-append}
-use Rattle.pip_model.specs.Numbers.{fits, same_number}
-use Rattle.pip_model.specs.Forms.{entry}
-use Rattle.pip_model.specs.Listed.{all_fit}
-use Rattle.pip_model.specs.Rows.{Row, row_at, form_row, other_rows, eliminated_listed, pivot_listed, cross_products, up_to_difference, is_better, best_listed, entering_of_listed, entering_listed, candidates}
+use Rattle.short_tableau.proofs.Words.{refl, sym, ◌∙◌, ℕ, zero, suc, ◌+◌, ◌<◌, ℤ, Bool, true, false, ◌&&◌, List, [], ◌∷◌, length, take, drop, arith, All, IsTrue, flat_map, if◌then◌else◌, list_all-append, All-head, All-tail, All-take, All-drop, All-append, fits, same_number, entry, all_fit, Row, row_at, form_row, other_rows, eliminated_listed, pivot_listed, cross_products, up_to_difference, is_better, best_listed, entering_of_listed, entering_listed, candidates, IsShort, IsShortRow, short_eliminated, IsShortReduced}
 use Rattle.affine_forms.proofs.Short.{short_fits}
-use Rattle.tableau.specs.Short.{IsShort, IsShortRow}
-use Rattle.tableau.proofs.ShortRows.{short_eliminated}
-use Rattle.short_tableau.specs.Dense.{IsShortReduced}
 
 -- ---- a pivot's
 

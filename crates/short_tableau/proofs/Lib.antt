@@ -1,3 +1,4 @@
+mod Words
 pub mod Finished
 pub mod Places
 pub mod Fitting

@@ -1,20 +1,6 @@
 -- Rows in their places.
-use Rattle.std.proofs.Common.{◌≡◌, refl, ap, sym, ◌∙◌, subst, ℕ, zero, suc, ◌+◌, ◌-◌, ◌*◌, ◌<◌, ◌≤◌, ℤ, Bool, true, false, List, [], ◌∷◌, ◌++◌, length, map, take, drop, arith, append-nil, length-append, length-drop}
-use Rattle.std.specs.Prelude.{slice_set, IsTrue}
-use Rattle.std.proofs.lemmas.List.{take_at, drop_at, take-append-le, drop-append-le, get_or_at, set_at, length-map, map-append, take_all, drop_all, take-append-drop, length-take-le, get_or-map}
-use Rattle.std.proofs.lemmas.List.Folds.{list_all-append, list_all_at}
-use Rattle.std.proofs.Math.Bool.{and-false}
-use Rattle.std.specs.List.{list_all}
-use Rattle.std.proofs.lemmas.List.Elements.{All-same, All-set, All-take, All-drop, All-push, All-append, All-cons}
-use Rattle.std.proofs.Math.Nat.{suc-mul, add-mul}
-use Rattle.pip_model.specs.Rows.{Row, row_at, form_row, unit_row, eliminated, pivot}
-use Rattle.dual_pivot.specs.Choices.{IsCandidate}
-use Rattle.tableau.specs.Flat.{row_of_numbers, numbers_of}
+use Rattle.short_tableau.proofs.Words.{◌≡◌, refl, ap, sym, ◌∙◌, subst, ℕ, zero, suc, ◌+◌, ◌-◌, ◌*◌, ◌<◌, ◌≤◌, ℤ, Bool, true, false, List, [], ◌∷◌, ◌++◌, length, map, take, drop, arith, append-nil, length-append, length-drop, slice_set, IsTrue, take_at, drop_at, take-append-le, drop-append-le, get_or_at, set_at, length-map, map-append, take_all, drop_all, take-append-drop, length-take-le, get_or-map, list_all-append, list_all_at, and-false, list_all, All-same, All-set, All-take, All-drop, All-push, All-append, All-cons, suc-mul, add-mul, Row, row_at, form_row, unit_row, eliminated, pivot, IsCandidate, row_of_numbers, numbers_of, mapped, TableauRows, with_row, row_size, rows_in, IsShortReduced, IsPivot, IsDense, is_short_row, AreTurned}
 use Rattle.tableau.proofs.Numbers.{row_again}
-use Rattle.affine_forms.proofs.Mapped.{mapped}
-use Rattle.tableau.specs.Tableaus.{TableauRows, with_row}
-use Rattle.short_tableau.specs.Dense.{row_size, rows_in, IsShortReduced, IsPivot, IsDense}
-use Rattle.short_tableau.specs.Turned.{is_short_row, AreTurned}
 
 one_more : (i l : ℕ) → suc i * l ≡ l + i * l
 one_more i l = suc-mul i l ∙ omega arith

@@ -1,25 +1,7 @@
 -- A short row with another put in.
-use Rattle.std.proofs.Common.{◌≡◌, true, false, refl, ap, sym, ◌∙◌, subst, ℕ, zero, suc, ◌+◌, ◌<◌, ◌^◌, ℤ, pos, ◌≤ℤ◌, List, [], ◌∷◌, ◌++◌, length, replicate, unsigned_abs, arith, length-set, ◌*ℤ◌, negsuc}
-use Rattle.std.proofs.lemmas.Int.{ints}
-use Rattle.std.specs.Prelude.{slice_set, slice_index_or, Some, None}
-use Rattle.std.proofs.lemmas.Bool.{lt-ltb}
-use Rattle.std.proofs.lemmas.List.{take_at, drop_at, length-map}
-use Rattle.std.proofs.lemmas.List.Elements.{All-set, All-replicate}
-use Rattle.pip_model.proofs.Forms.{length-combine}
-use Rattle.pip_model.specs.Numbers.{gcd, gcd_of}
-use Rattle.pip_model.proofs.Gcd.{gcd_between, quotient_positive}
-use Rattle.pip_model.specs.Forms.{entry, combine}
-use Rattle.pip_model.specs.Rows.{Row, divided, substituted, eliminated, unit_row}
+use Rattle.short_tableau.proofs.Words.{◌≡◌, true, false, refl, ap, sym, ◌∙◌, subst, ℕ, zero, suc, ◌+◌, ◌<◌, ◌^◌, ℤ, pos, ◌≤ℤ◌, List, [], ◌∷◌, ◌++◌, length, replicate, unsigned_abs, arith, length-set, ◌*ℤ◌, negsuc, ints, slice_set, slice_index_or, Some, None, lt-ltb, take_at, drop_at, length-map, All-set, All-replicate, length-combine, gcd, gcd_of, gcd_between, quotient_positive, entry, combine, Row, divided, substituted, eliminated, unit_row, row_of_numbers, IsShort, IsShortRow, IsRow, row_from, fits_short, content-one, eliminated_none, eliminated_reduced, IsShortReduced, IsPivot, is_short_row, IsDenominatorOf, IsTurned}
 use Rattle.affine_forms.specs.Checks.{Fits}
-use Rattle.tableau.specs.Flat.{row_of_numbers}
-use Rattle.tableau.specs.Short.{IsShort, IsShortRow}
-use Rattle.tableau.specs.Tableaus.{IsRow, row_from}
-use Rattle.tableau.proofs.ShortRows.{fits_short}
-use Rattle.tableau.proofs.Contents.{content-one}
 use Rattle.tableau.proofs.Flat.{unit_fits}
-use Rattle.tableau.proofs.Substituting.{eliminated_none, eliminated_reduced}
-use Rattle.short_tableau.specs.Dense.{IsShortReduced, IsPivot}
-use Rattle.short_tableau.specs.Turned.{is_short_row, IsDenominatorOf, IsTurned}
 
 short_fit : (z : ℤ) → IsShort z → Fits z
 short_fit z h = lt-ltb (unsigned_abs z) (2 ^ 127) (omega (arith, h))

@@ -1,16 +1,5 @@
 -- The numbers of the row of a column, and of a form's row.
-use Rattle.std.proofs.Common.{◌≡◌, refl, ap, sym, ◌∙◌, subst, ℕ, zero, suc, ◌+◌, ◌-◌, ◌<◌, ◌≤◌, ℤ, pos, List, [], ◌∷◌, ◌++◌, length, map, take, drop, replicate, get_or, arith, append-nil, append_assoc, length-append, length-drop, length-set}
-use Rattle.std.specs.Prelude.{All, slice_set}
-use Rattle.std.proofs.lemmas.List.{take_at, drop_at, take_all, drop_all, take_more, take-append-drop, length-replicate, set-append_left, set_at, length-take-le, drop_more, length_push, drop-replicate, take-replicate}
-use Rattle.std.proofs.lemmas.Int.{ints}
-use Rattle.std.proofs.lemmas.List.Elements.{All-push, All-append, All-take, All-drop, All-replicate}
-use Rattle.pip_model.specs.Forms.{width, coefficients, constant, widen_to}
-use Rattle.pip_model.specs.Rows.{form_row, unit_row}
-use Rattle.affine_forms.proofs.Mapped.{mapped}
-use Rattle.tableau.specs.Flat.{row_of_numbers, numbers_of}
-use Rattle.tableau.specs.Short.{IsShort, IsShortRow}
-use Rattle.tableau.proofs.Contents.{content-one}
-use Rattle.short_tableau.specs.Dense.{IsShortReduced}
+use Rattle.short_tableau.proofs.Words.{◌≡◌, refl, ap, sym, ◌∙◌, subst, ℕ, zero, suc, ◌+◌, ◌-◌, ◌<◌, ◌≤◌, ℤ, pos, List, [], ◌∷◌, ◌++◌, length, map, take, drop, replicate, get_or, arith, append-nil, append_assoc, length-append, length-drop, length-set, All, slice_set, take_at, drop_at, take_all, drop_all, take_more, take-append-drop, length-replicate, set-append_left, set_at, length-take-le, drop_more, length_push, drop-replicate, take-replicate, ints, All-push, All-append, All-take, All-drop, All-replicate, width, coefficients, constant, widen_to, form_row, unit_row, mapped, row_of_numbers, numbers_of, IsShort, IsShortRow, content-one, IsShortReduced}
 use Rattle.short_tableau.proofs.ShortParts.{short_row}
 
 const_map : (xs : List ℤ) → map (λ x. pos 0) xs ≡ replicate (length xs) (pos 0)

@@ -1,11 +1,5 @@
 -- The class of a form by points, from what the questions for them answered.
-use Rattle.std.proofs.Common.{◌≡◌, ap, refl, ℕ, ℤ, true, List, [], ◌∷◌, ◌++◌, Option, Some, None, is_some}
-use Rattle.std.specs.Prelude.{IfSome}
-use Rattle.pip_model.specs.Forms.{opposite}
-use Rattle.pip_model.specs.Listed.{opposite_listed, all_fit}
-use Rattle.pip_model.specs.Run.{Work, Outcome, Done, Refused, Refusal, go_on, give, point, class_by_points}
-use Rattle.context.specs.Remembered.{has_point}
-use Rattle.sign_split.specs.Classes.{class_if_below}
+use Rattle.sign_split.proofs.Words.{◌≡◌, ap, refl, ℕ, ℤ, true, List, [], ◌∷◌, ◌++◌, Option, Some, None, is_some, IfSome, opposite, opposite_listed, all_fit, Work, Outcome, Done, Refused, Refusal, go_on, give, point, class_by_points, has_point, class_if_below}
 
 some_point : (o : Outcome (Option (List ℤ))) (v : Work) → go_on o (λ p. give (is_some p)) ≡ Done true v → (p : List ℤ) × (o ≡ Done (Some p) v)
 some_point (Done None u) v e = absurd cc

@@ -1,17 +1,11 @@
 -- What a class tells of its context.
-use Rattle.std.proofs.Common.{Option, Some, None, List, ℤ, ℕ, ◌+◌, ◌≤◌, ◌≡◌, ◌∙◌, ap, arith, length}
-use Rattle.std.specs.Prelude.{Result, Ok, Err, IfOk, IfErr, IfSome}
+use Rattle.sign_split.proofs.Words.{Option, Some, None, List, ℤ, ℕ, ◌+◌, ◌≤◌, ◌≡◌, ◌∙◌, ap, arith, length, Result, Ok, Err, IfOk, IfErr, IfSome, Work, Outcome, Refused, go_on, give, class, widen_to, run_fault, length-widen_to, class_of, widened_class}
 use Rattle.pip_model.specs.Run as run
-use Rattle.pip_model.specs.Run.{Work, Outcome, Refused, go_on, give, class}
-use Rattle.pip_model.specs.Forms.{widen_to}
 use Rattle.pip_model.specs.Contexts.{IsContext, ClassTells, IsPointRefusal}
 use Rattle.pip_model.specs.Agreement.{AgreesCounted}
-use Rattle.pip_problem.specs.Faults.{run_fault}
 use Rattle.pip_problem.specs.declared.refusal.Refusal.{Refusal}
 use Rattle.run_laws.proofs.ContextRight.{class-tells}
 use Rattle.run_laws.proofs.PointRefusals.{class-refusal}
-use Rattle.run_laws.proofs.Scopes.{length-widen_to}
-use Rattle.sign_split.specs.Classes.{class_of, widened_class}
 use Rattle.sign_split.proofs.Widening.{class_widened}
 use Rattle.sign_split.specs.declared.classes.Class.{Class}
 

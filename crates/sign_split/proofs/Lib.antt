@@ -1,3 +1,4 @@
+mod Words
 pub mod ClassMeaning
 pub mod Opposites
 pub mod TightSigns

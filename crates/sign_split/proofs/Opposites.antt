@@ -1,16 +1,8 @@
 -- The opposite of a form: its parts, its width, and its opposite.
-use Rattle.std.proofs.Common.{rules, ◌≡◌, refl, ap, ap₂, sym, subst, ◌∙◌, ◌+◌, ◌≤◌, ℤ, pos, ◌-ℤ◌, neg_ℤ, arith, List, [], ◌∷◌, ◌++◌, length, length-append}
-use Rattle.std.specs.Prelude.{slice_set, IsTrue}
-use Rattle.std.proofs.lemmas.Int.{ints}
-use Rattle.std.proofs.lemmas.List.{map-append}
+use Rattle.sign_split.proofs.Words.{rules, ◌≡◌, refl, ap, ap₂, sym, subst, ◌∙◌, ◌+◌, ◌≤◌, ℤ, pos, ◌-ℤ◌, neg_ℤ, arith, List, [], ◌∷◌, ◌++◌, length, length-append, slice_set, IsTrue, ints, map-append, coefficients, constant, width, negate, opposite, all_fit, opposite_listed, form-parts, length_map, length-opposite, entry_end, constant-end}
 use Rattle.std.proofs.lemmas.List.Elements.{All-get_or}
 use Rattle.std.proofs.Math.IntN.{neg_ℤ-neg_ℤ}
 use Rattle.std.proofs.Math.Seq.{set-append_seam}
-use Rattle.pip_model.specs.Forms.{coefficients, constant, width, negate, opposite}
-use Rattle.pip_model.specs.Listed.{all_fit, opposite_listed}
-use Rattle.pip_model.proofs.Division.{form-parts}
-use Rattle.run_laws.proofs.Lengths.{length_map}
-use Rattle.run_laws.proofs.Scopes.{length-opposite, entry_end, constant-end}
 use Rattle.affine_forms.specs.Checks.{Fits}
 use Rattle.affine_forms.specs.Forms.{IsForm}
 use Rattle.affine_forms.proofs.Opposites.{opposite_set}

@@ -1,13 +1,5 @@
 -- The signs of a form's entries tell its class as those of the tightened form do.
-use Rattle.std.proofs.Common.{◌≡◌, refl, ap, sym, subst, ◌∙◌, ℕ, zero, suc, ◌<◌, ◌≤◌, ℤ, pos, negsuc, ◌+ℤ◌, ◌*ℤ◌, arith, Bool, true, false, ◌&&◌, not, List, [], ◌∷◌, ◌++◌, length}
-use Rattle.std.proofs.lemmas.Int.{ints}
-use Rattle.std.proofs.lemmas.List.{get_or-map, length-map}
-use Rattle.std.specs.Prelude.{if◌then◌else◌}
-use Rattle.std.specs.List.{AllByRecursion, list_all}
-use Rattle.pip_model.specs.Numbers.{is_nonneg, is_negative, is_positive, is_zero, floor_div, gcd_of}
-use Rattle.pip_model.specs.Forms.{coefficients, constant, width, floor_divided, tighten}
-use Rattle.pip_model.specs.Run.{Work, Done, Plus, Minus, class, class_by_points}
-use Rattle.pip_model.proofs.Division.{Multiple, floor-exact, rest_of, form-parts, gcd_of-natural, gcd_of-divides}
+use Rattle.sign_split.proofs.Words.{◌≡◌, refl, ap, sym, subst, ◌∙◌, ℕ, zero, suc, ◌<◌, ◌≤◌, ℤ, pos, negsuc, ◌+ℤ◌, ◌*ℤ◌, arith, Bool, true, false, ◌&&◌, not, List, [], ◌∷◌, ◌++◌, length, ints, get_or-map, length-map, if◌then◌else◌, AllByRecursion, list_all, is_nonneg, is_negative, is_positive, is_zero, floor_div, gcd_of, coefficients, constant, width, floor_divided, tighten, Work, Done, Plus, Minus, class, class_by_points, Multiple, floor-exact, rest_of, form-parts, gcd_of-natural, gcd_of-divides}
 
 -- ---- numbers
 

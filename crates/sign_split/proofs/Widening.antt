@@ -1,20 +1,9 @@
 -- A form that is read over more places has the class that it has.
-use Rattle.std.proofs.Common.{◌≡◌, refl, ap, sym, subst, ◌∙◌, ℕ, zero, suc, ◌+◌, ◌-◌, ◌≤◌, ℤ, pos, negsuc, ◌-ℤ◌, neg_ℤ, arith, Bool, true, false, ◌&&◌, Option, Some, None, List, [], ◌∷◌, ◌++◌, length, map, replicate, length-append}
-use Rattle.std.specs.Prelude.{if◌then◌else◌}
-use Rattle.std.specs.List.{list_all}
-use Rattle.std.proofs.lemmas.Int.{ints}
-use Rattle.std.proofs.lemmas.List.{map-append}
+use Rattle.sign_split.proofs.Words.{◌≡◌, refl, ap, sym, subst, ◌∙◌, ℕ, zero, suc, ◌+◌, ◌-◌, ◌≤◌, ℤ, pos, negsuc, ◌-ℤ◌, neg_ℤ, arith, Bool, true, false, ◌&&◌, Option, Some, None, List, [], ◌∷◌, ◌++◌, length, map, replicate, length-append, if◌then◌else◌, list_all, ints, map-append, is_nonneg, is_zero, floor_div, gcd_of, coefficients, constant, width, floor_divided, tighten, negate, opposite, widen_to, opposite_listed, Work, Outcome, Counted, Done, Refused, Class, Plus, Minus, go_on, ◌>>=◌, give, listed, root, run_from, point_setting, numbers_of, point, class, class_above, class_below, class_by_points, form-parts, gcd_of-natural, length_map, length_tighten, coefficients-end, constant-end, length-widen_to, widened_class}
 use Rattle.std.proofs.lemmas.List.Folds.{list_all-append}
-use Rattle.pip_model.specs.Numbers.{is_nonneg, is_zero, floor_div, gcd_of}
-use Rattle.pip_model.specs.Forms.{coefficients, constant, width, floor_divided, tighten, negate, opposite, widen_to}
-use Rattle.pip_model.specs.Listed.{opposite_listed}
-use Rattle.pip_model.specs.Run.{Work, Outcome, Counted, Done, Refused, Class, Plus, Minus, go_on, ◌>>=◌, give, listed, root, run_from, point_setting, numbers_of, point, class, class_of, class_above, class_below, class_by_points}
-use Rattle.pip_model.proofs.Division.{form-parts, gcd_of-natural}
-use Rattle.run_laws.proofs.Lengths.{length_map, length_tighten}
-use Rattle.run_laws.proofs.Scopes.{coefficients-end, constant-end, length-widen_to}
+use Rattle.pip_model.specs.Run.{class_of}
 use Rattle.affine_forms.proofs.Units.{widen_same}
 use Rattle.context.proofs.OneFormMore.{point_some}
-use Rattle.sign_split.specs.Classes.{widened_class}
 use Rattle.sign_split.proofs.Opposites.{form_of, opposite_form, opposite_length}
 use Rattle.sign_split.proofs.TightSigns.{not_positive, is_below}
 

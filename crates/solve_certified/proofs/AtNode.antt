@@ -1,24 +1,7 @@
 -- The walk at a node: a choice, or the definition of a quotient.
-use Rattle.std.proofs.Common.{◌≡◌, refl, ap, sym, subst, ◌∙◌, ℕ, ◌+◌, ◌≤◌, ℤ, pos, true, ◌&&◌, List, [], ◌∷◌, ◌++◌, length, take, length-append, append-nil, eqb-true, arith}
-use Rattle.std.specs.Prelude.{Option, Some, None, IfSome, IsTrue, IsFalse, int_le}
-use Rattle.std.proofs.lemmas.List.{take_at}
-use Rattle.pip_model.specs.Forms.{opposite, constant}
-use Rattle.pip_model.specs.Listed.{all_fit, opposite_listed}
-use Rattle.pip_model.specs.Cuts.{upper_bound}
-use Rattle.pip_model.specs.Problem.{Problem}
-use Rattle.pip_model.specs.Tree.{Tree, If, NewParm, is_form, is_scoped, nesting}
-use Rattle.pip_model.specs.Printed.{tree_fits}
-use Rattle.pip_model.specs.Numbers.{fits}
-use Rattle.pip_model.specs.Certificate.{Certificate}
-use Rattle.pip_model.specs.Run.{Work, Outcome, Done, Refused, Refusal, Overflow}
-use Rattle.pip_model.specs.Made.{PathQuotient}
-use Rattle.pip_model.proofs.Tests.{both}
-use Rattle.affine_forms.specs.Checks.{is_form_overflow}
+use Rattle.solve_certified.proofs.Words.{◌≡◌, refl, ap, sym, subst, ◌∙◌, ℕ, ◌+◌, ◌≤◌, ℤ, pos, true, ◌&&◌, List, [], ◌∷◌, ◌++◌, length, take, length-append, append-nil, eqb-true, arith, Option, Some, None, IfSome, IsTrue, IsFalse, int_le, take_at, opposite, constant, all_fit, opposite_listed, upper_bound, Problem, Tree, If, NewParm, is_form, is_scoped, nesting, tree_fits, fits, Certificate, Work, Outcome, Done, Refused, Refusal, Overflow, PathQuotient, both, is_form_overflow, run_fault, of_form, TrailForms, below_quotient, made_below, are_whole, IsAt}
 use Rattle.affine_forms.specs.declared.memory.FormRefusal.{FormRefusal}
 use Rattle.affine_forms.specs.declared.memory.FormRefusal.TheVariants as form
-use Rattle.pip_problem.specs.Faults.{run_fault, of_form}
-use Rattle.solve_certified.specs.Trails.{TrailForms, below_quotient}
-use Rattle.solve_certified.specs.Walks.{made_below, are_whole, IsAt}
 use Rattle.solve_certified.proofs.MadeBelow.{choice_stop, choice_next, choice_unfit, definition_next, definition_unfit}
 use Rattle.solve_certified.proofs.QuotientLists.{reads_more}
 

@@ -1,13 +1,5 @@
 -- The forms of the refutation in front of another.
-use Rattle.std.proofs.Common.{◌≡◌, ◌∙◌, ap, sym, ℕ, zero, suc, ◌+◌, ◌-◌, ◌≤◌, ℤ, List, ◌++◌, length, map, take, Result, Ok, Err, arith}
-use Rattle.std.specs.Prelude.{OnOk}
-use Rattle.std.proofs.lemmas.List.{take-append-le, take-take}
-use Rattle.pip_model.specs.Made.{narrow_to}
-use Rattle.certificate_check.specs.Goals.{without_last}
-use Rattle.certificate_check.specs.Known.{KnownForms}
-use Rattle.context.specs.Scoped.{KeptForms, AreFirst, AreFirstWithin}
-use Rattle.certificate_check.specs.Leaves.{goal_forms}
-use Rattle.solve_certified.specs.Leaves.{forms_before}
+use Rattle.solve_certified.proofs.Words.{◌≡◌, ◌∙◌, ap, sym, ℕ, zero, suc, ◌+◌, ◌-◌, ◌≤◌, ℤ, List, ◌++◌, length, map, take, Result, Ok, Err, arith, OnOk, take-append-le, take-take, narrow_to, without_last, KnownForms, KeptForms, AreFirst, AreFirstWithin, goal_forms, forms_before}
 use Rattle.solve_certified.specs.declared.leaf.LeafMaking.{LeafMaking}
 
 pub before_later : (m : LeafMaking) (r : ℕ) → 1 ≤ r → forms_before m r ≡ goal_forms m.leaf (r - 1)

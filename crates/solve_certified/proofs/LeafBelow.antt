@@ -1,16 +1,6 @@
 -- A leaf at the end of a trail.
-use Rattle.std.proofs.Common.{◌≡◌, refl, ap, ap₂, sym, subst, ◌∙◌, List, [], ◌∷◌, ◌++◌}
-use Rattle.std.specs.Prelude.{Option, Some, None, IfSome}
-use Rattle.pip_model.specs.Problem.{Problem}
-use Rattle.pip_model.specs.Tree.{Component}
-use Rattle.pip_model.specs.Certificate.{Refutation, LeafProofs, Certificate}
-use Rattle.pip_model.specs.Check.{LeafCase}
-use Rattle.pip_model.specs.Run.{Work, Outcome, Done, Refused, Refusal, Counted, go_on, give}
-use Rattle.pip_model.specs.Made.{PathQuotient, made_leaf, unshared}
+use Rattle.solve_certified.proofs.Words.{◌≡◌, refl, ap, ap₂, sym, subst, ◌∙◌, List, [], ◌∷◌, ◌++◌, Option, Some, None, IfSome, Problem, Component, Refutation, LeafProofs, Certificate, LeafCase, Work, Outcome, Done, Refused, Refusal, Counted, go_on, give, PathQuotient, made_leaf, unshared, made_proofs, TrailForms, made_below}
 use Rattle.certificate_check.specs.Walks.{leaf_tree}
-use Rattle.solve_certified.specs.Leaves.{made_proofs}
-use Rattle.solve_certified.specs.Trails.{TrailForms}
-use Rattle.solve_certified.specs.Walks.{made_below}
 
 module _ (P : Problem) (q : TrailForms) (c : Certificate) (w : Work) where
   abbrev pub here : Option (List Component) → LeafCase

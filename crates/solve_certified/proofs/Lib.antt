@@ -1,3 +1,4 @@
+mod Words
 pub mod Told
 pub mod LeafBelow
 pub mod MadeBelow

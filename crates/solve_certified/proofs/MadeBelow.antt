@@ -1,24 +1,8 @@
 -- The leaves below a node: first those of its first tree, and the first of them where a number of the path does not fit.
-use Rattle.std.proofs.Common.{◌≡◌, refl, ap, ap₂, sym, ◌∙◌, ℕ, ◌+◌, ◌<◌, ◌≤◌, ℤ, Bool, true, false, List, [], ◌∷◌, ◌++◌, pos, length, map, append_assoc, length-append, arith, eqb-true}
-use Rattle.std.specs.Prelude.{◌==◌, Option, Some, None}
+use Rattle.solve_certified.proofs.Words.{◌≡◌, refl, ap, ap₂, sym, ◌∙◌, ℕ, ◌+◌, ◌<◌, ◌≤◌, ℤ, Bool, true, false, List, [], ◌∷◌, ◌++◌, pos, length, map, append_assoc, length-append, arith, eqb-true, ◌==◌, Option, Some, None, length-map, same_number, opposite, constant, all_fit, opposite_listed, Quotient, lower_bound, upper_bound, Problem, Tree, Bottom, Leaf, If, NewParm, Component, leaves, Refutation, LeafProofs, Certificate, Premises, LeafCase, leaf_cases, leaf_forms, leaf_premises, row_premises, sign_premises, least_premises, fronts_from, joined, is_whole_list, Work, Outcome, Done, Refused, Refusal, Overflow, Counted, go_on, ◌>>=◌, ◌>>◌, give, unless, listed, PathQuotient, path_quotients, made_refutation, made_refutations, made_leaf, unshared, made_leaves, both, grouped, same_after, TrailForms, below_quotient, made_below, are_whole}
 use Rattle.std.specs.List.{list_all}
-use Rattle.std.proofs.lemmas.List.{length-map}
-use Rattle.pip_model.specs.Numbers.{same_number}
-use Rattle.pip_model.specs.Forms.{opposite, constant}
-use Rattle.pip_model.specs.Listed.{all_fit, opposite_listed}
-use Rattle.pip_model.specs.Cuts.{Quotient, lower_bound, upper_bound}
-use Rattle.pip_model.specs.Problem.{Problem}
-use Rattle.pip_model.specs.Tree.{Tree, Bottom, Leaf, If, NewParm, Component, leaves}
-use Rattle.pip_model.specs.Certificate.{Refutation, LeafProofs, Certificate}
-use Rattle.pip_model.specs.Check.{Premises, LeafCase, leaf_cases, leaf_forms, leaf_premises, row_premises, sign_premises, least_premises, fronts_from, joined, is_whole_list}
-use Rattle.pip_model.specs.Run.{Work, Outcome, Done, Refused, Refusal, Overflow, Counted, go_on, ◌>>=◌, ◌>>◌, give, unless, listed}
-use Rattle.pip_model.specs.Made.{PathQuotient, path_quotients, made_refutation, made_refutations, made_leaf, unshared, made_leaves}
 use Rattle.pip_model.proofs.Fitting.{fit_behind, fit_never}
-use Rattle.pip_model.proofs.Tests.{both}
 use Rattle.check_laws.proofs.Paths.{length-leaf_cases}
-use Rattle.pip_solve.proofs.Running.{grouped, same_after}
-use Rattle.solve_certified.specs.Trails.{TrailForms, below_quotient}
-use Rattle.solve_certified.specs.Walks.{made_below, are_whole}
 
 -- ---- leaves one after another
 

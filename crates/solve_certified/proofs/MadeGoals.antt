@@ -1,18 +1,6 @@
 -- The refutations of a leaf, one after another.
-use Rattle.std.proofs.Common.{◌≡◌, refl, ap, sym, ◌∙◌, ℕ, ◌+◌, ◌<◌, ◌≤◌, List, [], ◌∷◌, ◌++◌, length, map, drop, get_or, append_assoc, append-nil, length-append, arith}
-use Rattle.std.specs.Prelude.{Option, Some, None, IfSome}
-use Rattle.std.proofs.lemmas.List.{length-map, map-append, drop_more, drop_all, get_or-map}
+use Rattle.solve_certified.proofs.Words.{◌≡◌, refl, ap, sym, ◌∙◌, ℕ, ◌+◌, ◌<◌, ◌≤◌, List, [], ◌∷◌, ◌++◌, length, map, drop, get_or, append_assoc, append-nil, length-append, arith, Option, Some, None, IfSome, length-map, map-append, drop_more, drop_all, get_or-map, Problem, Component, Step, Refutation, LeafProofs, LeafCase, Premises, joined, leaf_forms, leaf_premises, row_premises, sign_premises, least_premises, fronts_from, Work, Outcome, Done, Refused, Refusal, Counted, go_on, ◌>>=◌, give, PathQuotient, made_refutation, made_refutations, made_leaf, unshared, nothing, grouped, same_after, unknowns_at, made_at, made_proofs}
 use Rattle.std.proofs.lemmas.Bool.Decides.{nat_tests}
-use Rattle.pip_model.specs.Problem.{Problem}
-use Rattle.pip_model.specs.Tree.{Component}
-use Rattle.pip_model.specs.Certificate.{Step, Refutation, LeafProofs}
-use Rattle.pip_model.specs.Check.{LeafCase, Premises, joined, leaf_forms, leaf_premises, row_premises, sign_premises, least_premises, fronts_from}
-use Rattle.pip_model.specs.Run.{Work, Outcome, Done, Refused, Refusal, Counted, go_on, ◌>>=◌, give}
-use Rattle.pip_model.specs.Made.{PathQuotient, made_refutation, made_refutations, made_leaf, unshared}
-use Rattle.certificate_check.specs.Leaves.{nothing}
-use Rattle.pip_solve.proofs.Running.{grouped, same_after}
-use Rattle.solve_certified.specs.Goals.{unknowns_at}
-use Rattle.solve_certified.specs.Leaves.{made_at, made_proofs}
 use Rattle.solve_certified.proofs.MadeBelow.{given}
 
 module _ (P : Problem) (L : LeafCase) (ks : List PathQuotient) (f : ℕ → ℕ) where

@@ -1,11 +1,6 @@
 -- The quotients' steps, and the places that they read.
-use Rattle.std.proofs.Common.{◌≡◌, refl, ap, ap₂, sym, ◌∙◌, ℕ, zero, suc, ◌+◌, ◌<◌, ℤ, pos, List, [], ◌∷◌, ◌++◌, length, take, get_or, append_assoc, length-append, arith}
-use Rattle.std.proofs.lemmas.List.{take_at, length-map}
+use Rattle.solve_certified.proofs.Words.{◌≡◌, refl, ap, ap₂, sym, ◌∙◌, ℕ, zero, suc, ◌+◌, ◌<◌, ℤ, pos, List, [], ◌∷◌, ◌++◌, length, take, get_or, append_assoc, length-append, arith, take_at, length-map, indices, Refutation, PathQuotient, quotient_step, quotient_steps, steps_from, ReadsPlaces}
 use Rattle.pip_model.specs.Rows.{count_from}
-use Rattle.pip_model.specs.Refuting.{indices}
-use Rattle.pip_model.specs.Certificate.{Refutation}
-use Rattle.pip_model.specs.Made.{PathQuotient, quotient_step, quotient_steps}
-use Rattle.solve_certified.specs.Quotients.{steps_from, ReadsPlaces}
 
 -- the quotient at a place reads the places before it
 pub reads_at : (n : ℕ) (ks : List PathQuotient) (j : ℕ) (d : PathQuotient) → ReadsPlaces n ks → j < length ks → length (get_or ks j d).quotient.form ≡ n + j + 1

@@ -1,18 +1,5 @@
 -- One refutation: by its known forms, and as the definition makes it.
-use Rattle.std.proofs.Common.{◌≡◌, refl, ap, ap₂, sym, ◌∙◌, ℕ, ◌+◌, ◌<◌, ◌≤◌, ℤ, All, Bool, true, false, pos, List, [], ◌++◌, length, map, length-append, arith}
-use Rattle.std.specs.Prelude.{Option, Some, None, IfSome, IsTrue}
-use Rattle.std.proofs.lemmas.List.Elements.{All-weaker}
-use Rattle.pip_model.specs.Listed.{all_fit}
-use Rattle.pip_model.specs.Problem.{Problem}
-use Rattle.pip_model.specs.Tree.{Component}
-use Rattle.pip_model.specs.Certificate.{Refutation}
-use Rattle.pip_model.specs.Check.{LeafCase, Premises, joined, leaf_forms, scope_forms}
-use Rattle.pip_model.specs.Run.{Work, Outcome, Done, Refused, Refusal, Overflow, Counted, go_on, ◌>>=◌, give, unless}
-use Rattle.pip_model.specs.Refuting.{indices, refute}
-use Rattle.pip_model.specs.Made.{PathQuotient, narrow_to, quotient_steps, steps_or_none, made_refutation}
-use Rattle.solve_certified.specs.Quotients.{steps_from}
-use Rattle.solve_certified.specs.Refutations.{places_of, refuted_by}
-use Rattle.solve_certified.specs.Leaves.{IsScopeOf}
+use Rattle.solve_certified.proofs.Words.{◌≡◌, refl, ap, ap₂, sym, ◌∙◌, ℕ, ◌+◌, ◌<◌, ◌≤◌, ℤ, All, Bool, true, false, pos, List, [], ◌++◌, length, map, length-append, arith, Option, Some, None, IfSome, IsTrue, All-weaker, all_fit, Problem, Component, Refutation, LeafCase, Premises, joined, leaf_forms, scope_forms, Work, Outcome, Done, Refused, Refusal, Overflow, Counted, go_on, ◌>>=◌, give, unless, indices, refute, PathQuotient, narrow_to, quotient_steps, steps_or_none, made_refutation, steps_from, places_of, refuted_by, IsScopeOf}
 use Rattle.solve_certified.specs.declared.refutation.Scope.{Scope}
 use Rattle.solve_certified.proofs.QuotientLists.{length-indices, steps_same}
 

@@ -1,24 +1,14 @@
 -- What holds of the definition's answers and certificates holds of those that are given.
-use Rattle.std.proofs.Common.{◌≡◌, refl, subst, Result, Ok, Err, Option, Some, None, true}
-use Rattle.std.specs.Prelude.{IfOk}
-use Rattle.pip_model.specs.Problem.{Problem}
+use Rattle.solve_certified.proofs.Words.{◌≡◌, refl, subst, Result, Ok, Err, true, IfOk, Problem, Certificate, solve_with_certificate, Budget, IsBudget, Work, Outcome, Done, Refused, answered, solve, IsProblem, IsWellFormedAnswer, solve-right, leaves-reached, certificate-not_rejected, certified-answer, certificate-fits, run_fault, answer_of}
+use Rattle.std.proofs.Common.{Option, Some, None}
 use Rattle.pip_model.specs.Tree as tree
-use Rattle.pip_model.specs.Certificate.{Certificate}
-use Rattle.pip_model.specs.Made.{solve_with_certificate}
-use Rattle.pip_model.specs.Run.{Budget, IsBudget, Work, Outcome, Done, Refused, answered, solve}
 use Rattle.pip_model.specs.Right.{IsRight}
 use Rattle.pip_model.specs.Leaves.{IsReached}
-use Rattle.pip_model.specs.WellFormed.{IsProblem, IsWellFormedAnswer}
 use Rattle.pip_model.specs.Agreement.{Agrees}
-use Rattle.run_laws.proofs.SolveRight.{solve-right, leaves-reached}
 use Rattle.run_laws.proofs.Headline.{solve-well_formed_answer}
-use Rattle.certificate_laws.proofs.Accepted.{certificate-not_rejected, certified-answer}
-use Rattle.certificate_laws.proofs.FitCertificate.{certificate-fits}
 use Rattle.affine_forms.specs.declared.numbers.Overflow.{Overflow}
 use Rattle.pip_problem.specs.declared.refusal.Refusal as code
-use Rattle.pip_problem.specs.Faults.{run_fault}
 use Rattle.quast.specs.declared.answer.Answer as answer
-use Rattle.quast.specs.Answers.{answer_of}
 use Rattle.solve_certified.specs.Certified.{certificate_in, certified_of, IsCertificateOf}
 
 abbrev Given : Type 0

@@ -1,20 +1,9 @@
 -- The answer's tree has whole lists, and the point's numbers fit.
-use Rattle.std.proofs.Common.{◌≡◌, refl, ap, subst, ℕ, true, List, ℤ}
-use Rattle.run_laws.proofs.SolveRight.{narrow_rows}
-use Rattle.std.specs.Prelude.{Option, Some, None}
-use Rattle.pip_model.specs.Problem.{Problem}
-use Rattle.pip_model.specs.Tree.{Tree, Bottom, Leaf, If, NewParm, Answer, Solved}
-use Rattle.pip_model.specs.Printed.{vector_fits}
-use Rattle.pip_model.specs.WellFormed.{IsProblem}
-use Rattle.pip_model.specs.Run.{Work, Outcome, Done, Refused, give, first_node, setting, run_from, point, answer_from}
-use Rattle.pip_model.proofs.Tests.{both_true}
+use Rattle.solve_certified.proofs.Words.{◌≡◌, refl, ap, subst, ℕ, true, List, ℤ, narrow_rows, Option, Some, None, Problem, Tree, Bottom, Leaf, If, NewParm, Answer, Solved, vector_fits, IsProblem, Work, Outcome, Done, Refused, give, first_node, setting, run_from, point, answer_from, both_true, done_by, tree_shaped, point_fits, are_whole, is_whole_answer}
 use Rattle.run_laws.proofs.Ensured.{OnDone}
 use Rattle.run_laws.proofs.PointRight.{IsPointOf, point_right}
 use Rattle.certificate_laws.proofs.TreeShape.{Shaped}
-use Rattle.certificate_laws.proofs.Accepted.{done_by, tree_shaped}
-use Rattle.certificate_laws.proofs.FitCertificate.{point_fits}
 use Rattle.run_laws.proofs.FitRun.{fitting_rows}
-use Rattle.solve_certified.specs.Walks.{are_whole, is_whole_answer}
 
 shaped_whole : (n : ℕ) (t : Tree) → Shaped n t → are_whole n t ≡ true
 shaped_whole n Bottom h = refl

@@ -1,24 +1,6 @@
 -- Rows that are kept by their numbers, with one row more.
-use Rattle.std.proofs.Common.{◌≡◌, refl, ap, sym, ◌∙◌, subst, ℕ, ◌+◌, ◌-◌, ◌*◌, ◌<◌, ◌≤◌, ℤ, pos, true, false, not, List, [], ◌∷◌, ◌++◌, length, take, drop, replicate, arith, length-append, append-nil}
-use Rattle.std.specs.Prelude.{IsTrue, All, filter, flat_map}
-use Rattle.std.proofs.lemmas.List.{take_at, drop_at, take_all, take-append-le, drop-append-le, take-append-drop, length-drop, length-replicate, map-append, length_push, length-take-le, length-set}
-use Rattle.std.proofs.lemmas.List.Elements.{All-head, All-tail, All-push, All-weaker, All-set, All-replicate, All-same, filter-append}
-use Rattle.std.proofs.lemmas.Grind.{flat_map-append}
-use Rattle.std.proofs.Math.Nat.{add-mul}
-use Rattle.std.proofs.lemmas.Int.{ints}
-use Rattle.affine_forms.specs.Checks.{Fits}
-use Rattle.pip_model.specs.Rows.{Row, unit_row}
-use Rattle.tableau_row.specs.Rows.{IsRow, IsReduced}
-use Rattle.tableau_row.specs.Flat.{numbers_of, row_of_numbers, is_unit_row}
-use Rattle.tableau.specs.KeptRows.{flat_numbers}
-use Rattle.tableau_row.specs.Short.{IsShort, IsShortRow}
-use Rattle.tableau.specs.KeptRows.{KeptRows, IsPlace, IsKnown, IsPlain, IsFlat, IsPlainRow, IsUnsealed, row_length, row_kept, rows_kept, with_more}
-use Rattle.tableau.specs.declared.kept.Kept.{Kept}
+use Rattle.tableau.proofs.Words.{◌≡◌, refl, ap, sym, ◌∙◌, subst, ℕ, ◌+◌, ◌-◌, ◌*◌, ◌<◌, ◌≤◌, ℤ, pos, true, false, not, List, [], ◌∷◌, ◌++◌, length, take, drop, replicate, arith, length-append, append-nil, IsTrue, All, filter, flat_map, take_at, drop_at, take_all, take-append-le, drop-append-le, take-append-drop, length-drop, length-replicate, map-append, length_push, length-take-le, length-set, All-head, All-tail, All-push, All-weaker, All-set, All-replicate, All-same, filter-append, flat_map-append, add-mul, ints, Fits, Row, unit_row, IsRow, IsReduced, numbers_of, row_of_numbers, is_unit_row, flat_numbers, IsShort, IsShortRow, KeptRows, IsPlace, IsKnown, IsPlain, IsFlat, IsPlainRow, IsUnsealed, row_length, row_kept, rows_kept, with_more, Kept, RowPlace, content-one, row_again, unit_is}
 use Rattle.tableau.specs.declared.kept.Kept.TheVariants as kept
-use Rattle.tableau.specs.declared.kept.RowPlace.{RowPlace}
-use Rattle.tableau_row.proofs.Contents.{content-one}
-use Rattle.tableau_row.proofs.Numbers.{row_again}
-use Rattle.tableau_row.proofs.UnitRows.{unit_is}
 
 -- ---- numbers behind the others
 

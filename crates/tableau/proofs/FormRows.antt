@@ -1,14 +1,5 @@
 -- The row of a form.
-use Rattle.std.proofs.Common.{◌≡◌, refl, ap, ℕ, ◌+◌, ℤ, pos, List, ◌∷◌, length, arith}
-use Rattle.std.specs.Prelude.{All}
-use Rattle.std.proofs.lemmas.List.{take-append-drop, length-drop, length-take-le}
-use Rattle.std.proofs.lemmas.List.Elements.{All-take, All-drop}
-use Rattle.std.proofs.lemmas.Int.{ints}
-use Rattle.affine_forms.specs.Checks.{Fits}
-use Rattle.pip_model.specs.Rows.{form_row}
-use Rattle.tableau_row.specs.Flat.{numbers_of}
-use Rattle.tableau_row.specs.Rows.{IsRow}
-use Rattle.tableau_row.specs.Short.{IsShort, IsShortRow}
+use Rattle.tableau.proofs.Words.{◌≡◌, refl, ap, ℕ, ◌+◌, ℤ, pos, List, ◌∷◌, length, arith, All, take-append-drop, length-drop, length-take-le, All-take, All-drop, ints, Fits, form_row, numbers_of, IsRow, IsShort, IsShortRow}
 
 pub form_numbers : (n : ℕ) (f : List ℤ) → numbers_of (form_row n f) ≡ pos 1 ∷ f
 form_numbers n f = ap (λ (xs : List ℤ). pos 1 ∷ xs) (take-append-drop n f)

@@ -1,33 +1,12 @@
 -- A pivot of rows whose numbers stand one after the other, in place.
-use Rattle.std.proofs.Common.{rules, tests, ◌≡◌, refl, ap, sym, ◌∙◌, subst, ℕ, zero, suc, ◌+◌, ◌-◌, ◌<◌, ◌≤◌, ◌≢◌, ℤ, pos, ◌≤ℤ◌, Bool, true, false, List, [], ◌∷◌, ◌++◌, length, map, take, drop, get_or, arith, length-append, append-nil, append_assoc}
-use Rattle.std.specs.Prelude.{IsTrue, All, flat_map, slice_set, ◌==◌, if◌then◌else◌}
-use Rattle.std.proofs.lemmas.List.Elements.{All-head, All-tail, All-cons, All-append, All-take, All-drop}
+use Rattle.tableau.proofs.Words.{rules, tests, ◌≡◌, refl, ap, sym, ◌∙◌, subst, ℕ, zero, suc, ◌+◌, ◌-◌, ◌<◌, ◌≤◌, ◌≢◌, ℤ, pos, ◌≤ℤ◌, Bool, true, false, List, [], ◌∷◌, ◌++◌, length, map, take, drop, get_or, arith, length-append, append-nil, append_assoc, IsTrue, All, flat_map, slice_set, ◌==◌, if◌then◌else◌, All-head, All-tail, All-cons, All-append, All-take, All-drop, take_at, drop_at, length-drop, length-take, get_or-take, get_or-drop, take-append-drop, take_all, drop_all, entry, all_fit, gcd_of, Row, row_at, form_row, divided, unit_row, eliminated, eliminated_listed, pivot, pivot_listed, divided_one, numbers_of, row_of_numbers, is_unit_row, IsRow, IsReduced, IsShortRow, AreShortRows, IsElimination, IsMadeReduced, row_again, short_eliminated, elimination, eliminated_none, all_fit-append, KeptRows, IsFlat, IsRun, IsSolvable, kept_short, row_kept, row_length, rows_kept, with_more, with_rows, rows_along, IsMadeRow, AreAlong, AreMade, ArePair, IsSolvedPair, IsHere, flat_rows, is_ready, is_ready_middle, is_ready_front, pivoted, Kept, RowPlace}
 use Rattle.std.specs.List.{list_all}
-use Rattle.std.proofs.lemmas.List.{take_at, drop_at, length-drop, length-take, get_or-take, get_or-drop, take-append-drop, take_all, drop_all}
 use Rattle.pip_model.proofs.Tests.{both, never_both}
-use Rattle.pip_model.specs.Forms.{entry}
-use Rattle.pip_model.specs.Listed.{all_fit}
-use Rattle.pip_model.specs.Numbers.{gcd_of}
-use Rattle.pip_model.specs.Rows.{Row, row_at, form_row, divided, unit_row, eliminated, eliminated_listed, pivot, pivot_listed}
 use Rattle.affine_forms.proofs.Divisors.{gcd_assoc}
-use Rattle.tableau_row.proofs.RowLaws.{divided_one}
-use Rattle.tableau_row.specs.Flat.{numbers_of, row_of_numbers, is_unit_row}
-use Rattle.tableau_row.specs.Rows.{IsRow, IsReduced}
-use Rattle.tableau_row.specs.Short.{IsShortRow, AreShortRows}
-use Rattle.tableau_row.specs.Steps.{IsElimination, IsMadeReduced}
-use Rattle.tableau_row.proofs.Numbers.{row_again}
-use Rattle.tableau_row.proofs.ShortRows.{short_eliminated}
-use Rattle.tableau_row.proofs.Stepping.{elimination}
-use Rattle.tableau_row.proofs.Substituting.{eliminated_none}
-use Rattle.tableau_row.proofs.Unchanged.{all_fit-append}
 use Rattle.tableau.proofs.Along.{flat_along, along_flat, along_rows}
 use Rattle.tableau.proofs.Flat.{kept_rows, unit_over}
 use Rattle.tableau.proofs.Turning.{unit_turned}
-use Rattle.tableau.specs.KeptRows.{KeptRows, IsFlat, IsRun, IsSolvable, kept_short, row_kept, row_length, rows_kept, with_more, with_rows}
-use Rattle.tableau.specs.Along.{rows_along, IsMadeRow, AreAlong, AreMade, ArePair, IsSolvedPair, IsHere, flat_rows, is_ready, is_ready_middle, is_ready_front, pivoted}
-use Rattle.tableau.specs.declared.kept.Kept.{Kept}
 use Rattle.tableau.specs.declared.kept.Kept.TheVariants as kept
-use Rattle.tableau.specs.declared.kept.RowPlace.{RowPlace}
 
 -- the first kept row, and the others
 pub first_kept : (ks first rest : List Kept) (x d : Kept) → 0 < length ks → first ≡ take 1 ks → rest ≡ drop 1 ks → x ≡ get_or first 0 d → ks ≡ x ∷ rest

@@ -1,13 +1,5 @@
 -- The kept rows on both sides of one, and what is left of them in a pivot.
-use Rattle.std.proofs.Common.{◌≡◌, refl, ap, sym, ◌∙◌, subst, ℕ, ◌+◌, ◌-◌, ◌<◌, ◌≤◌, ℤ, List, [], ◌∷◌, ◌++◌, length, get_or, map, take, drop, arith}
-use Rattle.std.specs.Prelude.{IsTrue}
-use Rattle.std.proofs.lemmas.List.{length-drop, length-map, length_push, length-take-le, take-map, drop-map}
-use Rattle.pip_model.specs.Listed.{all_fit}
-use Rattle.pip_model.specs.Rows.{Row, row_at, eliminated, eliminated_listed}
-use Rattle.tableau_row.specs.Rows.{IsRow}
-use Rattle.tableau.specs.KeptRows.{KeptRows, IsOver, IsSolvable, IsSpare, AreLeft, AreLent, AreLentOf, AreSides, lent_row, lent_rows, row_kept, turned, turned_listed, with_more, with_rows}
-use Rattle.tableau.specs.declared.kept.Lent.{Lent}
-use Rattle.tableau.specs.declared.kept.Kept.{Kept}
+use Rattle.tableau.proofs.Words.{◌≡◌, refl, ap, sym, ◌∙◌, subst, ℕ, ◌+◌, ◌-◌, ◌<◌, ◌≤◌, ℤ, List, [], ◌∷◌, ◌++◌, length, get_or, map, take, drop, arith, IsTrue, length-drop, length-map, length_push, length-take-le, take-map, drop-map, all_fit, Row, row_at, eliminated, eliminated_listed, IsRow, KeptRows, IsOver, IsSolvable, IsSpare, AreLeft, AreLent, AreLentOf, AreSides, lent_row, lent_rows, row_kept, turned, turned_listed, with_more, with_rows, Lent, Kept}
 use Rattle.tableau.proofs.Runs.{kept_behind}
 use Rattle.tableau.proofs.Turning.{first_listed, first_rows, shape_same, shape_more, shape_with}
 

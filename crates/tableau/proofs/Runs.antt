@@ -1,19 +1,7 @@
 -- Kept rows whose numbers follow one another, which are copied as one run.
-use Rattle.std.proofs.Common.{◌≡◌, refl, ap, sym, ◌∙◌, subst, ℕ, suc, ◌+◌, ◌-◌, ◌*◌, ◌^◌, ◌<◌, ◌≤◌, get_or, ℤ, List, [], ◌∷◌, ◌++◌, length, map, take, drop, arith, append_assoc, append-nil, length-append}
-use Rattle.std.specs.Prelude.{All}
-use Rattle.std.proofs.lemmas.List.{drop-drop, length-drop, length-take-le}
-use Rattle.std.proofs.lemmas.List.Elements.{All-head, All-tail, All-cons, All-take, All-drop}
+use Rattle.tableau.proofs.Words.{◌≡◌, refl, ap, sym, ◌∙◌, subst, ℕ, suc, ◌+◌, ◌-◌, ◌*◌, ◌^◌, ◌<◌, ◌≤◌, get_or, ℤ, List, [], ◌∷◌, ◌++◌, length, map, take, drop, arith, append_assoc, append-nil, length-append, All, drop-drop, length-drop, length-take-le, All-head, All-tail, All-cons, All-take, All-drop, add-mul, mul-le-mul_right, Row, unit_row, IsRow, IsReduced, row_of_numbers, is_unit_row, IsShortRow, IsPlace, IsKnown, IsPlain, IsPlainRow, IsFlat, AreKept, AreLent, AreSides, IsRun, lent_row, IsMovable, moved_kept, row_length, row_kept, rows_kept, Lent, Kept, RowPlace}
 use Rattle.std.proofs.Math.Seq.{take-add}
-use Rattle.std.proofs.Math.Nat.{add-mul, mul-le-mul_right}
-use Rattle.pip_model.specs.Rows.{Row, unit_row}
-use Rattle.tableau_row.specs.Rows.{IsRow, IsReduced}
-use Rattle.tableau_row.specs.Flat.{row_of_numbers, is_unit_row}
-use Rattle.tableau_row.specs.Short.{IsShortRow}
-use Rattle.tableau.specs.KeptRows.{IsPlace, IsKnown, IsPlain, IsPlainRow, IsFlat, AreKept, AreLent, AreSides, IsRun, lent_row, IsMovable, moved_kept, row_length, row_kept, rows_kept}
-use Rattle.tableau.specs.declared.kept.Lent.{Lent}
-use Rattle.tableau.specs.declared.kept.Kept.{Kept}
 use Rattle.tableau.specs.declared.kept.Kept.TheVariants as kept
-use Rattle.tableau.specs.declared.kept.RowPlace.{RowPlace}
 use Rattle.tableau.proofs.Flat.{with_plain, with_unit, rows_more, rows_unit}
 use Rattle.tableau.proofs.Turning.{all_kept, row_is}
 

@@ -1,24 +1,8 @@
 -- The rows of a tableau in a pivot, as they are kept.
-use Rattle.std.proofs.Common.{◌≡◌, refl, ap, sym, ◌∙◌, subst, ℕ, zero, suc, ◌+◌, ◌-◌, ◌<◌, ◌≤◌, ◌≢◌, ℤ, pos, ◌≤ℤ◌, ◌*ℤ◌, true, ◌&&◌, List, [], ◌∷◌, ◌++◌, length, map, flat_map, take, drop, replicate, arith, append_assoc, get_or, get_or-set_other}
-use Rattle.std.specs.Prelude.{IsTrue, All, slice_set}
-use Rattle.std.proofs.lemmas.List.{take-append-drop, get_or-take, get_or-drop, map-append, get_or-replicate, length-set, length-map, take-map, drop-map, get_or-map}
-use Rattle.std.proofs.lemmas.List.Elements.{All-head, All-tail}
-use Rattle.std.proofs.lemmas.Int.{ints}
-use Rattle.pip_model.specs.Numbers.{fits}
-use Rattle.pip_model.specs.Forms.{entry, scale, width}
-use Rattle.pip_model.specs.Listed.{all_fit}
-use Rattle.pip_model.specs.Rows.{Row, row_at, form_row, unit_row, eliminated, eliminated_listed, pivot, pivot_listed}
-use Rattle.tableau.specs.KeptRows.{IsSteady, row_length, row_from_place, KeptRows, IsSpare, SameShape, with_more, with_rows}
-use Rattle.tableau_row.specs.Rows.{IsRow, IsReduced}
-use Rattle.tableau_row.specs.Short.{IsShortRow}
-use Rattle.tableau_row.proofs.ShortRows.{short_eliminated}
-use Rattle.std.proofs.lemmas.Grind.{flat_map-append}
-use Rattle.tableau_row.proofs.Contents.{content-one}
+use Rattle.tableau.proofs.Words.{◌≡◌, refl, ap, sym, ◌∙◌, subst, ℕ, zero, suc, ◌+◌, ◌-◌, ◌<◌, ◌≤◌, ◌≢◌, ℤ, pos, ◌≤ℤ◌, ◌*ℤ◌, true, ◌&&◌, List, [], ◌∷◌, ◌++◌, length, map, take, drop, replicate, arith, append_assoc, get_or, get_or-set_other, IsTrue, All, slice_set, take-append-drop, get_or-take, get_or-drop, map-append, get_or-replicate, length-set, length-map, take-map, drop-map, get_or-map, All-head, All-tail, ints, fits, entry, scale, width, all_fit, Row, row_at, form_row, unit_row, eliminated, eliminated_listed, pivot, pivot_listed, IsSteady, row_length, row_from_place, KeptRows, IsSpare, SameShape, with_more, with_rows, IsRow, IsReduced, IsShortRow, short_eliminated, flat_map-append, content-one, eliminated_none, checked_sides, eliminated_listed-none, all_fit-append, any_zero, by_one, unit_parts}
+use Rattle.std.proofs.Common.{flat_map}
 use Rattle.tableau.proofs.Flat.{unit_fits}
-use Rattle.tableau_row.proofs.Substituting.{eliminated_none, checked_sides}
 use Rattle.tableau_row.proofs.Places.{set_parts}
-use Rattle.tableau_row.proofs.Unchanged.{eliminated_listed-none, all_fit-append, any_zero, by_one}
-use Rattle.tableau_row.proofs.UnitRows.{unit_parts}
 
 -- ---- the row of another column
 

@@ -1,10 +1,5 @@
 -- The run from which the rows of columns are lent.
-use Rattle.std.proofs.Common.{◌≡◌, refl, ap, sym, ◌∙◌, ℕ, zero, suc, ◌+◌, ◌-◌, ◌<◌, ◌≤◌, ℤ, pos, List, [], ◌∷◌, ◌++◌, length, take, drop, replicate, arith, max, length-append}
-use Rattle.std.specs.Prelude.{slice_set}
-use Rattle.std.proofs.lemmas.List.{drop-append-le, drop-replicate, take-replicate, length-replicate, drop_at, length_push}
-use Rattle.pip_model.specs.Rows.{unit_row}
-use Rattle.tableau.specs.KeptRows.{unit_run}
-use Rattle.tableau_row.proofs.UnitRows.{unit_parts}
+use Rattle.tableau.proofs.Words.{◌≡◌, refl, ap, sym, ◌∙◌, ℕ, zero, suc, ◌+◌, ◌-◌, ◌<◌, ◌≤◌, ℤ, pos, List, [], ◌∷◌, ◌++◌, length, take, drop, replicate, arith, max, length-append, slice_set, drop-append-le, drop-replicate, take-replicate, length-replicate, drop_at, length_push, unit_row, unit_run, unit_parts}
 
 take_add : {X : Type 0} (xs ys : List X) (a b : ℕ) → length xs ≡ a → take (a + b) (xs ++ ys) ≡ xs ++ take b ys
 take_add [] ys zero b e = let g : zero + b ≡ b = omega arith in rw g refl

@@ -1,22 +1,7 @@
 -- A row with another put in, in place.
-use Rattle.std.proofs.Common.{◌≡◌, refl, ap, sym, subst, ◌∙◌, ℕ, ◌+◌, ◌^◌, ◌<◌, ◌≤◌, ℤ, pos, ◌-ℤ◌, ◌*ℤ◌, ◌&&◌, Bool, true, false, List, [], ◌∷◌, ◌++◌, length, take, drop, get_or, set, append_assoc, arith, unsigned_abs}
-use Rattle.std.specs.Prelude.{IsTrue, All, slice_set}
-use Rattle.std.specs.List.{list_all}
-use Rattle.std.proofs.lemmas.Bool.{ltb-true, lt-ltb}
-use Rattle.std.proofs.lemmas.List.{drop_more, take_more, set_at, get_or_at, length-take, take_all, drop_all}
-use Rattle.std.proofs.Common.{append-nil}
-use Rattle.pip_model.proofs.Forms.{length-combine}
-use Rattle.pip_model.proofs.Tests.{both}
-use Rattle.pip_model.specs.Numbers.{fits}
-use Rattle.pip_model.specs.Forms.{combine, remove}
-use Rattle.pip_model.specs.Listed.{all_fit, combine_listed}
-use Rattle.affine_forms.proofs.Short.{product_fits, short_fits}
-use Rattle.affine_forms.specs.Checks.{Fits}
-use Rattle.affine_forms.proofs.Combined.{listed_at}
-use Rattle.tableau_row.specs.Short.{is_short}
+use Rattle.tableau_row.proofs.Words.{◌≡◌, refl, ap, sym, subst, ◌∙◌, ℕ, ◌+◌, ◌^◌, ◌<◌, ◌≤◌, ℤ, pos, ◌-ℤ◌, ◌*ℤ◌, ◌&&◌, Bool, true, false, List, [], ◌∷◌, ◌++◌, length, take, drop, get_or, set, append_assoc, arith, unsigned_abs, IsTrue, All, slice_set, list_all, ltb-true, lt-ltb, drop_more, take_more, set_at, get_or_at, length-take, take_all, drop_all, append-nil, length-combine, both, fits, combine, remove, all_fit, combine_listed, product_fits, short_fits, Fits, listed_at, is_short, ints}
 use Rattle.tableau_row.proofs.Places.{listed_but, remove_parts, set_combine}
 use Rattle.tableau_row.proofs.Unchanged.{set-same}
-use Rattle.std.proofs.lemmas.Int.{ints}
 
 pub short_bound : (z : ℤ) → IsTrue (is_short z) → unsigned_abs z < 2 ^ 63
 short_bound z e = ltb-true (unsigned_abs z) (2 ^ 63) e

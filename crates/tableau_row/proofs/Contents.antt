@@ -1,13 +1,6 @@
 -- The numbers of each row of a run have no common divisor: a divided row's, a row's of denominator 1, a widened row's.
-use Rattle.std.proofs.Common.{◌≡◌, ◌∙◌, refl, ap, sym, ℕ, ◌+◌, ◌*◌, ◌<◌, ℤ, pos, negsuc, ◌≤ℤ◌, unsigned_abs, arith, List, [], ◌∷◌, ◌++◌}
-use Rattle.std.proofs.lemmas.Int.{ints}
+use Rattle.tableau_row.proofs.Words.{◌≡◌, ◌∙◌, refl, ap, sym, ℕ, ◌+◌, ◌*◌, ◌<◌, ℤ, pos, negsuc, ◌≤ℤ◌, unsigned_abs, arith, List, [], ◌∷◌, ◌++◌, ints, floor_div, euclid, gcd, gcd_of, floor_divided, Row, divided, gcd-divides, gcd_of-divides, all_through, through, common-IsGcd, common-scaled, times-one, size-divided, size-gcd_of, gcd_one, gcd_zero, content}
 use Rattle.std.proofs.Math.Nat.{pos_of_dvd_of_pos}
-use Rattle.pip_model.specs.Numbers.{floor_div, euclid, gcd, gcd_of}
-use Rattle.pip_model.specs.Forms.{floor_divided}
-use Rattle.pip_model.specs.Rows.{Row, divided}
-use Rattle.pip_model.proofs.Division.{gcd-divides, gcd_of-divides, all_through, through}
-use Rattle.pip_model.proofs.Gcd.{common-IsGcd, common-scaled, times-one, size-divided, size-gcd_of, gcd_one, gcd_zero}
-use Rattle.tableau_row.specs.Rows.{content}
 
 -- a row of denominator 1
 pub content-one : (r : Row) → r.den ≡ pos 1 → content r ≡ pos 1

@@ -1,12 +1,7 @@
 -- The numbers of a row that stand last, lent and written.
-use Rattle.std.proofs.Common.{◌≡◌, refl, ap, sym, ◌∙◌, ℕ, ◌<◌, ◌≤◌, ℤ, List, ◌++◌, length, take, drop, length-append, append-nil, arith, vec_len, vec_capacity}
-use Rattle.std.specs.Prelude.{Vec}
+use Rattle.tableau_row.proofs.Words.{◌≡◌, refl, ap, sym, ◌∙◌, ℕ, ◌<◌, ◌≤◌, ℤ, List, ◌++◌, length, take, drop, length-append, append-nil, arith, vec_len, vec_capacity, Vec, take_at, drop_at, take_all, drop_all, Row, numbers_of, row_of_numbers, Appends}
 use Rattle.std.specs.Vec.{with_items}
 use Rattle.std.specs.declared.alloc.Global.{Global}
-use Rattle.std.proofs.lemmas.List.{take_at, drop_at, take_all, drop_all}
-use Rattle.pip_model.specs.Rows.{Row}
-use Rattle.tableau_row.specs.Flat.{numbers_of, row_of_numbers}
-use Rattle.tableau_row.specs.Steps.{Appends}
 use Rattle.tableau_row.proofs.Numbers.{row_again}
 
 -- ---- numbers with others behind them

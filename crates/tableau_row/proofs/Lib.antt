@@ -1,3 +1,4 @@
+mod Words
 pub mod Combining
 pub mod Contents
 pub mod Lent

@@ -1,10 +1,5 @@
 -- The numbers of a row.
-use Rattle.std.proofs.Common.{◌≡◌, refl, ap, ◌∙◌, subst, ℕ, ◌-◌, ◌<◌, ℤ, List, [], ◌∷◌, ◌++◌, length, take, arith}
-use Rattle.std.specs.Prelude.{slice_set}
-use Rattle.std.proofs.lemmas.List.{take_at, drop_at}
-use Rattle.pip_model.specs.Rows.{Row}
-use Rattle.tableau_row.specs.Flat.{numbers_of, row_of_numbers}
-use Rattle.tableau_row.specs.Rows.{IsRow, row_from}
+use Rattle.tableau_row.proofs.Words.{◌≡◌, refl, ap, ◌∙◌, subst, ℕ, ◌-◌, ◌<◌, ℤ, List, [], ◌∷◌, ◌++◌, length, take, arith, slice_set, take_at, drop_at, Row, numbers_of, row_of_numbers, IsRow, row_from}
 
 -- the numbers that a row's parts make
 pub made : (zs coefs constant : List ℤ) (d : ℤ) (r : Row) → 0 < length zs → row_from d coefs constant ≡ r → slice_set (take 1 zs) 0 d ++ (coefs ++ constant) ≡ numbers_of r

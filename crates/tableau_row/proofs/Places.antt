@@ -1,13 +1,5 @@
 -- A list without one of its places.
-use Rattle.std.proofs.Common.{◌≡◌, refl, ap, sym, ◌∙◌, ℕ, zero, suc, ◌+◌, ◌<◌, ℤ, ◌*ℤ◌, pos, ◌&&◌, List, [], ◌∷◌, ◌++◌, length, take, drop, arith}
-use Rattle.std.proofs.lemmas.List.{length-take, drop_more}
-use Rattle.std.proofs.lemmas.List.Folds.{list_all-append}
-use Rattle.pip_model.proofs.Forms.{length-combine}
-use Rattle.pip_model.specs.Numbers.{fits}
-use Rattle.std.specs.Prelude.{slice_set}
-use Rattle.pip_model.specs.Forms.{combine, entry, remove}
-use Rattle.pip_model.specs.Rows.{Row, eliminated_listed}
-use Rattle.pip_model.specs.Listed.{all_fit, combine_listed}
+use Rattle.tableau_row.proofs.Words.{◌≡◌, refl, ap, sym, ◌∙◌, ℕ, zero, suc, ◌+◌, ◌<◌, ℤ, ◌*ℤ◌, pos, ◌&&◌, List, [], ◌∷◌, ◌++◌, length, take, drop, arith, length-take, drop_more, list_all-append, length-combine, fits, slice_set, combine, entry, remove, Row, eliminated_listed, all_fit, combine_listed}
 
 listed_append : (a b : ℤ) (r s more rest : List ℤ) → length r ≡ length s → combine_listed a (r ++ more) b (s ++ rest) ≡ combine_listed a r b s ++ combine_listed a more b rest
 listed_append a b [] [] more rest e = refl

@@ -1,14 +1,5 @@
 -- Laws of rows.
-use Rattle.std.proofs.Common.{◌≡◌, append_assoc, sym, take, get_or, ℕ, zero, suc, ◌+◌, ◌<◌, ℤ, pos, negsuc, List, [], ◌∷◌, ◌++◌, map, replicate, length, refl, ap, ◌∙◌, arith, length-append}
-use Rattle.std.proofs.lemmas.List.{length-take, length-replicate, map-append, take_all, take_more}
-use Rattle.std.proofs.lemmas.List.Elements.{All-append, All-take, All-replicate, All-cons, All-nil}
-use Rattle.pip_model.specs.Numbers.{gcd, gcd_of, floor_div}
-use Rattle.pip_model.specs.Forms.{floor_divided, width, coefficients, constant}
-use Rattle.pip_model.specs.Rows.{Row, divided, widened, count_from}
-use Rattle.std.proofs.lemmas.Int.{ints}
-use Rattle.affine_forms.proofs.Divisors.{gcd_assoc, floor_divided_one}
-use Rattle.affine_forms.specs.Checks.{Fits}
-use Rattle.tableau_row.specs.Rows.{IsRow, content, row_from}
+use Rattle.tableau_row.proofs.Words.{◌≡◌, append_assoc, sym, take, get_or, ℕ, zero, suc, ◌+◌, ◌<◌, ℤ, pos, negsuc, List, [], ◌∷◌, ◌++◌, map, replicate, length, refl, ap, ◌∙◌, arith, length-append, length-take, length-replicate, map-append, take_all, take_more, All-append, All-take, All-replicate, All-cons, All-nil, gcd, gcd_of, floor_div, floor_divided, width, coefficients, constant, Row, divided, widened, count_from, ints, gcd_assoc, floor_divided_one, Fits, IsRow, content, row_from}
 use Rattle.tableau_row.proofs.Contents.{content-one, gcd_of-widened}
 
 -- ---- division

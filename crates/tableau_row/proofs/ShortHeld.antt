@@ -1,9 +1,6 @@
 -- Short numbers as code holds them: written to bits and read back.
-use Rattle.std.proofs.Common.{ℕ, ◌<◌, ℤ, pos, to_z, of_z, arith, List, length, get_or, All}
-use Rattle.std.specs.Int.{w128}
-use Rattle.std.proofs.lemmas.Int.{to_z-of_z, fits_signed_from_abs}
-use Rattle.std.proofs.lemmas.List.Elements.{All-get_or}
-use Rattle.tableau_row.specs.Short.{IsShort}
+use Rattle.tableau_row.proofs.Words.{ℕ, ◌<◌, ℤ, pos, to_z, of_z, arith, List, length, get_or, w128, to_z-of_z, fits_signed_from_abs, All-get_or, IsShort}
+use Rattle.std.proofs.Common.{All}
 
 pub short_held : (z : ℤ) → IsShort z → IsShort (to_z w128 (of_z w128 z))
 short_held z h = rw (to_z-of_z w128 z (fits_signed_from_abs w128 z (omega arith))) h

@@ -1,16 +1,5 @@
 -- Rows whose numbers are short.
-use Rattle.std.proofs.Common.{◌≡◌, refl, ℕ, ◌+◌, ◌^◌, ◌<◌, ℤ, pos, arith, unsigned_abs, List, [], ◌∷◌, ◌++◌, replicate, length, take, drop, get_or}
-use Rattle.std.specs.Prelude.{IsTrue, All}
-use Rattle.std.specs.List.{list_all}
-use Rattle.std.proofs.lemmas.Bool.{ltb-true, lt-ltb}
-use Rattle.std.proofs.lemmas.List.Sums.{AllPass-from_list_all, list_all-from_AllPass}
-use Rattle.std.proofs.lemmas.List.Elements.{All-append, All-take, All-drop, All-replicate, All-cons, All-nil}
-use Rattle.pip_model.specs.Forms.{entry, width, coefficients, constant}
-use Rattle.pip_model.specs.Listed.{all_fit, combine_listed}
-use Rattle.pip_model.specs.Rows.{Row, widened, eliminated_listed}
-use Rattle.affine_forms.specs.Checks.{Fits}
-use Rattle.affine_forms.proofs.Short.{short_fits}
-use Rattle.tableau_row.specs.Short.{is_short, IsShort, IsShortRow}
+use Rattle.tableau_row.proofs.Words.{◌≡◌, refl, ℕ, ◌+◌, ◌^◌, ◌<◌, ℤ, pos, arith, unsigned_abs, List, [], ◌∷◌, ◌++◌, replicate, length, take, drop, get_or, IsTrue, All, list_all, ltb-true, lt-ltb, AllPass-from_list_all, list_all-from_AllPass, All-append, All-take, All-drop, All-replicate, All-cons, All-nil, entry, width, coefficients, constant, all_fit, combine_listed, Row, widened, eliminated_listed, Fits, short_fits, is_short, IsShort, IsShortRow}
 use Rattle.tableau_row.proofs.Combining.{short_listed}
 use Rattle.tableau_row.proofs.Places.{eliminated_parts}
 

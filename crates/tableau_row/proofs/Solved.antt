@@ -1,18 +1,6 @@
 -- The row of a column after the pivot on a row and that column: the row solved for the column.
-use Rattle.std.proofs.Common.{◌≡◌, ◌∙◌, refl, ap, sym, ℕ, zero, suc, ◌+◌, ◌<◌, ℤ, pos, neg_ℤ, ◌≤ℤ◌, ◌*ℤ◌, ◌-ℤ◌, arith, List, [], ◌∷◌, ◌++◌, length, take, drop, replicate, get_or, append_assoc, length-set}
-use Rattle.std.specs.Prelude.{slice_set, IsTrue, All}
-use Rattle.std.proofs.lemmas.Int.{ints}
-use Rattle.std.proofs.lemmas.List.{length-map, map-append, length-replicate, take_more, take-map, drop-map}
-use Rattle.std.proofs.lemmas.List.Elements.{All-map, All-replicate, All-set}
-use Rattle.pip_model.specs.Numbers.{gcd, gcd_of}
-use Rattle.pip_model.specs.Forms.{entry, combine, negate}
-use Rattle.pip_model.specs.Listed.{all_fit}
-use Rattle.pip_model.specs.Rows.{Row, substituted, divided, eliminated, eliminated_listed, unit_row}
-use Rattle.pip_model.proofs.Gcd.{size_opposite, gcd_assoc, gcd_opposite, gcd_of_negate, gcd_exchanged}
-use Rattle.pip_model.proofs.Forms.{entry-negate}
-use Rattle.tableau_row.specs.Flat.{numbers_of}
-use Rattle.tableau_row.specs.Rows.{IsRow, IsReduced, content}
-use Rattle.tableau_row.specs.Short.{IsShort, IsShortRow}
+use Rattle.tableau_row.proofs.Words.{◌≡◌, ◌∙◌, refl, ap, sym, ℕ, zero, suc, ◌+◌, ◌<◌, ℤ, pos, neg_ℤ, ◌≤ℤ◌, ◌*ℤ◌, ◌-ℤ◌, arith, List, [], ◌∷◌, ◌++◌, length, take, drop, replicate, get_or, append_assoc, length-set, slice_set, IsTrue, All, ints, length-map, map-append, length-replicate, take_more, take-map, drop-map, All-map, All-replicate, All-set, gcd, gcd_of, entry, combine, negate, all_fit, Row, substituted, divided, eliminated, eliminated_listed, unit_row, size_opposite, gcd_opposite, gcd_of_negate, gcd_exchanged, entry-negate, numbers_of, IsRow, IsReduced, content, IsShort, IsShortRow}
+use Rattle.pip_model.proofs.Gcd.{gcd_assoc}
 use Rattle.tableau_row.proofs.Places.{set_parts}
 use Rattle.tableau_row.proofs.RowLaws.{divided_one}
 use Rattle.tableau_row.proofs.ShortRows.{short_fit, fits_short, short_eliminated}

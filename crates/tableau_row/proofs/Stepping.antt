@@ -1,10 +1,5 @@
 -- What a step asks, of rows of one size, and what it leaves, from what its parts leave.
-use Rattle.std.proofs.Common.{◌≡◌, refl, sym, subst, ◌∙◌, ℕ, ◌-◌, ◌<◌, pos, ◌≤ℤ◌, Bool, length, arith}
-use Rattle.pip_model.specs.Forms.{entry}
-use Rattle.pip_model.specs.Rows.{Row, divided, eliminated}
-use Rattle.tableau_row.specs.Rows.{IsRow, IsOwnRow, IsReduced}
-use Rattle.tableau_row.specs.Short.{IsShortRow}
-use Rattle.tableau_row.specs.Steps.{IsPivotRow, IsElimination, MakesRow, IsMadeReduced}
+use Rattle.tableau_row.proofs.Words.{◌≡◌, refl, sym, subst, ◌∙◌, ℕ, ◌-◌, ◌<◌, pos, ◌≤ℤ◌, Bool, length, arith, entry, Row, divided, eliminated, IsRow, IsOwnRow, IsReduced, IsShortRow, IsPivotRow, IsElimination, MakesRow, IsMadeReduced}
 use Rattle.tableau_row.proofs.Numbers.{row_over}
 use Rattle.tableau_row.proofs.Substituting.{eliminated_reduced}
 

@@ -1,16 +1,5 @@
 -- A row with another put in: its listed numbers and its parts.
-use Rattle.std.proofs.Common.{◌≡◌, ◌-◌, flat_map, take, drop, refl, ap, sym, ◌∙◌, ℕ, zero, suc, ◌+◌, ℤ, pos, negsuc, ◌*ℤ◌, ◌≤ℤ◌, Bool, true, false, ◌&&◌, List, length-set, arith, subst}
-use Rattle.std.specs.Prelude.{IsTrue, All, slice_set}
-use Rattle.std.proofs.lemmas.Grind.{flat_map-append}
-use Rattle.std.proofs.lemmas.Int.{ints}
-use Rattle.std.proofs.lemmas.List.Folds.{list_all-append}
-use Rattle.pip_model.proofs.Forms.{length-combine}
-use Rattle.pip_model.specs.Numbers.{fits}
-use Rattle.pip_model.specs.Forms.{combine, entry, remove}
-use Rattle.pip_model.specs.Listed.{all_fit, combine_listed}
-use Rattle.pip_model.specs.Rows.{Row, substituted, eliminated, eliminated_listed, pivot_listed, row_at}
-use Rattle.affine_forms.specs.Checks.{Fits}
-use Rattle.tableau_row.specs.Rows.{IsRow, IsReduced, row_from}
+use Rattle.tableau_row.proofs.Words.{◌≡◌, ◌-◌, flat_map, take, drop, refl, ap, sym, ◌∙◌, ℕ, zero, suc, ◌+◌, ℤ, pos, negsuc, ◌*ℤ◌, ◌≤ℤ◌, Bool, true, false, ◌&&◌, List, length-set, arith, subst, IsTrue, All, slice_set, flat_map-append, ints, list_all-append, length-combine, fits, combine, entry, remove, all_fit, combine_listed, Row, substituted, eliminated, eliminated_listed, pivot_listed, row_at, Fits, IsRow, IsReduced, row_from}
 use Rattle.tableau_row.proofs.Contents.{content-divided}
 use Rattle.tableau_row.proofs.Unchanged.{eliminated-none, all_fit-append}
 

@@ -1,17 +1,6 @@
 -- A row whose entry in the pivot's column is 0, and whose numbers have no common divisor, stays as it is in a pivot. The pivot's listed
 -- numbers of the row are its own numbers times the pivot, and zeros.
-use Rattle.std.proofs.Common.{◌≡◌, ◌∙◌, refl, ap, sym, ℕ, zero, suc, ◌<◌, ℤ, pos, ◌-ℤ◌, ◌*ℤ◌, unsigned_abs, arith, List, [], ◌∷◌, ◌++◌, length, Bool, true, false, ◌&&◌}
-use Rattle.std.specs.Prelude.{slice_set, IsTrue, All}
-use Rattle.std.proofs.lemmas.List.Folds.{list_all-append}
-use Rattle.std.proofs.lemmas.List.Sums.{list_all-from_AllPass}
-use Rattle.std.proofs.lemmas.Int.{ints, unsigned_abs-mul}
-use Rattle.pip_model.specs.Numbers.{fits, floor_div, gcd, gcd_of}
-use Rattle.pip_model.specs.Forms.{entry, combine, floor_divided, remove, scale}
-use Rattle.pip_model.specs.Listed.{all_fit, combine_listed}
-use Rattle.pip_model.specs.Rows.{Row, divided, substituted, eliminated, eliminated_listed}
-use Rattle.pip_model.proofs.Division.{floor-unique}
-use Rattle.pip_model.proofs.Gcd.{common-scaled}
-use Rattle.tableau_row.specs.Rows.{content}
+use Rattle.tableau_row.proofs.Words.{◌≡◌, ◌∙◌, refl, ap, sym, ℕ, zero, suc, ◌<◌, ℤ, pos, ◌-ℤ◌, ◌*ℤ◌, unsigned_abs, arith, List, [], ◌∷◌, ◌++◌, length, Bool, true, false, ◌&&◌, slice_set, IsTrue, All, list_all-append, list_all-from_AllPass, ints, unsigned_abs-mul, fits, floor_div, gcd, gcd_of, entry, combine, floor_divided, remove, scale, all_fit, combine_listed, Row, divided, substituted, eliminated, eliminated_listed, floor-unique, common-scaled, content}
 
 -- ---- the divisor of multiples is the multiple of the divisor
 

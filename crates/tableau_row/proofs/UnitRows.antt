@@ -1,14 +1,6 @@
 -- The rows of columns, as they are found.
-use Rattle.std.proofs.Common.{◌≡◌, refl, ap, sym, ◌∙◌, ℕ, zero, suc, ◌+◌, ◌-◌, ◌<◌, ◌≤◌, ℤ, pos, negsuc, true, false, ◌&&◌, List, [], ◌∷◌, ◌++◌, length, take, drop, replicate, arith}
-use Rattle.std.specs.Prelude.{slice_set, IsTrue}
-use Rattle.std.specs.List.{list_all}
-use Rattle.std.proofs.lemmas.List.{drop-replicate, take-replicate, length-replicate, length-drop, take-append-drop, take_all, append-nil, get_or-drop, take_more, replicate_more}
-use Rattle.std.proofs.lemmas.Bool.{eqb-true}
-use Rattle.pip_model.specs.Numbers.{is_zero, same_number}
-use Rattle.pip_model.specs.Forms.{entry}
-use Rattle.pip_model.specs.Rows.{unit_row}
-use Rattle.pip_model.proofs.Tests.{both}
-use Rattle.tableau_row.specs.Flat.{is_unit, is_unit_row}
+use Rattle.tableau_row.proofs.Words.{◌≡◌, refl, ap, sym, ◌∙◌, ℕ, zero, suc, ◌+◌, ◌-◌, ◌<◌, ◌≤◌, ℤ, pos, negsuc, true, false, ◌&&◌, List, [], ◌∷◌, ◌++◌, length, take, drop, replicate, arith, slice_set, IsTrue, list_all, drop-replicate, take-replicate, length-replicate, length-drop, take-append-drop, take_all, get_or-drop, take_more, replicate_more, eqb-true, is_zero, same_number, entry, unit_row, both, is_unit, is_unit_row}
+use Rattle.std.proofs.lemmas.List.{append-nil}
 use Rattle.tableau_row.proofs.Places.{set_parts}
 
 -- zeros with a 1 at place c

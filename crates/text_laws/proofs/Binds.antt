@@ -1,6 +1,5 @@
 -- The laws of a do-block: what each step yields, the next may use.
-use Rattle.std.specs.Prelude.{Result, Ok, Err, IfOk}
-use Rattle.pip_model.specs.Reading.{◌>>=◌}
+use Rattle.text_laws.proofs.Words.{Result, Ok, Err, IfOk, ◌>>=◌}
 
 -- the first step yields a value of P, and from each such value the rest yields one of Q
 pub then-ok : {A B E : Type 0} (r : Result A E) (f : A → Result B E) (P : A → Type 0) (Q : B → Type 0) → IfOk r P → ((x : A) → P x → IfOk (f x) Q) → IfOk (r >>= f) Q

@@ -1,11 +1,5 @@
 -- An item that was read is a group: it ends where its brackets are balanced.
-use Rattle.std.proofs.Common.{◌≡◌, refl, ap, sym, ◌∙◌, subst, ℕ, suc, ◌+◌, ◌-◌, ◌<◌, ◌≤◌, arith, List, [], ◌∷◌, length, length-drop, inl, inr}
-use Rattle.std.proofs.lemmas.Bool.{cases_Bool}
-use Rattle.std.specs.Prelude.{take, drop, Ok, Some, None, Option, IfOk, IfSome}
-use Rattle.pip_model.specs.declared.Kind.TheVariants.{LeftParen}
-use Rattle.pip_model.specs.Tokens.{token}
-use Rattle.pip_model.specs.Reading.{Syntax, Reads, expect, same_bracket, closing, group, group_to, next_open, item, item_at}
-use Rattle.pip_model.specs.Moved.{Ended}
+use Rattle.text_laws.proofs.Words.{◌≡◌, refl, ap, sym, ◌∙◌, subst, ℕ, suc, ◌+◌, ◌-◌, ◌<◌, ◌≤◌, arith, List, [], ◌∷◌, length, length-drop, inl, inr, cases_Bool, take, drop, Ok, Some, None, Option, IfOk, IfSome, LeftParen, token, Syntax, Reads, expect, same_bracket, closing, group, group_to, next_open, item, item_at, Ended}
 use Rattle.text_laws.proofs.TokenTexts.{token-behind, drop-behind}
 use Rattle.text_laws.proofs.Places.{token-lies}
 use Rattle.text_laws.proofs.Groups.{closing-closes}

@@ -1,15 +1,5 @@
 -- What is read of a certificate has no more steps in a refutation than the text has bytes.
-use Rattle.std.proofs.Common.{arith, ◌≡◌, refl, ap₂, ℕ, zero, suc, ◌≤◌, List, length, Bool, true, inl, inr, le-leb}
-use Rattle.std.proofs.lemmas.Bool.{cases_Bool}
-use Rattle.std.specs.Prelude.{◌&&◌, drop, Option, Some, None, IfOk, IfSome, codes, ⊤}
-use Rattle.std.specs.List.{list_all}
-use Rattle.pip_model.specs.declared.Kind.{Kind}
-use Rattle.pip_model.specs.declared.Kind.TheVariants.{LeftParen, RightParen}
-use Rattle.pip_model.specs.Tokens.{token}
-use Rattle.pip_model.specs.Reading.{Reads, expect, same_bracket, up_to, item_at, next_open}
-use Rattle.pip_model.specs.TreeText.{expect_word}
-use Rattle.pip_model.specs.Certificate.{LeafProofs, step, list_of, shared_steps, leaf_proofs, version, vector, certificate_at, read_certificate}
-use Rattle.pip_model.specs.Printed.{has_few, few_steps}
+use Rattle.text_laws.proofs.Words.{arith, ◌≡◌, refl, ap₂, ℕ, zero, suc, ◌≤◌, List, length, Bool, true, inl, inr, le-leb, cases_Bool, ◌&&◌, drop, Option, Some, None, IfOk, IfSome, codes, ⊤, list_all, Kind, LeftParen, RightParen, token, Reads, expect, same_bracket, up_to, item_at, next_open, expect_word, LeafProofs, step, list_of, shared_steps, leaf_proofs, version, vector, certificate_at, read_certificate, has_few, few_steps}
 use Rattle.text_laws.proofs.Binds.{then-ok}
 use Rattle.text_laws.proofs.ReadPlaces.{any, weaker}
 

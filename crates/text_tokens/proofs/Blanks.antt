@@ -1,9 +1,7 @@
 -- A token behind one blank.
-use Rattle.std.proofs.Common.{◌≡◌, ◌≤◌, ℕ, ◌+◌, ◌∙◌, ap, true, false, List, [], ◌∷◌, length, drop, arith}
-use Rattle.std.specs.Prelude.{slice_index}
+use Rattle.text_tokens.proofs.Words.{◌≡◌, ◌≤◌, ℕ, ◌+◌, ◌∙◌, ap, true, false, List, [], ◌∷◌, length, drop, arith, slice_index, is_blank, lexeme, token_here, token_in}
 use Rattle.pip_model.specs.declared.Kind.{Kind}
 use Rattle.pip_model.specs.declared.Lexeme.{Lexeme}
-use Rattle.pip_model.specs.Tokens.{is_blank, lexeme, token_here, token_in}
 
 ends : (place len : ℕ) (kind : Kind) (t : Lexeme) → t ≡ lexeme (place + 1) kind len → (t.kind ≡ kind) × (t.after ≡ place + (len + 1))
 ends place len kind t e = (ap (λ (x : Lexeme). x.kind) e, ap (λ (x : Lexeme). x.after) e ∙ omega arith)

@@ -1,8 +1,5 @@
 -- One more byte of a group.
-use Rattle.std.proofs.Common.{◌≡◌, ◌≢◌, ℕ, ◌+◌, ◌<◌, List, length, drop, add-one, add-suc, drop-cons, refl}
-use Rattle.std.specs.Prelude.{slice_index}
-use Rattle.std.proofs.lemmas.Bool.{ne_eqb}
-use Rattle.pip_model.specs.Reading.{open_after, closing}
+use Rattle.text_tokens.proofs.Words.{◌≡◌, ◌≢◌, ℕ, ◌+◌, ◌<◌, List, length, drop, add-one, add-suc, drop-cons, refl, slice_index, ne_eqb, open_after, closing}
 
 pub closing_step : (depth now place i : ℕ) (rest : List ℕ) → i < length rest → now ≡ open_after depth (slice_index rest i) → now ≢ 0
     → closing depth (place + i) (drop i rest) ≡ closing now (place + (i + 1)) (drop (i + 1) rest)

@@ -1,13 +1,7 @@
 -- A number of one digit, behind which a byte stands that ends a number.
-use Rattle.std.proofs.Common.{◌≡◌, ◌≤◌, ℕ, ℤ, ◌+◌, ◌-◌, ◌^◌, ◌∙◌, ap, sym, true, false, pos, List, [], ◌∷◌, length, refl, arith}
-use Rattle.std.specs.Prelude.{◌==◌, ◌||◌, neg_ℤ, slice_index}
-use Rattle.std.proofs.lemmas.Bool.Decides.{nat_tests}
-use Rattle.std.proofs.lemmas.Bool.{lt-ltb}
-use Rattle.pip_model.specs.declared.Kind.TheVariants.{Number}
+use Rattle.text_tokens.proofs.Words.{◌≡◌, ◌≤◌, ℕ, ℤ, ◌+◌, ◌-◌, ◌^◌, ◌∙◌, ap, sym, true, false, pos, List, [], ◌∷◌, length, refl, arith, ◌==◌, ◌||◌, neg_ℤ, slice_index, nat_tests, lt-ltb, Number, Fits, is_sign, is_digit, digits_at, unsigned_part, behind_stroke, integer_of, lexeme, token_here}
 use Rattle.pip_model.proofs.Fitting.{fits-neg}
-use Rattle.affine_forms.specs.Checks.{Fits}
 use Rattle.text_tokens.proofs.ShortNumbers.{number_here}
-use Rattle.pip_model.specs.Tokens.{is_sign, is_digit, digits_at, unsigned_part, behind_stroke, integer_of, lexeme, token_here}
 
 digit_no_sign : (b : ℕ) → is_digit b ≡ true → is_sign b ≡ false
 digit_no_sign b h = grind (arith, nat_tests)

@@ -1,3 +1,4 @@
+mod Words
 pub mod Blanks
 pub mod Closing
 pub mod DigitNumbers

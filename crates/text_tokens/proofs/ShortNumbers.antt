@@ -1,11 +1,5 @@
 -- A number whose first byte is a sign or a digit, and behind which no stroke stands.
-use Rattle.std.proofs.Common.{◌≡◌, ◌≢◌, ℕ, ℤ, ◌+◌, ◌-◌, ◌∙◌, Bool, true, false, ◌⊎◌, inl, inr, List, [], ◌∷◌, length, drop, refl, arith}
-use Rattle.std.specs.Prelude.{◌==◌, ◌||◌}
-use Rattle.std.proofs.lemmas.Bool.Decides.{nat_tests}
-use Rattle.pip_model.specs.declared.Kind.TheVariants.{Number}
-use Rattle.std.proofs.lemmas.Bool.{ne_eqb}
-use Rattle.affine_forms.specs.Checks.{Fits}
-use Rattle.pip_model.specs.Tokens.{is_sign, is_digit, is_letter, digits_at, unsigned_part, behind_stroke, integer_of, lexeme, numeral_at, token_here}
+use Rattle.text_tokens.proofs.Words.{◌≡◌, ◌≢◌, ℕ, ℤ, ◌+◌, ◌-◌, ◌∙◌, Bool, true, false, ◌⊎◌, inl, inr, List, [], ◌∷◌, length, drop, refl, arith, ◌==◌, ◌||◌, nat_tests, Number, ne_eqb, Fits, is_sign, is_digit, is_letter, digits_at, unsigned_part, behind_stroke, integer_of, lexeme, numeral_at, token_here}
 
 not_40 : (b : ℕ) → (is_sign b || is_digit b) ≡ true → (b == 40) ≡ false
 not_40 b h = grind (arith, nat_tests)

@@ -1,4 +1,4 @@
-use Rattle.run_laws.proofs.ContextRight.{narrow_of}
+use Rattle.headline.proofs.Words.{narrow_of}
 use Rattle.refutation_laws.proofs.SameRun.{refute-same}
 use Rattle.headline.proofs.a_refutation_is_the_run_of_a_point.Goals as goal
 

@@ -1,7 +1,4 @@
-use Rattle.std.proofs.Common.{◌≡◌, rules, pos, ◌-◌, ◌+ℤ◌, ◌-ℤ◌, get_or, length, to_z, of_z}
-use Rattle.std.specs.Int.{w128}
-use Rattle.std.proofs.lemmas.List.Elements.{All-set}
-use Rattle.affine_forms.specs.Checks.{Fits}
+use Rattle.affine_forms.proofs.Words.{◌≡◌, rules, pos, ◌-◌, ◌+ℤ◌, ◌-ℤ◌, get_or, length, to_z, of_z, w128, All-set, Fits}
 use Rattle.affine_forms.proofs.QuotientForms.{plus_made, plus_listed}
 use Rattle.affine_forms.proofs.bounds.add_below.Goals as goal
 

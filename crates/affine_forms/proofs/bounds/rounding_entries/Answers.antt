@@ -1,4 +1,4 @@
-use Rattle.std.proofs.Common.{rules}
+use Rattle.affine_forms.proofs.Words.{rules}
 use Rattle.affine_forms.proofs.QuotientForms.{rounding_made}
 use Rattle.affine_forms.proofs.bounds.rounding_entries.Goals as goal
 

@@ -1,6 +1,4 @@
-use Rattle.std.proofs.Common.{rules, ◌≡◌, ◌*ℤ◌, ◌-ℤ◌, to_z, of_z, sym, subst}
-use Rattle.std.specs.Int.{w128}
-use Rattle.affine_forms.specs.Checks.{Fits}
+use Rattle.affine_forms.proofs.Words.{rules, ◌≡◌, ◌*ℤ◌, ◌-ℤ◌, to_z, of_z, sym, subst, w128, Fits}
 use Rattle.affine_forms.proofs.Short.{difference_listed, difference_is}
 use Rattle.affine_forms.proofs.combination.checked_difference.Goals as goal
 

@@ -1,9 +1,4 @@
-use Rattle.std.proofs.Common.{arith, rules, sym, ◌∙◌, length, length-append}
-use Rattle.std.proofs.lemmas.Int.{to_z-of_z}
-use Rattle.std.proofs.lemmas.Grind.{common_steps}
-use Rattle.std.proofs.lemmas.List.Elements.{All-push}
-use Rattle.std.proofs.lemmas.List.{take-append-le}
-use Rattle.affine_forms.specs.Checks.{Fits}
+use Rattle.affine_forms.proofs.Words.{arith, rules, sym, ◌∙◌, length, length-append, to_z-of_z, common_steps, All-push, take-append-le, Fits}
 use Rattle.affine_forms.proofs.Combined.{listed_step, listed_refused, listed_end, combine_step, combine_end}
 use Rattle.affine_forms.proofs.combination.push_combined.Goals as goal
 

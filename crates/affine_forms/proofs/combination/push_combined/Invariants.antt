@@ -1,8 +1,4 @@
-use Rattle.std.proofs.Common.{◌≡◌, ◌≤◌, length, drop, take, ◌++◌}
-use Rattle.std.specs.Prelude.{All}
-use Rattle.pip_model.specs.Forms.{combine}
-use Rattle.pip_model.specs.Listed.{combine_listed, all_fit}
-use Rattle.affine_forms.specs.Checks.{Fits}
+use Rattle.affine_forms.proofs.Words.{◌≡◌, ◌≤◌, length, drop, take, ◌++◌, All, combine, combine_listed, all_fit, Fits}
 use Rattle.affine_forms.proofs.combination.push_combined.Given as goal
 
 abbrev pub invariant-loop-i : goal.invariant-loop-i

@@ -1,5 +1,4 @@
-use Rattle.std.proofs.Common.{rules, ◌≡◌, ◌*ℤ◌, to_z, of_z}
-use Rattle.std.specs.Int.{w128}
+use Rattle.affine_forms.proofs.Words.{rules, ◌≡◌, ◌*ℤ◌, to_z, of_z, w128}
 use Rattle.affine_forms.proofs.Short.{difference_listed, short_fits}
 use Rattle.affine_forms.proofs.combination.short_difference.Goals as goal
 

@@ -1,7 +1,4 @@
-use Rattle.std.proofs.Common.{◌≡◌}
-use Rattle.std.specs.Prelude.{All}
-use Rattle.pip_model.specs.Numbers.{floor_div}
-use Rattle.affine_forms.specs.Checks.{Fits}
+use Rattle.affine_forms.proofs.Words.{◌≡◌, All, floor_div, Fits}
 use Rattle.affine_forms.proofs.Mapped.{mapped}
 use Rattle.affine_forms.proofs.division.divide_all.Given as goal
 

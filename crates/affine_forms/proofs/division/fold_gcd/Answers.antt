@@ -1,9 +1,6 @@
-use Rattle.std.proofs.Common.{arith}
-use Rattle.std.proofs.lemmas.Int.{to_z-of_z}
-use Rattle.std.proofs.lemmas.Grind.{common_steps}
+use Rattle.affine_forms.proofs.Words.{arith, to_z-of_z, common_steps, gcd_one}
 use Rattle.affine_forms.proofs.Divisors.{gcd_step}
 use Rattle.affine_forms.proofs.division.fold_gcd.Goals as goal
-use Rattle.pip_model.proofs.Gcd.{gcd_one}
 
 pub returns-then-found-eq1-clause-value : goal.returns-then-found-eq1-clause-value
 returns-then-found-eq1-clause-value c = grind (arith, common_steps, to_z-of_z, gcd_one)

@@ -1,6 +1,4 @@
-use Rattle.std.proofs.Common.{◌≡◌, ◌≤ℤ◌, pos, drop}
-use Rattle.pip_model.specs.Numbers.{gcd, gcd_of}
-use Rattle.affine_forms.specs.Checks.{Fits}
+use Rattle.affine_forms.proofs.Words.{◌≡◌, ◌≤ℤ◌, pos, drop, gcd, gcd_of, Fits}
 use Rattle.affine_forms.proofs.division.fold_gcd.Given as goal
 
 abbrev pub invariant-loop-entry : goal.invariant-loop-entry

@@ -1,7 +1,4 @@
-use Rattle.std.proofs.Common.{◌≡◌, take, map}
-use Rattle.std.specs.Prelude.{All}
-use Rattle.pip_model.specs.Numbers.{floor_mod}
-use Rattle.affine_forms.specs.Checks.{Fits}
+use Rattle.affine_forms.proofs.Words.{◌≡◌, take, map, All, floor_mod, Fits}
 use Rattle.affine_forms.proofs.division.remainders.Given as goal
 
 abbrev pub invariant-loop-entry : goal.invariant-loop-entry

@@ -1,7 +1,4 @@
-use Rattle.std.proofs.Common.{pos, get_or, neg_ℤ, arith, to_z, of_z}
-use Rattle.std.specs.Int.{w128}
-use Rattle.pip_model.specs.Numbers.{floor_mod}
-use Rattle.affine_forms.specs.Checks.{Fits}
+use Rattle.affine_forms.proofs.Words.{pos, get_or, neg_ℤ, arith, to_z, of_z, w128, floor_mod, Fits}
 use Rattle.affine_forms.proofs.Bits.{residue_made, held_fits}
 use Rattle.affine_forms.proofs.Mapped.{pushed_made, pushed_all}
 use Rattle.affine_forms.proofs.division.residues.Goals as goal

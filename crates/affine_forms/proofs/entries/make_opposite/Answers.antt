@@ -1,8 +1,4 @@
-use Rattle.std.proofs.Common.{arith, rules, ◌-◌, length}
-use Rattle.std.proofs.lemmas.Int.{to_z-of_z}
-use Rattle.std.proofs.lemmas.Grind.{common_steps}
-use Rattle.std.proofs.lemmas.List.Elements.{All-set}
-use Rattle.affine_forms.specs.Checks.{Fits}
+use Rattle.affine_forms.proofs.Words.{arith, rules, ◌-◌, length, to_z-of_z, common_steps, All-set, Fits}
 use Rattle.affine_forms.proofs.Opposites.{opposite_set}
 use Rattle.affine_forms.proofs.entries.make_opposite.Goals as goal
 

@@ -1,6 +1,4 @@
-use Rattle.std.proofs.Common.{pos, arith, rules}
-use Rattle.std.proofs.lemmas.List.Elements.{All-set}
-use Rattle.affine_forms.specs.Checks.{Fits}
+use Rattle.affine_forms.proofs.Words.{pos, arith, rules, All-set, Fits}
 use Rattle.affine_forms.proofs.Mapped.{mapped_step}
 use Rattle.affine_forms.proofs.entries.negate_all.Goals as goal
 

@@ -1,6 +1,4 @@
-use Rattle.std.proofs.Common.{◌≡◌, neg_ℤ}
-use Rattle.std.specs.Prelude.{All}
-use Rattle.affine_forms.specs.Checks.{Fits}
+use Rattle.affine_forms.proofs.Words.{◌≡◌, neg_ℤ, All, Fits}
 use Rattle.affine_forms.proofs.Mapped.{mapped}
 use Rattle.affine_forms.proofs.entries.negate_all.Given as goal
 

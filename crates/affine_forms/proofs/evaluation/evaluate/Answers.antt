@@ -1,6 +1,4 @@
-use Rattle.std.proofs.Common.{arith, rules, sym, subst, ◌∙◌, pos, get_or, length, to_z, of_z}
-use Rattle.std.specs.Int.{w128}
-use Rattle.affine_forms.specs.Checks.{Fits}
+use Rattle.affine_forms.proofs.Words.{arith, rules, sym, subst, ◌∙◌, pos, get_or, length, to_z, of_z, w128, Fits}
 use Rattle.affine_forms.proofs.Bits.{held, held_fits, held_is}
 use Rattle.affine_forms.proofs.Values.{value_listed_step, value_step, value_listed_end, value_end}
 use Rattle.affine_forms.proofs.evaluation.evaluate.Goals as goal

@@ -1,6 +1,4 @@
-use Rattle.std.proofs.Common.{◌≡◌, ◌+ℤ◌, drop}
-use Rattle.pip_model.specs.Forms.{dot, value}
-use Rattle.pip_model.specs.Listed.{all_fit, dot_listed, value_listed}
+use Rattle.affine_forms.proofs.Words.{◌≡◌, ◌+ℤ◌, drop, dot, value, all_fit, dot_listed, value_listed}
 use Rattle.affine_forms.proofs.Values.{vector_from}
 use Rattle.affine_forms.proofs.evaluation.evaluate.Given as goal
 

@@ -1,4 +1,4 @@
-use Rattle.std.proofs.Common.{arith, rules, sym, ◌∙◌}
+use Rattle.affine_forms.proofs.Words.{arith, rules, sym, ◌∙◌}
 use Rattle.affine_forms.proofs.Raising.{raised_step, raised_more, raised_end}
 use Rattle.affine_forms.proofs.multiples.check_raised.Goals as goal
 

@@ -1,8 +1,4 @@
-use Rattle.std.proofs.Common.{◌≡◌, take, drop, map}
-use Rattle.std.specs.Prelude.{All}
-use Rattle.pip_model.specs.Listed.{all_fit}
-use Rattle.affine_forms.specs.Checks.{Fits}
-use Rattle.affine_forms.specs.Forms.{raised}
+use Rattle.affine_forms.proofs.Words.{◌≡◌, take, drop, map, All, all_fit, Fits, raised}
 use Rattle.affine_forms.proofs.multiples.check_raised.Given as goal
 
 abbrev pub invariant-loop-entry : goal.invariant-loop-entry

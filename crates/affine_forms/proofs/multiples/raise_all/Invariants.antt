@@ -1,7 +1,4 @@
-use Rattle.std.proofs.Common.{◌≡◌}
-use Rattle.std.specs.Prelude.{All}
-use Rattle.affine_forms.specs.Checks.{Fits}
-use Rattle.affine_forms.specs.Forms.{raised}
+use Rattle.affine_forms.proofs.Words.{◌≡◌, All, Fits, raised}
 use Rattle.affine_forms.proofs.Mapped.{mapped}
 use Rattle.affine_forms.proofs.multiples.raise_all.Given as goal
 

@@ -1,12 +1,4 @@
-use Rattle.std.proofs.Common.{arith, rules, refl, map, ◌∙◌, ◌-ℤ◌}
-use Rattle.std.proofs.lemmas.Int.{to_z-of_z}
-use Rattle.std.proofs.lemmas.Grind.{common_steps}
-use Rattle.std.proofs.lemmas.List.Elements.{All-set}
-use Rattle.std.specs.Prelude.{IsFalse}
-use Rattle.pip_model.specs.Forms.{entry}
-use Rattle.pip_model.specs.Listed.{all_fit}
-use Rattle.affine_forms.specs.Checks.{Fits}
-use Rattle.affine_forms.specs.Forms.{raised}
+use Rattle.affine_forms.proofs.Words.{arith, rules, refl, map, ◌∙◌, ◌-ℤ◌, to_z-of_z, common_steps, All-set, IsFalse, entry, all_fit, Fits, raised}
 use Rattle.affine_forms.proofs.Raising.{rounded_parts, rounded_refused}
 use Rattle.affine_forms.proofs.multiples.round_form.Goals as goal
 

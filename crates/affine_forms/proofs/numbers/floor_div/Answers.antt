@@ -1,7 +1,4 @@
-use Rattle.std.proofs.Common.{rules, ◌≡◌, to_z, of_z}
-use Rattle.std.specs.Int.{w64, w128}
-use Rattle.pip_model.specs.Numbers.{floor_div}
-use Rattle.pip_model.proofs.Gcd.{quotient_positive}
+use Rattle.affine_forms.proofs.Words.{rules, ◌≡◌, to_z, of_z, w64, w128, floor_div, quotient_positive}
 use Rattle.affine_forms.proofs.Bits.{quotient_fits}
 use Rattle.affine_forms.proofs.numbers.floor_div.Goals as goal
 

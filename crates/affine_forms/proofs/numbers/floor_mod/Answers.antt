@@ -1,4 +1,4 @@
-use Rattle.std.proofs.Common.{rules}
+use Rattle.affine_forms.proofs.Words.{rules}
 use Rattle.affine_forms.proofs.numbers.floor_mod.Goals as goal
 
 pub returns-then-is_short-2-clause-value : goal.returns-then-is_short-2-clause-value

@@ -1,8 +1,5 @@
-use Rattle.std.proofs.Common.{rules, ◌≡◌, to_z}
-use Rattle.std.specs.Int.{w128}
-use Rattle.pip_model.specs.Numbers.{gcd}
+use Rattle.affine_forms.proofs.Words.{rules, ◌≡◌, to_z, w128, gcd, gcd_between}
 use Rattle.affine_forms.proofs.numbers.gcd.Goals as goal
-use Rattle.pip_model.proofs.Gcd.{gcd_between}
 
 pub returns-clause-positive : goal.returns-clause-positive
 returns-clause-positive c =

@@ -1,7 +1,5 @@
-use Rattle.std.proofs.Common.{arith, ◌^◌}
-use Rattle.std.proofs.lemmas.Nat.Gcd.{IsGcd-from_zero, IsGcd-from_mod}
+use Rattle.affine_forms.proofs.Words.{arith, ◌^◌, IsGcd-from_zero, IsGcd-from_mod, euclid_only, euclid_below}
 use Rattle.affine_forms.proofs.numbers.gcd_natural.Goals as goal
-use Rattle.pip_model.proofs.Gcd.{euclid_only, euclid_below}
 
 pub loop-y-preserved : goal.loop-y-preserved
 loop-y-preserved c = λ g h. c.loop-y.invariant g (IsGcd-from_mod _ _ g h)

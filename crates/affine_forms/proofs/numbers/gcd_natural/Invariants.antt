@@ -1,5 +1,4 @@
-use Rattle.std.proofs.Common.{ℕ}
-use Rattle.std.specs.Int.{IsGcd}
+use Rattle.affine_forms.proofs.Words.{ℕ, IsGcd}
 use Rattle.affine_forms.proofs.numbers.gcd_natural.Given as goal
 
 abbrev pub invariant-loop-y : goal.invariant-loop-y

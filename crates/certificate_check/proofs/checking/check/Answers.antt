@@ -1,5 +1,4 @@
-use Rattle.std.proofs.Common.{rules}
-use Rattle.quast.specs.Answers.{answer_of}
+use Rattle.certificate_check.proofs.Words.{rules, answer_of}
 use Rattle.check_laws.proofs.CheckSound.{accepted-right}
 use Rattle.certificate_check.proofs.checking.check.Goals as goal
 

@@ -1,5 +1,4 @@
-use Rattle.std.proofs.Common.{◌≡◌, drop}
-use Rattle.pip_model.specs.Share.{same_terms}
+use Rattle.certificate_check.proofs.Words.{◌≡◌, drop, same_terms}
 use Rattle.certificate_check.proofs.common.are_same_terms.Given as goal
 
 abbrev pub invariant-loop-i : goal.invariant-loop-i

@@ -1,5 +1,4 @@
-use Rattle.std.proofs.Common.{◌≡◌, ◌++◌, take, drop}
-use Rattle.pip_model.specs.Share.{common_front}
+use Rattle.certificate_check.proofs.Words.{◌≡◌, ◌++◌, take, drop, common_front}
 use Rattle.certificate_check.proofs.common.common_len.Given as goal
 
 abbrev pub invariant-loop-i : goal.invariant-loop-i

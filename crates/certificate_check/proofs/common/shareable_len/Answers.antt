@@ -1,4 +1,4 @@
-use Rattle.std.proofs.Common.{◌≡◌, arith}
+use Rattle.certificate_check.proofs.Words.{◌≡◌, arith}
 use Rattle.certificate_check.proofs.Commons.{share_done}
 use Rattle.certificate_check.proofs.common.shareable_len.Goals as goal
 

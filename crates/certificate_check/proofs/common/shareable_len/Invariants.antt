@@ -1,5 +1,4 @@
-use Rattle.std.proofs.Common.{◌≡◌, ◌++◌, take, drop, map}
-use Rattle.pip_model.specs.Share.{shareable, renumbered, lowered}
+use Rattle.certificate_check.proofs.Words.{◌≡◌, ◌++◌, take, drop, map, shareable, renumbered, lowered}
 use Rattle.certificate_check.proofs.common.shareable_len.Given as goal
 
 abbrev pub invariant-loop-i : goal.invariant-loop-i

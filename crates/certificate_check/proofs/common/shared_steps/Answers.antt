@@ -1,6 +1,4 @@
-use Rattle.std.proofs.Common.{◌≡◌, ◌+◌, ◌-◌, sym, ◌∙◌, ap, ℕ, drop, map, get_or, arith, rules}
-use Rattle.pip_model.specs.Share.{shareable, common_front, shared_by}
-use Rattle.certificate_check.specs.Sharing.{sized}
+use Rattle.certificate_check.proofs.Words.{◌≡◌, ◌+◌, ◌-◌, sym, ◌∙◌, ap, ℕ, drop, map, get_or, arith, rules, shareable, common_front, shared_by, sized}
 use Rattle.certificate_check.proofs.Commons.{shared_step}
 use Rattle.certificate_check.proofs.common.shared_steps.Goals as goal
 

@@ -1,6 +1,4 @@
-use Rattle.std.proofs.Common.{◌≡◌, ◌<◌, drop, map, length}
-use Rattle.pip_model.specs.Share.{shared_by}
-use Rattle.certificate_check.specs.Sharing.{sized}
+use Rattle.certificate_check.proofs.Words.{◌≡◌, ◌<◌, drop, map, length, shared_by, sized}
 use Rattle.certificate_check.proofs.common.shared_steps.Given as goal
 
 abbrev pub invariant-loop-r : goal.invariant-loop-r

@@ -1,5 +1,4 @@
-use Rattle.std.proofs.Common.{◌≡◌, length, ap, ◌∙◌, arith, rules}
-use Rattle.pip_model.specs.Forms.{opposite}
+use Rattle.certificate_check.proofs.Words.{◌≡◌, length, ap, ◌∙◌, arith, rules, opposite}
 use Rattle.pip_model.proofs.Forms.{length-opposite}
 use Rattle.certificate_check.proofs.path.opposite_of.Goals as goal
 

@@ -1,7 +1,4 @@
-use Rattle.std.proofs.Common.{◌≡◌, ◌+◌, ℤ, List, length, ap, ◌∙◌, arith, rules}
-use Rattle.pip_model.specs.Cuts.{Quotient, upper_bound}
-use Rattle.pip_model.proofs.Bounds.{length-bounds}
-use Rattle.leaf_check.proofs.Smaller.{if_ok}
+use Rattle.certificate_check.proofs.Words.{◌≡◌, ◌+◌, ℤ, List, length, ap, ◌∙◌, arith, rules, Quotient, upper_bound, length-bounds, if_ok}
 use Rattle.certificate_check.proofs.path.upper.Goals as goal
 
 pub returns-clause-value : goal.returns-clause-value

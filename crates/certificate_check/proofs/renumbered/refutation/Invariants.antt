@@ -1,4 +1,4 @@
-use Rattle.std.proofs.Common.{◌≡◌}
+use Rattle.certificate_check.proofs.Words.{◌≡◌}
 use Rattle.certificate_check.proofs.renumbered.refutation.Given as goal
 
 abbrev pub invariant-loop-step : goal.invariant-loop-step

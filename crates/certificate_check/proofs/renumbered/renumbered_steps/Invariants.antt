@@ -1,6 +1,4 @@
-use Rattle.std.proofs.Common.{◌≡◌, take, map}
-use Rattle.pip_model.specs.Share.{renumbered}
-use Rattle.certificate_check.specs.Sharing.{index_of}
+use Rattle.certificate_check.proofs.Words.{◌≡◌, take, map, renumbered, index_of}
 use Rattle.certificate_check.proofs.renumbered.renumbered_steps.Given as goal
 
 abbrev pub invariant-loop-step : goal.invariant-loop-step

@@ -1,7 +1,5 @@
-use Rattle.std.proofs.Common.{◌≡◌, ℤ, pos, [], ◌∷◌, ◌++◌, get_or, arith}
+use Rattle.certificate_check.proofs.Words.{◌≡◌, ℤ, pos, [], ◌∷◌, ◌++◌, get_or, arith, to_z-of_z, index_of}
 use Rattle.std.proofs.lemmas.Grind.{common_steps}
-use Rattle.std.proofs.lemmas.Int.{to_z-of_z}
-use Rattle.certificate_check.specs.Sharing.{index_of}
 use Rattle.certificate_check.proofs.Commons.{mapped_step}
 use Rattle.certificate_check.proofs.renumbered.renumbered_terms.Goals as goal
 

@@ -1,5 +1,4 @@
-use Rattle.std.proofs.Common.{◌≡◌, ℤ, take, map}
-use Rattle.certificate_check.specs.Sharing.{index_of}
+use Rattle.certificate_check.proofs.Words.{◌≡◌, ℤ, take, map, index_of}
 use Rattle.certificate_check.proofs.renumbered.renumbered_terms.Given as goal
 
 abbrev pub invariant-loop-term : goal.invariant-loop-term

@@ -1,4 +1,4 @@
-use Rattle.std.proofs.Common.{◌≡◌, take}
+use Rattle.certificate_check.proofs.Words.{◌≡◌, take}
 use Rattle.certificate_check.proofs.sharing.copied_proofs.Given as goal
 
 abbrev pub invariant-loop-steps : goal.invariant-loop-steps

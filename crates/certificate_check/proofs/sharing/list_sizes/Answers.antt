@@ -1,4 +1,4 @@
-use Rattle.std.proofs.Common.{rules}
+use Rattle.certificate_check.proofs.Words.{rules}
 use Rattle.certificate_check.proofs.Commons.{counts_step}
 use Rattle.certificate_check.proofs.sharing.list_sizes.Goals as goal
 

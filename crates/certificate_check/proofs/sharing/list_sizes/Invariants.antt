@@ -1,5 +1,4 @@
-use Rattle.std.proofs.Common.{◌≡◌, ◌++◌, replicate}
-use Rattle.certificate_check.specs.Sharing.{counts_from}
+use Rattle.certificate_check.proofs.Words.{◌≡◌, ◌++◌, replicate, counts_from}
 use Rattle.certificate_check.proofs.sharing.list_sizes.Given as goal
 
 abbrev pub invariant-loop-i : goal.invariant-loop-i

@@ -1,8 +1,4 @@
-use Rattle.std.proofs.Common.{◌≡◌, sym, ◌∙◌, false, true, subst, rules}
-use Rattle.std.proofs.lemmas.Result.{IfOk-weaker}
-use Rattle.pip_model.specs.Check.{Accepted}
-use Rattle.pip_model.specs.Share.{share, shared_leaves}
-use Rattle.quast.specs.Answers.{answer_of}
+use Rattle.certificate_check.proofs.Words.{◌≡◌, sym, ◌∙◌, false, true, subst, rules, IfOk-weaker, Accepted, share, shared_leaves, answer_of}
 use Rattle.check_laws.proofs.ShareAccepted.{share-accepted, share-made}
 use Rattle.certificate_check.proofs.sharing.share.Goals as goal
 

@@ -1,7 +1,4 @@
-use Rattle.std.proofs.Common.{◌≡◌, sym, ◌∙◌, ap, ℕ, List, length, map, get_or, arith, rules}
-use Rattle.pip_model.specs.Certificate.{Refutation, LeafProofs}
-use Rattle.pip_model.specs.Share.{shared_by, after_shared}
-use Rattle.certificate_check.specs.Sharing.{sized}
+use Rattle.certificate_check.proofs.Words.{◌≡◌, sym, ◌∙◌, ap, ℕ, List, length, map, get_or, arith, rules, Refutation, LeafProofs, shared_by, after_shared, sized}
 use Rattle.certificate_check.proofs.Commons.{shared_within, moved_step, moved_all}
 use Rattle.certificate_check.proofs.sharing.share_proofs.Goals as goal
 

@@ -1,6 +1,4 @@
-use Rattle.std.proofs.Common.{◌≡◌, take, map}
-use Rattle.pip_model.specs.Share.{shared_by, after_shared}
-use Rattle.certificate_check.specs.Sharing.{sized}
+use Rattle.certificate_check.proofs.Words.{◌≡◌, take, map, shared_by, after_shared, sized}
 use Rattle.certificate_check.proofs.sharing.share_proofs.Given as goal
 
 abbrev pub invariant-loop-r : goal.invariant-loop-r

@@ -1,8 +1,4 @@
-use Rattle.std.proofs.Common.{◌≡◌, ◌∙◌, ap, ap₂, ◌+◌, get_or, ℤ, ℕ, List, [], length, subst, rules, true}
-use Rattle.pip_model.specs.Tree.{Tree, Answer, Solved}
-use Rattle.pip_model.specs.Certificate.{Certificate}
-use Rattle.pip_model.specs.Check.{Accepted}
-use Rattle.quast.specs.Answers.{answer_of}
+use Rattle.certificate_check.proofs.Words.{◌≡◌, ◌∙◌, ap, ap₂, ◌+◌, get_or, ℤ, ℕ, List, [], length, subst, rules, true, Tree, Answer, Solved, Certificate, Accepted, answer_of}
 use Rattle.certificate_check.proofs.Shares.{accepted_counted, void_made, tree_made}
 use Rattle.certificate_check.proofs.sharing.shared_certificate.Goals.{in-Void+in_ok-share_proofs-in-Void+in_ok-push-in-Void, in-Tree+in_ok-share_node-in-Tree}
 use Rattle.certificate_check.proofs.sharing.shared_certificate.Goals as goal

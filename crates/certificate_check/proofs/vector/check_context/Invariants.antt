@@ -1,5 +1,4 @@
-use Rattle.std.proofs.Common.{◌≡◌, drop}
-use Rattle.pip_model.specs.Check.{check_context}
+use Rattle.certificate_check.proofs.Words.{◌≡◌, drop, check_context}
 use Rattle.certificate_check.proofs.vector.check_context.Given as goal
 
 abbrev pub invariant-loop-row : goal.invariant-loop-row

@@ -1,8 +1,4 @@
-use Rattle.std.proofs.Common.{rules, ◌≡◌, ◌∙◌, refl, ap, arith, List, [], ◌∷◌, ◌++◌, length, append-nil}
-use Rattle.pip_model.specs.Rows.{Row}
-use Rattle.pip_model.specs.Run.{Outcome, Done, go_on}
-use Rattle.run_counts.proofs.Counting.{counted_on}
-use Rattle.context.specs.Remembered.{replayed, finds_point}
+use Rattle.context.proofs.Words.{rules, ◌≡◌, ◌∙◌, refl, ap, arith, List, [], ◌∷◌, ◌++◌, length, append-nil, Row, Outcome, Done, go_on, counted_on, replayed, finds_point}
 use Rattle.context.proofs.Ending.{asked_end, ends_alone}
 use Rattle.context.proofs.alone.find.Goals as goal
 

@@ -1,8 +1,4 @@
-use Rattle.std.proofs.Common.{rules, ◌≡◌, [], ◌∷◌}
-use Rattle.pip_model.specs.Forms.{widen_to}
-use Rattle.pip_model.specs.Rows.{form_row}
-use Rattle.pip_model.specs.Run.{Done}
-use Rattle.context.specs.Remembered.{replayed}
+use Rattle.context.proofs.Words.{rules, ◌≡◌, [], ◌∷◌, widen_to, form_row, Done, replayed}
 use Rattle.context.proofs.Ending.{asked_end}
 use Rattle.context.proofs.asking.ask.Goals as goal
 

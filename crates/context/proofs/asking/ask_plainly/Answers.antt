@@ -1,7 +1,4 @@
-use Rattle.std.proofs.Common.{rules, ◌≡◌, [], ◌∷◌, ◌++◌}
-use Rattle.pip_model.specs.Forms.{widen_to}
-use Rattle.pip_model.specs.Rows.{form_row}
-use Rattle.context.specs.Remembered.{first_rows}
+use Rattle.context.proofs.Words.{rules, ◌≡◌, [], ◌∷◌, ◌++◌, widen_to, form_row, first_rows}
 use Rattle.context.proofs.asking.ask_plainly.Goals as goal
 
 pub returns : goal.returns

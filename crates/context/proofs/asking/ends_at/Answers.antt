@@ -1,8 +1,4 @@
-use Rattle.std.proofs.Common.{rules, ◌≡◌, true, false}
-use Rattle.std.specs.List.{list_any}
-use Rattle.pip_model.specs.Forms.{constant}
-use Rattle.pip_model.specs.Numbers.{is_nonneg, is_positive}
-use Rattle.pip_model.specs.Rows.{row_at}
+use Rattle.context.proofs.Words.{rules, ◌≡◌, true, false, list_any, constant, is_nonneg, is_positive, row_at}
 use Rattle.context.proofs.Ending.{ends_point, ends_none}
 use Rattle.context.proofs.asking.ends_at.Goals as goal
 

@@ -1,6 +1,4 @@
-use Rattle.std.proofs.Common.{rules, ap, ◌≡◌, ◌∙◌, ◌++◌, List, [], ◌∷◌}
-use Rattle.pip_model.specs.Rows.{Row, row_at}
-use Rattle.tableau.specs.Tableaus.{TableauRows}
+use Rattle.context.proofs.Words.{rules, ap, ◌≡◌, ◌∙◌, ◌++◌, List, [], ◌∷◌, Row, row_at, TableauRows}
 use Rattle.context.proofs.Ending.{only}
 use Rattle.context.proofs.asking.go_on.Goals as goal
 

@@ -1,8 +1,4 @@
-use Rattle.std.proofs.Common.{rules, ◌≡◌, ◌∙◌, ◌<◌, sym, get_or, length}
-use Rattle.pip_model.specs.Rows.{row_at}
-use Rattle.pip_model.specs.Run.{Done}
-use Rattle.context.specs.Remembered.{turned}
-use Rattle.run_counts.proofs.Counting.{counted_on}
+use Rattle.context.proofs.Words.{rules, ◌≡◌, ◌∙◌, ◌<◌, sym, get_or, length, row_at, Done, turned, counted_on}
 use Rattle.context.proofs.Replaying.{replayed-on}
 use Rattle.context.proofs.asking.replay.Goals as goal
 

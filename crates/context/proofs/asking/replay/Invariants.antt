@@ -1,6 +1,4 @@
-use Rattle.std.proofs.Common.{◌≡◌, length, drop}
-use Rattle.run_counts.specs.Counts.{HasCounted}
-use Rattle.context.specs.Remembered.{replayed}
+use Rattle.context.proofs.Words.{◌≡◌, length, drop, HasCounted, replayed}
 use Rattle.context.proofs.asking.replay.Given as goal
 
 abbrev pub invariant-loop-i : goal.invariant-loop-i

@@ -1,8 +1,4 @@
-use Rattle.std.proofs.Common.{rules, ◌≡◌, ◌∙◌, subst, get_or}
-use Rattle.std.proofs.lemmas.Grind.{get_or_default_zero}
-use Rattle.pip_model.specs.Rows.{row_at}
-use Rattle.pip_model.specs.Run.{Done}
-use Rattle.context.specs.Remembered.{turned}
+use Rattle.context.proofs.Words.{rules, ◌≡◌, ◌∙◌, subst, get_or, get_or_default_zero, row_at, Done, turned}
 use Rattle.context.proofs.Replaying.{turned-made}
 use Rattle.context.proofs.asking.turn_rows.Goals as goal
 

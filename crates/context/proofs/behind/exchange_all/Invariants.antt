@@ -1,5 +1,4 @@
-use Rattle.std.proofs.Common.{◌≡◌, drop, length}
-use Rattle.context.specs.Traces.{exchanges}
+use Rattle.context.proofs.Words.{◌≡◌, drop, length, exchanges}
 use Rattle.context.proofs.behind.exchange_all.Given as goal
 
 abbrev pub invariant-loop-i : goal.invariant-loop-i

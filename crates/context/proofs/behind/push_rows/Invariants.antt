@@ -1,4 +1,4 @@
-use Rattle.std.proofs.Common.{◌≡◌, ◌++◌, take}
+use Rattle.context.proofs.Words.{◌≡◌, ◌++◌, take}
 use Rattle.context.proofs.behind.push_rows.Given as goal
 
 abbrev pub invariant-loop-i : goal.invariant-loop-i

@@ -1,6 +1,4 @@
-use Rattle.std.proofs.Common.{◌≡◌, map, take}
-use Rattle.pip_model.specs.Forms.{widen_to}
-use Rattle.pip_model.specs.Rows.{form_row}
+use Rattle.context.proofs.Words.{◌≡◌, map, take, widen_to, form_row}
 use Rattle.context.proofs.behind.start_forms.Given as goal
 
 abbrev pub invariant-loop-form : goal.invariant-loop-form

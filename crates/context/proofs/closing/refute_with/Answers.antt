@@ -1,9 +1,4 @@
-use Rattle.std.proofs.Common.{rules, arith, ◌≡◌, ◌∙◌, ap, sym, ◌+◌, ◌++◌, length, length-append}
-use Rattle.pip_model.specs.Forms.{entry}
-use Rattle.pip_model.specs.Rows.{row_at}
-use Rattle.pip_model.specs.Refuting.{with_step, last_step}
-use Rattle.context.specs.Traces.{IsClosing}
-use Rattle.run_counts.proofs.Counting.{counted_none}
+use Rattle.context.proofs.Words.{rules, arith, ◌≡◌, ◌∙◌, ap, sym, ◌+◌, ◌++◌, length, length-append, entry, row_at, with_step, last_step, IsClosing, counted_none}
 use Rattle.context.proofs.EndingBehind.{refuted-behind}
 use Rattle.context.proofs.closing.refute_with.Goals as goal
 

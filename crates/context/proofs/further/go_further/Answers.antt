@@ -1,5 +1,4 @@
-use Rattle.std.proofs.Common.{◌∙◌, sym, subst, ℕ, ◌++◌}
-use Rattle.context.specs.Remembered.{IsReplay, first_rows}
+use Rattle.context.proofs.Words.{◌∙◌, sym, subst, ℕ, ◌++◌, IsReplay, first_rows}
 use Rattle.context.proofs.further.go_further.Goals as goal
 
 pub returns : goal.returns

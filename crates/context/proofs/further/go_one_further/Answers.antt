@@ -1,6 +1,4 @@
-use Rattle.std.proofs.Common.{◌∙◌, sym, subst, ℕ, [], ◌∷◌, ◌++◌, List}
-use Rattle.pip_model.specs.Rows.{Row}
-use Rattle.context.specs.Remembered.{IsReplay, first_rows}
+use Rattle.context.proofs.Words.{◌∙◌, sym, subst, ℕ, [], ◌∷◌, ◌++◌, List, Row, IsReplay, first_rows}
 use Rattle.context.proofs.OneFormMore.{first_more}
 use Rattle.context.proofs.further.go_one_further.Goals as goal
 

@@ -1,8 +1,4 @@
-use Rattle.std.proofs.Common.{rules, ◌≡◌, ◌∙◌, refl, ap, sym, subst, ℕ, ◌+◌, ◌<◌, ℤ, List, [], ◌∷◌, ◌++◌, length, take, append-nil}
-use Rattle.std.proofs.lemmas.List.{take_more}
-use Rattle.pip_model.specs.Forms.{widen_to}
-use Rattle.pip_model.specs.Rows.{Row, form_row}
-use Rattle.context.specs.Remembered.{IsReplay, first_rows}
+use Rattle.context.proofs.Words.{rules, ◌≡◌, ◌∙◌, refl, ap, sym, subst, ℕ, ◌+◌, ◌<◌, ℤ, List, [], ◌∷◌, ◌++◌, length, take, append-nil, take_more, widen_to, Row, form_row, IsReplay, first_rows}
 use Rattle.context.proofs.FurtherRows.{append-assoc}
 use Rattle.context.proofs.OneFormMore.{first_more}
 use Rattle.context.proofs.further.push_all_further.Goals as goal

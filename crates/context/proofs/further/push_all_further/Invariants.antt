@@ -1,5 +1,4 @@
-use Rattle.std.proofs.Common.{◌≡◌, ℤ, List, ◌++◌, take}
-use Rattle.context.specs.Remembered.{IsFormed, IsReplay, first_rows}
+use Rattle.context.proofs.Words.{◌≡◌, ℤ, List, ◌++◌, take, IsFormed, IsReplay, first_rows}
 use Rattle.context.proofs.further.push_all_further.Given as goal
 
 abbrev pub invariant-loop-form : goal.invariant-loop-form

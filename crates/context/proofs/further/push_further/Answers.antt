@@ -1,8 +1,4 @@
-use Rattle.std.proofs.Common.{rules, arith, ◌≡◌, ◌∙◌, refl, ap, subst, List, [], ◌∷◌, ◌++◌, length, length-append}
-use Rattle.pip_model.specs.Forms.{widen_to}
-use Rattle.pip_model.specs.Rows.{Row, row_at, form_row}
-use Rattle.tableau.specs.Tableaus.{TableauRows}
-use Rattle.context.specs.Remembered.{IsTurned}
+use Rattle.context.proofs.Words.{rules, arith, ◌≡◌, ◌∙◌, refl, ap, subst, List, [], ◌∷◌, ◌++◌, length, length-append, widen_to, Row, row_at, form_row, TableauRows, IsTurned}
 use Rattle.context.proofs.Ending.{only}
 use Rattle.context.proofs.GoingFurther.{reaches_further, retraces_further}
 use Rattle.context.proofs.Retracing.{retraces-made}

@@ -1,11 +1,5 @@
-use Rattle.std.proofs.Common.{rules, ◌≡◌, ◌∙◌, ap, subst, ℕ, ◌+◌, ◌<◌, List, length, map, get_or, drop, true}
-use Rattle.std.specs.Prelude.{flat_map}
-use Rattle.std.proofs.lemmas.Grind.{get_or_default_zero}
-use Rattle.pip_model.specs.Listed.{all_fit}
-use Rattle.pip_model.specs.Rows.{Row, row_at, eliminated, eliminated_listed}
+use Rattle.context.proofs.Words.{rules, ◌≡◌, ◌∙◌, ap, subst, ℕ, ◌+◌, ◌<◌, List, length, map, get_or, drop, true, flat_map, get_or_default_zero, all_fit, Row, row_at, eliminated, eliminated_listed, TableauRows, IsTurned}
 use Rattle.run_laws.proofs.Lengths.{length_map}
-use Rattle.tableau.specs.Tableaus.{TableauRows}
-use Rattle.context.specs.Remembered.{IsTurned}
 use Rattle.context.proofs.GoingFurther.{turned_at}
 use Rattle.context.proofs.further.turn_by_all.Goals as goal
 

@@ -1,6 +1,4 @@
-use Rattle.std.proofs.Common.{◌≡◌, List, length, drop}
-use Rattle.pip_model.specs.Rows.{Row}
-use Rattle.context.specs.Remembered.{IsTurned}
+use Rattle.context.proofs.Words.{◌≡◌, List, length, drop, Row, IsTurned}
 use Rattle.context.proofs.further.turn_by_all.Given as goal
 
 abbrev pub invariant-loop-i : goal.invariant-loop-i

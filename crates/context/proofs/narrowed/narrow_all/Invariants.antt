@@ -1,5 +1,4 @@
-use Rattle.std.proofs.Common.{◌≡◌, map, take}
-use Rattle.pip_model.specs.Made.{narrow_to}
+use Rattle.context.proofs.Words.{◌≡◌, map, take, narrow_to}
 use Rattle.context.proofs.narrowed.narrow_all.Given as goal
 
 abbrev pub invariant-loop-form : goal.invariant-loop-form

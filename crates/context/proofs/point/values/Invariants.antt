@@ -1,7 +1,4 @@
-use Rattle.std.proofs.Common.{◌≡◌, map, take}
-use Rattle.pip_model.specs.Forms.{constant}
-use Rattle.pip_model.specs.Tree.{Component}
-use Rattle.pip_model.specs.Run.{row_component}
+use Rattle.context.proofs.Words.{◌≡◌, map, take, constant, Component, row_component}
 use Rattle.context.proofs.point.values.Given as goal
 
 abbrev pub invariant-loop-i : goal.invariant-loop-i

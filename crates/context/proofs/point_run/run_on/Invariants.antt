@@ -1,7 +1,4 @@
-use Rattle.std.proofs.Common.{◌≡◌, ◌≤◌, length}
-use Rattle.pip_model.specs.Run.{run_from, point_setting, left}
-use Rattle.run_counts.specs.Counts.{HasCounted}
-use Rattle.context.specs.Turns.{node_of, HasSameScope}
+use Rattle.context.proofs.Words.{◌≡◌, ◌≤◌, length, run_from, point_setting, left, HasCounted, node_of, HasSameScope}
 use Rattle.context.proofs.point_run.run_on.Given as goal
 
 abbrev pub invariant-loop : goal.invariant-loop

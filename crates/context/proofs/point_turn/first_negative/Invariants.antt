@@ -1,5 +1,4 @@
-use Rattle.std.proofs.Common.{◌≡◌, drop}
-use Rattle.context.specs.Turns.{negative_from}
+use Rattle.context.proofs.Words.{◌≡◌, drop, negative_from}
 use Rattle.context.proofs.point_turn.first_negative.Given as goal
 
 abbrev pub invariant-loop-i : goal.invariant-loop-i

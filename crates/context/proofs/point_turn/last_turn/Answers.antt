@@ -1,10 +1,4 @@
-use Rattle.std.proofs.Common.{rules, ◌≡◌, ◌∙◌, refl, sym, arith, subst, length}
-use Rattle.std.specs.Prelude.{IfSome}
-use Rattle.std.proofs.lemmas.Grind.{common_steps}
-use Rattle.pip_model.specs.Rows.{row_at}
-use Rattle.pip_model.specs.Run.{Refused, Done}
-use Rattle.pip_problem.specs.Faults.{run_fault}
-use Rattle.context.specs.Turns.{counted_cut}
+use Rattle.context.proofs.Words.{rules, ◌≡◌, ◌∙◌, refl, sym, arith, subst, length, IfSome, common_steps, row_at, Refused, Done, run_fault, counted_cut}
 use Rattle.context.proofs.Turning.{cut_again, cut_refused}
 use Rattle.context.proofs.point_turn.last_turn.Goals as goal
 

@@ -1,7 +1,4 @@
-use Rattle.std.proofs.Common.{rules, arith, ◌≡◌, subst, is_some, Some, None}
-use Rattle.std.proofs.lemmas.Grind.{common_steps}
-use Rattle.pip_model.specs.Run.{Done, turn_by, MinusAt, point_setting}
-use Rattle.context.specs.Turns.{node_of, pivoted}
+use Rattle.context.proofs.Words.{rules, arith, ◌≡◌, subst, is_some, Some, None, common_steps, Done, turn_by, MinusAt, point_setting, node_of, pivoted}
 use Rattle.context.proofs.point_turn.pivot_turn.Goals as goal
 
 pub returns-in_err-c-clause-gives : goal.returns-in_err-c-clause-gives

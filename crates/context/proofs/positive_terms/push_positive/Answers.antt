@@ -1,7 +1,4 @@
-use Rattle.std.proofs.Common.{rules, ◌≡◌, true, false, [], ◌∷◌, ◌++◌}
-use Rattle.pip_model.specs.Numbers.{is_positive}
-use Rattle.pip_model.specs.Forms.{entry}
-use Rattle.pip_model.specs.Refuting.{positive_terms}
+use Rattle.context.proofs.Words.{rules, ◌≡◌, true, false, [], ◌∷◌, ◌++◌, is_positive, entry, positive_terms}
 use Rattle.context.proofs.Positives.{push-here, push-later, kept-here, longer-here}
 use Rattle.context.proofs.positive_terms.push_positive.Goals as goal
 use Rattle.context.proofs.positive_terms.push_positive.Goals.{then-positive+in_ok-push, else-positive}

@@ -1,5 +1,4 @@
-use Rattle.std.proofs.Common.{◌≡◌, ◌≤◌, ◌++◌, drop, take, length}
-use Rattle.pip_model.specs.Refuting.{positive_terms}
+use Rattle.context.proofs.Words.{◌≡◌, ◌≤◌, ◌++◌, drop, take, length, positive_terms}
 use Rattle.context.proofs.positive_terms.push_positive.Given as goal
 
 abbrev pub invariant-loop-i : goal.invariant-loop-i

@@ -1,9 +1,4 @@
-use Rattle.std.proofs.Common.{◌≡◌, ◌≤◌, length}
-use Rattle.pip_model.specs.Run.{left}
-use Rattle.pip_model.specs.Refuting.{refute_from}
-use Rattle.run_counts.specs.Counts.{HasCounted}
-use Rattle.context.specs.Traces.{IsTraced}
-use Rattle.context.specs.Turns.{node_of, HasSameScope}
+use Rattle.context.proofs.Words.{◌≡◌, ◌≤◌, length, left, refute_from, HasCounted, IsTraced, node_of, HasSameScope}
 use Rattle.context.proofs.refute.refute_on.Given as goal
 
 abbrev pub invariant-loop-r : goal.invariant-loop-r

@@ -1,10 +1,4 @@
-use Rattle.std.proofs.Common.{rules, arith, ◌≡◌, ◌∙◌, ap, sym, subst, true, false, Some, length}
-use Rattle.std.specs.Prelude.{IfSome}
-use Rattle.std.proofs.lemmas.Grind.{common_steps}
-use Rattle.pip_model.specs.Run.{Done, Refused}
-use Rattle.pip_model.specs.Refuting.{first_trace}
-use Rattle.pip_problem.specs.Faults.{run_fault}
-use Rattle.context.specs.Traces.{steps_if}
+use Rattle.context.proofs.Words.{rules, arith, ◌≡◌, ◌∙◌, ap, sym, subst, true, false, Some, length, IfSome, common_steps, Done, Refused, first_trace, run_fault, steps_if}
 use Rattle.context.proofs.Tracing.{first-traced, first-run}
 use Rattle.context.proofs.refute.run.Goals as goal
 

@@ -1,6 +1,4 @@
-use Rattle.std.proofs.Common.{rules, arith, ◌∙◌, ap, length}
-use Rattle.tableau.specs.Tableaus.{TableauRows}
-use Rattle.run_laws.proofs.RowsAt.{length_pivot}
+use Rattle.context.proofs.Words.{rules, arith, ◌∙◌, ap, length, TableauRows, length_pivot}
 use Rattle.context.proofs.FurtherRows.{IsStep}
 use Rattle.context.proofs.Replaying.{reaches_more}
 use Rattle.context.proofs.Retracing.{retraces-more, retraces-made, within-more, places-more}

@@ -1,6 +1,4 @@
-use Rattle.std.proofs.Common.{◌≡◌, List}
-use Rattle.pip_model.specs.Rows.{Row}
-use Rattle.context.specs.Remembered.{IsFormed, IsReplay}
+use Rattle.context.proofs.Words.{◌≡◌, List, Row, IsFormed, IsReplay}
 use Rattle.context.proofs.remembered.run_up.Given as goal
 
 abbrev pub invariant-loop : goal.invariant-loop

@@ -1,5 +1,4 @@
-use Rattle.std.proofs.Common.{rules, ◌≡◌, ◌-◌, ◌++◌, length, drop, replicate, pos}
-use Rattle.pip_model.specs.Forms.{width, coefficients}
+use Rattle.context.proofs.Words.{rules, ◌≡◌, ◌-◌, ◌++◌, length, drop, replicate, pos, width, coefficients}
 use Rattle.context.proofs.WidenedRows.{filled, widened_row}
 use Rattle.context.proofs.rows.push_widened.Goals as goal
 

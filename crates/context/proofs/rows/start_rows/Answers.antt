@@ -1,7 +1,4 @@
-use Rattle.std.proofs.Common.{◌≡◌, ◌∙◌, ap, ◌++◌, [], ◌∷◌, List, ℤ, get_or}
-use Rattle.pip_model.specs.Forms.{widen_to}
-use Rattle.pip_model.specs.Rows.{form_row}
-use Rattle.tableau.specs.Tableaus.{TableauRows}
+use Rattle.context.proofs.Words.{◌≡◌, ◌∙◌, ap, ◌++◌, [], ◌∷◌, List, ℤ, get_or, widen_to, form_row, TableauRows}
 use Rattle.context.proofs.WidenedRows.{start_more}
 use Rattle.context.proofs.rows.start_rows.Goals as goal
 

@@ -1,13 +1,4 @@
-use Rattle.std.proofs.Common.{rules, arith, ◌≡◌, refl, ◌<◌, [], ◌∷◌, ◌++◌, length, Some, None, slice_set}
-use Rattle.pip_model.specs.Forms.{entry}
-use Rattle.pip_model.specs.Tree.{Bottom}
-use Rattle.pip_model.specs.Rows.{row_at, entering, first_fraction}
-use Rattle.pip_model.specs.Cuts.{constant_cut}
-use Rattle.pip_model.specs.Run.{Again, Closed, Done, turn, point_setting}
-use Rattle.pip_model.specs.Refuting.{refute_from, with_step, last_step}
-use Rattle.context.specs.Traces.{with_cut}
-use Rattle.context.specs.Turns.{negative_from, node_of}
-use Rattle.run_counts.proofs.Counting.{counted_on}
+use Rattle.context.proofs.Words.{rules, arith, ◌≡◌, refl, ◌<◌, [], ◌∷◌, ◌++◌, length, Some, None, slice_set, entry, Bottom, row_at, entering, first_fraction, constant_cut, Again, Closed, Done, turn, point_setting, refute_from, with_step, last_step, with_cut, negative_from, node_of, counted_on}
 use Rattle.context.proofs.Leaving.{scope_on}
 use Rattle.context.proofs.Tracing.{bottom-made, pivot-made, cut-made, traced-pivot, traced-cut, refutes-on, refutes-less, refutes-bottom}
 use Rattle.context.proofs.short_refute.refute_on.Goals as goal

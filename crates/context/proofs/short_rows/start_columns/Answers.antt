@@ -1,5 +1,4 @@
-use Rattle.std.proofs.Common.{refl}
-use Rattle.pip_model.specs.Rows.{unit_row}
+use Rattle.context.proofs.Words.{refl, unit_row}
 use Rattle.tableau.proofs.RowLaws.{count_map}
 use Rattle.context.proofs.short_rows.start_columns.Goals as goal
 

@@ -1,5 +1,4 @@
-use Rattle.std.proofs.Common.{◌≡◌, map}
-use Rattle.pip_model.specs.Rows.{count_from, unit_row}
+use Rattle.context.proofs.Words.{◌≡◌, map, count_from, unit_row}
 use Rattle.context.proofs.short_rows.start_columns.Given as goal
 
 abbrev pub invariant-loop-c : goal.invariant-loop-c

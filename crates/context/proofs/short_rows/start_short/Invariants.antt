@@ -1,6 +1,4 @@
-use Rattle.std.proofs.Common.{◌≡◌, map, take}
-use Rattle.pip_model.specs.Forms.{widen_to}
-use Rattle.pip_model.specs.Rows.{start}
+use Rattle.context.proofs.Words.{◌≡◌, map, take, widen_to, start}
 use Rattle.context.proofs.short_rows.start_short.Given as goal
 
 abbrev pub invariant-loop-form : goal.invariant-loop-form

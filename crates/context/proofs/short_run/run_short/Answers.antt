@@ -1,11 +1,4 @@
-use Rattle.std.proofs.Common.{rules, arith, ◌≡◌, refl, subst}
-use Rattle.std.specs.Prelude.{IfSome}
-use Rattle.std.proofs.lemmas.Grind.{common_steps}
-use Rattle.pip_model.specs.Tree.{Bottom}
-use Rattle.pip_model.specs.Run.{Again, Closed, Done, Refused, turn, point_setting, leaf}
-use Rattle.context.specs.Stops.{stop_fault}
-use Rattle.context.specs.Turns.{node_of}
-use Rattle.run_counts.proofs.Counting.{counted_none, counted_on}
+use Rattle.context.proofs.Words.{rules, arith, ◌≡◌, refl, subst, IfSome, common_steps, Bottom, Again, Closed, Done, Refused, turn, point_setting, leaf, stop_fault, node_of, counted_none, counted_on}
 use Rattle.context.proofs.Leaving.{scope_none, scope_on}
 use Rattle.context.proofs.Pointing.{run_goes_on, run_less, run_closed, run_refused}
 use Rattle.context.proofs.short_run.run_short.Goals as goal

@@ -1,7 +1,4 @@
-use Rattle.std.proofs.Common.{rules, ◌≡◌, ◌∙◌, ap, sym, pos, ◌++◌, [], ◌∷◌, List, ℤ, append_assoc}
-use Rattle.std.proofs.lemmas.List.Elements.{All-push}
-use Rattle.pip_model.specs.Refuting.{indices}
-use Rattle.affine_forms.specs.Checks.{Fits}
+use Rattle.context.proofs.Words.{rules, ◌≡◌, ◌∙◌, ap, sym, pos, ◌++◌, [], ◌∷◌, List, ℤ, append_assoc, All-push, indices, Fits}
 use Rattle.context.proofs.Positives.{indices-more}
 use Rattle.context.proofs.trace.with_forms.Goals as goal
 

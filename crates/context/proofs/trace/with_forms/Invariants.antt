@@ -1,6 +1,4 @@
-use Rattle.std.proofs.Common.{◌≡◌, ◌++◌, All}
-use Rattle.pip_model.specs.Refuting.{indices}
-use Rattle.affine_forms.specs.Checks.{Fits}
+use Rattle.context.proofs.Words.{◌≡◌, ◌++◌, All, indices, Fits}
 use Rattle.context.proofs.trace.with_forms.Given as goal
 
 abbrev pub invariant-loop-i : goal.invariant-loop-i

@@ -1,5 +1,4 @@
-use Rattle.std.proofs.Common.{rules}
-use Rattle.pip_model.specs.Rows.{row_at}
+use Rattle.gomory_cut.proofs.Words.{rules, row_at}
 use Rattle.tableau.specs.Views.{row_of}
 use Rattle.gomory_cut.proofs.Roundings.{parametric_made}
 use Rattle.gomory_cut.proofs.cuts.push_cut.Goals as goal

@@ -1,5 +1,4 @@
-use Rattle.std.proofs.Common.{◌≡◌, drop, take}
-use Rattle.pip_model.specs.Rows.{fraction_from, first_fraction}
+use Rattle.gomory_cut.proofs.Words.{◌≡◌, drop, take, fraction_from, first_fraction}
 use Rattle.gomory_cut.proofs.fractions.find_fraction.Given as goal
 
 abbrev pub invariant-loop-i : goal.invariant-loop-i

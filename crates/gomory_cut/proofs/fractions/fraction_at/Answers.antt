@@ -1,5 +1,4 @@
-use Rattle.std.proofs.Common.{rules}
-use Rattle.pip_model.specs.Rows.{row_at}
+use Rattle.gomory_cut.proofs.Words.{rules, row_at}
 use Rattle.gomory_cut.proofs.Wholes.{whole_one}
 use Rattle.gomory_cut.proofs.fractions.fraction_at.Goals as goal
 

@@ -1,4 +1,4 @@
-use Rattle.std.proofs.Common.{rules}
+use Rattle.gomory_cut.proofs.Words.{rules}
 use Rattle.gomory_cut.proofs.Residues.{residue_entries}
 use Rattle.gomory_cut.proofs.fractions.residue_of.Goals as goal
 

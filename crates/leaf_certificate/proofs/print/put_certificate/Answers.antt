@@ -1,6 +1,4 @@
-use Rattle.std.proofs.Common.{rules, codes}
-use Rattle.pip_model.specs.Certificate.{spell_leaves}
-use Rattle.leaf_certificate.specs.Printing.{spell_head}
+use Rattle.leaf_certificate.proofs.Words.{rules, codes, spell_leaves, spell_head}
 use Rattle.leaf_certificate.proofs.Spellings.{joined}
 use Rattle.leaf_certificate.proofs.print.put_certificate.Goals as goal
 

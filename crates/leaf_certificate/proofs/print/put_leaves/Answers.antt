@@ -1,7 +1,5 @@
-use Rattle.std.proofs.Common.{◌++◌, ◌∙◌, ap, arith}
-use Rattle.text_printing.proofs.Spellings.{written}
+use Rattle.leaf_certificate.proofs.Words.{◌++◌, ◌∙◌, ap, arith, written, spell_leaf}
 use Rattle.leaf_certificate.proofs.Spellings.{leaves_flat}
-use Rattle.leaf_certificate.specs.Printing.{spell_leaf}
 use Rattle.leaf_certificate.proofs.print.put_leaves.Goals as goal
 
 pub returns-clause-ok : goal.returns-clause-ok

@@ -1,5 +1,4 @@
-use Rattle.std.proofs.Common.{◌≡◌, ◌++◌, take, flat_map}
-use Rattle.leaf_certificate.specs.Printing.{spell_step}
+use Rattle.leaf_certificate.proofs.Words.{◌≡◌, ◌++◌, take, flat_map, spell_step}
 use Rattle.leaf_certificate.proofs.print.put_steps.Given as goal
 
 abbrev pub invariant-loop-step : goal.invariant-loop-step

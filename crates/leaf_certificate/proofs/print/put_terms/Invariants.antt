@@ -1,5 +1,4 @@
-use Rattle.std.proofs.Common.{◌≡◌, ◌++◌, take, flat_map}
-use Rattle.leaf_certificate.specs.Printing.{spell_term}
+use Rattle.leaf_certificate.proofs.Words.{◌≡◌, ◌++◌, take, flat_map, spell_term}
 use Rattle.leaf_certificate.proofs.print.put_terms.Given as goal
 
 abbrev pub invariant-loop-term : goal.invariant-loop-term

@@ -1,11 +1,4 @@
-use Rattle.std.proofs.Common.{◌≡◌, rules, Ok, codes}
-use Rattle.std.proofs.lemmas.Result.{err_from_is_err_and}
-use Rattle.pip_model.specs.declared.Kind.TheVariants.{LeftParen}
-use Rattle.pip_model.specs.Reading.{expect}
-use Rattle.pip_model.specs.TreeText.{expect_word}
-use Rattle.pip_model.specs.Certificate.{version, vector}
-use Rattle.text_reading.specs.Steps.{fault_of}
-use Rattle.leaf_certificate.specs.Sequences.{leaves_to_end}
+use Rattle.leaf_certificate.proofs.Words.{◌≡◌, rules, Ok, codes, err_from_is_err_and, LeftParen, expect, expect_word, version, vector, fault_of, leaves_to_end}
 use Rattle.certificate_parts.specs.Vectors.{numbers_of}
 use Rattle.leaf_certificate.proofs.Certificates.{vector_refused, certificate_made}
 use Rattle.leaf_certificate.proofs.read.certificate_at.Goals as goal

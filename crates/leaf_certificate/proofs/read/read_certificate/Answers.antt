@@ -1,9 +1,8 @@
-use Rattle.std.proofs.Common.{drop, suc}
+use Rattle.leaf_certificate.proofs.Words.{drop, suc, read_certificate}
 use Rattle.std.specs.Prelude.{IsTrue}
 use Rattle.std.specs.List.{list_all}
 use Rattle.pip_model.specs.Moved.{is_closed}
 use Rattle.pip_model.specs.Printed.{certificate_fits}
-use Rattle.pip_model.specs.Certificate.{read_certificate}
 use Rattle.text_laws.proofs.ReadPlaces.{Read}
 use Rattle.text_laws.proofs.ReadCertificates.{read_certificate-none, read_certificate-reads}
 use Rattle.leaf_certificate.proofs.Found.{found_none, found_certificate}

@@ -1,11 +1,5 @@
-use Rattle.std.proofs.Common.{◌≡◌, ◌++◌, ◌∷◌, [], rules, true, false, Ok}
+use Rattle.leaf_certificate.proofs.Words.{◌≡◌, ◌++◌, ◌∷◌, [], rules, true, false, Ok, err_from_is_err_and, RightRow, token, same_bracket, number, Fits, fault_of}
 use Rattle.std.proofs.lemmas.List.Elements.{All-push}
-use Rattle.std.proofs.lemmas.Result.{err_from_is_err_and}
-use Rattle.pip_model.specs.declared.Kind.TheVariants.{RightRow}
-use Rattle.pip_model.specs.Tokens.{token}
-use Rattle.pip_model.specs.Reading.{same_bracket, number}
-use Rattle.affine_forms.specs.Checks.{Fits}
-use Rattle.text_reading.specs.Steps.{fault_of}
 use Rattle.leaf_certificate.proofs.Sequences.{reaches_next, reaches_end, reaches_refused}
 use Rattle.leaf_certificate.proofs.read.read_numbers.Goals as goal
 

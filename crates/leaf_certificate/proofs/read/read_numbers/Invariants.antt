@@ -1,8 +1,4 @@
-use Rattle.std.proofs.Common.{◌-◌, length}
-use Rattle.std.specs.Prelude.{All}
-use Rattle.affine_forms.specs.Checks.{Fits}
-use Rattle.pip_model.specs.declared.Kind.TheVariants.{RightRow}
-use Rattle.pip_model.specs.Reading.{number}
+use Rattle.leaf_certificate.proofs.Words.{◌-◌, length, All, Fits, RightRow, number}
 use Rattle.leaf_certificate.proofs.Sequences.{Reaches}
 use Rattle.leaf_certificate.proofs.read.read_numbers.Given as goal
 

@@ -1,10 +1,4 @@
-use Rattle.std.proofs.Common.{◌≡◌, ◌++◌, ◌∷◌, [], rules, true, false, Ok}
-use Rattle.std.proofs.lemmas.Result.{err_from_is_err_and}
-use Rattle.pip_model.specs.declared.Kind.TheVariants.{RightParen}
-use Rattle.pip_model.specs.Tokens.{token}
-use Rattle.pip_model.specs.Reading.{same_bracket}
-use Rattle.pip_model.specs.Certificate.{leaf_proofs}
-use Rattle.text_reading.specs.Steps.{fault_of}
+use Rattle.leaf_certificate.proofs.Words.{◌≡◌, ◌++◌, ◌∷◌, [], rules, true, false, Ok, err_from_is_err_and, RightParen, token, same_bracket, leaf_proofs, fault_of}
 use Rattle.leaf_certificate.proofs.Sequences.{reaches_next, reaches_end, reaches_refused}
 use Rattle.leaf_certificate.proofs.read_leaf.read_leaves.Goals as goal
 

@@ -1,6 +1,4 @@
-use Rattle.std.proofs.Common.{◌-◌, length}
-use Rattle.pip_model.specs.declared.Kind.TheVariants.{RightParen}
-use Rattle.pip_model.specs.Certificate.{term}
+use Rattle.leaf_certificate.proofs.Words.{◌-◌, length, RightParen, term}
 use Rattle.leaf_certificate.proofs.Sequences.{Reaches}
 use Rattle.leaf_certificate.proofs.read_step.read_terms.Given as goal
 

@@ -1,4 +1,4 @@
-use Rattle.std.proofs.Common.{rules}
+use Rattle.leaf_check.proofs.Words.{rules}
 use Rattle.leaf_check.proofs.Making.{row_made}
 use Rattle.leaf_check.proofs.forms.turned_row.Goals as goal
 

@@ -1,6 +1,4 @@
-use Rattle.std.proofs.Common.{◌≡◌, ◌∙◌, rules}
-use Rattle.std.specs.Int.{w128}
-use Rattle.std.proofs.lemmas.Int.{to_z-of_z}
+use Rattle.leaf_check.proofs.Words.{◌≡◌, ◌∙◌, rules, w128, to_z-of_z}
 use Rattle.leaf_check.proofs.goals.add_component.Goals as goal
 
 pub returns-clause-listed : goal.returns-clause-listed

@@ -1,6 +1,4 @@
-use Rattle.std.proofs.Common.{◌≡◌, ◌+◌, ℤ, negsuc, List, length, ap, ◌∙◌, rules}
-use Rattle.pip_model.specs.Forms.{plus}
-use Rattle.pip_model.specs.Check.{not_above}
+use Rattle.leaf_check.proofs.Words.{◌≡◌, ◌+◌, ℤ, negsuc, List, length, ap, ◌∙◌, rules, plus, not_above}
 use Rattle.leaf_check.proofs.Smaller.{below_is, below_listed, length-smaller, if_ok}
 use Rattle.leaf_check.proofs.goals.form_below.Goals as goal
 

@@ -1,5 +1,4 @@
-use Rattle.std.proofs.Common.{◌≡◌, ◌+◌, ℤ, List, length, ap, ◌∙◌, rules}
-use Rattle.pip_model.specs.Check.{not_above}
+use Rattle.leaf_check.proofs.Words.{◌≡◌, ◌+◌, ℤ, List, length, ap, ◌∙◌, rules, not_above}
 use Rattle.leaf_check.proofs.Smaller.{not_above_is, length-not_above, if_ok}
 use Rattle.leaf_check.proofs.goals.not_above.Goals as goal
 

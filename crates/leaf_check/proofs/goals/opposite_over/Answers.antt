@@ -1,6 +1,4 @@
-use Rattle.std.proofs.Common.{◌≡◌, ◌∙◌, ap, length, arith, rules}
-use Rattle.pip_model.specs.Forms.{opposite, widen_to}
-use Rattle.pip_model.proofs.Forms.{length-opposite, length-widened}
+use Rattle.leaf_check.proofs.Words.{◌≡◌, ◌∙◌, ap, length, arith, rules, opposite, widen_to, length-opposite, length-widened}
 use Rattle.leaf_check.proofs.goals.opposite_over.Goals as goal
 
 pub overflow_sub-more : goal.overflow_sub-more

@@ -1,7 +1,4 @@
-use Rattle.std.proofs.Common.{arith, rules, sym, ◌∙◌, refl, get_or, pos}
-use Rattle.std.specs.Int.{w128}
-use Rattle.std.proofs.lemmas.Int.{to_z-of_z}
-use Rattle.std.proofs.lemmas.Result.{err_from_is_err_and}
+use Rattle.leaf_check.proofs.Words.{arith, rules, sym, ◌∙◌, refl, get_or, pos, w128, to_z-of_z, err_from_is_err_and}
 use Rattle.leaf_check.proofs.Smaller.{put_refused, put_listed_end, put_end}
 use Rattle.leaf_check.proofs.goals.put_in.Goals as goal
 

@@ -1,8 +1,4 @@
-use Rattle.std.proofs.Common.{◌≡◌, drop, length}
-use Rattle.std.specs.Prelude.{All}
-use Rattle.pip_model.specs.Check.{put_in, put_in_listed}
-use Rattle.pip_model.specs.Listed.{all_fit}
-use Rattle.affine_forms.specs.Checks.{Fits}
+use Rattle.leaf_check.proofs.Words.{◌≡◌, drop, length, All, put_in, put_in_listed, all_fit, Fits}
 use Rattle.leaf_check.proofs.goals.put_in.Given as goal
 
 abbrev pub invariant-loop-i : goal.invariant-loop-i

@@ -1,10 +1,4 @@
-use Rattle.std.proofs.Common.{rules, drop}
-use Rattle.std.proofs.lemmas.Result.{err_from_is_err_and}
-use Rattle.pip_model.specs.Forms.{widen_to}
-use Rattle.pip_model.specs.Listed.{opposite_listed}
-use Rattle.pip_model.specs.Check.{put_in, put_in_listed}
-use Rattle.pip_model.proofs.Fitting.{fit_never}
-use Rattle.affine_forms.specs.Checks.{is_form_overflow}
+use Rattle.leaf_check.proofs.Words.{rules, drop, err_from_is_err_and, widen_to, opposite_listed, put_in, put_in_listed, fit_never, is_form_overflow}
 use Rattle.leaf_check.proofs.Smaller.{checked_behind}
 use Rattle.leaf_check.proofs.goals.row_goal.Goals as goal
 

@@ -1,5 +1,4 @@
-use Rattle.std.proofs.Common.{◌≡◌, ap, arith, rules, length}
-use Rattle.std.specs.Prelude.{option_copied}
+use Rattle.leaf_check.proofs.Words.{◌≡◌, ap, arith, rules, length, option_copied}
 use Rattle.leaf_check.proofs.Owned.{goals_of_list}
 use Rattle.leaf_check.proofs.leaf.refutation_count.Goals as goal
 

@@ -1,8 +1,5 @@
-use Rattle.std.proofs.Common.{arith, rules, sym, ◌∙◌}
-use Rattle.std.proofs.lemmas.Int.{to_z-of_z}
-use Rattle.std.proofs.lemmas.Grind.{common_steps}
+use Rattle.leaf_check.proofs.Words.{arith, rules, sym, ◌∙◌, to_z-of_z, common_steps, Fits}
 use Rattle.std.proofs.lemmas.List.Elements.{All-set}
-use Rattle.affine_forms.specs.Checks.{Fits}
 use Rattle.leaf_check.proofs.Sums.{entries_step, multiple_step, multiple_refused, multiple_fits}
 use Rattle.leaf_check.proofs.sum.add_multiple.Goals as goal
 

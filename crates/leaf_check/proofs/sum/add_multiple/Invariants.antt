@@ -1,8 +1,4 @@
-use Rattle.std.proofs.Common.{◌≡◌, ◌++◌, drop, take, length}
-use Rattle.std.specs.Prelude.{All}
-use Rattle.pip_model.specs.Check.{plus_term}
-use Rattle.pip_model.specs.Listed.{all_fit}
-use Rattle.affine_forms.specs.Checks.{Fits}
+use Rattle.leaf_check.proofs.Words.{◌≡◌, ◌++◌, drop, take, length, All, plus_term, all_fit, Fits}
 use Rattle.leaf_check.proofs.Sums.{entries_listed}
 use Rattle.leaf_check.proofs.sum.add_multiple.Given as goal
 

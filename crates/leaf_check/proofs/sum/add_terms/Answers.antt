@@ -1,6 +1,4 @@
-use Rattle.std.proofs.Common.{arith, pos}
-use Rattle.std.proofs.lemmas.Result.{err_from_is_err_and}
-use Rattle.leaf_check.specs.Faults.{fault_of, spot_of}
+use Rattle.leaf_check.proofs.Words.{arith, pos, err_from_is_err_and, fault_of, spot_of}
 use Rattle.leaf_check.proofs.Sums.{terms_refused}
 use Rattle.leaf_check.proofs.sum.add_terms.Goals as goal
 

@@ -1,8 +1,4 @@
-use Rattle.std.proofs.Common.{◌≡◌, drop, length}
-use Rattle.std.specs.Prelude.{All}
-use Rattle.pip_model.specs.Check.{sum_of}
-use Rattle.affine_forms.specs.Checks.{Fits}
-use Rattle.leaf_check.specs.Faults.{spot_of}
+use Rattle.leaf_check.proofs.Words.{◌≡◌, drop, length, All, sum_of, Fits, spot_of}
 use Rattle.leaf_check.proofs.sum.add_terms.Given as goal
 
 abbrev pub invariant-loop-term : goal.invariant-loop-term

@@ -1,4 +1,4 @@
-use Rattle.std.proofs.Common.{rules}
+use Rattle.new_parameters.proofs.Words.{rules}
 use Rattle.new_parameters.proofs.RoundingLaws.{overflow_never}
 use Rattle.new_parameters.proofs.bounds.upper_bound.Goals as goal
 

@@ -1,6 +1,4 @@
-use Rattle.std.proofs.Common.{rules, ◌≡◌, ◌-◌, pos, false, take, get_or, arith, sym, ap, ◌∙◌}
-use Rattle.std.specs.Ordering.{int_eq}
-use Rattle.new_parameters.specs.Keys.{trimmed}
+use Rattle.new_parameters.proofs.Words.{rules, ◌≡◌, ◌-◌, pos, false, take, get_or, arith, sym, ap, ◌∙◌, int_eq, trimmed}
 use Rattle.new_parameters.proofs.Trimming.{trimmed-take_zero, trimmed-take_other}
 use Rattle.new_parameters.proofs.quotient.trim_zeros.Goals.{then-loop-count-test+else-numbers-count-eq0, else-loop-count-test}
 use Rattle.new_parameters.proofs.quotient.trim_zeros.Goals as goal

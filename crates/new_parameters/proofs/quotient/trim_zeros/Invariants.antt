@@ -1,5 +1,4 @@
-use Rattle.std.proofs.Common.{◌≡◌, ◌≤◌, length, take}
-use Rattle.new_parameters.specs.Keys.{trimmed}
+use Rattle.new_parameters.proofs.Words.{◌≡◌, ◌≤◌, length, take, trimmed}
 use Rattle.new_parameters.proofs.quotient.trim_zeros.Given as goal
 
 abbrev pub invariant-loop-count : goal.invariant-loop-count

@@ -1,8 +1,5 @@
-use Rattle.std.proofs.Common.{inl, ◌∙◌, ◌-◌, map, string_bytes}
-use Rattle.std.specs.Prelude.{Ok, Err}
+use Rattle.pip_cli.proofs.Words.{inl, ◌∙◌, ◌-◌, map, string_bytes, Ok, Err, ending_of, WritesOf}
 use Rattle.std.proofs.KnownBytes.{Appends-nil}
-use Rattle.pip_endings.specs.Endings.{ending_of}
-use Rattle.pip_items.specs.ByProblem.{WritesOf}
 use Rattle.pip_cli.proofs.Asked.{command-asked}
 use Rattle.pip_cli.proofs.Ends.{read_fault-by, write_fault-by, line-gained, is-noted, where_told}
 use Rattle.pip_cli.proofs.ByProblem.{ends-of, right-of, complete-of, is-read}

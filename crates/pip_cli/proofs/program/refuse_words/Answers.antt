@@ -1,4 +1,4 @@
-use Rattle.program_model.specs.Endings.{memory_ending}
+use Rattle.pip_cli.proofs.Words.{memory_ending}
 use Rattle.pip_cli.proofs.Ends.{line-gained}
 use Rattle.pip_cli.proofs.program.refuse_words.Goals as goal
 

@@ -1,6 +1,4 @@
-use Rattle.std.proofs.Common.{arith, refl, ◌∙◌}
-use Rattle.std.proofs.lemmas.Result.{err_from_is_err_and}
-use Rattle.pip_outside.proofs.Faults.{counts-none}
+use Rattle.pip_items.proofs.Words.{arith, refl, ◌∙◌, err_from_is_err_and, counts-none}
 use Rattle.std.proofs.lemmas.Grind.{common_steps}
 use Rattle.pip_items.proofs.ByProblem.{counts-failed}
 use Rattle.pip_items.proofs.Turns.{takes-read}

@@ -1,8 +1,4 @@
-use Rattle.std.proofs.Common.{◌≡◌, ◌+◌, ◌-◌, ◌≤◌, vec_len}
-use Rattle.std.specs.Prelude.{IfSome}
-use Rattle.std.specs.Io.KnownBytes.{Consumes}
-use Rattle.pip_outside.specs.Calls.{Takes}
-use Rattle.pip_model.specs.Limits.{most_input_bytes}
+use Rattle.pip_items.proofs.Words.{◌≡◌, ◌+◌, ◌-◌, ◌≤◌, vec_len, IfSome, Consumes, Takes, most_input_bytes}
 use Rattle.pip_items.proofs.input.read_input.Given as goal
 
 abbrev pub invariant-loop-buf : goal.invariant-loop-buf

@@ -1,6 +1,4 @@
-use Rattle.std.proofs.Common.{rules, refl, ◌∙◌}
-use Rattle.std.proofs.lemmas.Result.{err_from_is_err_and}
-use Rattle.pip_outside.proofs.Faults.{counts-none}
+use Rattle.pip_items.proofs.Words.{rules, refl, ◌∙◌, err_from_is_err_and, counts-none}
 use Rattle.pip_items.proofs.ByProblem.{own-not, err-same, counts-failed}
 use Rattle.pip_items.proofs.Written.{one_more, front_of_one, at_none, at_refusal}
 use Rattle.pip_items.proofs.items.write_items.Goals as goal

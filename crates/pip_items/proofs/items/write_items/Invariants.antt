@@ -1,6 +1,4 @@
-use Rattle.std.proofs.Common.{◌≡◌, ◌-◌, ◌≤◌, []}
-use Rattle.program_model.specs.Commands.{item_text}
-use Rattle.pip_items.specs.Items.{Gained}
+use Rattle.pip_items.proofs.Words.{◌≡◌, ◌-◌, ◌≤◌, [], item_text, Gained}
 use Rattle.pip_items.proofs.Written.{LeadTo}
 use Rattle.pip_items.proofs.items.write_items.Given as goal
 

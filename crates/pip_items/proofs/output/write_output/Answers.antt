@@ -1,5 +1,4 @@
-use Rattle.std.proofs.Common.{refl, [], Some}
-use Rattle.program_model.specs.Commands.{Trial}
+use Rattle.pip_items.proofs.Words.{refl, [], Some, Trial}
 use Rattle.pip_items.proofs.ByProblem.{faults-items}
 use Rattle.pip_items.proofs.Asked.{stops-whole}
 use Rattle.pip_items.proofs.Turns.{asks-start}

@@ -1,8 +1,7 @@
-use Rattle.std.proofs.lemmas.Result.{err_from_is_err_and}
+use Rattle.pip_items.proofs.Words.{err_from_is_err_and, bytes_read}
 use Rattle.pip_items.proofs.ByProblem.{faults-items, faults-unread}
 use Rattle.pip_items.proofs.Asked.{stops-whole}
 use Rattle.pip_items.proofs.Outputs.{output-read, output-unread}
-use Rattle.pip_items.specs.Outputs.{bytes_read}
 use Rattle.pip_items.proofs.output.write_over_input.Goals as goal
 
 pub returns-clause-output : goal.returns-clause-output

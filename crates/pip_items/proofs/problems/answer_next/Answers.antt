@@ -1,9 +1,4 @@
-use Rattle.std.proofs.Common.{refl, ap, arith, true, false}
-use Rattle.std.proofs.lemmas.Result.{err_from_is_err_and}
-use Rattle.std.specs.Prelude.{Ok}
-use Rattle.std.specs.Io.KnownBytes.{Appends}
-use Rattle.pip_outside.specs.Bytes.{AppendsFront}
-use Rattle.pip_words.specs.Words.{options_of}
+use Rattle.pip_items.proofs.Words.{refl, ap, arith, true, false, err_from_is_err_and, Ok, Appends, AppendsFront, options_of}
 use Rattle.pip_items.proofs.ByProblem.{unread-told, unanswered-told, answers-told, next-limit, own-limit, own-not_long, next-words, own-words, err-not_ok, faults-none, faults-next, faults-own, faults-write}
 use Rattle.pip_items.proofs.Turns.{asks-told, calls-counted, calls-asked, calls-turns}
 use Rattle.pip_items.proofs.problems.answer_next.Goals as goal

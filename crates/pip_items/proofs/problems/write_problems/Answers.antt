@@ -1,9 +1,5 @@
-use Rattle.std.proofs.Common.{◌-◌, refl, ap, ◌∙◌, arith, rules, Ok, Err, length}
-use Rattle.std.proofs.lemmas.Result.{err_from_is_err_and}
-use Rattle.pip_outside.specs.Windows.{HeldBytes}
-use Rattle.program_model.specs.Commands.{Solve}
-use Rattle.pip_words.specs.Words.{options_of}
-use Rattle.pip_stream.specs.Windows.{taken_by}
+use Rattle.pip_items.proofs.Words.{◌-◌, refl, ap, ◌∙◌, arith, rules, length, err_from_is_err_and, HeldBytes, Solve, options_of, taken_by}
+use Rattle.std.proofs.Common.{Ok, Err}
 use Rattle.pip_items.proofs.ByProblem.{starts, if-told, none-taken, unmade, faults-own, err-same, err-limit, err-not_ok, counts, taken-at_most, err-output, none-output, answered-follows, faults-none, faults-ok, faults-after}
 use Rattle.pip_endings.specs.declared.ending.Ending.TheVariants as ending
 use Rattle.pip_items.proofs.Asked.{stops-start, stops-next}

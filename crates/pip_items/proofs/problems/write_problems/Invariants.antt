@@ -1,12 +1,4 @@
-use Rattle.std.proofs.Common.{◌≡◌, ◌+◌, ◌-◌}
-use Rattle.std.specs.Prelude.{IfSome}
-use Rattle.pip_outside.specs.Calls.{Takes}
-use Rattle.pip_model.specs.Limits.{most_input_bytes}
-use Rattle.program_model.specs.Commands.{Solve}
-use Rattle.pip_words.specs.Words.{options_of}
-use Rattle.pip_stream.specs.Windows.{taken_by}
-use Rattle.pip_stream.specs.Next.{IsReady}
-use Rattle.pip_items.specs.ByProblem.{StopsAtRefused}
+use Rattle.pip_items.proofs.Words.{◌≡◌, ◌+◌, ◌-◌, IfSome, Takes, most_input_bytes, Solve, options_of, taken_by, IsReady, StopsAtRefused}
 use Rattle.pip_items.proofs.ByProblem.{Follows}
 use Rattle.pip_items.proofs.problems.write_problems.Given as goal
 

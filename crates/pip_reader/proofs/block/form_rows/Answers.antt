@@ -1,8 +1,4 @@
-use Rattle.std.proofs.Common.{rules, ◌+◌, ◌-◌}
-use Rattle.std.proofs.lemmas.Result.{err_from_is_err_and}
-use Rattle.pip_problem.specs.Faults.{read_fault}
-use Rattle.pip_reader.specs.Rows.{form_row, form_rows}
-use Rattle.text_reading.proofs.Fronts.{step_more, refused_more}
+use Rattle.pip_reader.proofs.Words.{rules, ◌+◌, ◌-◌, err_from_is_err_and, read_fault, form_row, form_rows, step_more, refused_more}
 use Rattle.pip_reader.proofs.Constants.{form_rows_more}
 use Rattle.pip_reader.proofs.block.form_rows.Goals as goal
 

@@ -1,6 +1,4 @@
-use Rattle.std.proofs.Common.{◌≡◌, ◌-◌, ◌≤◌, length}
-use Rattle.pip_reader.specs.Rows.{form_rows}
-use Rattle.text_reading.specs.Fronts.{with_front}
+use Rattle.pip_reader.proofs.Words.{◌≡◌, ◌-◌, ◌≤◌, length, form_rows, with_front}
 use Rattle.pip_reader.proofs.block.form_rows.Given as goal
 
 abbrev pub invariant-loop : goal.invariant-loop

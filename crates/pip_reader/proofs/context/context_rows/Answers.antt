@@ -1,9 +1,5 @@
-use Rattle.std.proofs.Common.{◌≡◌, ◌∙◌, ◌+◌, ◌<◌, ◌++◌, ◌∷◌, [], ap, rules, Ok, Some, None}
-use Rattle.std.proofs.lemmas.Result.{err_from_is_err_and}
-use Rattle.affine_forms.specs.Forms.{FormsOfWidth}
-use Rattle.pip_problem.specs.Faults.{read_fault}
-use Rattle.text_reading.proofs.Ends.{list_end, list_more, list_refused}
-use Rattle.pip_reader.specs.Contexts.{next_row}
+use Rattle.pip_reader.proofs.Words.{◌≡◌, ◌∙◌, ◌+◌, ◌<◌, ◌++◌, ◌∷◌, [], ap, rules, err_from_is_err_and, FormsOfWidth, read_fault, list_end, list_more, list_refused, next_row}
+use Rattle.std.proofs.Common.{Ok, Some, None}
 use Rattle.pip_reader.proofs.RowSteps.{rows_by}
 use Rattle.pip_reader.proofs.context.context_rows.Goals as goal
 

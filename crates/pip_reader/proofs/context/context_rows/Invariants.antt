@@ -1,7 +1,4 @@
-use Rattle.std.proofs.Common.{◌≡◌, ◌+◌, ◌≤◌, length}
-use Rattle.pip_model.specs.Limits.{most_context_rows}
-use Rattle.pip_model.specs.ContextText.{context_rows}
-use Rattle.text_reading.specs.Fronts.{with_front}
+use Rattle.pip_reader.proofs.Words.{◌≡◌, ◌+◌, ◌≤◌, length, most_context_rows, context_rows, with_front}
 use Rattle.pip_reader.proofs.context.context_rows.Given as goal
 
 abbrev pub invariant-loop-read : goal.invariant-loop-read

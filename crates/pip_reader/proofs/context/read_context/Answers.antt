@@ -1,8 +1,4 @@
-use Rattle.std.proofs.Common.{drop}
-use Rattle.std.specs.List.{list_all}
-use Rattle.pip_model.specs.Moved.{is_closed}
-use Rattle.pip_model.specs.ContextText.{context_at, read_context}
-use Rattle.text_laws.proofs.Items.{item-closed, item-none}
+use Rattle.pip_reader.proofs.Words.{drop, list_all, is_closed, context_at, read_context, item-closed, item-none}
 use Rattle.pip_reader.proofs.FoundContexts.{found_none}
 use Rattle.pip_reader.proofs.context.read_context.Goals as goal
 

@@ -1,4 +1,4 @@
-use Rattle.pip_reader.specs.Problems.{problem_of}
+use Rattle.pip_reader.proofs.Words.{problem_of}
 use Rattle.pip_reader.proofs.Stepwise.{whole}
 use Rattle.pip_reader.proofs.problem.problem_at.Goals as goal
 

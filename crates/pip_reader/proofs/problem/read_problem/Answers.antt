@@ -1,8 +1,4 @@
-use Rattle.std.proofs.Common.{drop, length}
-use Rattle.std.specs.List.{list_all}
-use Rattle.pip_model.specs.Moved.{is_closed}
-use Rattle.pip_model.specs.NativeText.{read_native}
-use Rattle.text_laws.proofs.ReadProblems.{read_native-none}
+use Rattle.pip_reader.proofs.Words.{drop, length, list_all, is_closed, read_native, read_native-none}
 use Rattle.pip_reader.proofs.FaultPlaces.{read_native-fault}
 use Rattle.pip_reader.proofs.NoOptions.{agreed_no_option, agreed_none}
 use Rattle.pip_reader.proofs.problem.read_problem.Goals as goal

@@ -1,4 +1,4 @@
-use Rattle.std.proofs.Common.{rules, ◌-◌, pos, length, add-one, arith, refl}
+use Rattle.pip_reader.proofs.Words.{rules, ◌-◌, pos, length, add-one, arith, refl}
 use Rattle.std.proofs.lemmas.Slice.{put_mid-rotated}
 use Rattle.pip_reader.proofs.row.constant_last.Goals as goal
 

@@ -1,5 +1,4 @@
-use Rattle.std.proofs.Common.{◌≡◌, ◌<◌, ℕ, get_or, true, false}
-use Rattle.pip_reader.specs.Groups.{NoBracket}
+use Rattle.pip_reader.proofs.Words.{◌≡◌, ◌<◌, ℕ, get_or, true, false, NoBracket}
 use Rattle.pip_reader.proofs.scan.has_no_bracket.Given as goal
 
 abbrev pub invariant-loop-byte : goal.invariant-loop-byte

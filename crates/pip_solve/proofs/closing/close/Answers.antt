@@ -1,10 +1,5 @@
-use Rattle.std.proofs.Common.{rules, arith, ap, subst, ◌≡◌, ◌+◌, ◌-◌, ◌∷◌, []}
-use Rattle.std.proofs.lemmas.Grind.{common_steps}
-use Rattle.std.proofs.lemmas.Int.{to_z-of_z}
-use Rattle.pip_model.specs.Tree.{NewParm}
+use Rattle.pip_solve.proofs.Words.{rules, arith, ap, subst, ◌≡◌, ◌+◌, ◌-◌, ◌∷◌, [], common_steps, to_z-of_z, NewParm, IsBelow, Waiting}
 use Rattle.pip_solve.specs.declared.pending.Frame.TheVariants as frame
-use Rattle.pip_solve.specs.Nodes.{IsBelow}
-use Rattle.pip_solve.specs.Waiting.{Waiting}
 use Rattle.pip_solve.proofs.Popping.{popped, selected, defined, second_enters, second_room, second_next, second_same}
 use Rattle.pip_solve.proofs.closing.close.Goals as goal
 

@@ -1,4 +1,4 @@
-use Rattle.std.proofs.Common.{length}
+use Rattle.pip_solve.proofs.Words.{length}
 use Rattle.pip_solve.proofs.Popping.{Closes}
 use Rattle.pip_solve.proofs.closing.close.Given as goal
 

@@ -1,6 +1,4 @@
-use Rattle.std.proofs.Common.{rules, ◌≡◌}
-use Rattle.pip_model.specs.Forms.{opposite}
-use Rattle.run_laws.proofs.Scopes.{length-opposite}
+use Rattle.pip_solve.proofs.Words.{rules, ◌≡◌, opposite, length-opposite}
 use Rattle.pip_solve.proofs.closing.opposite.Goals as goal
 
 pub returns-clause-length : goal.returns-clause-length

@@ -1,6 +1,5 @@
-use Rattle.std.proofs.Common.{rules, arith, ◌≡◌}
+use Rattle.pip_solve.proofs.Words.{rules, arith, ◌≡◌, length-rounding}
 use Rattle.pip_model.specs.Cuts as cuts
-use Rattle.run_laws.proofs.Scopes.{length-rounding}
 use Rattle.pip_solve.proofs.cut.class_by_quotient.Goals as goal
 
 pub class-requires : goal.class-requires

@@ -1,13 +1,5 @@
-use Rattle.std.proofs.Common.{rules, ◌≡◌, sym, subst, Some}
-use Rattle.pip_model.specs.Rows.{row_at}
+use Rattle.pip_solve.proofs.Words.{rules, ◌≡◌, sym, subst, Some, row_at, Done, class, quotient_cut, AgreesCounted, run_fault, class_of, size, node_of, setting_of, turn_of}
 use Rattle.pip_model.specs.Cuts as cuts
-use Rattle.pip_model.specs.Run.{Done, class, quotient_cut}
-use Rattle.pip_model.specs.Agreement.{AgreesCounted}
-use Rattle.pip_problem.specs.Faults.{run_fault}
-use Rattle.sign_split.specs.Classes.{class_of}
-use Rattle.new_parameters.specs.Scopes.{size}
-use Rattle.pip_solve.specs.Nodes.{node_of, setting_of}
-use Rattle.pip_solve.specs.Turns.{turn_of}
 use Rattle.pip_solve.proofs.Cutting.{known_by}
 use Rattle.pip_solve.proofs.cut.quotient_cut.Goals as goal
 

@@ -1,8 +1,5 @@
-use Rattle.std.proofs.Common.{rules, arith, refl, ap, List, ℤ, length, ◌≡◌, ◌∙◌, ◌+◌, ◌++◌, ◌∷◌, []}
-use Rattle.std.proofs.lemmas.List.{length-append}
+use Rattle.pip_solve.proofs.Words.{rules, arith, refl, ap, List, ℤ, length, ◌≡◌, ◌∙◌, ◌+◌, ◌++◌, ◌∷◌, [], length-append, size, quotient_at, length-bounds}
 use Rattle.pip_model.specs.Cuts as cuts
-use Rattle.new_parameters.specs.Scopes.{size, quotient_at}
-use Rattle.run_laws.proofs.Scopes.{length-bounds}
 use Rattle.pip_solve.proofs.Paths.{quotient_at-added, two_more}
 use Rattle.pip_solve.proofs.node.add_quotient.Goals as goal
 

@@ -1,7 +1,5 @@
-use Rattle.std.proofs.Common.{rules, ap, List, ℤ, ◌≡◌, ◌∙◌, map}
-use Rattle.pip_model.specs.Forms.{widen}
+use Rattle.pip_solve.proofs.Words.{rules, ap, List, ℤ, ◌≡◌, ◌∙◌, map, widen, row_at, widened}
 use Rattle.pip_model.specs.Cuts as cuts
-use Rattle.pip_model.specs.Rows.{row_at, widened}
 use Rattle.gomory_cut.proofs.Residues.{widened_free, widened_residue}
 use Rattle.pip_solve.proofs.Paths.{row_at-widened}
 use Rattle.pip_solve.proofs.node.cut_below.Goals as goal

@@ -1,12 +1,6 @@
-use Rattle.std.proofs.Common.{arith, ap, ◌≡◌, ◌≤◌, ◌∷◌, [], map, length}
-use Rattle.std.proofs.lemmas.Grind.{common_steps}
-use Rattle.std.proofs.lemmas.Int.{to_z-of_z}
-use Rattle.std.proofs.lemmas.List.{length-append, length-map}
-use Rattle.pip_model.specs.Rows.{row_at, widened}
+use Rattle.pip_solve.proofs.Words.{arith, ap, ◌≡◌, ◌≤◌, ◌∷◌, [], map, length, common_steps, to_z-of_z, length-append, length-map, row_at, widened, TableauRows, Waiting}
 use Rattle.pip_model.specs.Cuts as cuts
-use Rattle.tableau.specs.Tableaus.{TableauRows}
 use Rattle.pip_solve.specs.declared.pending.Frame.TheVariants as frame
-use Rattle.pip_solve.specs.Waiting.{Waiting}
 use Rattle.pip_solve.proofs.Going.{below_on}
 use Rattle.pip_solve.proofs.Handing.{below_next, below_room}
 use Rattle.pip_solve.proofs.node.define_below.Goals as goal

@@ -1,6 +1,4 @@
-use Rattle.std.proofs.Common.{rules, refl, ◌≡◌}
-use Rattle.pip_model.specs.Run.{Work, give}
-use Rattle.pip_solve.specs.Frames.{turned_run, whole_run, IsNextNode, weight}
+use Rattle.pip_solve.proofs.Words.{rules, refl, ◌≡◌, Work, give, turned_run, whole_run, IsNextNode, weight}
 use Rattle.pip_solve.proofs.Handing.{follows, kept_room, goes_on, smaller, goes_on_again, smaller_again, ends}
 use Rattle.pip_solve.proofs.Knowing.{known_none, known_on}
 use Rattle.pip_solve.proofs.node.run.Goals as goal

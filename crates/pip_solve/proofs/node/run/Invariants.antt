@@ -1,7 +1,4 @@
-use Rattle.std.proofs.Common.{◌+◌, ◌*◌}
-use Rattle.pip_model.specs.Run.{left}
-use Rattle.pip_solve.specs.Frames.{HasRoom, dues}
-use Rattle.pip_solve.specs.Known.{AreKnown}
+use Rattle.pip_solve.proofs.Words.{◌+◌, ◌*◌, left, HasRoom, dues, AreKnown}
 use Rattle.pip_solve.proofs.Handing.{GoesOn}
 use Rattle.pip_solve.proofs.node.run.Given as goal
 

@@ -1,6 +1,4 @@
-use Rattle.std.proofs.Common.{rules, ap, ◌∙◌}
-use Rattle.pip_solve.specs.Waiting.{Waiting}
-use Rattle.pip_solve.specs.Frames.{IsNextNode, weight}
+use Rattle.pip_solve.proofs.Words.{rules, ap, ◌∙◌, Waiting, IsNextNode, weight}
 use Rattle.pip_solve.proofs.node.run_below.Goals as goal
 
 pub follow-requires-clause-turned : goal.follow-requires-clause-turned

@@ -1,11 +1,4 @@
-use Rattle.std.proofs.Common.{refl, sym, subst, ◌≡◌, ◌∙◌, [], arith}
-use Rattle.std.specs.Prelude.{IfOk}
-use Rattle.pip_model.specs.Run.{Work, give}
-use Rattle.pip_model.specs.Agreement.{AgreesCounted}
-use Rattle.pip_problem.specs.Faults.{run_fault}
-use Rattle.pip_solve.specs.Waiting.{Waiting}
-use Rattle.pip_solve.specs.Turns.{tree_in}
-use Rattle.pip_solve.specs.Frames.{turned_run}
+use Rattle.pip_solve.proofs.Words.{refl, sym, subst, ◌≡◌, ◌∙◌, [], arith, IfOk, Work, give, AgreesCounted, run_fault, Waiting, tree_in, turned_run}
 use Rattle.pip_solve.proofs.Handing.{follows, smaller_again, goes_on_again, kept_kept, leaves, leaves_params, leaves_budget, ends}
 use Rattle.pip_solve.proofs.Knowing.{known_none, known_on}
 use Rattle.pip_solve.proofs.node.run_first.Goals as goal

@@ -1,6 +1,4 @@
-use Rattle.std.proofs.Common.{◌*◌, []}
-use Rattle.pip_model.specs.Run.{left}
-use Rattle.pip_solve.specs.Known.{AreKnown}
+use Rattle.pip_solve.proofs.Words.{◌*◌, [], left, AreKnown}
 use Rattle.pip_solve.proofs.Handing.{GoesOn}
 use Rattle.pip_solve.proofs.node.run_first.Given as goal
 

@@ -1,7 +1,5 @@
-use Rattle.std.proofs.Common.{arith, ap, subst, ◌≡◌, ◌∷◌, []}
+use Rattle.pip_solve.proofs.Words.{arith, ap, subst, ◌≡◌, ◌∷◌, [], IsBelow, Waiting}
 use Rattle.pip_solve.specs.declared.pending.Frame.TheVariants as frame
-use Rattle.pip_solve.specs.Nodes.{IsBelow}
-use Rattle.pip_solve.specs.Waiting.{Waiting}
 use Rattle.pip_solve.proofs.Going.{split_on}
 use Rattle.pip_solve.proofs.Handing.{split_next, split_room}
 use Rattle.pip_solve.proofs.node.split.Goals as goal

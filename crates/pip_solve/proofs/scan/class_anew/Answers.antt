@@ -1,5 +1,4 @@
-use Rattle.std.proofs.Common.{rules, ◌≡◌}
-use Rattle.pip_model.specs.Run.{Done, Plus, class}
+use Rattle.pip_solve.proofs.Words.{rules, ◌≡◌, Done, Plus, class}
 use Rattle.pip_solve.proofs.Knowing.{found_known, known_more}
 use Rattle.pip_solve.proofs.scan.class_anew.Goals as goal
 

@@ -1,6 +1,4 @@
-use Rattle.std.proofs.Common.{rules, ◌≡◌, ◌+◌, replicate, pos}
-use Rattle.pip_model.specs.Rows.{row_at}
-use Rattle.run_counts.proofs.Counting.{counted_none}
+use Rattle.pip_solve.proofs.Words.{rules, ◌≡◌, ◌+◌, replicate, pos, row_at, counted_none}
 use Rattle.sign_split.proofs.TightSigns.{class_plus}
 use Rattle.pip_solve.proofs.Scanning.{zeros_nonneg}
 use Rattle.pip_solve.proofs.scan.class_of_row.Goals as goal

@@ -1,13 +1,5 @@
-use Rattle.std.proofs.Common.{rules, arith, ◌≡◌, ◌∙◌, sym}
-use Rattle.std.specs.Prelude.{IfSome}
-use Rattle.std.proofs.lemmas.Grind.{common_steps}
-use Rattle.pip_model.specs.Rows.{row_at}
-use Rattle.pip_model.specs.Run.{Minus, Done, Refused, class}
-use Rattle.pip_problem.specs.Faults.{run_fault}
-use Rattle.run_counts.proofs.Counting.{counted_on}
+use Rattle.pip_solve.proofs.Words.{rules, arith, ◌≡◌, ◌∙◌, sym, IfSome, common_steps, row_at, Minus, Done, Refused, class, run_fault, counted_on, class_of, kept_signs}
 use Rattle.context.proofs.Leaving.{kept_on}
-use Rattle.sign_split.specs.Classes.{class_of}
-use Rattle.pip_solve.specs.Signs.{kept_signs}
 use Rattle.pip_solve.proofs.Scanning.{scanned_on, scanned_minus, refused_from, not_minus}
 use Rattle.pip_solve.proofs.Knowing.{known_on, at_start}
 use Rattle.pip_solve.proofs.scan.scan.Goals as goal

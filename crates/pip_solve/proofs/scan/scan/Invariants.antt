@@ -1,10 +1,5 @@
-use Rattle.std.proofs.Common.{◌≡◌, drop}
-use Rattle.std.specs.Prelude.{IfSome}
-use Rattle.pip_model.specs.Run.{AllPlus}
+use Rattle.pip_solve.proofs.Words.{◌≡◌, drop, IfSome, AllPlus, IsKeptContext, AreKnown, scanned, kept_signs, IsCondition}
 use Rattle.context.specs.Counts.{HasCounted}
-use Rattle.context.specs.Scoped.{IsKeptContext}
-use Rattle.pip_solve.specs.Known.{AreKnown}
-use Rattle.pip_solve.specs.Signs.{scanned, kept_signs, IsCondition}
 use Rattle.pip_solve.proofs.scan.scan.Given as goal
 
 abbrev pub invariant-loop-i : goal.invariant-loop-i

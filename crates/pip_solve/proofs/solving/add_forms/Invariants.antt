@@ -1,4 +1,4 @@
-use Rattle.std.proofs.Common.{◌≡◌, ◌+◌, ◌≤◌, length, take}
+use Rattle.pip_solve.proofs.Words.{◌≡◌, ◌+◌, ◌≤◌, length, take}
 use Rattle.pip_solve.proofs.solving.add_forms.Given as goal
 
 abbrev pub invariant-loop-form : goal.invariant-loop-form

@@ -1,8 +1,4 @@
-use Rattle.std.proofs.Common.{rules, arith, ◌≡◌, true}
-use Rattle.std.proofs.lemmas.Grind.{common_steps}
-use Rattle.pip_model.specs.Run.{Done}
-use Rattle.pip_problem.specs.Faults.{run_fault}
-use Rattle.context.specs.Remembered.{has_point}
+use Rattle.pip_solve.proofs.Words.{rules, arith, ◌≡◌, true, common_steps, Done, run_fault, has_point}
 use Rattle.pip_solve.proofs.Begun.{answer-made, answer-refused}
 use Rattle.pip_solve.proofs.solving.answer_on.Goals as goal
 

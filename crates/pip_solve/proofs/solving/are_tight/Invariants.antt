@@ -1,5 +1,4 @@
-use Rattle.std.proofs.Common.{◌≡◌, map, take}
-use Rattle.pip_model.specs.Forms.{tighten}
+use Rattle.pip_solve.proofs.Words.{◌≡◌, map, take, tighten}
 use Rattle.pip_solve.proofs.solving.are_tight.Given as goal
 
 abbrev pub invariant-loop-row : goal.invariant-loop-row

@@ -1,4 +1,4 @@
-use Rattle.std.proofs.Common.{refl, []}
+use Rattle.pip_solve.proofs.Words.{refl, []}
 use Rattle.pip_solve.proofs.Paths.{starts_running}
 use Rattle.pip_solve.proofs.solving.tree.Goals as goal
 

@@ -1,7 +1,4 @@
-use Rattle.std.proofs.Common.{◌≡◌, map, take}
-use Rattle.std.specs.Prelude.{All}
-use Rattle.pip_model.specs.Run.{row_component}
-use Rattle.quast.specs.Components.{IsComponent}
+use Rattle.pip_solve.proofs.Words.{◌≡◌, map, take, All, row_component, IsComponent}
 use Rattle.pip_solve.proofs.turn.components.Given as goal
 
 abbrev pub invariant-loop-i : goal.invariant-loop-i

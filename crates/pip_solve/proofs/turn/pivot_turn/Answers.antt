@@ -1,9 +1,5 @@
-use Rattle.std.proofs.Common.{arith, ap, ◌≡◌, subst}
-use Rattle.std.proofs.lemmas.Grind.{common_steps}
-use Rattle.pip_model.specs.Run.{Done, turn_by, MinusAt}
+use Rattle.pip_solve.proofs.Words.{arith, ap, ◌≡◌, subst, common_steps, Done, turn_by, MinusAt, ScopedTree, node_of, setting_of}
 use Rattle.context.specs.Turns.{pivoted}
-use Rattle.quast.specs.Trees.{ScopedTree}
-use Rattle.pip_solve.specs.Nodes.{node_of, setting_of}
 use Rattle.pip_solve.proofs.turn.pivot_turn.Goals as goal
 
 pub returns-in_err-enter_and_pivot-clause-gives : goal.returns-in_err-enter_and_pivot-clause-gives

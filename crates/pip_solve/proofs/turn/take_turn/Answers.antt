@@ -1,14 +1,4 @@
-use Rattle.std.proofs.Common.{arith, ◌≡◌, ◌∙◌, refl, sym, ap, subst, List, ℤ}
-use Rattle.std.specs.Prelude.{IfSome}
-use Rattle.std.proofs.lemmas.Grind.{common_steps}
-use Rattle.pip_model.specs.Run.{AllPlus, Done, Refused, turn_by}
-use Rattle.pip_model.specs.Agreement.{AgreesCounted}
-use Rattle.pip_problem.specs.Faults.{run_fault}
-use Rattle.run_counts.proofs.Counting.{counted_on}
-use Rattle.new_parameters.specs.Scopes.{size}
-use Rattle.pip_solve.specs.Nodes.{node_of, setting_of}
-use Rattle.pip_solve.specs.Signs.{signs_of, scanned}
-use Rattle.pip_solve.specs.Turns.{turn_of}
+use Rattle.pip_solve.proofs.Words.{arith, ◌≡◌, ◌∙◌, refl, sym, ap, subst, List, ℤ, IfSome, common_steps, AllPlus, Done, Refused, turn_by, AgreesCounted, run_fault, counted_on, size, node_of, setting_of, signs_of, scanned, turn_of}
 use Rattle.pip_solve.proofs.Scanning.{turn_on, turn_refused}
 use Rattle.pip_solve.proofs.Turned.{in_context, agrees_same}
 use Rattle.pip_solve.proofs.turn.take_turn.Goals as goal

@@ -1,9 +1,4 @@
-use Rattle.std.proofs.Common.{◌≡◌, refl, sym, ap, ◌∙◌, ◌+◌, ◌≤◌, arith, length, length-drop, take, drop}
-use Rattle.std.proofs.lemmas.Result.{err_from_is_err_and}
-use Rattle.std.specs.Prelude.{Some, None}
-use Rattle.pip_outside.specs.Windows.{HeldBytes}
-use Rattle.pip_outside.proofs.Faults.{counts-none, counts-refused}
-use Rattle.pip_reader.specs.Groups.{first_group_end}
+use Rattle.pip_stream.proofs.Words.{◌≡◌, refl, sym, ap, ◌∙◌, ◌+◌, ◌≤◌, arith, length, length-drop, take, drop, err_from_is_err_and, Some, None, HeldBytes, counts-none, counts-refused, first_group_end}
 use Rattle.pip_stream.specs.declared.refusal.NextRefusal.TheVariants as next
 use Rattle.pip_stream.proofs.Asking.{seeks-start, seeks-ended, seeks-open, seeks-last, seeks-more}
 use Rattle.pip_stream.proofs.Scanned.{begins_some}

@@ -1,10 +1,4 @@
-use Rattle.std.proofs.Common.{◌≡◌, ◌+◌, ◌-◌, ◌<◌, ◌≤◌, length, take, true}
-use Rattle.std.specs.Prelude.{IfSome, Some, None}
-use Rattle.pip_model.specs.Limits.{most_input_bytes}
-use Rattle.pip_model.specs.Reading.{next_open}
-use Rattle.pip_reader.specs.Groups.{IsScanned, first_group_end}
-use Rattle.pip_stream.specs.Asked.{Seeks}
-use Rattle.pip_stream.specs.Windows.{taken_by}
+use Rattle.pip_stream.proofs.Words.{◌≡◌, ◌+◌, ◌-◌, ◌<◌, ◌≤◌, length, take, true, IfSome, Some, None, most_input_bytes, next_open, IsScanned, first_group_end, Seeks, taken_by}
 use Rattle.pip_stream.proofs.end.find_end.Given as goal
 
 abbrev pub invariant-loop-scan : goal.invariant-loop-scan

@@ -1,10 +1,4 @@
-use Rattle.std.proofs.Common.{◌≡◌, refl, sym, ap, subst, ◌∙◌, ◌≤◌, arith, true, false, length}
-use Rattle.std.proofs.lemmas.Result.{err_from_is_err_and}
-use Rattle.std.specs.Prelude.{None, Ok, Err}
-use Rattle.pip_outside.specs.Windows.{HeldBytes}
-use Rattle.pip_outside.proofs.Faults.{counts-none, counts-refused}
-use Rattle.pip_stream.specs.Windows.{taken_by}
-use Rattle.pip_stream.specs.Open.{IsOpened}
+use Rattle.pip_stream.proofs.Words.{◌≡◌, refl, sym, ap, subst, ◌∙◌, ◌≤◌, arith, true, false, length, err_from_is_err_and, None, Ok, Err, HeldBytes, counts-none, counts-refused, taken_by, IsOpened}
 use Rattle.pip_stream.specs.declared.refusal.NextRefusal.TheVariants as next
 use Rattle.pip_stream.proofs.Asking.{seeks-as, seeks-restart, seeks-then, seeks-skips, seeks-calls, calls-item, held-restart, held-opens, held-ends}
 use Rattle.pip_stream.proofs.Nexting.{finds-unopened, finds-none, finds-unended, finds-item, leaves-by, opened-limit, ended-limit, none-leaves, item-leaves, item-taken, item-not_none, item-not_failed}

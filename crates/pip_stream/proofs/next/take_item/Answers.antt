@@ -1,5 +1,4 @@
-use Rattle.std.proofs.Common.{arith, ap, sym, ◌∙◌, take}
-use Rattle.pip_model.specs.NativeText.{read_native}
+use Rattle.pip_stream.proofs.Words.{arith, ap, sym, ◌∙◌, take, read_native}
 use Rattle.pip_stream.proofs.Taking.{place-within, taken}
 use Rattle.pip_stream.proofs.next.take_item.Goals as goal
 

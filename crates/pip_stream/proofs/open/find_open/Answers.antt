@@ -1,10 +1,4 @@
-use Rattle.std.proofs.Common.{◌≡◌, refl, sym, ap, subst, ◌∙◌, ◌≤◌, ℕ, Bool, true, arith, length}
-use Rattle.std.proofs.lemmas.Result.{err_from_is_err_and}
-use Rattle.pip_outside.specs.Windows.{HeldBytes}
-use Rattle.pip_outside.proofs.Faults.{counts-none, counts-refused}
-use Rattle.pip_model.specs.Reading.{next_open}
-use Rattle.pip_reader.specs.Groups.{first_group_end}
-use Rattle.pip_stream.specs.Open.{DropsClosed}
+use Rattle.pip_stream.proofs.Words.{◌≡◌, refl, sym, ap, subst, ◌∙◌, ◌≤◌, ℕ, Bool, true, arith, length, err_from_is_err_and, HeldBytes, counts-none, counts-refused, next_open, first_group_end, DropsClosed}
 use Rattle.pip_stream.specs.declared.refusal.NextRefusal.TheVariants as next
 use Rattle.pip_stream.proofs.Asking.{seeks-start, seeks-closed, seeks-last, seeks-more, closed-none}
 use Rattle.pip_stream.proofs.Dropping.{taken-closed}

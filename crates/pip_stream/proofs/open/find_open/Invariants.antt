@@ -1,9 +1,4 @@
-use Rattle.std.proofs.Common.{◌≡◌, ◌-◌, ◌≤◌, true}
-use Rattle.std.specs.Prelude.{None, IfSome}
-use Rattle.pip_model.specs.Limits.{most_input_bytes}
-use Rattle.pip_model.specs.Reading.{next_open}
-use Rattle.pip_stream.specs.Asked.{Seeks}
-use Rattle.pip_stream.specs.Windows.{taken_by, HoldsPiece}
+use Rattle.pip_stream.proofs.Words.{◌≡◌, ◌-◌, ◌≤◌, true, None, IfSome, most_input_bytes, next_open, Seeks, taken_by, HoldsPiece}
 use Rattle.pip_stream.proofs.open.find_open.Given as goal
 
 abbrev pub invariant-loop-window : goal.invariant-loop-window

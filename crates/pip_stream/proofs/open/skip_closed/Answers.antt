@@ -1,5 +1,4 @@
-use Rattle.std.proofs.Common.{◌∙◌, sym, ap, length}
-use Rattle.pip_model.specs.Reading.{next_open}
+use Rattle.pip_stream.proofs.Words.{◌∙◌, sym, ap, length, next_open}
 use Rattle.pip_stream.proofs.Opening.{drops-to_open, drops-all}
 use Rattle.pip_stream.proofs.open.skip_closed.Goals as goal
 

@@ -1,4 +1,4 @@
-use Rattle.std.proofs.Common.{rules}
+use Rattle.pip_trial.proofs.Words.{rules}
 use Rattle.pip_trial.proofs.Draws.{formed_as, problem_draws}
 use Rattle.pip_trial.proofs.draw.draw_problem.Goals as goal
 

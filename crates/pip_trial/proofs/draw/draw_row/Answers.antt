@@ -1,7 +1,4 @@
-use Rattle.std.proofs.Common.{◌≡◌, [], ◌∷◌, ◌++◌, arith, rules}
-use Rattle.std.proofs.lemmas.List.{length-append}
-use Rattle.std.proofs.lemmas.List.Elements.{All-push}
-use Rattle.affine_forms.specs.Checks.{Fits}
+use Rattle.pip_trial.proofs.Words.{◌≡◌, [], ◌∷◌, ◌++◌, arith, rules, length-append, All-push, Fits}
 use Rattle.pip_trial.proofs.Draws.{row_made, row_draws}
 use Rattle.pip_trial.proofs.draw.draw_row.Goals as goal
 

@@ -1,4 +1,4 @@
-use Rattle.std.proofs.Common.{arith}
+use Rattle.pip_trial.proofs.Words.{arith}
 use Rattle.pip_trial.proofs.Steps.{rows_more}
 use Rattle.pip_trial.proofs.draw.draw_rows.Goals as goal
 

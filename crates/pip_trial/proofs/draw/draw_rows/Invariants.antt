@@ -1,5 +1,4 @@
-use Rattle.std.proofs.Common.{◌+◌, ◌*◌}
-use Rattle.program_model.specs.Trial.{after_draws, rows_drawn}
+use Rattle.pip_trial.proofs.Words.{◌+◌, ◌*◌, after_draws, rows_drawn}
 use Rattle.pip_trial.proofs.Steps.{DrawingRows}
 use Rattle.pip_trial.proofs.draw.draw_rows.Given as goal
 

@@ -1,4 +1,4 @@
-use Rattle.std.proofs.Common.{◌≡◌, [], ◌∷◌, ◌++◌, arith, rules}
+use Rattle.pip_trial.proofs.Words.{◌≡◌, [], ◌∷◌, ◌++◌, arith, rules}
 use Rattle.pip_trial.proofs.Steps.{drawing_more, drawing_done}
 use Rattle.pip_trial.proofs.draw.push_coefficients.Goals as goal
 

@@ -1,5 +1,4 @@
-use Rattle.std.proofs.Common.{◌++◌}
-use Rattle.program_model.specs.Trial.{after_draws, numbers_drawn, ranges}
+use Rattle.pip_trial.proofs.Words.{◌++◌, after_draws, numbers_drawn, ranges}
 use Rattle.pip_trial.proofs.Steps.{Drawing}
 use Rattle.pip_trial.proofs.draw.push_coefficients.Given as goal
 

@@ -1,4 +1,4 @@
-use Rattle.std.proofs.Common.{arith}
+use Rattle.pip_trial.proofs.Words.{arith}
 use Rattle.pip_trial.proofs.Counting.{counting_more}
 use Rattle.pip_trial.proofs.trial.run_trial.Goals as goal
 

@@ -1,5 +1,4 @@
-use Rattle.program_model.specs.Trial.{tally}
-use Rattle.pip_trial.specs.Tallies.{none_counted}
+use Rattle.pip_trial.proofs.Words.{tally, none_counted}
 use Rattle.pip_trial.proofs.Counting.{Counting}
 use Rattle.pip_trial.proofs.trial.run_trial.Given as goal
 

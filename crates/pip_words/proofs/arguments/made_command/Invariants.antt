@@ -1,7 +1,5 @@
-use Rattle.std.proofs.Common.{◌≡◌, drop, fold, false}
-use Rattle.clap.specs.Words.{app_of, new_app}
+use Rattle.pip_words.proofs.Words.{◌≡◌, drop, fold, false, app_of, new_app, with_argument}
 use Rattle.clap.specs.declared.builder.Command.TheViews.{out-Command}
-use Rattle.pip_words.specs.Arguments.{with_argument}
 use Rattle.pip_words.proofs.arguments.made_command.Given as goal
 
 abbrev pub invariant-loop-added : goal.invariant-loop-added

@@ -1,6 +1,4 @@
-use Rattle.std.proofs.Common.{◌∙◌}
-use Rattle.clap.specs.Words.{app_of}
-use Rattle.pip_words.specs.Arguments.{with_entry}
+use Rattle.pip_words.proofs.Words.{◌∙◌, app_of, with_entry}
 use Rattle.pip_words.proofs.Folds.{fold-step}
 use Rattle.pip_words.proofs.arguments.with_commands.Goals as goal
 

@@ -1,6 +1,4 @@
-use Rattle.std.proofs.Common.{◌≡◌, drop, fold}
-use Rattle.clap.specs.Words.{app_of}
-use Rattle.pip_words.specs.Arguments.{with_entry}
+use Rattle.pip_words.proofs.Words.{◌≡◌, drop, fold, app_of, with_entry}
 use Rattle.pip_words.proofs.arguments.with_commands.Given as goal
 
 abbrev pub invariant-loop-entry : goal.invariant-loop-entry

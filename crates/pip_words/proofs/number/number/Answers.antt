@@ -1,4 +1,4 @@
-use Rattle.std.proofs.Common.{arith}
+use Rattle.pip_words.proofs.Words.{arith}
 use Rattle.pip_words.proofs.Digits.{too_big}
 use Rattle.pip_words.proofs.number.number.Goals as goal
 use Rattle.pip_words.proofs.number.number.Goals.{then-digit-most-via-then-digit-most, then-digit-most-via-else-digit-most+then-value-most}

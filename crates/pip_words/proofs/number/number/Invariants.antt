@@ -1,6 +1,4 @@
-use Rattle.std.proofs.Common.{◌≡◌, ◌≤◌, take, true}
-use Rattle.std.specs.List.{list_all}
-use Rattle.pip_model.specs.Tokens.{is_digit, natural_of}
+use Rattle.pip_words.proofs.Words.{◌≡◌, ◌≤◌, take, true, list_all, is_digit, natural_of}
 use Rattle.pip_words.proofs.number.number.Given as goal
 
 abbrev pub invariant-loop-byte : goal.invariant-loop-byte

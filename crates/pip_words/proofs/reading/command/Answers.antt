@@ -1,6 +1,4 @@
-use Rattle.std.proofs.Common.{◌≡◌, Some, arith}
-use Rattle.std.proofs.lemmas.Grind.{common_steps}
-use Rattle.clap.specs.Words.{subcommand_rows_of, rows_of, found_of}
+use Rattle.pip_words.proofs.Words.{◌≡◌, Some, arith, common_steps, subcommand_rows_of, rows_of, found_of}
 use Rattle.pip_words.proofs.reading.command.Goals as goal
 
 pub returns-in-Some : goal.returns-in-Some

@@ -1,4 +1,4 @@
-use Rattle.std.proofs.Common.{ap, ◌∙◌, map, string_bytes}
+use Rattle.pip_words.proofs.Words.{ap, ◌∙◌, map, string_bytes}
 use Rattle.pip_words.proofs.Giving.{given_ok, given_usage}
 use Rattle.pip_words.proofs.Parsed.{accepted, refused}
 use Rattle.pip_words.proofs.reading.read_words.Goals as goal

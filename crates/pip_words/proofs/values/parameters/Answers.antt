@@ -1,9 +1,5 @@
-use Rattle.std.proofs.Common.{ap, sym, ◌∙◌, map, length, nat_le, add-one, arith, rules}
-use Rattle.std.proofs.lemmas.Grind.{common_steps}
+use Rattle.pip_words.proofs.Words.{ap, sym, ◌∙◌, map, length, nat_le, add-one, arith, rules, common_steps, most_params, parameter_of, all_parameters}
 use Rattle.std.proofs.lemmas.List.Folds.{list_all-append}
-use Rattle.pip_model.specs.Limits.{most_params}
-use Rattle.pip_words.specs.Numbers.{parameter_of}
-use Rattle.pip_words.specs.Words.{all_parameters}
 use Rattle.pip_words.proofs.Parameters.{refused, more, none_either}
 use Rattle.pip_words.proofs.values.parameters.Goals as goal
 

@@ -1,9 +1,6 @@
-use Rattle.std.proofs.Common.{◌≡◌, ◌≤◌, take, map, Some, length, IsTrue}
-use Rattle.std.specs.List.{list_all}
-use Rattle.pip_model.specs.Limits.{most_params}
+use Rattle.pip_words.proofs.Words.{◌≡◌, ◌≤◌, take, map, Some, length, IsTrue, list_all, most_params, all_parameters}
 use Rattle.pip_model.specs.Listed.{all_fit}
 use Rattle.pip_model.specs.Numbers.{is_nonneg}
-use Rattle.pip_words.specs.Words.{all_parameters}
 use Rattle.pip_words.proofs.values.parameters.Given as goal
 
 abbrev pub invariant-loop-text : goal.invariant-loop-text

@@ -1,9 +1,4 @@
-use Rattle.std.proofs.Common.{rules}
-use Rattle.std.proofs.lemmas.Result.{err_from_is_err_and}
-use Rattle.pip_model.specs.MatrixText.{matrix_numbers, matrix_rows}
-use Rattle.pip_problem.specs.Faults.{read_fault}
-use Rattle.polylib_reader.specs.Matrices.{row_head}
-use Rattle.text_reading.proofs.Binds.{refused_by}
+use Rattle.polylib_reader.proofs.Words.{rules, err_from_is_err_and, matrix_numbers, matrix_rows, read_fault, row_head, refused_by}
 use Rattle.polylib_reader.proofs.Fronts.{rows_kept, head_refused, entries_refused}
 use Rattle.polylib_reader.proofs.matrix.matrix_rows.Goals as goal
 

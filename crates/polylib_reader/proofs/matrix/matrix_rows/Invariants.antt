@@ -1,6 +1,4 @@
-use Rattle.std.proofs.Common.{◌≡◌, ◌-◌, ◌≤◌, length}
-use Rattle.pip_model.specs.MatrixText.{matrix_rows}
-use Rattle.text_reading.specs.Fronts.{with_front}
+use Rattle.polylib_reader.proofs.Words.{◌≡◌, ◌-◌, ◌≤◌, length, matrix_rows, with_front}
 use Rattle.polylib_reader.proofs.matrix.matrix_rows.Given as goal
 
 abbrev pub invariant-loop : goal.invariant-loop

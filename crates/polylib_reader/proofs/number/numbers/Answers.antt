@@ -1,10 +1,5 @@
-use Rattle.std.proofs.Common.{rules, ◌+◌, ◌-◌}
-use Rattle.std.proofs.lemmas.Result.{err_from_is_err_and}
+use Rattle.polylib_reader.proofs.Words.{rules, ◌+◌, ◌-◌, err_from_is_err_and, Fits, matrix_number, matrix_numbers, read_fault, step_more, refused_more}
 use Rattle.std.proofs.lemmas.List.Elements.{All-push}
-use Rattle.affine_forms.specs.Checks.{Fits}
-use Rattle.pip_model.specs.MatrixText.{matrix_number, matrix_numbers}
-use Rattle.pip_problem.specs.Faults.{read_fault}
-use Rattle.text_reading.proofs.Fronts.{step_more, refused_more}
 use Rattle.polylib_reader.proofs.Fronts.{numbers_more}
 use Rattle.polylib_reader.proofs.number.numbers.Goals as goal
 

@@ -1,8 +1,4 @@
-use Rattle.std.proofs.Common.{◌≡◌, ◌-◌, ◌≤◌, length}
-use Rattle.std.specs.Prelude.{All}
-use Rattle.affine_forms.specs.Checks.{Fits}
-use Rattle.pip_model.specs.MatrixText.{matrix_numbers}
-use Rattle.text_reading.specs.Fronts.{with_front}
+use Rattle.polylib_reader.proofs.Words.{◌≡◌, ◌-◌, ◌≤◌, length, All, Fits, matrix_numbers, with_front}
 use Rattle.polylib_reader.proofs.number.numbers.Given as goal
 
 abbrev pub invariant-loop : goal.invariant-loop

@@ -1,9 +1,5 @@
-use Rattle.std.proofs.Common.{rules, length, true}
-use Rattle.std.proofs.lemmas.Result.{err_from_is_err_and}
-use Rattle.pip_model.specs.MatrixText.{accepted_option, options}
-use Rattle.pip_problem.specs.Faults.{read_fault}
+use Rattle.polylib_reader.proofs.Words.{rules, length, true, err_from_is_err_and, accepted_option, options, read_fault, refused_by}
 use Rattle.polylib_reader.specs.Words.{word_of}
-use Rattle.text_reading.proofs.Binds.{refused_by}
 use Rattle.polylib_reader.proofs.Options.{options_kept, option_refused}
 use Rattle.polylib_reader.proofs.option.options.Goals as goal
 

@@ -1,5 +1,4 @@
-use Rattle.std.proofs.Common.{◌≡◌, ◌-◌, ◌≤◌, length, true}
-use Rattle.pip_model.specs.MatrixText.{options}
+use Rattle.polylib_reader.proofs.Words.{◌≡◌, ◌-◌, ◌≤◌, length, true, options}
 use Rattle.polylib_reader.proofs.option.options.Given as goal
 
 abbrev pub invariant-loop : goal.invariant-loop

@@ -1,9 +1,4 @@
-use Rattle.std.proofs.Common.{length, true}
-use Rattle.std.proofs.lemmas.Result.{err_from_is_err_and}
-use Rattle.pip_model.specs.MatrixText.{options, read_matrices}
-use Rattle.pip_problem.specs.Faults.{read_fault}
-use Rattle.polylib_reader.specs.Matrices.{context_matrix, big_parameter, constraint_matrix}
-use Rattle.text_reading.proofs.Binds.{refused_by}
+use Rattle.polylib_reader.proofs.Words.{length, true, err_from_is_err_and, options, read_matrices, read_fault, context_matrix, big_parameter, constraint_matrix, refused_by}
 use Rattle.polylib_reader.proofs.Problems.{context_refused, big_refused, constraints_refused, options_refused, matrices_read, within_limits, group_comment}
 use Rattle.polylib_reader.proofs.problem.read_matrices.Goals as goal
 

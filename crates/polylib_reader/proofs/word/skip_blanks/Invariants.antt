@@ -1,5 +1,4 @@
-use Rattle.std.proofs.Common.{◌≡◌, drop, false}
-use Rattle.pip_model.specs.MatrixText.{skipped}
+use Rattle.polylib_reader.proofs.Words.{◌≡◌, drop, false, skipped}
 use Rattle.polylib_reader.proofs.word.skip_blanks.Given as goal
 
 abbrev pub invariant-loop-place : goal.invariant-loop-place

@@ -1,6 +1,4 @@
-use Rattle.std.proofs.Common.{◌≡◌, ◌++◌, ◌∷◌, [], rules}
-use Rattle.std.proofs.lemmas.List.Elements.{All-push}
-use Rattle.affine_forms.specs.Checks.{Fits}
+use Rattle.quast.proofs.Words.{◌≡◌, ◌++◌, ◌∷◌, [], rules, All-push, Fits}
 use Rattle.quast.proofs.place.append_floor.Goals as goal
 
 pub returns-clause-fits : goal.returns-clause-fits

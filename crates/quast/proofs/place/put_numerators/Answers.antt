@@ -1,7 +1,5 @@
-use Rattle.std.proofs.Common.{◌≡◌, refl, true, arith, rules}
+use Rattle.quast.proofs.Words.{◌≡◌, refl, true, arith, rules, err_from_is_err_and, all_fit, value_listed}
 use Rattle.std.proofs.lemmas.Grind.{common_steps}
-use Rattle.std.proofs.lemmas.Result.{err_from_is_err_and}
-use Rattle.pip_model.specs.Listed.{all_fit, value_listed}
 use Rattle.quast.proofs.Numerators.{fit-step, fit-end, fit-refused}
 use Rattle.quast.proofs.place.put_numerators.Goals as goal
 

@@ -1,8 +1,5 @@
-use Rattle.std.proofs.Common.{◌≡◌, ◌+◌, ◌-◌, ◌≤◌, true, All, map, take, length, vec_len, vec_capacity}
-use Rattle.std.specs.List.{list_all}
-use Rattle.pip_model.specs.Forms.{value}
-use Rattle.affine_forms.specs.Checks.{Fits}
-use Rattle.quast.specs.Places.{value_fits}
+use Rattle.quast.proofs.Words.{◌≡◌, ◌+◌, ◌-◌, ◌≤◌, true, map, take, length, vec_len, vec_capacity, list_all, value, Fits, value_fits}
+use Rattle.std.proofs.Common.{All}
 use Rattle.quast.proofs.place.put_numerators.Given as goal
 
 abbrev pub invariant-loop-c : goal.invariant-loop-c

@@ -1,4 +1,4 @@
-use Rattle.std.proofs.Common.{refl, rules}
+use Rattle.quast_text.proofs.Words.{refl, rules}
 use Rattle.quast_text.proofs.Denominators.{component_wide}
 use Rattle.quast_text.proofs.component.over_one_denominator.Goals as goal
 

@@ -1,6 +1,4 @@
-use Rattle.std.proofs.Common.{◌≡◌, Ok, rules}
-use Rattle.pip_model.specs.Tree.{reduced}
-use Rattle.pip_model.specs.TreeText.{component}
+use Rattle.quast_text.proofs.Words.{◌≡◌, Ok, rules, reduced, component}
 use Rattle.quast_text.proofs.Lowest.{read_reduced}
 use Rattle.quast_text.proofs.component.read_component.Goals as goal
 

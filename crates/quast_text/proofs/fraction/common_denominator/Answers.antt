@@ -1,7 +1,4 @@
-use Rattle.std.proofs.Common.{◌≡◌, ◌≤ℤ◌, pos, to_z, of_z, arith, rules}
-use Rattle.std.specs.Int.{w128}
-use Rattle.pip_model.specs.Numbers.{lcm}
-use Rattle.affine_forms.specs.Checks.{Fits}
+use Rattle.quast_text.proofs.Words.{◌≡◌, ◌≤ℤ◌, pos, to_z, of_z, arith, rules, w128, lcm, Fits}
 use Rattle.quast_text.proofs.Denominators.{fit_step, last_step}
 use Rattle.quast_text.proofs.fraction.common_denominator.Goals as goal
 

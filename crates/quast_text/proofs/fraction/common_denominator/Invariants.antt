@@ -1,7 +1,4 @@
-use Rattle.std.proofs.Common.{◌≡◌, ◌≤ℤ◌, pos, drop}
-use Rattle.pip_model.specs.Listed.{all_fit}
-use Rattle.pip_model.specs.TreeText.{common_denominators, last_of}
-use Rattle.affine_forms.specs.Checks.{Fits}
+use Rattle.quast_text.proofs.Words.{◌≡◌, ◌≤ℤ◌, pos, drop, all_fit, common_denominators, last_of, Fits}
 use Rattle.quast_text.proofs.fraction.common_denominator.Given as goal
 
 abbrev pub invariant-loop-fraction : goal.invariant-loop-fraction

@@ -1,5 +1,4 @@
-use Rattle.std.proofs.Common.{◌≡◌, ◌≤ℤ◌, pos, rules}
-use Rattle.pip_model.specs.Numbers.{gcd}
+use Rattle.quast_text.proofs.Words.{◌≡◌, ◌≤ℤ◌, pos, rules, gcd}
 use Rattle.quast_text.proofs.Lowest.{gcd_below, from_one}
 use Rattle.quast_text.proofs.fraction.lowest_terms.Goals as goal
 

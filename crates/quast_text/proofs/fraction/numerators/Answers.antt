@@ -1,10 +1,5 @@
-use Rattle.std.proofs.Common.{◌≡◌, ◌++◌, ◌∷◌, [], arith, rules}
+use Rattle.quast_text.proofs.Words.{◌≡◌, ◌++◌, ◌∷◌, [], arith, rules, err_from_is_err_and, All-push, fits, Fits, numerator_of}
 use Rattle.std.specs.Prelude.{IsFalse}
-use Rattle.std.proofs.lemmas.Result.{err_from_is_err_and}
-use Rattle.std.proofs.lemmas.List.Elements.{All-push}
-use Rattle.pip_model.specs.Numbers.{fits}
-use Rattle.affine_forms.specs.Checks.{Fits}
-use Rattle.quast_text.specs.Fractions.{numerator_of}
 use Rattle.quast_text.proofs.Denominators.{numerator_refused, numerators_step, numerators_end, numerators_fit}
 use Rattle.quast_text.proofs.fraction.numerators.Goals as goal
 

@@ -1,7 +1,4 @@
-use Rattle.std.proofs.Common.{◌≡◌, take, map}
-use Rattle.std.specs.Prelude.{All}
-use Rattle.affine_forms.specs.Checks.{Fits}
-use Rattle.quast_text.specs.Fractions.{numerator_of}
+use Rattle.quast_text.proofs.Words.{◌≡◌, take, map, All, Fits, numerator_of}
 use Rattle.quast_text.proofs.fraction.numerators.Given as goal
 
 abbrev pub invariant-loop-fraction : goal.invariant-loop-fraction

@@ -1,9 +1,4 @@
-use Rattle.std.proofs.Common.{rules, ◌+◌, ◌-◌}
-use Rattle.std.proofs.lemmas.Result.{err_from_is_err_and}
-use Rattle.pip_model.specs.TreeText.{fractions}
-use Rattle.quast_text.specs.Faults.{text_fault}
-use Rattle.quast_text.specs.Fractions.{next_fraction}
-use Rattle.text_reading.proofs.Fronts.{step_more, refused_more}
+use Rattle.quast_text.proofs.Words.{rules, ◌+◌, ◌-◌, err_from_is_err_and, fractions, text_fault, next_fraction, step_more, refused_more}
 use Rattle.quast_text.proofs.Fronts.{fractions_more}
 use Rattle.quast_text.proofs.fraction.read_fractions.Goals as goal
 

@@ -1,6 +1,4 @@
-use Rattle.std.proofs.Common.{◌≡◌, ◌-◌, ◌≤◌, length}
-use Rattle.pip_model.specs.TreeText.{fractions}
-use Rattle.text_reading.specs.Fronts.{with_front}
+use Rattle.quast_text.proofs.Words.{◌≡◌, ◌-◌, ◌≤◌, length, fractions, with_front}
 use Rattle.quast_text.proofs.fraction.read_fractions.Given as goal
 
 abbrev pub invariant-loop : goal.invariant-loop

@@ -1,10 +1,5 @@
-use Rattle.std.proofs.Common.{◌≡◌, ◌<◌, ◌++◌, ◌∷◌, [], length-append, arith, rules, refl, ◌∙◌, Ok, Some, None}
-use Rattle.std.proofs.lemmas.Result.{err_from_is_err_and}
-use Rattle.std.proofs.lemmas.List.Elements.{All-push, All-cons, All-nil}
-use Rattle.quast.specs.Components.{IsComponent}
-use Rattle.quast_text.specs.Faults.{text_fault}
-use Rattle.quast_text.specs.Trees.{next_component, components_behind}
-use Rattle.text_reading.proofs.Ends.{list_end, list_more, list_refused}
+use Rattle.quast_text.proofs.Words.{◌≡◌, ◌<◌, ◌++◌, ◌∷◌, [], length-append, arith, rules, refl, ◌∙◌, Ok, err_from_is_err_and, All-push, All-cons, All-nil, IsComponent, text_fault, next_component, components_behind, list_end, list_more, list_refused}
+use Rattle.std.proofs.Common.{Some, None}
 use Rattle.quast_text.proofs.ListSteps.{components_by}
 use Rattle.quast_text.proofs.list.read_components.Goals as goal
 

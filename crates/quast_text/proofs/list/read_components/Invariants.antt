@@ -1,10 +1,4 @@
-use Rattle.std.proofs.Common.{◌≡◌, ◌+◌, ◌<◌, ◌≤◌, length}
-use Rattle.std.specs.Prelude.{All}
-use Rattle.pip_model.specs.Limits.{most_components}
-use Rattle.pip_model.specs.TreeText.{components}
-use Rattle.quast.specs.Components.{IsComponent}
-use Rattle.text_reading.specs.Fronts.{with_front}
-use Rattle.quast_text.specs.Trees.{components_behind}
+use Rattle.quast_text.proofs.Words.{◌≡◌, ◌+◌, ◌<◌, ◌≤◌, length, All, most_components, components, IsComponent, with_front, components_behind}
 use Rattle.quast_text.proofs.list.read_components.Given as goal
 
 abbrev pub invariant-loop-read : goal.invariant-loop-read

@@ -1,5 +1,4 @@
-use Rattle.std.proofs.Common.{◌∙◌, ap}
-use Rattle.quast.specs.Trees.{ScopedTree}
+use Rattle.quast_text.proofs.Words.{◌∙◌, ap, ScopedTree}
 use Rattle.quast.proofs.Lists.{list-components, list-width}
 use Rattle.quast_text.proofs.list.read_list.Goals as goal
 

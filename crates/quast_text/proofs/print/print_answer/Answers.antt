@@ -1,7 +1,5 @@
-use Rattle.std.proofs.Common.{◌≤◌, ◌∙◌, ℕ, sym}
+use Rattle.quast_text.proofs.Words.{◌≤◌, ◌∙◌, ℕ, sym, most_params, IsPrintableAnswer}
 use Rattle.text_laws.proofs.AnswerTexts.{read_answer-spell_first}
-use Rattle.pip_model.specs.Limits.{most_params}
-use Rattle.pip_model.specs.Printed.{IsPrintableAnswer}
 use Rattle.quast.specs.Answers.{answer_of, IsOver}
 use Rattle.quast_text.proofs.Spellings.{at_ok}
 use Rattle.quast_text.proofs.print.print_answer.Goals as goal

@@ -1,7 +1,5 @@
-use Rattle.std.proofs.Common.{◌++◌, ◌∙◌, ap, arith}
-use Rattle.text_printing.proofs.Spellings.{written}
+use Rattle.quast_text.proofs.Words.{◌++◌, ◌∙◌, ap, arith, written, spell_component}
 use Rattle.quast_text.proofs.Spellings.{components_flat}
-use Rattle.quast_text.specs.Printing.{spell_component}
 use Rattle.quast_text.proofs.print.put_components.Goals as goal
 
 pub returns-clause-ok : goal.returns-clause-ok

@@ -1,5 +1,4 @@
-use Rattle.std.proofs.Common.{◌≡◌, ◌++◌, take, flat_map}
-use Rattle.quast_text.specs.Printing.{spell_component}
+use Rattle.quast_text.proofs.Words.{◌≡◌, ◌++◌, take, flat_map, spell_component}
 use Rattle.quast_text.proofs.print.put_components.Given as goal
 
 abbrev pub invariant-loop-component : goal.invariant-loop-component

@@ -1,8 +1,5 @@
-use Rattle.std.specs.Int.{w128}
-use Rattle.std.proofs.Common.{rules, to_z, of_z, ◌≡◌, ◌++◌, ◌∙◌, ap, sym, arith, append-nil, get_or, pos}
-use Rattle.pip_model.specs.TreeText.{spell_fractions}
-use Rattle.quast_text.specs.Printing.{spell_term}
-use Rattle.text_printing.proofs.Spellings.{written, spelt_more, begins_more}
+use Rattle.quast_text.proofs.Words.{w128, rules, to_z, of_z, ◌≡◌, ◌++◌, ◌∙◌, ap, sym, arith, get_or, pos, spell_fractions, spell_term, written, spelt_more, begins_more}
+use Rattle.std.proofs.Common.{append-nil}
 use Rattle.quast_text.proofs.Spellings.{fractions_flat}
 use Rattle.quast_text.proofs.print.put_fractions.Goals as goal
 

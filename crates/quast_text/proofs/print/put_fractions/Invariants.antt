@@ -1,5 +1,4 @@
-use Rattle.std.proofs.Common.{◌≡◌, ◌++◌, take, flat_map}
-use Rattle.quast_text.specs.Printing.{spell_term}
+use Rattle.quast_text.proofs.Words.{◌≡◌, ◌++◌, take, flat_map, spell_term}
 use Rattle.quast_text.proofs.print.put_fractions.Given as goal
 
 abbrev pub invariant-loop-entry : goal.invariant-loop-entry

@@ -1,9 +1,4 @@
-use Rattle.std.proofs.Common.{◌≡◌, ◌++◌, refl, rules}
-use Rattle.std.specs.Prelude.{OnOk}
-use Rattle.std.specs.Fmt.{signed_decimal}
-use Rattle.pip_model.specs.Numbers.{floor_div, gcd}
-use Rattle.pip_model.specs.TreeText.{spell_fraction}
-use Rattle.quast_text.specs.Printing.{spell_denominator}
+use Rattle.quast_text.proofs.Words.{◌≡◌, ◌++◌, refl, rules, OnOk, signed_decimal, floor_div, gcd, spell_fraction, spell_denominator}
 use Rattle.quast_text.proofs.Spellings.{begins_through, on_ok, fraction_written}
 use Rattle.quast_text.proofs.print.put_lowest.Goals as goal
 

@@ -1,9 +1,6 @@
-use Rattle.std.proofs.Common.{drop, suc}
+use Rattle.quast_text.proofs.Words.{drop, suc, IsCommented, read_answer, Read}
 use Rattle.std.specs.List.{list_all}
 use Rattle.pip_model.specs.Moved.{is_closed}
-use Rattle.pip_model.specs.Printed.{IsCommented}
-use Rattle.pip_model.specs.TreeText.{read_answer}
-use Rattle.text_laws.proofs.ReadPlaces.{Read}
 use Rattle.text_laws.proofs.ReadTrees.{read_answer-none, read_answer-reads}
 use Rattle.quast_text.proofs.Found.{found_none, found_commented}
 use Rattle.quast_text.proofs.read.read_answer.Goals as goal

@@ -1,10 +1,4 @@
-use Rattle.std.proofs.Common.{◌≡◌, ap, rules, Ok}
-use Rattle.std.proofs.lemmas.Result.{err_from_is_err_and}
-use Rattle.pip_model.specs.Tree.{Bottom}
-use Rattle.pip_model.specs.TreeText.{Ends}
-use Rattle.quast.specs.Trees.{ScopedTree}
-use Rattle.quast_text.specs.Faults.{text_fault}
-use Rattle.quast_text.specs.Trees.{opening}
+use Rattle.quast_text.proofs.Words.{◌≡◌, ap, rules, Ok, err_from_is_err_and, Bottom, Ends, ScopedTree, text_fault, opening}
 use Rattle.quast_text.proofs.TreeSteps.{tree_refused, tree_bottom}
 use Rattle.quast_text.proofs.tree.+tree.Goals as goal
 

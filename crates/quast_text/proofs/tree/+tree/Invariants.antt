@@ -1,4 +1,4 @@
-use Rattle.std.proofs.Common.{◌+◌, ◌*◌}
+use Rattle.quast_text.proofs.Words.{◌+◌, ◌*◌}
 use Rattle.quast_text.proofs.tree.+tree.Given as goal
 
 abbrev pub decreases-read_tree : goal.decreases-read_tree

@@ -1,15 +1,6 @@
-use Rattle.std.proofs.Common.{◌∙◌, ap, sym, arith}
-use Rattle.std.proofs.lemmas.Result.{err_from_is_err_and}
-use Rattle.pip_model.specs.Run.{Work}
-use Rattle.pip_model.specs.ToolLaws.{IsLeastRefusal}
-use Rattle.pip_model.specs.Tools.{least}
+use Rattle.quast_tools.proofs.Words.{◌∙◌, ap, sym, arith, err_from_is_err_and, Work, IsLeastRefusal, least, Made, least-printable, answer_of, tool_fault, node_answer}
 use Rattle.pip_model.specs.Tree as model
-use Rattle.pip_model.specs.Walks.{Made}
 use Rattle.walk_laws.proofs.Choosing.{least-gives, least-refuses}
-use Rattle.walk_laws.proofs.Printing.{least-printable}
-use Rattle.quast.specs.Answers.{answer_of}
-use Rattle.quast_walk.specs.Faults.{tool_fault}
-use Rattle.quast_tools.specs.Nodes.{node_answer}
 use Rattle.quast_tools.proofs.Given.{told, quast_of, formed_of, nested_in}
 use Rattle.quast_tools.proofs.choosing.least.Goals as goal
 

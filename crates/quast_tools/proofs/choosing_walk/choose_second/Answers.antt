@@ -1,13 +1,5 @@
-use Rattle.std.proofs.Common.{ap, sym, subst, refl, arith}
-use Rattle.pip_model.specs.Tools.{least_second, tree_or_bottom}
-use Rattle.quast.specs.Answers.{answer_of, IsOver}
-use Rattle.quast.specs.Trees.{tree_of}
+use Rattle.quast_tools.proofs.Words.{ap, sym, subst, refl, arith, least_second, tree_or_bottom, answer_of, IsOver, tree_of, tool_fault, leaf_tree, visit_of, second_ready, agrees_as}
 use Rattle.quast.specs.declared.answer.Answer as answer
-use Rattle.quast_walk.specs.Faults.{tool_fault}
-use Rattle.quast_walk.specs.Readings.{leaf_tree}
-use Rattle.quast_walk.specs.Visits.{visit_of}
-use Rattle.quast_walk.proofs.Readied.{second_ready}
-use Rattle.quast_walk.proofs.Walking.{agrees_as}
 use Rattle.quast_tools.proofs.choosing_walk.choose_second.Goals as goal
 
 pub walk-requires-clause-ready : goal.walk-requires-clause-ready

@@ -1,9 +1,5 @@
-use Rattle.std.proofs.lemmas.Result.{err_from_is_err_and}
-use Rattle.pip_model.specs.ToolLaws.{IsSameRefusal}
+use Rattle.quast_tools.proofs.Words.{err_from_is_err_and, IsSameRefusal, answer_of, tool_fault, sameness_of}
 use Rattle.walk_laws.proofs.Comparing.{same-gives, same-refuses}
-use Rattle.quast.specs.Answers.{answer_of}
-use Rattle.quast_walk.specs.Faults.{tool_fault}
-use Rattle.quast_tools.specs.Samenesses.{sameness_of}
 use Rattle.quast_tools.proofs.Given.{told, over_rows}
 use Rattle.quast_tools.proofs.comparing.same.Goals as goal
 

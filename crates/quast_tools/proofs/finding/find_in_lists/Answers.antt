@@ -1,8 +1,4 @@
-use Rattle.std.proofs.Common.{◌∙◌, sym, rules, ◌+◌, drop, Err}
-use Rattle.std.proofs.lemmas.Result.{err_from_is_err_and}
-use Rattle.pip_model.specs.Tools.{same_lists}
-use Rattle.quast_walk.specs.Visits.{visit_of}
-use Rattle.quast_walk.proofs.Walking.{kept_kept}
+use Rattle.quast_tools.proofs.Words.{◌∙◌, sym, rules, ◌+◌, drop, Err, err_from_is_err_and, same_lists, visit_of, kept_kept}
 use Rattle.quast_tools.proofs.SameSteps.{wide_at, at_component, finds_as, found_some, found_none}
 use Rattle.quast_tools.proofs.finding.find_in_lists.Goals as goal
 

@@ -1,7 +1,4 @@
-use Rattle.std.proofs.Common.{◌≡◌, ℕ, drop}
-use Rattle.pip_model.specs.Tools.{same_lists}
-use Rattle.context.specs.Scoped.{IsKeptContext}
-use Rattle.quast_walk.specs.Visits.{visit_of}
+use Rattle.quast_tools.proofs.Words.{◌≡◌, ℕ, drop, same_lists, IsKeptContext, visit_of}
 use Rattle.quast_tools.proofs.finding.find_in_lists.Given as goal
 
 abbrev pub invariant-loop-i : goal.invariant-loop-i

@@ -1,13 +1,4 @@
-use Rattle.std.proofs.Common.{◌≡◌, ◌∙◌, ap, sym, arith, ◌+◌, ◌≤◌, pos, negsuc, ◌-ℤ◌, [], ◌∷◌, length, Some, Ok, Err}
-use Rattle.std.proofs.lemmas.Result.{err_from_is_err_and, IfOk-weaker}
-use Rattle.pip_model.specs.Forms.{constant, plus, opposite}
-use Rattle.pip_model.specs.Listed.{opposite_listed}
-use Rattle.pip_model.specs.Tools.{difference, difference_listed}
-use Rattle.pip_model.specs.Walks.{Visit}
-use Rattle.quast_walk.specs.Visits.{visit_of}
-use Rattle.quast_walk.proofs.Defining.{unfit_stops}
-use Rattle.quast_walk.proofs.Walking.{kept_visit}
-use Rattle.quast_tools.specs.Searches.{point_or, above_or_below}
+use Rattle.quast_tools.proofs.Words.{◌≡◌, ◌∙◌, ap, sym, arith, ◌+◌, ◌≤◌, pos, negsuc, ◌-ℤ◌, [], ◌∷◌, length, Some, Ok, Err, err_from_is_err_and, IfOk-weaker, constant, plus, opposite, opposite_listed, difference, difference_listed, Visit, visit_of, unfit_stops, kept_visit, point_or, above_or_below}
 use Rattle.quast_tools.proofs.SameSteps.{finds_as, from_fit}
 use Rattle.quast_tools.proofs.finding.find_unequal.Goals as goal
 

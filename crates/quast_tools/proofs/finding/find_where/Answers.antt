@@ -1,4 +1,4 @@
-use Rattle.std.proofs.lemmas.Result.{err_from_is_err_and}
+use Rattle.quast_tools.proofs.Words.{err_from_is_err_and}
 use Rattle.quast_tools.proofs.SameSteps.{where_unfit, where_finds}
 use Rattle.quast_tools.proofs.finding.find_where.Goals as goal
 

@@ -1,9 +1,4 @@
-use Rattle.std.proofs.Common.{rules, ◌≡◌, ◌∙◌, ap, sym, ℕ, length, map}
-use Rattle.pip_model.specs.Tools.{spread_component, widened_components}
-use Rattle.run_laws.proofs.Lengths.{length_map}
-use Rattle.quast_walk.specs.Faults.{tool_fault}
-use Rattle.quast_walk.specs.Visits.{visit_of}
-use Rattle.quast_walk.proofs.Walking.{agrees_as}
+use Rattle.quast_tools.proofs.Words.{rules, ◌≡◌, ◌∙◌, ap, sym, ℕ, length, map, spread_component, widened_components, length_map, tool_fault, visit_of, agrees_as}
 use Rattle.quast_tools.proofs.Lists.{lists_met}
 use Rattle.quast_tools.proofs.SameSteps.{leaves_alike}
 use Rattle.quast_tools.proofs.leaves.find_between.Goals as goal

@@ -1,4 +1,4 @@
-use Rattle.std.proofs.Common.{◌∙◌, ◌+◌}
+use Rattle.quast_tools.proofs.Words.{◌∙◌, ◌+◌}
 use Rattle.quast_tools.proofs.Lists.{first_same, first_scoped}
 use Rattle.quast_tools.proofs.leaves.first_list.Goals as goal
 

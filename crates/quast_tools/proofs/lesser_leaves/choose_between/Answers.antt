@@ -1,13 +1,4 @@
-use Rattle.std.proofs.Common.{rules, arith, ◌≡◌, ◌∙◌, ap, sym, subst, ℕ, length, map}
-use Rattle.pip_model.specs.Tools.{spread_component, widened_components}
-use Rattle.run_laws.proofs.Lengths.{length_map}
-use Rattle.quast.specs.Trees.{tree_of}
-use Rattle.quast_walk.specs.Faults.{tool_fault}
-use Rattle.quast_walk.specs.Readings.{HasRoom}
-use Rattle.quast_walk.specs.Visits.{visit_of}
-use Rattle.quast_walk.proofs.Placing.{scoped_of}
-use Rattle.quast_walk.proofs.Walking.{agrees_as}
-use Rattle.quast_tools.specs.Choices.{left, IsRest}
+use Rattle.quast_tools.proofs.Words.{rules, arith, ◌≡◌, ◌∙◌, ap, sym, subst, ℕ, length, map, spread_component, widened_components, length_map, tree_of, tool_fault, HasRoom, visit_of, scoped_of, agrees_as, left, IsRest}
 use Rattle.quast_tools.specs.declared.rest.Rest.{Rest}
 use Rattle.quast_tools.proofs.Lists.{lists_met, lists_alike}
 use Rattle.quast_tools.proofs.lesser_leaves.choose_between.Goals as goal

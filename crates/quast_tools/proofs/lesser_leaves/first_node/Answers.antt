@@ -1,5 +1,4 @@
-use Rattle.std.proofs.Common.{◌∙◌, ap, List, ◌+◌}
-use Rattle.pip_model.specs.Tree.{Component, Leaf}
+use Rattle.quast_tools.proofs.Words.{◌∙◌, ap, List, ◌+◌, Component, Leaf}
 use Rattle.quast_tools.proofs.Lists.{first_same, first_scoped}
 use Rattle.quast_tools.proofs.lesser_leaves.first_node.Goals as goal
 

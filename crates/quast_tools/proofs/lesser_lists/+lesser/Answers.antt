@@ -1,18 +1,6 @@
-use Rattle.std.proofs.Common.{◌≡◌, ◌∙◌, ap, sym, rules, arith, ◌<◌, length, get_or}
-use Rattle.std.proofs.lemmas.Result.{err_from_is_err_and}
+use Rattle.quast_tools.proofs.Words.{◌≡◌, ◌∙◌, ap, sym, rules, arith, ◌<◌, length, get_or, err_from_is_err_and, Component, AgreesWalked, class, count_if, Made, by_run, where_holds, tree_of, tool_fault, visit_of, scoped_of, all_wide, agrees_as, stops, lesser_by, rest_chosen}
 use Rattle.pip_model.specs.Tree as model
-use Rattle.pip_model.specs.Tree.{Component}
-use Rattle.pip_model.specs.ToolAgreement.{AgreesWalked}
-use Rattle.pip_model.specs.Run.{class}
-use Rattle.pip_model.specs.Tools.{count_if}
-use Rattle.pip_model.specs.Walks.{Made, by_run, where_holds}
-use Rattle.quast.specs.Trees.{tree_of}
 use Rattle.sign_split.specs.Classes.{class_of}
-use Rattle.quast_walk.specs.Faults.{tool_fault}
-use Rattle.quast_walk.specs.Visits.{visit_of}
-use Rattle.quast_walk.proofs.Placing.{scoped_of, all_wide}
-use Rattle.quast_walk.proofs.Walking.{agrees_as, stops}
-use Rattle.quast_tools.specs.Choices.{lesser_by, rest_chosen}
 use Rattle.quast_tools.specs.declared.rest.Known.{Known}
 use Rattle.quast_tools.proofs.LesserSteps.{rest_choice}
 use Rattle.quast_tools.proofs.lesser_lists.+lesser.Goals as goal

@@ -1,5 +1,4 @@
-use Rattle.std.proofs.Common.{◌+◌, ◌*◌}
-use Rattle.quast_tools.specs.Choices.{left}
+use Rattle.quast_tools.proofs.Words.{◌+◌, ◌*◌, left}
 use Rattle.quast_tools.proofs.lesser_lists.+lesser.Given as goal
 
 abbrev pub decreases-choose_rest : goal.decreases-choose_rest

@@ -1,12 +1,4 @@
-use Rattle.std.proofs.Common.{◌≡◌, ap, sym, subst}
-use Rattle.std.specs.Prelude.{IfSome}
-use Rattle.std.proofs.lemmas.Result.{err_from_is_err_and}
-use Rattle.pip_model.specs.Run.{count_split}
-use Rattle.pip_model.specs.Walks.{Stopped, by_run, walked_as}
-use Rattle.pip_problem.specs.Faults.{run_fault}
-use Rattle.quast_walk.specs.Faults.{tool_fault}
-use Rattle.quast_walk.proofs.Readied.{counted_stops}
-use Rattle.quast_walk.proofs.Walking.{stops}
+use Rattle.quast_tools.proofs.Words.{◌≡◌, ap, sym, subst, IfSome, err_from_is_err_and, count_split, Stopped, by_run, walked_as, run_fault, tool_fault, counted_stops, stops}
 use Rattle.quast_tools.proofs.lesser_lists.count_if.Goals as goal
 
 pub returns-in_err-count_split : goal.returns-in_err-count_split

@@ -1,10 +1,5 @@
-use Rattle.std.proofs.Common.{◌∙◌, ap, sym}
-use Rattle.std.proofs.lemmas.Result.{err_from_is_err_and}
+use Rattle.quast_tools.proofs.Words.{◌∙◌, ap, sym, err_from_is_err_and, Made, make, tree_of, tool_fault, stops, goes_on}
 use Rattle.pip_model.specs.Tree as model
-use Rattle.pip_model.specs.Walks.{Made, make}
-use Rattle.quast.specs.Trees.{tree_of}
-use Rattle.quast_walk.specs.Faults.{tool_fault}
-use Rattle.quast_walk.proofs.Walking.{stops, goes_on}
 use Rattle.quast_tools.proofs.lesser_lists.joined.Goals as goal
 
 pub returns-in_err-first : goal.returns-in_err-first

@@ -1,10 +1,4 @@
-use Rattle.std.proofs.Common.{◌≡◌, ap, sym, subst, ◌+◌}
-use Rattle.std.specs.Prelude.{IfSome}
-use Rattle.std.proofs.lemmas.Result.{err_from_is_err_and}
-use Rattle.pip_model.specs.Run.{check_nesting}
-use Rattle.pip_model.specs.Walks.{Stopped, by_run, walked_as}
-use Rattle.pip_problem.specs.Faults.{run_fault}
-use Rattle.quast_walk.proofs.Readied.{counted_stops}
+use Rattle.quast_tools.proofs.Words.{◌≡◌, ap, sym, subst, ◌+◌, IfSome, err_from_is_err_and, check_nesting, Stopped, by_run, walked_as, run_fault, counted_stops}
 use Rattle.quast_tools.proofs.lesser_lists.raise.Goals as goal
 
 pub returns-in_err-check_nesting : goal.returns-in_err-check_nesting

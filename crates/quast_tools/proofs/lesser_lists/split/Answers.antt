@@ -1,4 +1,4 @@
-use Rattle.std.proofs.lemmas.Result.{err_from_is_err_and}
+use Rattle.quast_tools.proofs.Words.{err_from_is_err_and}
 use Rattle.quast_tools.proofs.lesser_lists.split.Goals as goal
 
 pub returns-in_err-count_if-clause-counted : goal.returns-in_err-count_if-clause-counted

@@ -1,6 +1,5 @@
-use Rattle.std.proofs.Common.{arith, ◌<◌, ◌+◌, ◌^◌}
+use Rattle.quast_tools.proofs.Words.{arith, ◌<◌, ◌+◌, ◌^◌, answer_of}
 use Rattle.pip_model.specs.Limits.{most_nesting}
-use Rattle.quast.specs.Answers.{answer_of}
 use Rattle.quast_tools.proofs.Given.{rows_context, formed_of}
 use Rattle.quast_tools.proofs.nodes.given.Goals as goal
 

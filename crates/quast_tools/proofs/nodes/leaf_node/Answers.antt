@@ -1,7 +1,4 @@
-use Rattle.std.proofs.Common.{subst, IsTrue}
-use Rattle.pip_model.specs.Tree.{is_scoped}
-use Rattle.pip_model.specs.Tools.{spread_tree}
-use Rattle.quast_walk.specs.Readings.{leaf_tree}
+use Rattle.quast_tools.proofs.Words.{subst, IsTrue, is_scoped, spread_tree, leaf_tree}
 use Rattle.quast_walk.specs.declared.reading.TreeLeaf as code
 use Rattle.quast_tools.proofs.nodes.leaf_node.Goals as goal
 

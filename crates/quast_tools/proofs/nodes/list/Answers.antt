@@ -1,5 +1,4 @@
-use Rattle.std.proofs.Common.{sym, subst, List, IsTrue}
-use Rattle.pip_model.specs.Tree.{Leaf, Component, is_scoped}
+use Rattle.quast_tools.proofs.Words.{sym, subst, List, IsTrue, Leaf, Component, is_scoped}
 use Rattle.quast_tools.proofs.Lists.{own_components}
 use Rattle.quast_tools.proofs.nodes.list.Goals as goal
 

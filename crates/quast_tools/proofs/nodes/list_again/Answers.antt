@@ -1,6 +1,4 @@
-use Rattle.std.proofs.Common.{◌∙◌, sym, subst, IsTrue}
-use Rattle.pip_model.specs.Tree.{Tree, Leaf, is_scoped}
-use Rattle.quast_walk.proofs.Placing.{spread_tree-none}
+use Rattle.quast_tools.proofs.Words.{◌∙◌, sym, subst, IsTrue, Tree, Leaf, is_scoped, spread_tree-none}
 use Rattle.quast_tools.proofs.nodes.list_again.Goals as goal
 
 pub list-requires : goal.list-requires

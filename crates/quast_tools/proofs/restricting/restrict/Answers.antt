@@ -1,10 +1,5 @@
-use Rattle.std.proofs.lemmas.Result.{err_from_is_err_and}
-use Rattle.pip_model.specs.ToolLaws.{IsRestrictRefusal}
-use Rattle.walk_laws.proofs.Printing.{restrict-printable}
+use Rattle.quast_tools.proofs.Words.{err_from_is_err_and, IsRestrictRefusal, restrict-printable, answer_of, tool_fault, node_answer}
 use Rattle.walk_laws.proofs.Restricting.{restrict-gives, restrict-refuses}
-use Rattle.quast.specs.Answers.{answer_of}
-use Rattle.quast_walk.specs.Faults.{tool_fault}
-use Rattle.quast_tools.specs.Nodes.{node_answer}
 use Rattle.quast_tools.proofs.Given.{told, quast_of, formed_of}
 use Rattle.quast_tools.proofs.restricting.restrict.Goals as goal
 

@@ -1,6 +1,4 @@
-use Rattle.quast.specs.Trees.{tree_of}
-use Rattle.quast_walk.proofs.Placing.{spread_tree-none}
-use Rattle.quast_walk.proofs.Readied.{first_ready}
+use Rattle.quast_tools.proofs.Words.{tree_of, spread_tree-none, first_ready}
 use Rattle.quast_tools.proofs.restricting.restrict_tree.Goals as goal
 
 pub walk-requires-clause-tree : goal.walk-requires-clause-tree

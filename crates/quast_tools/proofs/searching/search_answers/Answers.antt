@@ -1,13 +1,5 @@
-use Rattle.std.proofs.Common.{ap, sym, subst}
-use Rattle.pip_model.specs.Tools.{same_first}
-use Rattle.pip_model.specs.Walks.{start_visit}
-use Rattle.quast.specs.Answers.{answer_of, IsOver}
-use Rattle.quast.specs.Trees.{tree_of}
+use Rattle.quast_tools.proofs.Words.{ap, sym, subst, same_first, start_visit, answer_of, IsOver, tree_of, tool_fault, spread_tree-none, first_ready, agrees_as}
 use Rattle.quast.specs.declared.answer.Answer as answer
-use Rattle.quast_walk.specs.Faults.{tool_fault}
-use Rattle.quast_walk.proofs.Placing.{spread_tree-none}
-use Rattle.quast_walk.proofs.Readied.{first_ready}
-use Rattle.quast_walk.proofs.Walking.{agrees_as}
 use Rattle.quast_tools.proofs.searching.search_answers.Goals as goal
 
 pub walk-requires-clause-tree : goal.walk-requires-clause-tree

@@ -1,16 +1,7 @@
-use Rattle.std.proofs.Common.{◌∙◌, ap, sym, subst, refl, arith}
+use Rattle.quast_tools.proofs.Words.{◌∙◌, ap, sym, subst, refl, arith, Tree, Solved, same_leaves, same_second, answer_of, IsOver, tree_of, tool_fault, leaf_answer, visit_of, second_ready, agrees_as}
 use Rattle.pip_model.specs.Tree as model
-use Rattle.pip_model.specs.Tree.{Tree, Solved}
-use Rattle.pip_model.specs.Tools.{same_leaves, same_second}
-use Rattle.quast.specs.Answers.{answer_of, IsOver}
-use Rattle.quast.specs.Trees.{tree_of}
 use Rattle.quast.specs.declared.answer.Answer as answer
-use Rattle.quast_walk.specs.Faults.{tool_fault}
-use Rattle.quast_walk.specs.Readings.{leaf_answer}
-use Rattle.quast_walk.specs.Visits.{visit_of}
 use Rattle.quast_walk.specs.declared.reading.Reading.{Reading}
-use Rattle.quast_walk.proofs.Readied.{second_ready}
-use Rattle.quast_walk.proofs.Walking.{agrees_as}
 use Rattle.quast_tools.proofs.searching.search_second.Goals as goal
 
 pub walk-requires-clause-ready : goal.walk-requires-clause-ready

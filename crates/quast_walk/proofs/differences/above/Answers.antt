@@ -1,5 +1,4 @@
-use Rattle.std.proofs.Common.{rules, ◌≡◌, ◌∙◌, ap, negsuc, List, ℤ}
-use Rattle.pip_model.specs.Forms.{negate, opposite, plus}
+use Rattle.quast_walk.proofs.Words.{rules, ◌≡◌, ◌∙◌, ap, negsuc, List, ℤ, negate, opposite, plus}
 use Rattle.sign_split.proofs.Opposites.{negate_twice}
 use Rattle.quast_walk.proofs.differences.above.Goals as goal
 

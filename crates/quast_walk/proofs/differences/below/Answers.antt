@@ -1,6 +1,4 @@
-use Rattle.std.proofs.Common.{rules, ◌≡◌, ◌∙◌, ap, length, List, ℤ}
-use Rattle.pip_model.specs.Forms.{opposite}
-use Rattle.pip_model.proofs.Forms.{length-opposite}
+use Rattle.quast_walk.proofs.Words.{rules, ◌≡◌, ◌∙◌, ap, length, List, ℤ, opposite, length-opposite}
 use Rattle.quast_walk.proofs.differences.below.Goals as goal
 
 pub returns-clause-length : goal.returns-clause-length

@@ -1,6 +1,5 @@
-use Rattle.std.proofs.Common.{rules, ◌≡◌, ◌∙◌, ap, length, List, ℤ}
+use Rattle.quast_walk.proofs.Words.{rules, ◌≡◌, ◌∙◌, ap, length, List, ℤ, length-combine}
 use Rattle.pip_model.specs.Tools as model
-use Rattle.pip_model.proofs.Forms.{length-combine}
 use Rattle.quast_walk.proofs.differences.difference.Goals as goal
 
 pub returns-clause-length : goal.returns-clause-length

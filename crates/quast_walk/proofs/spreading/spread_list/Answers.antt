@@ -1,9 +1,4 @@
-use Rattle.std.proofs.Common.{◌∙◌, ap, rules, arith, List, map}
-use Rattle.std.proofs.lemmas.List.{take_all}
-use Rattle.std.proofs.lemmas.List.Elements.{All-push}
-use Rattle.pip_model.specs.Tree.{Component}
-use Rattle.pip_model.specs.Tools.{spread_component}
-use Rattle.quast_walk.specs.Readings.{spread_reduced, IsOwnComponent}
+use Rattle.quast_walk.proofs.Words.{◌∙◌, ap, rules, arith, List, map, take_all, All-push, Component, spread_component, spread_reduced, IsOwnComponent}
 use Rattle.quast_walk.proofs.Placing.{made_more, made_so, scoped_of, own_list}
 use Rattle.quast_walk.proofs.spreading.spread_list.Goals as goal
 

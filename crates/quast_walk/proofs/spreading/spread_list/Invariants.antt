@@ -1,6 +1,5 @@
-use Rattle.std.proofs.Common.{◌≡◌, map, take}
+use Rattle.quast_walk.proofs.Words.{◌≡◌, map, take, spread_reduced, IsOwnComponent}
 use Rattle.std.specs.Prelude.{All}
-use Rattle.quast_walk.specs.Readings.{spread_reduced, IsOwnComponent}
 use Rattle.quast_walk.proofs.spreading.spread_list.Given as goal
 
 abbrev pub invariant-loop-i : goal.invariant-loop-i

@@ -1,4 +1,4 @@
-use Rattle.std.proofs.Common.{◌≡◌, ◌+◌, ◌*◌, ◌≤◌, length, take}
+use Rattle.quast_walk.proofs.Words.{◌≡◌, ◌+◌, ◌*◌, ◌≤◌, length, take}
 use Rattle.quast_walk.proofs.starting.context_of.Given as goal
 
 abbrev pub invariant-loop-form : goal.invariant-loop-form

@@ -1,5 +1,4 @@
-use Rattle.std.proofs.Common.{◌≡◌, arith, rules, ◌-◌, length}
-use Rattle.pip_model.specs.Cuts.{lower_bound, upper_bound}
+use Rattle.quast_walk.proofs.Words.{◌≡◌, arith, rules, ◌-◌, length, lower_bound, upper_bound}
 use Rattle.quast_walk.proofs.Narrow.{lower_long, upper_long, quotient}
 use Rattle.quast_walk.proofs.steps.go_below.Goals as goal
 

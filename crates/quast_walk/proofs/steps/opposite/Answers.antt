@@ -1,5 +1,4 @@
-use Rattle.std.proofs.Common.{rules, ◌≡◌}
-use Rattle.pip_model.specs.Forms.{opposite}
+use Rattle.quast_walk.proofs.Words.{rules, ◌≡◌, opposite}
 use Rattle.run_laws.proofs.Scopes.{length-opposite}
 use Rattle.quast_walk.proofs.steps.opposite.Goals as goal
 

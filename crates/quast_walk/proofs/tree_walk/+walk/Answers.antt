@@ -1,15 +1,6 @@
-use Rattle.std.proofs.Common.{◌≡◌, ◌∙◌, ◌+◌, ap, sym, rules, to_z, of_z}
-use Rattle.std.specs.Int.{w128}
-use Rattle.std.proofs.lemmas.Result.{err_from_is_err_and}
-use Rattle.pip_model.specs.Run.{class}
-use Rattle.pip_model.specs.Tree.{If, NewParm}
-use Rattle.pip_model.specs.Tools.{spread_tree}
+use Rattle.quast_walk.proofs.Words.{◌≡◌, ◌∙◌, ◌+◌, ap, sym, rules, to_z, of_z, w128, err_from_is_err_and, class, If, NewParm, spread_tree, Made, Walking, by_run, make, where_holds, walk, walk_on, tree_of, tool_fault, visit_of}
 use Rattle.pip_model.specs.Walks as walks
-use Rattle.pip_model.specs.Walks.{Made, Walking, by_run, make, where_holds, walk, walk_on}
-use Rattle.quast.specs.Trees.{tree_of}
 use Rattle.sign_split.specs.Classes.{class_of}
-use Rattle.quast_walk.specs.Faults.{tool_fault}
-use Rattle.quast_walk.specs.Visits.{visit_of}
 use Rattle.quast_walk.proofs.Branching.{read_if}
 use Rattle.quast_walk.proofs.Defining.{read_define}
 use Rattle.quast_walk.proofs.Narrow.{quotient}

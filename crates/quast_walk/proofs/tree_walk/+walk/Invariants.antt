@@ -1,6 +1,4 @@
-use Rattle.std.proofs.Common.{◌+◌, ◌*◌}
-use Rattle.pip_model.specs.Tree.{size}
-use Rattle.quast.specs.Trees.{tree_of}
+use Rattle.quast_walk.proofs.Words.{◌+◌, ◌*◌, size, tree_of}
 use Rattle.quast_walk.proofs.tree_walk.+walk.Given as goal
 
 abbrev pub decreases-walk : goal.decreases-walk

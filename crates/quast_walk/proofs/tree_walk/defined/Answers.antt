@@ -1,8 +1,4 @@
-use Rattle.std.proofs.Common.{◌≡◌, rules, to_z, of_z}
-use Rattle.std.specs.Int.{w128}
-use Rattle.std.proofs.lemmas.Result.{err_from_is_err_and}
-use Rattle.pip_model.specs.Walks.{make}
-use Rattle.quast_walk.specs.Faults.{tool_fault}
+use Rattle.quast_walk.proofs.Words.{◌≡◌, rules, to_z, of_z, w128, err_from_is_err_and, make, tool_fault}
 use Rattle.quast_walk.proofs.Defining.{define_gives}
 use Rattle.quast_walk.proofs.Walking.{stops}
 use Rattle.quast_walk.proofs.tree_walk.defined.Goals as goal

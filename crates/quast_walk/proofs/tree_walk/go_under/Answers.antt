@@ -1,11 +1,4 @@
-use Rattle.std.proofs.Common.{◌≡◌, subst, rules, ℤ, IsTrue, IsFalse, to_z, of_z}
-use Rattle.std.specs.Int.{w128}
-use Rattle.std.proofs.lemmas.Result.{err_from_is_err_and}
-use Rattle.pip_model.specs.Listed.{all_fit}
-use Rattle.pip_model.specs.Walks.{below_listed}
-use Rattle.affine_forms.specs.Checks.{is_form_overflow}
-use Rattle.quast_walk.specs.Faults.{tool_fault}
-use Rattle.quast_walk.specs.Visits.{visit_of, checked_sign, IsBelow}
+use Rattle.quast_walk.proofs.Words.{◌≡◌, subst, rules, ℤ, IsTrue, IsFalse, to_z, of_z, w128, err_from_is_err_and, all_fit, below_listed, is_form_overflow, tool_fault, visit_of, checked_sign, IsBelow}
 use Rattle.quast_walk.proofs.Defining.{listed_goes, unfit_stops, below_is, kept_below}
 use Rattle.quast_walk.proofs.Narrow.{quotient}
 use Rattle.quast_walk.proofs.Walking.{stops}

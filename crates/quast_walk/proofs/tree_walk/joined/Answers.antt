@@ -1,5 +1,4 @@
-use Rattle.std.proofs.lemmas.Result.{err_from_is_err_and}
-use Rattle.quast_walk.specs.Faults.{tool_fault}
+use Rattle.quast_walk.proofs.Words.{err_from_is_err_and, tool_fault}
 use Rattle.quast_walk.proofs.Branching.{join_stops}
 use Rattle.quast_walk.proofs.tree_walk.joined.Goals as goal
 

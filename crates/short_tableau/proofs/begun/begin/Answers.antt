@@ -1,9 +1,4 @@
-use Rattle.std.proofs.Common.{rules, ◌≡◌, ◌∙◌, ap, sym, subst, pos, ◌*ℤ◌, ◌≤ℤ◌, to_z, of_z}
-use Rattle.std.specs.Int.{w64, w128}
-use Rattle.pip_model.specs.Forms.{entry, combine}
-use Rattle.tableau.specs.Tableaus.{row_from}
-use Rattle.short_tableau.specs.Begun.{finished}
-use Rattle.short_tableau.specs.Rows.{row_of}
+use Rattle.short_tableau.proofs.Words.{rules, ◌≡◌, ◌∙◌, ap, sym, subst, pos, ◌*ℤ◌, ◌≤ℤ◌, to_z, of_z, w64, w128, entry, combine, row_from, finished, row_of}
 use Rattle.short_tableau.proofs.Finished.{combine_zero}
 use Rattle.short_tableau.proofs.ShortParts.{product_positive, substituted_made}
 use Rattle.short_tableau.proofs.begun.begin.Goals as goal

@@ -1,12 +1,4 @@
-use Rattle.std.proofs.Common.{rules, ◌≡◌, false, to_z, of_z}
-use Rattle.std.specs.Int.{w64}
-use Rattle.std.specs.List.{list_all}
-use Rattle.std.proofs.lemmas.List.Elements.{All-set}
-use Rattle.pip_model.specs.Forms.{floor_divided}
-use Rattle.pip_model.specs.Numbers.{floor_div}
-use Rattle.tableau.specs.Short.{is_short, IsShort}
-use Rattle.short_tableau.specs.Begun.{begun_coefs, begun_constant}
-use Rattle.short_tableau.specs.Rows.{row_of}
+use Rattle.short_tableau.proofs.Words.{rules, ◌≡◌, false, to_z, of_z, w64, list_all, All-set, floor_divided, floor_div, is_short, IsShort, begun_coefs, begun_constant, row_of}
 use Rattle.short_tableau.proofs.Finished.{no_denominator, begun_divided, no_den, no_entry, no_coefs, no_constant}
 use Rattle.short_tableau.proofs.begun.finish.Goals as goal
 

@@ -1,8 +1,4 @@
-use Rattle.std.proofs.Common.{pos, arith, rules, ◌≡◌, ◌∙◌, neg_ℤ}
-use Rattle.std.proofs.lemmas.List.Elements.{All-set}
-use Rattle.tableau.specs.Short.{IsShort}
-use Rattle.pip_model.specs.Numbers.{floor_mod}
-use Rattle.affine_forms.proofs.Mapped.{mapped, mapped_step}
+use Rattle.short_tableau.proofs.Words.{pos, arith, rules, ◌≡◌, ◌∙◌, neg_ℤ, All-set, IsShort, floor_mod, mapped, mapped_step}
 use Rattle.short_tableau.proofs.Cutting.{ceiled}
 use Rattle.short_tableau.proofs.cuts.ceil_mod_all.Goals as goal
 

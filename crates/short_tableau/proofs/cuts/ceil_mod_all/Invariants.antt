@@ -1,8 +1,4 @@
-use Rattle.std.proofs.Common.{◌≡◌, neg_ℤ}
-use Rattle.std.specs.Prelude.{All}
-use Rattle.pip_model.specs.Numbers.{floor_mod}
-use Rattle.tableau.specs.Short.{IsShort}
-use Rattle.affine_forms.proofs.Mapped.{mapped}
+use Rattle.short_tableau.proofs.Words.{◌≡◌, neg_ℤ, All, floor_mod, IsShort, mapped}
 use Rattle.short_tableau.proofs.cuts.ceil_mod_all.Given as goal
 
 abbrev pub invariant-loop-number : goal.invariant-loop-number

@@ -1,10 +1,4 @@
-use Rattle.std.proofs.Common.{rules, ◌≡◌, ◌∙◌, ap, sym, subst, ◌++◌, to_z, of_z}
-use Rattle.std.specs.Prelude.{slice_set}
-use Rattle.std.specs.Int.{w64}
-use Rattle.pip_model.specs.Cuts.{constant_cut}
-use Rattle.tableau.specs.Flat.{row_of_numbers}
-use Rattle.tableau.specs.Short.{IsShortRow}
-use Rattle.tableau.specs.Tableaus.{row_from}
+use Rattle.short_tableau.proofs.Words.{rules, ◌≡◌, ◌∙◌, ap, sym, subst, ◌++◌, to_z, of_z, slice_set, w64, constant_cut, row_of_numbers, IsShortRow, row_from}
 use Rattle.short_tableau.proofs.Cutting.{cut_row}
 use Rattle.short_tableau.proofs.ShortParts.{row_join}
 use Rattle.short_tableau.proofs.cuts.make_cut.Goals as goal

@@ -1,7 +1,4 @@
-use Rattle.std.proofs.Common.{rules, ◌≡◌, ◌∙◌, ◌+◌, arith, length-append, ap, subst, length, ◌++◌, take, drop, List, ℤ}
-use Rattle.std.specs.Prelude.{slice_range}
-use Rattle.std.proofs.lemmas.List.{take_at, drop_at}
-use Rattle.short_tableau.specs.Dense.{row_size, IsShortReduced}
+use Rattle.short_tableau.proofs.Words.{rules, ◌≡◌, ◌∙◌, ◌+◌, arith, length-append, ap, subst, length, ◌++◌, take, drop, List, ℤ, slice_range, take_at, drop_at, row_size, IsShortReduced}
 use Rattle.short_tableau.proofs.Cutting.{copied_short, made_row, made_numbers}
 use Rattle.short_tableau.proofs.cuts.push_cut_row.Goals as goal
 

@@ -1,7 +1,4 @@
-use Rattle.std.proofs.Common.{arith, rules, ◌≡◌, length}
-use Rattle.std.proofs.lemmas.List.Elements.{All-set}
-use Rattle.tableau.specs.Short.{IsShort}
-use Rattle.tableau.proofs.Combining.{combined, combined_step}
+use Rattle.short_tableau.proofs.Words.{arith, rules, ◌≡◌, length, All-set, IsShort, combined, combined_step}
 use Rattle.short_tableau.proofs.Finished.{finished_combined}
 use Rattle.short_tableau.proofs.numbers.combine.Goals as goal
 

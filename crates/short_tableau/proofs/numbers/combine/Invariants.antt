@@ -1,7 +1,4 @@
-use Rattle.std.proofs.Common.{◌≡◌}
-use Rattle.std.specs.Prelude.{All}
-use Rattle.tableau.specs.Short.{IsShort}
-use Rattle.tableau.proofs.Combining.{combined}
+use Rattle.short_tableau.proofs.Words.{◌≡◌, All, IsShort, combined}
 use Rattle.short_tableau.proofs.numbers.combine.Given as goal
 
 abbrev pub invariant-loop-i : goal.invariant-loop-i

@@ -1,8 +1,4 @@
-use Rattle.std.proofs.Common.{◌≡◌}
-use Rattle.std.specs.Prelude.{All}
-use Rattle.pip_model.specs.Numbers.{floor_div}
-use Rattle.tableau.specs.Short.{IsShort}
-use Rattle.affine_forms.proofs.Mapped.{mapped}
+use Rattle.short_tableau.proofs.Words.{◌≡◌, All, floor_div, IsShort, mapped}
 use Rattle.short_tableau.proofs.numbers.divide_all.Given as goal
 
 abbrev pub invariant-loop-number : goal.invariant-loop-number

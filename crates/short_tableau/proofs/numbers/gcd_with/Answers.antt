@@ -1,8 +1,4 @@
-use Rattle.std.proofs.Common.{arith}
-use Rattle.std.proofs.lemmas.Int.{to_z-of_z}
-use Rattle.std.proofs.lemmas.Grind.{common_steps}
-use Rattle.affine_forms.proofs.Divisors.{gcd_step}
-use Rattle.pip_model.proofs.Gcd.{gcd_one}
+use Rattle.short_tableau.proofs.Words.{arith, to_z-of_z, common_steps, gcd_step, gcd_one}
 use Rattle.short_tableau.proofs.numbers.gcd_with.Goals as goal
 
 pub returns-then-found-eq1-clause-value : goal.returns-then-found-eq1-clause-value

@@ -1,6 +1,4 @@
-use Rattle.std.proofs.Common.{rules, ◌≡◌, subst, ◌-ℤ◌, ◌*ℤ◌, to_z, of_z}
-use Rattle.std.specs.Int.{w128}
-use Rattle.short_tableau.specs.Terms.{IsNarrowed}
+use Rattle.short_tableau.proofs.Words.{rules, ◌≡◌, subst, ◌-ℤ◌, ◌*ℤ◌, to_z, of_z, w128, IsNarrowed}
 use Rattle.short_tableau.proofs.numbers.narrow_entry.Goals as goal
 
 pub returns : goal.returns

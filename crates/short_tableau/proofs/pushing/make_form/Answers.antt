@@ -1,4 +1,4 @@
-use Rattle.std.proofs.Common.{rules}
+use Rattle.short_tableau.proofs.Words.{rules}
 use Rattle.short_tableau.proofs.UnitNumbers.{form_written, form_short}
 use Rattle.short_tableau.proofs.pushing.make_form.Goals as goal
 

@@ -1,4 +1,4 @@
-use Rattle.std.proofs.Common.{rules, pos, arith}
+use Rattle.short_tableau.proofs.Words.{rules, pos, arith}
 use Rattle.short_tableau.proofs.UnitNumbers.{written_step, short_step}
 use Rattle.short_tableau.proofs.pushing.narrow_all.Goals as goal
 

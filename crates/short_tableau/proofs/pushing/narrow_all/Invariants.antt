@@ -1,6 +1,4 @@
-use Rattle.std.proofs.Common.{◌≡◌, ◌++◌, take, drop}
-use Rattle.std.specs.Prelude.{All}
-use Rattle.tableau.specs.Short.{IsShort}
+use Rattle.short_tableau.proofs.Words.{◌≡◌, ◌++◌, take, drop, All, IsShort}
 use Rattle.short_tableau.proofs.pushing.narrow_all.Given as goal
 
 abbrev pub invariant-loop-i : goal.invariant-loop-i

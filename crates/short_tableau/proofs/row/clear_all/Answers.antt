@@ -1,5 +1,4 @@
-use Rattle.std.proofs.Common.{pos, arith, refl, ◌∙◌}
-use Rattle.affine_forms.proofs.Mapped.{mapped_step}
+use Rattle.short_tableau.proofs.Words.{pos, arith, refl, ◌∙◌, mapped_step}
 use Rattle.short_tableau.proofs.UnitNumbers.{cleared}
 use Rattle.short_tableau.proofs.row.clear_all.Goals as goal
 

@@ -1,5 +1,4 @@
-use Rattle.std.proofs.Common.{◌≡◌, pos}
-use Rattle.affine_forms.proofs.Mapped.{mapped}
+use Rattle.short_tableau.proofs.Words.{◌≡◌, pos, mapped}
 use Rattle.short_tableau.proofs.row.clear_all.Given as goal
 
 abbrev pub invariant-loop-number : goal.invariant-loop-number

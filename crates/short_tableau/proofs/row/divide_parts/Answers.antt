@@ -1,8 +1,5 @@
-use Rattle.std.proofs.Common.{rules, refl, ◌≡◌}
-use Rattle.pip_model.specs.Rows.{divided}
-use Rattle.tableau.specs.Tableaus.{row_from}
+use Rattle.short_tableau.proofs.Words.{rules, refl, ◌≡◌, divided, row_from, row_parts}
 use Rattle.tableau.proofs.RowLaws.{divided_row, divided_one, divided_whole}
-use Rattle.tableau.proofs.Substituting.{row_parts}
 use Rattle.short_tableau.proofs.row.divide_parts.Goals as goal
 
 pub returns-clause-value : goal.returns-clause-value

@@ -1,11 +1,4 @@
-use Rattle.std.proofs.Common.{rules, ◌≡◌, subst, length, pos, to_z, of_z}
-use Rattle.std.specs.Prelude.{slice_index_or, Some, None}
-use Rattle.std.specs.Int.{w64}
-use Rattle.pip_model.specs.Rows.{eliminated}
-use Rattle.tableau.specs.Tableaus.{row_from}
-use Rattle.short_tableau.specs.Dense.{IsShortReduced}
-use Rattle.short_tableau.specs.Rows.{row_of}
-use Rattle.short_tableau.specs.Turned.{IsDenominatorOf}
+use Rattle.short_tableau.proofs.Words.{rules, ◌≡◌, subst, length, pos, to_z, of_z, slice_index_or, Some, None, w64, eliminated, row_from, IsShortReduced, row_of, IsDenominatorOf}
 use Rattle.short_tableau.proofs.ShortParts.{parts_row, parts_pivot, parts_stay, parts_turned, parts_long}
 use Rattle.short_tableau.proofs.row.eliminate.Goals as goal
 

@@ -1,12 +1,4 @@
-use Rattle.std.proofs.Common.{rules, ◌≡◌, ◌∙◌, ap, subst, to_z, of_z}
-use Rattle.std.specs.Int.{w64}
-use Rattle.std.proofs.lemmas.List.Elements.{All-set}
-use Rattle.pip_model.specs.Rows.{Row, divided, substituted}
-use Rattle.tableau.specs.Short.{IsShort}
-use Rattle.tableau.specs.Tableaus.{row_from}
-use Rattle.short_tableau.specs.Begun.{begun_row}
-use Rattle.short_tableau.specs.Rows.{row_of}
-use Rattle.short_tableau.specs.Turned.{IsDenominatorOf}
+use Rattle.short_tableau.proofs.Words.{rules, ◌≡◌, ◌∙◌, ap, subst, to_z, of_z, w64, All-set, Row, divided, substituted, IsShort, row_from, begun_row, row_of, IsDenominatorOf}
 use Rattle.short_tableau.proofs.Finished.{begun_all}
 use Rattle.short_tableau.proofs.row.eliminate_parts.Goals as goal
 

@@ -1,4 +1,4 @@
-use Rattle.std.proofs.Common.{◌∙◌, ap, replicate, pos, ℕ}
+use Rattle.short_tableau.proofs.Words.{◌∙◌, ap, replicate, pos, ℕ}
 use Rattle.short_tableau.proofs.UnitNumbers.{unit_numbers}
 use Rattle.short_tableau.proofs.row.make_unit.Goals as goal
 

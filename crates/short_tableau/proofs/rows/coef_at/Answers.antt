@@ -1,8 +1,5 @@
-use Rattle.std.proofs.Common.{rules, arith, sym, subst, ◌≡◌, ◌+◌, pos, slice_index_or, to_z, of_z, w64}
-use Rattle.pip_model.specs.Forms.{entry}
-use Rattle.pip_model.specs.Rows.{row_at}
-use Rattle.tableau.specs.Short.{IsShort}
-use Rattle.short_tableau.specs.Dense.{rows_in}
+use Rattle.short_tableau.proofs.Words.{rules, arith, sym, subst, ◌≡◌, ◌+◌, pos, to_z, of_z, entry, row_at, IsShort, rows_in}
+use Rattle.std.proofs.Common.{slice_index_or, w64}
 use Rattle.short_tableau.proofs.Entries.{coef_here}
 use Rattle.short_tableau.proofs.Places.{dense_row}
 use Rattle.short_tableau.proofs.rows.coef_at.Goals as goal

@@ -1,4 +1,4 @@
-use Rattle.std.proofs.Common.{rules}
+use Rattle.short_tableau.proofs.Words.{rules}
 use Rattle.short_tableau.proofs.Entries.{constant_here}
 use Rattle.short_tableau.proofs.rows.constant_at.Goals as goal
 

@@ -1,7 +1,4 @@
-use Rattle.std.proofs.Common.{◌∙◌, ap, sym, arith}
-use Rattle.std.proofs.lemmas.List.{drop_all}
-use Rattle.short_tableau.specs.Below.{negative_from}
-use Rattle.short_tableau.specs.Dense.{rows_in}
+use Rattle.short_tableau.proofs.Words.{◌∙◌, ap, sym, arith, drop_all, negative_from, rows_in}
 use Rattle.short_tableau.proofs.Places.{length_rows}
 use Rattle.short_tableau.proofs.rows.first_below_in.Goals as goal
 

@@ -1,6 +1,4 @@
-use Rattle.std.proofs.Common.{◌≡◌, drop}
-use Rattle.short_tableau.specs.Below.{negative_from}
-use Rattle.short_tableau.specs.Dense.{rows_in}
+use Rattle.short_tableau.proofs.Words.{◌≡◌, drop, negative_from, rows_in}
 use Rattle.short_tableau.proofs.rows.first_below_in.Given as goal
 
 abbrev pub invariant-loop-i : goal.invariant-loop-i

@@ -1,4 +1,4 @@
-use Rattle.std.proofs.Common.{rules, sym}
+use Rattle.short_tableau.proofs.Words.{rules, sym}
 use Rattle.short_tableau.proofs.Places.{split_twice, split_read}
 use Rattle.short_tableau.proofs.rows.numbers_in.Goals as goal
 

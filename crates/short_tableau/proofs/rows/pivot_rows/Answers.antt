@@ -1,4 +1,4 @@
-use Rattle.std.proofs.Common.{rules}
+use Rattle.short_tableau.proofs.Words.{rules}
 use Rattle.short_tableau.proofs.Places.{split_twice, split_front, split_back, split_pivot, pivot_made, long_before, long_behind}
 use Rattle.short_tableau.proofs.ShortParts.{unit_short}
 use Rattle.short_tableau.proofs.rows.pivot_rows.Goals as goal

@@ -1,10 +1,5 @@
-use Rattle.std.proofs.Common.{rules, ◌≡◌, ◌∙◌, ap, sym, pos, slice_set, []}
-use Rattle.std.proofs.lemmas.List.{set-get_or}
-use Rattle.pip_model.specs.Forms.{entry}
-use Rattle.pip_model.specs.Rows.{Row, row_at, form_row, eliminated}
-use Rattle.short_tableau.specs.Dense.{rows_in}
-use Rattle.short_tableau.specs.Rows.{row_of}
-use Rattle.short_tableau.specs.Turned.{is_short_row}
+use Rattle.short_tableau.proofs.Words.{rules, ◌≡◌, ◌∙◌, ap, sym, pos, [], set-get_or, entry, Row, row_at, form_row, eliminated, rows_in, row_of, is_short_row}
+use Rattle.std.proofs.Common.{slice_set}
 use Rattle.short_tableau.proofs.ShortParts.{stays}
 use Rattle.short_tableau.proofs.Places.{dense_row, split_twice, split_read, split_row, split_turned, split_dense}
 use Rattle.short_tableau.proofs.rows.turn_at.Goals as goal

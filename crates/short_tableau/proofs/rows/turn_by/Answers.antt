@@ -1,7 +1,4 @@
-use Rattle.std.proofs.Common.{sym, subst, map}
-use Rattle.pip_model.specs.Rows.{Row, eliminated}
-use Rattle.short_tableau.specs.Dense.{IsPivot, rows_in}
-use Rattle.short_tableau.specs.Turned.{AreTurned}
+use Rattle.short_tableau.proofs.Words.{sym, subst, map, Row, eliminated, IsPivot, rows_in, AreTurned}
 use Rattle.short_tableau.proofs.rows.turn_by.Goals as goal
 
 pub turn_rows-requires-clause-pivot : goal.turn_rows-requires-clause-pivot

@@ -1,10 +1,4 @@
-use Rattle.std.proofs.Common.{rules, ◌∙◌, ap, sym, arith, refl, List, []}
-use Rattle.std.specs.Prelude.{IsTrue, IsFalse}
-use Rattle.pip_model.specs.Rows.{Row, row_at, form_row, eliminated}
-use Rattle.affine_forms.proofs.Mapped.{mapped_read, mapped_step}
-use Rattle.short_tableau.specs.Dense.{rows_in}
-use Rattle.short_tableau.specs.Rows.{row_of}
-use Rattle.short_tableau.specs.Turned.{is_short_row}
+use Rattle.short_tableau.proofs.Words.{rules, ◌∙◌, ap, sym, arith, refl, List, [], IsTrue, IsFalse, Row, row_at, form_row, eliminated, mapped_read, mapped_step, rows_in, row_of, is_short_row}
 use Rattle.short_tableau.proofs.Places.{length_rows, long_row, mapped_all, not_turned}
 use Rattle.short_tableau.proofs.rows.turn_rows.Goals as goal
 

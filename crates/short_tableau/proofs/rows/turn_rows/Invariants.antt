@@ -1,8 +1,4 @@
-use Rattle.std.proofs.Common.{◌≡◌}
-use Rattle.pip_model.specs.Rows.{eliminated}
-use Rattle.affine_forms.proofs.Mapped.{mapped}
-use Rattle.short_tableau.specs.Dense.{IsDense, rows_in}
-use Rattle.short_tableau.specs.Rows.{row_of}
+use Rattle.short_tableau.proofs.Words.{◌≡◌, eliminated, mapped, IsDense, rows_in, row_of}
 use Rattle.short_tableau.proofs.rows.turn_rows.Given as goal
 
 abbrev pub invariant-loop-i : goal.invariant-loop-i

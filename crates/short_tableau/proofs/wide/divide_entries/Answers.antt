@@ -1,10 +1,4 @@
-use Rattle.std.proofs.Common.{arith, rules, ◌≡◌, ◌∙◌, ap, sym, get_or, pos, ◌-ℤ◌, ◌*ℤ◌, to_z, of_z}
-use Rattle.std.specs.Int.{w64, w128}
-use Rattle.std.specs.List.{list_all}
-use Rattle.std.proofs.lemmas.List.Elements.{All-set}
-use Rattle.pip_model.specs.Numbers.{floor_div}
-use Rattle.pip_model.specs.Forms.{combine, floor_divided}
-use Rattle.tableau.specs.Short.{is_short, IsShort}
+use Rattle.short_tableau.proofs.Words.{arith, rules, ◌≡◌, ◌∙◌, ap, sym, get_or, pos, ◌-ℤ◌, ◌*ℤ◌, to_z, of_z, w64, w128, list_all, All-set, floor_div, combine, floor_divided, is_short, IsShort}
 use Rattle.short_tableau.proofs.Finished.{quotient_next, quotient_end, quotient_long}
 use Rattle.short_tableau.proofs.wide.divide_entries.Goals as goal
 

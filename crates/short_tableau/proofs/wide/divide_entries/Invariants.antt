@@ -1,7 +1,4 @@
-use Rattle.std.proofs.Common.{◌≡◌, drop, take, ◌++◌}
-use Rattle.std.specs.Prelude.{All}
-use Rattle.pip_model.specs.Forms.{combine, floor_divided}
-use Rattle.tableau.specs.Short.{IsShort}
+use Rattle.short_tableau.proofs.Words.{◌≡◌, drop, take, ◌++◌, All, combine, floor_divided, IsShort}
 use Rattle.short_tableau.proofs.wide.divide_entries.Given as goal
 
 abbrev pub invariant-loop-i : goal.invariant-loop-i

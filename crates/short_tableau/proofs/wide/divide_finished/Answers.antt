@@ -1,9 +1,4 @@
-use Rattle.std.proofs.Common.{rules, ◌≡◌, take, drop, false}
-use Rattle.std.specs.Prelude.{All}
-use Rattle.std.specs.List.{list_all}
-use Rattle.std.proofs.lemmas.List.Elements.{All-append}
-use Rattle.pip_model.specs.Forms.{combine, floor_divided}
-use Rattle.tableau.specs.Short.{is_short, IsShort}
+use Rattle.short_tableau.proofs.Words.{rules, ◌≡◌, take, drop, false, All, list_all, All-append, combine, floor_divided, is_short, IsShort}
 use Rattle.short_tableau.proofs.Finished.{divided_parts, long_parts}
 use Rattle.short_tableau.proofs.wide.divide_finished.Goals as goal
 

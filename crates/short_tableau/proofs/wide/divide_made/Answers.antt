@@ -1,7 +1,4 @@
-use Rattle.std.proofs.Common.{pos, arith, rules}
-use Rattle.std.proofs.lemmas.List.Elements.{All-set}
-use Rattle.tableau.specs.Short.{IsShort}
-use Rattle.affine_forms.proofs.Mapped.{mapped_step}
+use Rattle.short_tableau.proofs.Words.{pos, arith, rules, All-set, IsShort, mapped_step}
 use Rattle.short_tableau.proofs.wide.divide_made.Goals as goal
 
 pub loop-number-preserved : goal.loop-number-preserved

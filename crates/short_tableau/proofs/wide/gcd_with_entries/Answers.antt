@@ -1,10 +1,4 @@
-use Rattle.std.proofs.Common.{arith, rules, ◌≡◌, ◌∙◌, ap, get_or, pos, ◌-ℤ◌, ◌*ℤ◌, to_z, of_z}
-use Rattle.std.specs.Int.{w128}
-use Rattle.std.proofs.lemmas.Int.{to_z-of_z}
-use Rattle.std.proofs.lemmas.Grind.{common_steps}
-use Rattle.pip_model.specs.Numbers.{gcd, gcd_of}
-use Rattle.pip_model.specs.Forms.{combine}
-use Rattle.pip_model.proofs.Gcd.{gcd_one}
+use Rattle.short_tableau.proofs.Words.{arith, rules, ◌≡◌, ◌∙◌, ap, get_or, pos, ◌-ℤ◌, ◌*ℤ◌, to_z, of_z, w128, to_z-of_z, common_steps, gcd, gcd_of, combine, gcd_one}
 use Rattle.short_tableau.proofs.Finished.{gcd_next, gcd_end}
 use Rattle.short_tableau.proofs.wide.gcd_with_entries.Goals as goal
 

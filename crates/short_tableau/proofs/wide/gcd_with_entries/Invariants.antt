@@ -1,7 +1,4 @@
-use Rattle.std.proofs.Common.{◌≡◌, drop}
-use Rattle.pip_model.specs.Forms.{combine}
-use Rattle.pip_model.specs.Numbers.{gcd, gcd_of}
-use Rattle.short_tableau.specs.Terms.{IsDivisor}
+use Rattle.short_tableau.proofs.Words.{◌≡◌, drop, combine, gcd, gcd_of, IsDivisor}
 use Rattle.short_tableau.proofs.wide.gcd_with_entries.Given as goal
 
 abbrev pub invariant-loop-i : goal.invariant-loop-i

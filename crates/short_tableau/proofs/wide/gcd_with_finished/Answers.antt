@@ -1,7 +1,4 @@
-use Rattle.std.proofs.Common.{rules, ◌≡◌, take, drop, to_z, of_z}
-use Rattle.std.specs.Int.{w128}
-use Rattle.pip_model.specs.Numbers.{gcd, gcd_of}
-use Rattle.pip_model.specs.Forms.{combine}
+use Rattle.short_tableau.proofs.Words.{rules, ◌≡◌, take, drop, to_z, of_z, w128, gcd, gcd_of, combine}
 use Rattle.short_tableau.proofs.Finished.{gcd_finished}
 use Rattle.short_tableau.proofs.wide.gcd_with_finished.Goals as goal
 

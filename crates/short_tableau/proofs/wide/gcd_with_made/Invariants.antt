@@ -1,6 +1,4 @@
-use Rattle.std.proofs.Common.{◌≡◌, drop}
-use Rattle.pip_model.specs.Numbers.{gcd, gcd_of}
-use Rattle.short_tableau.specs.Terms.{IsDivisor}
+use Rattle.short_tableau.proofs.Words.{◌≡◌, drop, gcd, gcd_of, IsDivisor}
 use Rattle.short_tableau.proofs.wide.gcd_with_made.Given as goal
 
 abbrev pub invariant-loop-number : goal.invariant-loop-number

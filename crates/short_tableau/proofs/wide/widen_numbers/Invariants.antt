@@ -1,4 +1,4 @@
-use Rattle.std.proofs.Common.{◌≡◌, take}
+use Rattle.short_tableau.proofs.Words.{◌≡◌, take}
 use Rattle.short_tableau.proofs.wide.widen_numbers.Given as goal
 
 abbrev pub invariant-loop-number : goal.invariant-loop-number

@@ -1,5 +1,4 @@
-use Rattle.std.proofs.Common.{rules}
-use Rattle.pip_problem.specs.Faults.{run_fault}
+use Rattle.sign_split.proofs.Words.{rules, run_fault}
 use Rattle.sign_split.proofs.ByPoints.{refused_above}
 use Rattle.sign_split.proofs.classify.class_above.Goals as goal
 

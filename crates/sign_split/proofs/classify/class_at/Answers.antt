@@ -1,5 +1,4 @@
-use Rattle.std.proofs.Common.{rules, arith}
-use Rattle.run_counts.proofs.Counting.{counted_none}
+use Rattle.sign_split.proofs.Words.{rules, arith, counted_none}
 use Rattle.sign_split.proofs.TightSigns.{class_plus, class_minus, class_points}
 use Rattle.sign_split.proofs.classify.class_at.Goals as goal
 

@@ -1,9 +1,4 @@
-use Rattle.std.proofs.Common.{rules, arith, ◌≡◌, true, [], ◌∷◌, ◌++◌}
-use Rattle.pip_model.specs.Forms.{opposite}
-use Rattle.pip_model.specs.Listed.{opposite_listed, all_fit}
-use Rattle.pip_model.specs.Run.{Done}
-use Rattle.context.specs.Remembered.{has_point}
-use Rattle.run_counts.proofs.Counting.{counted_on}
+use Rattle.sign_split.proofs.Words.{rules, arith, ◌≡◌, true, [], ◌∷◌, ◌++◌, opposite, opposite_listed, all_fit, Done, has_point, counted_on}
 use Rattle.sign_split.proofs.Opposites.{opposite_length, turned_back, back_fits}
 use Rattle.sign_split.proofs.ByPoints.{goes_above}
 use Rattle.sign_split.proofs.classify.class_by_points.Goals as goal

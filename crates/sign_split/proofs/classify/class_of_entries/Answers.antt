@@ -1,4 +1,4 @@
-use Rattle.std.proofs.Common.{rules, arith}
+use Rattle.sign_split.proofs.Words.{rules, arith}
 use Rattle.sign_split.proofs.ClassMeaning.{class_means, class_refuses}
 use Rattle.sign_split.proofs.classify.class_of_entries.Goals as goal
 

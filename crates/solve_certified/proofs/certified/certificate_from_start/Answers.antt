@@ -1,4 +1,4 @@
-use Rattle.quast.specs.Answers.{answer_of}
+use Rattle.solve_certified.proofs.Words.{answer_of}
 use Rattle.certificate_parts.proofs.Fitting.{all_from_vector}
 use Rattle.solve_certified.proofs.Whole.{answer_whole, point_numbers}
 use Rattle.solve_certified.proofs.certified.certificate_from_start.Goals as goal

@@ -1,5 +1,4 @@
-use Rattle.std.proofs.Common.{ap}
-use Rattle.quast.specs.Answers.{answer_of}
+use Rattle.solve_certified.proofs.Words.{ap, answer_of}
 use Rattle.solve_certified.proofs.certified.certificate_of.Goals as goal
 
 pub returns-in-Void : goal.returns-in-Void

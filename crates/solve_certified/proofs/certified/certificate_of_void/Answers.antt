@@ -1,4 +1,4 @@
-use Rattle.std.proofs.Common.{refl}
+use Rattle.solve_certified.proofs.Words.{refl}
 use Rattle.solve_certified.proofs.certified.certificate_of_void.Goals as goal
 
 pub refute-requires-clause-same : goal.refute-requires-clause-same

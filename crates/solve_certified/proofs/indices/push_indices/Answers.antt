@@ -1,7 +1,4 @@
-use Rattle.std.proofs.Common.{rules, ◌≡◌, ◌∙◌, ap, sym, pos, ◌+◌, ◌++◌, [], ◌∷◌, List, ℤ, append_assoc}
-use Rattle.std.proofs.lemmas.List.Elements.{All-push}
-use Rattle.pip_model.specs.Refuting.{indices}
-use Rattle.affine_forms.specs.Checks.{Fits}
+use Rattle.solve_certified.proofs.Words.{rules, ◌≡◌, ◌∙◌, ap, sym, pos, ◌+◌, ◌++◌, [], ◌∷◌, List, ℤ, append_assoc, All-push, indices, Fits}
 use Rattle.solve_certified.proofs.QuotientLists.{indices-last}
 use Rattle.solve_certified.proofs.indices.push_indices.Goals as goal
 

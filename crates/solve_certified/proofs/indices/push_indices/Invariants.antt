@@ -1,6 +1,4 @@
-use Rattle.std.proofs.Common.{◌≡◌, ◌++◌, All}
-use Rattle.pip_model.specs.Refuting.{indices}
-use Rattle.affine_forms.specs.Checks.{Fits}
+use Rattle.solve_certified.proofs.Words.{◌≡◌, ◌++◌, All, indices, Fits}
 use Rattle.solve_certified.proofs.indices.push_indices.Given as goal
 
 abbrev pub invariant-loop-i : goal.invariant-loop-i

@@ -1,6 +1,4 @@
-use Rattle.std.proofs.Common.{◌≡◌, ◌∙◌, ap, ◌+◌, length, take, arith}
-use Rattle.std.proofs.lemmas.List.{length-take-le}
-use Rattle.pip_model.specs.Made.{PathQuotient}
+use Rattle.solve_certified.proofs.Words.{◌≡◌, ◌∙◌, ap, ◌+◌, length, take, arith, length-take-le, PathQuotient}
 use Rattle.solve_certified.proofs.QuotientLists.{reads_at}
 use Rattle.solve_certified.proofs.quotients.quotient_steps.Goals as goal
 

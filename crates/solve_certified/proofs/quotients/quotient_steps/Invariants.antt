@@ -1,5 +1,4 @@
-use Rattle.std.proofs.Common.{◌≡◌, ◌+◌, ◌++◌, drop}
-use Rattle.solve_certified.specs.Quotients.{steps_from}
+use Rattle.solve_certified.proofs.Words.{◌≡◌, ◌+◌, ◌++◌, drop, steps_from}
 use Rattle.solve_certified.proofs.quotients.quotient_steps.Given as goal
 
 abbrev pub invariant-loop-j : goal.invariant-loop-j

@@ -1,5 +1,4 @@
-use Rattle.std.proofs.Common.{◌≡◌, ◌≤◌, ◌++◌, map, take, vec_capacity}
-use Rattle.tableau.specs.KeptRows.{moved_kept}
+use Rattle.tableau.proofs.Words.{◌≡◌, ◌≤◌, ◌++◌, map, take, vec_capacity, moved_kept}
 use Rattle.tableau.proofs.copying.append_moved.Given as goal
 
 abbrev pub invariant-loop-one : goal.invariant-loop-one

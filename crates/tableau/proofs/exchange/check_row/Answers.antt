@@ -1,8 +1,4 @@
-use Rattle.std.proofs.Common.{◌≡◌, pos, rules, arith}
-use Rattle.pip_model.specs.Forms.{entry}
-use Rattle.tableau_row.specs.Views.{row_of}
-use Rattle.tableau_row.proofs.Unchanged.{eliminated_listed_one}
-use Rattle.tableau_row.proofs.ShortRows.{short_eliminated}
+use Rattle.tableau.proofs.Words.{◌≡◌, pos, rules, arith, entry, row_of, eliminated_listed_one, short_eliminated}
 use Rattle.tableau.proofs.exchange.check_row.Goals as goal
 
 pub returns-then-row-c-eq0 : goal.returns-then-row-c-eq0

@@ -1,10 +1,4 @@
-use Rattle.std.proofs.Common.{rules, arith, ap, subst, sym, ◌≡◌, ◌∙◌, ◌++◌, List, map, take, drop, append_assoc}
-use Rattle.std.proofs.lemmas.Grind.{common_steps}
-use Rattle.pip_model.specs.Listed.{all_fit}
-use Rattle.pip_model.specs.Rows.{Row}
-use Rattle.tableau.specs.KeptRows.{KeptRows, AreLent, lent_row, turned, turned_listed, with_rows}
-use Rattle.tableau_row.specs.Views.{row_of}
-use Rattle.tableau.specs.declared.kept.Kept.{Kept}
+use Rattle.tableau.proofs.Words.{rules, arith, ap, subst, sym, ◌≡◌, ◌∙◌, ◌++◌, List, map, take, drop, append_assoc, common_steps, all_fit, Row, KeptRows, AreLent, lent_row, turned, turned_listed, with_rows, row_of, Kept}
 use Rattle.tableau.proofs.Runs.{kept_behind}
 use Rattle.tableau.proofs.Turning.{listed_behind, rows_behind, shape_with}
 use Rattle.tableau.proofs.exchange.push_steady.Goals as goal

@@ -1,9 +1,4 @@
-use Rattle.std.proofs.Common.{List, take, ◌<◌, length, subst, sym}
-use Rattle.std.proofs.lemmas.List.{take_more}
-use Rattle.std.proofs.lemmas.List.Elements.{All-more}
-use Rattle.tableau.specs.KeptRows.{IsRun, IsSteady, lent_row, row_length}
-use Rattle.tableau_row.specs.Views.{row_of}
-use Rattle.tableau.specs.declared.kept.Kept.{Kept}
+use Rattle.tableau.proofs.Words.{List, take, ◌<◌, length, subst, sym, take_more, All-more, IsRun, IsSteady, lent_row, row_length, row_of, Kept}
 use Rattle.tableau.proofs.Runs.{run_more}
 use Rattle.tableau.proofs.exchange.steady.Goals as goal
 

@@ -1,6 +1,4 @@
-use Rattle.std.proofs.Common.{take}
-use Rattle.tableau.specs.KeptRows.{AreSteady, IsRun, row_length}
-use Rattle.tableau_row.specs.Views.{row_of}
+use Rattle.tableau.proofs.Words.{take, AreSteady, IsRun, row_length, row_of}
 use Rattle.tableau.proofs.exchange.steady.Given as goal
 
 abbrev pub invariant-loop-i : goal.invariant-loop-i

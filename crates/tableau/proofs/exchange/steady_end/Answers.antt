@@ -1,10 +1,4 @@
-use Rattle.std.proofs.Common.{rules, ap, length, sym, subst, ◌≡◌, ◌∙◌, ◌+◌, pos}
-use Rattle.std.specs.Prelude.{IsTrue}
-use Rattle.pip_model.specs.Forms.{entry}
-use Rattle.tableau.specs.KeptRows.{IsPlace, IsSteady, kept_short, lent_row}
-use Rattle.tableau_row.specs.Short.{IsShortRow}
-use Rattle.tableau_row.specs.Views.{row_of}
-use Rattle.tableau.specs.declared.kept.Kept.{Kept}
+use Rattle.tableau.proofs.Words.{rules, ap, length, sym, subst, ◌≡◌, ◌∙◌, ◌+◌, pos, IsTrue, entry, IsPlace, IsSteady, kept_short, lent_row, IsShortRow, row_of, Kept}
 use Rattle.tableau.proofs.Turning.{unit_steady, short_steady, place_entry}
 use Rattle.tableau.proofs.exchange.steady_end.Goals as goal
 

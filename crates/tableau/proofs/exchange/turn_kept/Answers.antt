@@ -1,4 +1,4 @@
-use Rattle.tableau_row.specs.Views.{row_of}
+use Rattle.tableau.proofs.Words.{row_of}
 use Rattle.tableau.proofs.Left.{solvable_over}
 use Rattle.tableau.proofs.exchange.turn_kept.Goals as goal
 

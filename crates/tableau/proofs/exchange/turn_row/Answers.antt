@@ -1,9 +1,4 @@
-use Rattle.std.proofs.Common.{rules, ap, ◌≡◌, ◌∙◌, pos, subst}
-use Rattle.pip_model.specs.Forms.{entry}
-use Rattle.pip_model.specs.Rows.{Row}
-use Rattle.tableau.specs.KeptRows.{lent_row, with_more}
-use Rattle.tableau_row.specs.Views.{row_of}
-use Rattle.tableau_row.proofs.Substituting.{eliminated_none}
+use Rattle.tableau.proofs.Words.{rules, ap, ◌≡◌, ◌∙◌, pos, subst, entry, Row, lent_row, with_more, row_of, eliminated_none}
 use Rattle.tableau.proofs.Left.{solvable_over}
 use Rattle.tableau.proofs.exchange.turn_row.Goals as goal
 

@@ -1,6 +1,4 @@
-use Rattle.std.proofs.Common.{◌≡◌, ◌-◌, ◌<◌, take, drop, length, rules, arith}
-use Rattle.std.proofs.lemmas.List.{length-drop, take_all}
-use Rattle.tableau_row.specs.Views.{row_of}
+use Rattle.tableau.proofs.Words.{◌≡◌, ◌-◌, ◌<◌, take, drop, length, rules, arith, length-drop, take_all, row_of}
 use Rattle.tableau.proofs.Left.{left_all, left_first, left_more}
 use Rattle.tableau.proofs.exchange.turn_rows.Goals as goal
 

@@ -1,6 +1,4 @@
-use Rattle.std.proofs.Common.{length}
-use Rattle.tableau.specs.KeptRows.{AreLeft}
-use Rattle.tableau_row.specs.Views.{row_of}
+use Rattle.tableau.proofs.Words.{length, AreLeft, row_of}
 use Rattle.tableau.proofs.exchange.turn_rows.Given as goal
 
 abbrev pub invariant-loop-behind : goal.invariant-loop-behind

@@ -1,6 +1,4 @@
-use Rattle.std.proofs.Common.{rules, ◌-◌, take, drop, length}
-use Rattle.tableau_row.specs.Flat.{row_of_numbers}
-use Rattle.tableau_row.specs.Rows.{IsReduced}
+use Rattle.tableau.proofs.Words.{rules, ◌-◌, take, drop, length, row_of_numbers, IsReduced}
 use Rattle.tableau.specs.declared.kept.Kept.TheVariants as kept
 use Rattle.tableau.proofs.InPlace.{laid_at, pattern_kept}
 use Rattle.tableau.proofs.in_place.+lay_rows.Goals as goal

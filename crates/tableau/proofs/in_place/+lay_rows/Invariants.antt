@@ -1,4 +1,4 @@
-use Rattle.std.proofs.Common.{length}
+use Rattle.tableau.proofs.Words.{length}
 use Rattle.tableau.proofs.in_place.+lay_rows.Given as goal
 
 abbrev pub decreases-lay_rows : goal.decreases-lay_rows

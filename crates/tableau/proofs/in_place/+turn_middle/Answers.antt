@@ -1,9 +1,5 @@
-use Rattle.std.proofs.Common.{rules, arith, sym, subst, drop, List, ◌≡◌, ◌++◌, ◌<◌, ◌-◌, get_or, ℤ}
-use Rattle.std.specs.Prelude.{IsTrue, slice_set}
-use Rattle.tableau.specs.Along.{AreMade, rows_along, pivoted}
-use Rattle.tableau.specs.KeptRows.{row_length}
+use Rattle.tableau.proofs.Words.{rules, arith, sym, subst, drop, List, ◌≡◌, ◌++◌, ◌<◌, ◌-◌, get_or, ℤ, IsTrue, slice_set, AreMade, rows_along, pivoted, row_length, row_of}
 use Rattle.tableau.specs.declared.kept.Kept.TheVariants as kept
-use Rattle.tableau_row.specs.Views.{row_of}
 use Rattle.tableau.proofs.InPlace.{part_unit, part_at, middle_first, room_behind, moved_up, pivoted_behind}
 use Rattle.tableau.proofs.in_place.+turn_middle.Goals as goal
 

@@ -1,4 +1,4 @@
-use Rattle.std.proofs.Common.{length}
+use Rattle.tableau.proofs.Words.{length}
 use Rattle.tableau.proofs.in_place.+turn_middle.Given as goal
 
 abbrev pub decreases-turn_middle : goal.decreases-turn_middle

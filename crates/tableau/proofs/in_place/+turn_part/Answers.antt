@@ -1,9 +1,5 @@
-use Rattle.std.proofs.Common.{rules, map}
-use Rattle.pip_model.specs.Rows.{eliminated}
-use Rattle.std.proofs.Common.{refl, ◌≡◌, get_or}
-use Rattle.std.specs.Prelude.{IsTrue}
+use Rattle.tableau.proofs.Words.{rules, map, eliminated, refl, ◌≡◌, get_or, IsTrue, row_of}
 use Rattle.tableau.specs.declared.kept.Kept.TheVariants as kept
-use Rattle.tableau_row.specs.Views.{row_of}
 use Rattle.tableau.proofs.InPlace.{part_unit, part_at, first_ready}
 use Rattle.tableau.proofs.in_place.+turn_part.Goals as goal
 

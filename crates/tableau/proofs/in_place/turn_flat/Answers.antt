@@ -1,8 +1,4 @@
-use Rattle.std.proofs.Common.{rules, ap, ◌∙◌, ◌≡◌, List, length}
-use Rattle.pip_model.specs.Rows.{Row}
-use Rattle.tableau_row.specs.Flat.{row_of_numbers}
-use Rattle.tableau_row.specs.Views.{row_of}
-use Rattle.tableau.specs.Along.{ArePair}
+use Rattle.tableau.proofs.Words.{rules, ap, ◌∙◌, ◌≡◌, List, length, Row, row_of_numbers, row_of, ArePair}
 use Rattle.tableau.proofs.Along.{flat_along}
 use Rattle.tableau.proofs.InPlace.{made_here, made_rows, spliced}
 use Rattle.tableau.proofs.in_place.turn_flat.Goals as goal

@@ -1,6 +1,4 @@
-use Rattle.std.proofs.Common.{rules, ◌≡◌, false, true}
-use Rattle.tableau_row.specs.Flat.{row_of_numbers, is_unit_row}
-use Rattle.tableau_row.specs.Views.{row_of}
+use Rattle.tableau.proofs.Words.{rules, ◌≡◌, false, true, row_of_numbers, is_unit_row, row_of}
 use Rattle.tableau.proofs.InPlace.{turn_listed, turn_stays, turn_value, turn_made}
 use Rattle.tableau.proofs.in_place.turn_row.Goals as goal
 

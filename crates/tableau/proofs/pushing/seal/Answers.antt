@@ -1,5 +1,4 @@
-use Rattle.std.proofs.Common.{rules, ◌≡◌, false, take, drop}
-use Rattle.tableau_row.specs.Flat.{row_of_numbers, is_unit_row}
+use Rattle.tableau.proofs.Words.{rules, ◌≡◌, false, take, drop, row_of_numbers, is_unit_row}
 use Rattle.tableau.proofs.Flat.{sealed, sealed_rows, with_unit}
 use Rattle.tableau.proofs.pushing.seal.Goals as goal
 

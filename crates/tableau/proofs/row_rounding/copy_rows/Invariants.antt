@@ -1,5 +1,4 @@
-use Rattle.std.proofs.Common.{◌≡◌, take}
-use Rattle.tableau.specs.KeptRows.{rows_kept, with_rows}
+use Rattle.tableau.proofs.Words.{◌≡◌, take, rows_kept, with_rows}
 use Rattle.tableau.proofs.row_rounding.copy_rows.Given as goal
 
 abbrev pub invariant-loop-one : goal.invariant-loop-one

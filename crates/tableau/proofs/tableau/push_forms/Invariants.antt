@@ -1,6 +1,4 @@
-use Rattle.std.proofs.Common.{◌≡◌, take, map}
-use Rattle.pip_model.specs.Rows.{form_row}
-use Rattle.tableau.specs.KeptRows.{with_rows}
+use Rattle.tableau.proofs.Words.{◌≡◌, take, map, form_row, with_rows}
 use Rattle.tableau.proofs.tableau.push_forms.Given as goal
 
 abbrev pub invariant-loop-form : goal.invariant-loop-form

@@ -1,9 +1,4 @@
-use Rattle.std.proofs.Common.{◌≡◌, sym, ap, ◌∙◌, List, length, arith}
-use Rattle.std.proofs.lemmas.List.{length-map}
-use Rattle.pip_model.specs.Rows.{Row, unit_row, count_from}
-use Rattle.pip_model.proofs.Forms.{length-count}
-use Rattle.tableau_row.proofs.RowLaws.{count_map}
-use Rattle.tableau.specs.KeptRows.{KeptRows, with_more}
+use Rattle.tableau.proofs.Words.{◌≡◌, sym, ap, ◌∙◌, List, length, arith, length-map, Row, unit_row, count_from, length-count, count_map, KeptRows, with_more}
 use Rattle.tableau.proofs.tableau.push_units.Goals as goal
 
 pub push_unit-requires-clause-room : goal.push_unit-requires-clause-room

@@ -1,5 +1,4 @@
-use Rattle.std.proofs.Common.{◌≡◌, map}
-use Rattle.pip_model.specs.Rows.{count_from, unit_row}
+use Rattle.tableau.proofs.Words.{◌≡◌, map, count_from, unit_row}
 use Rattle.tableau.proofs.tableau.push_units.Given as goal
 
 abbrev pub invariant-loop-c : goal.invariant-loop-c

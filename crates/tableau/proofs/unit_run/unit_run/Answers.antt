@@ -1,5 +1,4 @@
-use Rattle.std.proofs.Common.{rules, arith, ◌≡◌, ◌+◌, max}
-use Rattle.std.proofs.lemmas.Grind.{common_steps}
+use Rattle.tableau.proofs.Words.{rules, arith, ◌≡◌, ◌+◌, max, common_steps}
 use Rattle.tableau.proofs.UnitRun.{run_made}
 use Rattle.tableau.proofs.unit_run.unit_run.Goals as goal
 

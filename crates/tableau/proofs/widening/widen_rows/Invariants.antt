@@ -1,6 +1,4 @@
-use Rattle.std.proofs.Common.{◌≡◌, map, take}
-use Rattle.pip_model.specs.Rows.{widened}
-use Rattle.tableau.specs.KeptRows.{row_kept, with_rows}
+use Rattle.tableau.proofs.Words.{◌≡◌, map, take, widened, row_kept, with_rows}
 use Rattle.tableau.proofs.widening.widen_rows.Given as goal
 
 abbrev pub invariant-loop-one : goal.invariant-loop-one

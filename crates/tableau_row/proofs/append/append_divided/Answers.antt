@@ -1,11 +1,4 @@
-use Rattle.std.proofs.Common.{rules, refl, ◌∙◌, ap, sym, subst, length}
-use Rattle.std.specs.Prelude.{IsTrue}
-use Rattle.pip_model.specs.Rows.{Row, divided}
-use Rattle.tableau_row.specs.Flat.{numbers_of}
-use Rattle.tableau_row.specs.Rows.{IsOwnRow}
-use Rattle.tableau_row.specs.Short.{IsShortRow}
-use Rattle.tableau_row.specs.Steps.{IsMadeReduced}
-use Rattle.tableau_row.specs.Views.{row_of}
+use Rattle.tableau_row.proofs.Words.{rules, refl, ◌∙◌, ap, sym, subst, length, IsTrue, Row, divided, numbers_of, IsOwnRow, IsShortRow, IsMadeReduced, row_of}
 use Rattle.tableau_row.proofs.Lent.{lent, written_last}
 use Rattle.tableau_row.proofs.append.append_divided.Goals as goal
 

@@ -1,11 +1,4 @@
-use Rattle.std.proofs.Common.{rules, ◌∙◌, ap, sym, subst, length}
-use Rattle.std.specs.Prelude.{IsTrue}
-use Rattle.pip_model.specs.Listed.{all_fit}
-use Rattle.pip_model.specs.Rows.{Row, eliminated, eliminated_listed}
-use Rattle.tableau_row.specs.Flat.{numbers_of}
-use Rattle.tableau_row.specs.Short.{AreShortRows}
-use Rattle.tableau_row.specs.Steps.{IsElimination, IsMadeReduced}
-use Rattle.tableau_row.specs.Views.{row_of}
+use Rattle.tableau_row.proofs.Words.{rules, ◌∙◌, ap, sym, subst, length, IsTrue, all_fit, Row, eliminated, eliminated_listed, numbers_of, AreShortRows, IsElimination, IsMadeReduced, row_of}
 use Rattle.tableau_row.proofs.Lent.{lent, written_last}
 use Rattle.tableau_row.proofs.append.append_eliminated.Goals as goal
 

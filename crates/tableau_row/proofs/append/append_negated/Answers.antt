@@ -1,6 +1,4 @@
-use Rattle.std.proofs.Common.{rules, pos, arith}
-use Rattle.std.proofs.lemmas.Grind.{common_steps}
-use Rattle.pip_model.specs.Forms.{negate}
+use Rattle.tableau_row.proofs.Words.{rules, pos, arith, common_steps, negate}
 use Rattle.tableau_row.proofs.Lent.{appends}
 use Rattle.tableau_row.proofs.Solved.{negated_step}
 use Rattle.tableau_row.proofs.append.append_negated.Goals as goal

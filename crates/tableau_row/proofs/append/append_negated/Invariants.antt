@@ -1,5 +1,4 @@
-use Rattle.std.proofs.Common.{◌≡◌, ◌+◌, ◌≤◌, ◌++◌, take, vec_len, vec_capacity}
-use Rattle.pip_model.specs.Forms.{negate}
+use Rattle.tableau_row.proofs.Words.{◌≡◌, ◌+◌, ◌≤◌, ◌++◌, take, vec_len, vec_capacity, negate}
 use Rattle.tableau_row.proofs.append.append_negated.Given as goal
 
 abbrev pub invariant-loop-entry : goal.invariant-loop-entry

@@ -1,12 +1,4 @@
-use Rattle.std.proofs.Common.{arith, rules, refl, ◌∙◌, ap, length-append, sym, subst, length}
-use Rattle.std.specs.Prelude.{IsTrue}
-use Rattle.pip_model.specs.Listed.{all_fit}
-use Rattle.pip_model.specs.Rows.{Row}
-use Rattle.pip_model.specs.Cuts.{rounded, rounded_listed}
-use Rattle.tableau_row.specs.Flat.{numbers_of}
-use Rattle.tableau_row.specs.Rows.{IsOwnRow}
-use Rattle.tableau_row.specs.Steps.{IsMadeReduced}
-use Rattle.tableau_row.specs.Views.{row_of}
+use Rattle.tableau_row.proofs.Words.{arith, rules, refl, ◌∙◌, ap, length-append, sym, subst, length, IsTrue, all_fit, Row, rounded, rounded_listed, numbers_of, IsOwnRow, IsMadeReduced, row_of}
 use Rattle.tableau_row.proofs.Lent.{lent, written_last}
 use Rattle.tableau_row.proofs.append.append_rounded.Goals as goal
 

@@ -1,7 +1,4 @@
-use Rattle.std.proofs.Common.{rules, arith}
-use Rattle.std.proofs.lemmas.Grind.{common_steps}
-use Rattle.tableau_row.specs.Flat.{numbers_of}
-use Rattle.tableau_row.specs.Views.{row_of}
+use Rattle.tableau_row.proofs.Words.{rules, arith, common_steps, numbers_of, row_of}
 use Rattle.tableau_row.proofs.Lent.{appends}
 use Rattle.tableau_row.proofs.append.append_row.Goals as goal
 

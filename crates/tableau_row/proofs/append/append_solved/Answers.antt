@@ -1,9 +1,5 @@
-use Rattle.std.proofs.Common.{rules, arith, sym, subst, refl}
+use Rattle.tableau_row.proofs.Words.{rules, arith, sym, subst, refl, Row, numbers_of, Appends, IsMadeReduced, row_of}
 use Rattle.std.specs.Prelude.{true}
-use Rattle.pip_model.specs.Rows.{Row}
-use Rattle.tableau_row.specs.Flat.{numbers_of}
-use Rattle.tableau_row.specs.Steps.{Appends, IsMadeReduced}
-use Rattle.tableau_row.specs.Views.{row_of}
 use Rattle.tableau_row.proofs.Lent.{appends}
 use Rattle.tableau_row.proofs.Places.{drop_two}
 use Rattle.tableau_row.proofs.Solved.{solved, eliminated_unit, solved_row, solved_reduced, solved_short, solved_listed, solved_numbers}

@@ -1,8 +1,4 @@
-use Rattle.std.proofs.Common.{rules, arith}
-use Rattle.std.proofs.lemmas.Grind.{common_steps}
-use Rattle.pip_model.specs.Rows.{widened}
-use Rattle.tableau_row.specs.Flat.{numbers_of}
-use Rattle.tableau_row.specs.Views.{row_of}
+use Rattle.tableau_row.proofs.Words.{rules, arith, common_steps, widened, numbers_of, row_of}
 use Rattle.tableau_row.proofs.Lent.{appends}
 use Rattle.tableau_row.proofs.append.append_widened.Goals as goal
 

@@ -1,7 +1,4 @@
-use Rattle.std.proofs.Common.{arith, rules, sym, ◌∙◌}
-use Rattle.std.proofs.lemmas.Int.{to_z-of_z}
-use Rattle.std.proofs.lemmas.Grind.{common_steps}
-use Rattle.affine_forms.proofs.Combined.{listed_step, listed_refused, listed_end}
+use Rattle.tableau_row.proofs.Words.{arith, rules, sym, ◌∙◌, to_z-of_z, common_steps, listed_step, listed_refused, listed_end}
 use Rattle.tableau_row.proofs.elimination.check_each.Goals as goal
 
 pub returns-in_err-difference : goal.returns-in_err-difference

@@ -1,5 +1,4 @@
-use Rattle.std.proofs.Common.{◌≡◌, drop}
-use Rattle.pip_model.specs.Listed.{combine_listed, all_fit}
+use Rattle.tableau_row.proofs.Words.{◌≡◌, drop, combine_listed, all_fit}
 use Rattle.tableau_row.proofs.elimination.check_each.Given as goal
 
 abbrev pub invariant-loop-i : goal.invariant-loop-i

@@ -1,6 +1,4 @@
-use Rattle.std.proofs.Common.{rules, arith, ◌∙◌}
-use Rattle.std.proofs.lemmas.Grind.{common_steps}
-use Rattle.tableau_row.specs.Views.{row_of}
+use Rattle.tableau_row.proofs.Words.{rules, arith, ◌∙◌, common_steps, row_of}
 use Rattle.tableau_row.proofs.Places.{eliminated_parts}
 use Rattle.tableau_row.proofs.elimination.check_eliminated.Goals as goal
 

@@ -1,6 +1,4 @@
-use Rattle.std.proofs.Common.{arith, rules}
-use Rattle.std.proofs.lemmas.List.Elements.{All-set}
-use Rattle.affine_forms.specs.Checks.{Fits}
+use Rattle.tableau_row.proofs.Words.{arith, rules, All-set, Fits}
 use Rattle.tableau_row.proofs.Combining.{combined_step, listed_now, listed_behind, combined_all}
 use Rattle.tableau_row.proofs.elimination.combine_all.Goals as goal
 

@@ -1,8 +1,4 @@
-use Rattle.std.proofs.Common.{◌≡◌, drop, take, ◌++◌}
-use Rattle.std.specs.Prelude.{All, IsTrue}
-use Rattle.pip_model.specs.Forms.{combine}
-use Rattle.pip_model.specs.Listed.{combine_listed, all_fit}
-use Rattle.affine_forms.specs.Checks.{Fits}
+use Rattle.tableau_row.proofs.Words.{◌≡◌, drop, take, ◌++◌, All, IsTrue, combine, combine_listed, all_fit, Fits}
 use Rattle.tableau_row.proofs.elimination.combine_all.Given as goal
 
 abbrev pub invariant-loop-i : goal.invariant-loop-i

@@ -1,6 +1,4 @@
-use Rattle.std.proofs.Common.{arith, rules}
-use Rattle.std.proofs.lemmas.List.Elements.{All-append, All-set}
-use Rattle.affine_forms.specs.Checks.{Fits}
+use Rattle.tableau_row.proofs.Words.{arith, rules, All-append, All-set, Fits}
 use Rattle.tableau_row.proofs.Combining.{listed_sides, set_sides}
 use Rattle.tableau_row.proofs.Places.{drop_two}
 use Rattle.tableau_row.proofs.elimination.combine_but.Goals as goal

@@ -1,6 +1,4 @@
-use Rattle.std.proofs.Common.{rules, refl, ◌≡◌}
-use Rattle.pip_model.specs.Rows.{divided}
-use Rattle.tableau_row.specs.Rows.{row_from}
+use Rattle.tableau_row.proofs.Words.{rules, refl, ◌≡◌, divided, row_from}
 use Rattle.tableau_row.proofs.RowLaws.{divided_row, divided_one}
 use Rattle.tableau_row.proofs.Substituting.{row_parts}
 use Rattle.tableau_row.proofs.elimination.divide_long_parts.Goals as goal

@@ -1,7 +1,4 @@
-use Rattle.std.proofs.Common.{rules}
-use Rattle.pip_model.specs.Rows.{substituted}
-use Rattle.tableau_row.specs.Rows.{row_from}
-use Rattle.tableau_row.specs.Views.{row_of}
+use Rattle.tableau_row.proofs.Words.{rules, substituted, row_from, row_of}
 use Rattle.tableau_row.proofs.Stepping.{made_twice}
 use Rattle.tableau_row.proofs.elimination.eliminate_parts.Goals as goal
 

@@ -1,6 +1,4 @@
-use Rattle.std.proofs.Common.{rules}
-use Rattle.tableau_row.specs.Rows.{row_from}
-use Rattle.tableau_row.specs.Views.{row_of}
+use Rattle.tableau_row.proofs.Words.{rules, row_from, row_of}
 use Rattle.tableau_row.proofs.Stepping.{pivot_over}
 use Rattle.tableau_row.proofs.Substituting.{listed_parts, substituted_row}
 use Rattle.tableau_row.proofs.elimination.substitute_long.Goals as goal

@@ -1,11 +1,4 @@
-use Rattle.std.specs.Int.{w128}
-use Rattle.std.proofs.Common.{arith, rules, refl, to_z, of_z}
-use Rattle.std.proofs.lemmas.List.Elements.{All-set}
-use Rattle.pip_model.specs.Forms.{entry}
-use Rattle.affine_forms.specs.Checks.{Fits}
-use Rattle.tableau_row.specs.Short.{IsShort}
-use Rattle.tableau_row.specs.Rows.{row_from}
-use Rattle.tableau_row.specs.Views.{row_of}
+use Rattle.tableau_row.proofs.Words.{w128, arith, rules, refl, to_z, of_z, All-set, entry, Fits, IsShort, row_from, row_of}
 use Rattle.tableau_row.proofs.ShortHeld.{short_held, short_entry_held}
 use Rattle.tableau_row.proofs.Stepping.{pivot_over}
 use Rattle.tableau_row.proofs.Substituting.{substituted_row, substituted_is}

@@ -1,7 +1,4 @@
-use Rattle.std.proofs.Common.{pos, arith, rules}
-use Rattle.std.proofs.lemmas.List.Elements.{All-set}
-use Rattle.tableau_row.specs.Short.{IsShort}
-use Rattle.affine_forms.proofs.Mapped.{mapped_step}
+use Rattle.tableau_row.proofs.Words.{pos, arith, rules, All-set, IsShort, mapped_step}
 use Rattle.tableau_row.proofs.narrow.divide_all_short.Goals as goal
 
 pub loop-entry-preserved : goal.loop-entry-preserved

@@ -1,8 +1,4 @@
-use Rattle.std.proofs.Common.{◌≡◌}
-use Rattle.std.specs.Prelude.{All}
-use Rattle.pip_model.specs.Numbers.{floor_div}
-use Rattle.tableau_row.specs.Short.{IsShort}
-use Rattle.affine_forms.proofs.Mapped.{mapped}
+use Rattle.tableau_row.proofs.Words.{◌≡◌, All, floor_div, IsShort, mapped}
 use Rattle.tableau_row.proofs.narrow.divide_all_short.Given as goal
 
 abbrev pub invariant-loop-entry : goal.invariant-loop-entry

@@ -1,6 +1,4 @@
-use Rattle.std.proofs.Common.{◌≡◌, ◌≤ℤ◌, pos, drop}
-use Rattle.pip_model.specs.Numbers.{gcd, gcd_of}
-use Rattle.tableau_row.specs.Short.{IsShort}
+use Rattle.tableau_row.proofs.Words.{◌≡◌, ◌≤ℤ◌, pos, drop, gcd, gcd_of, IsShort}
 use Rattle.tableau_row.proofs.narrow.short_divisor_with.Given as goal
 
 abbrev pub invariant-loop-entry : goal.invariant-loop-entry

@@ -1,6 +1,4 @@
-use Rattle.std.proofs.Common.{rules}
-use Rattle.pip_model.specs.Rows.{divided}
-use Rattle.tableau_row.specs.Flat.{row_of_numbers}
+use Rattle.tableau_row.proofs.Words.{rules, divided, row_of_numbers}
 use Rattle.tableau_row.proofs.Contents.{content-divided}
 use Rattle.tableau_row.proofs.Stepping.{made_reduced}
 use Rattle.tableau_row.proofs.row.divide.Goals as goal

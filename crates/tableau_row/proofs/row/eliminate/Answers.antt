@@ -1,7 +1,4 @@
-use Rattle.std.proofs.Common.{rules, length}
-use Rattle.pip_model.specs.Rows.{eliminated}
-use Rattle.tableau_row.specs.Flat.{row_of_numbers}
-use Rattle.tableau_row.specs.Views.{row_of}
+use Rattle.tableau_row.proofs.Words.{rules, length, eliminated, row_of_numbers, row_of}
 use Rattle.tableau_row.proofs.Stepping.{made_reduced, reduced_by}
 use Rattle.tableau_row.proofs.row.eliminate.Goals as goal
 

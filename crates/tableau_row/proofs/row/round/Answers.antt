@@ -1,8 +1,4 @@
-use Rattle.std.proofs.Common.{rules, refl, ◌≡◌}
-use Rattle.pip_model.specs.Forms.{add, negate, width}
-use Rattle.pip_model.specs.Cuts.{rounded, rounding, residue_of}
-use Rattle.tableau_row.specs.Flat.{row_of_numbers}
-use Rattle.tableau_row.specs.Rows.{row_from}
+use Rattle.tableau_row.proofs.Words.{rules, refl, ◌≡◌, add, negate, width, rounded, rounding, residue_of, row_of_numbers, row_from}
 use Rattle.tableau_row.proofs.Contents.{content-divided}
 use Rattle.tableau_row.proofs.Numbers.{row_over}
 use Rattle.tableau_row.proofs.row.round.Goals as goal

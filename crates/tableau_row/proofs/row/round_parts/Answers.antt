@@ -1,13 +1,4 @@
-use Rattle.std.proofs.Common.{rules, ◌≡◌, ◌-◌, ◌-ℤ◌, arith, refl, sym, ap, ◌∙◌, map, List, ℤ, length}
-use Rattle.std.specs.Prelude.{slice_set}
-use Rattle.std.proofs.lemmas.Int.{to_z-of_z}
-use Rattle.pip_model.specs.Forms.{entry}
-use Rattle.pip_model.specs.Listed.{all_fit}
-use Rattle.pip_model.specs.Rows.{divided}
-use Rattle.affine_forms.specs.Forms.{raised}
-use Rattle.pip_model.specs.Forms.{add, negate, width}
-use Rattle.pip_model.specs.Cuts.{rounding, residue_of}
-use Rattle.tableau_row.specs.Rows.{content, row_from}
+use Rattle.tableau_row.proofs.Words.{rules, ◌≡◌, ◌-◌, ◌-ℤ◌, arith, refl, sym, ap, ◌∙◌, map, List, ℤ, length, slice_set, to_z-of_z, entry, all_fit, divided, raised, add, negate, width, rounding, residue_of, content, row_from}
 use Rattle.tableau_row.proofs.Contents.{content-divided}
 use Rattle.tableau_row.proofs.RowLaws.{divided_row}
 use Rattle.tableau_row.proofs.Rounding.{rounded_listed_is, rounded_form}

@@ -1,4 +1,4 @@
-use Rattle.std.proofs.Common.{rules, ◌≡◌, pos, ℕ}
+use Rattle.tableau_row.proofs.Words.{rules, ◌≡◌, pos, ℕ}
 use Rattle.tableau_row.proofs.UnitRows.{unit_row_is}
 use Rattle.tableau_row.proofs.row.unit_column.Goals as goal
 

@@ -1,6 +1,4 @@
-use Rattle.std.proofs.Common.{rules, ◌≡◌, false}
-use Rattle.pip_model.specs.Numbers.{is_zero}
-use Rattle.pip_model.specs.Forms.{entry}
+use Rattle.tableau_row.proofs.Words.{rules, ◌≡◌, false, is_zero, entry}
 use Rattle.tableau_row.proofs.UnitRows.{found, not_found, none_found}
 use Rattle.tableau_row.proofs.row.unit_of.Goals as goal
 

@@ -1,4 +1,4 @@
-use Rattle.std.proofs.Common.{◌≡◌, take, replicate, pos}
+use Rattle.tableau_row.proofs.Words.{◌≡◌, take, replicate, pos}
 use Rattle.tableau_row.proofs.row.unit_of.Given as goal
 
 abbrev pub invariant-loop-i : goal.invariant-loop-i

@@ -1,8 +1,4 @@
-use Rattle.std.proofs.Common.{arith, rules, subst}
-use Rattle.std.specs.Prelude.{IsTrue}
-use Rattle.std.proofs.lemmas.List.Elements.{All-set}
-use Rattle.affine_forms.specs.Checks.{Fits}
-use Rattle.tableau_row.specs.Short.{IsShort}
+use Rattle.tableau_row.proofs.Words.{arith, rules, subst, IsTrue, All-set, Fits, IsShort}
 use Rattle.tableau_row.proofs.Combining.{combined_step, combined_all, kept_at, kept_step}
 use Rattle.tableau_row.proofs.short.combine_by_half.Goals as goal
 use Rattle.tableau_row.proofs.short.combine_by_half.Goals.{then-changes, else-changes}

@@ -1,7 +1,4 @@
-use Rattle.std.proofs.Common.{arith, rules}
-use Rattle.std.proofs.lemmas.List.Elements.{All-set}
-use Rattle.affine_forms.specs.Checks.{Fits}
-use Rattle.tableau_row.specs.Short.{IsShort}
+use Rattle.tableau_row.proofs.Words.{arith, rules, All-set, Fits, IsShort}
 use Rattle.tableau_row.proofs.Combining.{combined_step, combined_all, kept_at}
 use Rattle.tableau_row.proofs.short.combine_by_short.Goals as goal
 

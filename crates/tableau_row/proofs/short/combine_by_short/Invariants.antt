@@ -1,8 +1,4 @@
-use Rattle.std.proofs.Common.{◌≡◌, drop, take, ◌++◌}
-use Rattle.std.specs.Prelude.{All, IsTrue}
-use Rattle.pip_model.specs.Forms.{combine}
-use Rattle.affine_forms.specs.Checks.{Fits}
-use Rattle.tableau_row.specs.Short.{IsShort}
+use Rattle.tableau_row.proofs.Words.{◌≡◌, drop, take, ◌++◌, All, IsTrue, combine, Fits, IsShort}
 use Rattle.tableau_row.proofs.short.combine_by_short.Given as goal
 
 abbrev pub invariant-loop-i : goal.invariant-loop-i

@@ -1,7 +1,4 @@
-use Rattle.std.proofs.Common.{ap, sym, ◌∙◌}
-use Rattle.std.specs.Int.{w128}
-use Rattle.std.proofs.lemmas.Int.{to_z-of_z}
-use Rattle.tableau_row.specs.Short.{is_short}
+use Rattle.tableau_row.proofs.Words.{ap, sym, ◌∙◌, w128, to_z-of_z, is_short}
 use Rattle.tableau_row.proofs.Combining.{short_bound}
 use Rattle.tableau_row.proofs.short.with_entry.Goals as goal
 

@@ -1,5 +1,4 @@
-use Rattle.std.proofs.Common.{◌≡◌, ◌+◌, ◌≤◌, drop}
-use Rattle.pip_model.specs.Reading.{closing}
+use Rattle.text_tokens.proofs.Words.{◌≡◌, ◌+◌, ◌≤◌, drop, closing}
 use Rattle.text_tokens.proofs.groups.group_end.Given as goal
 
 abbrev pub invariant-loop-i : goal.invariant-loop-i

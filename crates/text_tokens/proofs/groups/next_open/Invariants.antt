@@ -1,5 +1,4 @@
-use Rattle.std.proofs.Common.{◌≡◌, ◌+◌, drop}
-use Rattle.pip_model.specs.Reading.{next_open}
+use Rattle.text_tokens.proofs.Words.{◌≡◌, ◌+◌, drop, next_open}
 use Rattle.text_tokens.proofs.groups.next_open.Given as goal
 
 abbrev pub invariant-loop-i : goal.invariant-loop-i

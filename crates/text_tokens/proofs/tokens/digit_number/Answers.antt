@@ -1,4 +1,4 @@
-use Rattle.std.proofs.Common.{rules}
+use Rattle.text_tokens.proofs.Words.{rules}
 use Rattle.text_tokens.proofs.DigitNumbers.{digit_here, minus_here}
 use Rattle.text_tokens.proofs.tokens.digit_number.Goals as goal
 

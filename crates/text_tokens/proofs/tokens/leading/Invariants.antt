@@ -1,6 +1,5 @@
-use Rattle.std.proofs.Common.{◌≡◌, ◌+◌, ◌-◌, ◌^◌, min, take, drop}
+use Rattle.text_tokens.proofs.Words.{◌≡◌, ◌+◌, ◌-◌, ◌^◌, min, take, drop, is_digit, natural_of}
 use Rattle.std.specs.List.{prefix_len}
-use Rattle.pip_model.specs.Tokens.{is_digit, natural_of}
 use Rattle.text_tokens.proofs.tokens.leading.Given as goal
 
 abbrev pub invariant-loop-i : goal.invariant-loop-i

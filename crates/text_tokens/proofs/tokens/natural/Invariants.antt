@@ -1,5 +1,4 @@
-use Rattle.std.proofs.Common.{◌≡◌, ◌-◌, ◌^◌, min, take}
-use Rattle.pip_model.specs.Tokens.{natural_of}
+use Rattle.text_tokens.proofs.Words.{◌≡◌, ◌-◌, ◌^◌, min, take, natural_of}
 use Rattle.text_tokens.proofs.tokens.natural.Given as goal
 
 abbrev pub invariant-loop-byte : goal.invariant-loop-byte

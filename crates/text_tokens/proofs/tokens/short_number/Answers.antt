@@ -1,4 +1,4 @@
-use Rattle.std.proofs.Common.{rules}
+use Rattle.text_tokens.proofs.Words.{rules}
 use Rattle.text_tokens.proofs.ShortNumbers.{number_here}
 use Rattle.text_tokens.proofs.tokens.short_number.Goals as goal
 

@@ -1,6 +1,5 @@
-use Rattle.std.proofs.Common.{rules, arith, ◌∙◌, ◌+◌, ◌-◌, length, take, drop, length-drop}
+use Rattle.text_tokens.proofs.Words.{rules, arith, ◌∙◌, ◌+◌, ◌-◌, length, take, drop, length-drop, Number}
 use Rattle.std.proofs.lemmas.List.{take_all}
-use Rattle.pip_model.specs.declared.Kind.TheVariants.{Number}
 use Rattle.text_tokens.proofs.Blanks.{behind_blank}
 use Rattle.text_tokens.proofs.tokens.small_number.Goals as goal
 

@@ -1,9 +1,6 @@
-use Rattle.std.proofs.Common.{◌≡◌, arith, ap, ◌∙◌, length}
+use Rattle.affine_forms.proofs.Words.{◌≡◌, arith, ap, ◌∙◌, length, is_nonneg, value, tighten, tighten-sign}
 use Rattle.std.proofs.Math.Seq.{take-append_seam}
 use Rattle.std.specs.Prelude.{ℤ, List}
-use Rattle.pip_model.specs.Numbers.{is_nonneg}
-use Rattle.pip_model.specs.Forms.{value, tighten}
-use Rattle.pip_model.proofs.Division.{tighten-sign}
 use Rattle.affine_forms.proofs.form.Form.tighten.Goals as goal
 
 pub returns-clause-sign : goal.returns-clause-sign

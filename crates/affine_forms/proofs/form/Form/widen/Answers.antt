@@ -1,4 +1,4 @@
-use Rattle.std.proofs.Common.{rules, ◌-◌}
+use Rattle.affine_forms.proofs.Words.{rules, ◌-◌}
 use Rattle.affine_forms.proofs.Places.{widen_made, widen_form}
 use Rattle.affine_forms.proofs.form.Form.widen.Goals as goal
 

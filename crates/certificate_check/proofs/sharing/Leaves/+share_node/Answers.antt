@@ -1,8 +1,4 @@
-use Rattle.std.proofs.Common.{◌≡◌, ◌+◌, max, ap, ◌∙◌, arith}
-use Rattle.std.proofs.lemmas.Result.{on_ok_weaker}
-use Rattle.pip_model.specs.Tree.{size, nesting}
-use Rattle.pip_model.specs.Certificate.{Certificate}
-use Rattle.quast.specs.Trees.{tree_of}
+use Rattle.certificate_check.proofs.Words.{◌≡◌, ◌+◌, max, ap, ◌∙◌, arith, on_ok_weaker, size, nesting, Certificate, tree_of}
 use Rattle.certificate_check.proofs.Shares.{second_counted, both_shared}
 use Rattle.certificate_check.proofs.sharing.Leaves.+share_node.Goals as goal
 

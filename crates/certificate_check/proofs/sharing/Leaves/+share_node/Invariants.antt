@@ -1,5 +1,4 @@
-use Rattle.pip_model.specs.Tree.{size}
-use Rattle.quast.specs.Trees.{tree_of}
+use Rattle.certificate_check.proofs.Words.{size, tree_of}
 use Rattle.certificate_check.proofs.sharing.Leaves.+share_node.Given as goal
 
 abbrev pub decreases-share_node : goal.decreases-share_node

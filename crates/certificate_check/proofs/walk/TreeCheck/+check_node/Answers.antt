@@ -1,13 +1,6 @@
-use Rattle.std.proofs.Common.{◌≡◌, ◌+◌, ◌∙◌, ap, rules, true, [], ◌∷◌, ◌++◌, take, IsTrue}
-use Rattle.std.specs.Prelude.{IsFalse}
-use Rattle.std.proofs.lemmas.Result.{err_from_is_err_and}
-use Rattle.pip_model.specs.Listed.{all_fit}
-use Rattle.pip_model.specs.Forms.{opposite, constant}
-use Rattle.pip_model.specs.Cuts.{Quotient, lower_bound, upper_bound}
+use Rattle.certificate_check.proofs.Words.{◌≡◌, ◌+◌, ◌∙◌, ap, rules, true, [], ◌∷◌, ◌++◌, take, IsTrue, IsFalse, err_from_is_err_and, all_fit, opposite, constant, Quotient, lower_bound, upper_bound, tree_of, PathForms}
 use Rattle.affine_forms.specs.Checks.{is_form_overflow}
-use Rattle.quast.specs.Trees.{tree_of}
 use Rattle.leaf_check.specs.Faults.{fault_of}
-use Rattle.certificate_check.specs.Paths.{PathForms}
 use Rattle.certificate_check.proofs.Walks.{back_is, back_within, choice_stop, choice_place, choice_next, choice_unfit, definition_place, definition_next, definition_stop, definition_unfit, if_some_along}
 use Rattle.certificate_check.proofs.walk.TreeCheck.+check_node.Goals as goal
 

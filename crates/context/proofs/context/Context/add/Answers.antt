@@ -1,4 +1,4 @@
-use Rattle.std.proofs.Common.{rules, arith, ◌≡◌, ◌+◌, ◌≤◌, [], ◌∷◌, ◌++◌, length}
+use Rattle.context.proofs.Words.{rules, arith, ◌≡◌, ◌+◌, ◌≤◌, [], ◌∷◌, ◌++◌, length}
 use Rattle.context.proofs.Copying.{known_longer}
 use Rattle.context.proofs.context.Context.add.Goals as goal
 

@@ -1,6 +1,4 @@
-use Rattle.std.proofs.Common.{rules, ◌≡◌, subst, ◌≤◌, ℤ, List, length, take}
-use Rattle.std.proofs.lemmas.List.{take_all}
-use Rattle.context.specs.Remembered.{IsRemembered}
+use Rattle.context.proofs.Words.{rules, ◌≡◌, subst, ◌≤◌, ℤ, List, length, take, take_all, IsRemembered}
 use Rattle.context.proofs.OneFormMore.{known_tells}
 use Rattle.context.proofs.context.Context.ask_known.Goals as goal
 

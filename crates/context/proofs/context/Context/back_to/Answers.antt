@@ -1,5 +1,4 @@
-use Rattle.std.proofs.Common.{rules, ◌≡◌, ◌≤◌, length, take}
-use Rattle.pip_model.specs.Contexts.{IsContext}
+use Rattle.context.proofs.Words.{rules, ◌≡◌, ◌≤◌, length, take, IsContext}
 use Rattle.context.proofs.Copying.{known_front}
 use Rattle.context.proofs.context.Context.back_to.Goals as goal
 

@@ -1,4 +1,4 @@
-use Rattle.std.proofs.Common.{rules}
+use Rattle.context.proofs.Words.{rules}
 use Rattle.context.proofs.PointMeaning.{point_means, point_refuses}
 use Rattle.context.proofs.context.Context.point.Goals as goal
 

@@ -1,7 +1,4 @@
-use Rattle.std.proofs.Common.{rules, ◌≡◌, length}
-use Rattle.std.specs.List.{list_all}
-use Rattle.pip_model.specs.Forms.{constant}
-use Rattle.pip_model.specs.Numbers.{is_nonneg}
+use Rattle.context.proofs.Words.{rules, ◌≡◌, length, list_all, constant, is_nonneg}
 use Rattle.context.proofs.AtOnce.{point_of_none, point_of_no_places}
 use Rattle.context.proofs.context.Context.point_at_once.Goals as goal
 

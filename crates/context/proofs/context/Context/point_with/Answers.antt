@@ -1,4 +1,4 @@
-use Rattle.std.proofs.Common.{rules, ◌≡◌}
+use Rattle.context.proofs.Words.{rules, ◌≡◌}
 use Rattle.context.proofs.OneFormMore.{plain_run}
 use Rattle.context.proofs.context.Context.point_with.Goals as goal
 

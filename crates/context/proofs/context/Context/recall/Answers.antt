@@ -1,4 +1,4 @@
-use Rattle.std.proofs.Common.{◌≡◌, ◌∙◌, ap, sym, length}
+use Rattle.context.proofs.Words.{◌≡◌, ◌∙◌, ap, sym, length}
 use Rattle.std.specs.Vec.{vec_len}
 use Rattle.context.specs.declared.context.Context.TheInside.{Inside}
 use Rattle.context.proofs.GoingFurther.{known_all, of_all, ok_tells}

@@ -1,4 +1,4 @@
-use Rattle.std.proofs.Common.{rules, ◌≡◌}
+use Rattle.context.proofs.Words.{rules, ◌≡◌}
 use Rattle.context.proofs.Copying.{earlier_taken}
 use Rattle.context.proofs.context.Context.take_earlier.Goals as goal
 

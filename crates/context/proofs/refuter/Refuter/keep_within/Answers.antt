@@ -1,4 +1,4 @@
-use Rattle.std.proofs.Common.{rules, ◌≡◌, refl, []}
+use Rattle.context.proofs.Words.{rules, ◌≡◌, refl, []}
 use Rattle.context.proofs.refuter.Refuter.keep_within.Goals as goal
 
 pub returns : goal.returns

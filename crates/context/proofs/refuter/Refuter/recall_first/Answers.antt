@@ -1,4 +1,4 @@
-use Rattle.std.proofs.Common.{rules, ◌≤◌, length}
+use Rattle.context.proofs.Words.{rules, ◌≤◌, length}
 use Rattle.context.proofs.KeptFirst.{first-front, first-made}
 use Rattle.context.proofs.refuter.Refuter.recall_first.Goals as goal
 

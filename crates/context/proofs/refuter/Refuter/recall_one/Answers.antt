@@ -1,4 +1,4 @@
-use Rattle.std.proofs.Common.{rules, ◌≡◌, [], ◌∷◌, ◌++◌}
+use Rattle.context.proofs.Words.{rules, ◌≡◌, [], ◌∷◌, ◌++◌}
 use Rattle.context.proofs.FurtherForms.{context-more}
 use Rattle.context.proofs.refuter.Refuter.recall_one.Goals as goal
 

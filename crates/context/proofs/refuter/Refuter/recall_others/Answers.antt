@@ -1,6 +1,4 @@
-use Rattle.std.proofs.Common.{rules, ◌≡◌, ◌≤◌, ◌∙◌, refl, ap, subst, ℕ, ℤ, List, length, map, take, drop}
-use Rattle.std.specs.Prelude.{OnOk}
-use Rattle.pip_model.specs.Made.{narrow_to}
+use Rattle.context.proofs.Words.{rules, ◌≡◌, ◌≤◌, ◌∙◌, refl, ap, subst, ℕ, ℤ, List, length, map, take, drop, OnOk, narrow_to}
 use Rattle.context.proofs.FurtherForms.{kept-further}
 use Rattle.context.proofs.refuter.Refuter.recall_others.Goals as goal
 

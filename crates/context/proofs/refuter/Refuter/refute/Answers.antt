@@ -1,5 +1,4 @@
-use Rattle.std.proofs.Common.{rules, ◌≡◌, sym, subst, true}
-use Rattle.context.specs.Scoped.{KeptForms, AreFirst}
+use Rattle.context.proofs.Words.{rules, ◌≡◌, sym, subst, true, KeptForms, AreFirst}
 use Rattle.context.proofs.KeptFirst.{on_ok}
 use Rattle.context.proofs.refuter.Refuter.refute.Goals as goal
 

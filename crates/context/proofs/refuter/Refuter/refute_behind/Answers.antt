@@ -1,8 +1,4 @@
-use Rattle.std.proofs.Common.{rules, arith, ◌≡◌}
-use Rattle.std.proofs.lemmas.Grind.{common_steps}
-use Rattle.run_counts.proofs.Counting.{counted_on}
-use Rattle.context.specs.Stops.{stop_fault}
-use Rattle.context.specs.Remembered.{IsRemembered}
+use Rattle.context.proofs.Words.{rules, arith, ◌≡◌, common_steps, counted_on, stop_fault, IsRemembered}
 use Rattle.context.proofs.FurtherForms.{row-within, column-within, traced-end, behind-made, behind-refused}
 use Rattle.context.proofs.refuter.Refuter.refute_behind.Goals as goal
 

@@ -1,9 +1,5 @@
-use Rattle.std.proofs.Common.{rules, arith, ◌≡◌, ◌∙◌, nat_eq, length, map, false}
-use Rattle.std.proofs.lemmas.Grind.{common_steps}
-use Rattle.pip_model.specs.Made.{narrow_to}
-use Rattle.pip_model.specs.Refuting.{refute_by}
-use Rattle.pip_model.specs.Run.{Done}
-use Rattle.pip_problem.specs.Faults.{run_fault}
+use Rattle.context.proofs.Words.{rules, arith, ◌≡◌, ◌∙◌, length, map, false, common_steps, narrow_to, refute_by, Done, run_fault}
+use Rattle.std.proofs.Common.{nat_eq}
 use Rattle.context.proofs.FurtherForms.{known-run, known-fault}
 use Rattle.context.proofs.refuter.Refuter.refute_first.Goals as goal
 

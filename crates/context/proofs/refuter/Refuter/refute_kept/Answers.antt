@@ -1,9 +1,4 @@
-use Rattle.std.proofs.Common.{rules, arith, ◌≡◌, ◌∙◌, refl, ap, sym, ℕ, ℤ, List, ◌++◌, length, map, take, drop, true, false, Some, None}
-use Rattle.std.proofs.lemmas.List.{take-append-drop}
-use Rattle.std.proofs.lemmas.Grind.{common_steps}
-use Rattle.pip_model.specs.Made.{narrow_to}
-use Rattle.pip_model.specs.Refuting.{first_trace}
-use Rattle.context.specs.Stops.{stop_fault}
+use Rattle.context.proofs.Words.{rules, arith, ◌≡◌, ◌∙◌, refl, ap, sym, ℕ, ℤ, List, ◌++◌, length, map, take, drop, true, false, Some, None, take-append-drop, common_steps, narrow_to, first_trace, stop_fault}
 use Rattle.context.proofs.FurtherForms.{kept-traced, kept-fault, kept-steps}
 use Rattle.context.proofs.KeptFirst.{first-within}
 use Rattle.context.proofs.refuter.Refuter.refute_kept.Goals as goal

@@ -1,5 +1,4 @@
-use Rattle.std.proofs.Common.{◌≡◌, ◌≤◌, drop, take, length}
-use Rattle.pip_model.specs.Check.{after_steps}
+use Rattle.leaf_check.proofs.Words.{◌≡◌, ◌≤◌, drop, take, length, after_steps}
 use Rattle.leaf_check.proofs.known.Known.add_steps.Given as goal
 
 abbrev pub invariant-loop-i : goal.invariant-loop-i

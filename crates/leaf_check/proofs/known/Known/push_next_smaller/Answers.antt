@@ -1,10 +1,4 @@
-use Rattle.std.proofs.Common.{arith, refl, ◌≡◌, ◌∙◌, ap, ap₂, ℕ, ℤ, List, [], ◌∷◌, ◌++◌, ◌+◌, ◌-◌, length, get_or, negsuc, append_assoc}
-use Rattle.std.proofs.lemmas.Grind.{common_steps}
-use Rattle.std.proofs.lemmas.List.{take_at}
-use Rattle.pip_model.specs.Forms.{plus}
-use Rattle.pip_model.specs.Check.{not_above}
-use Rattle.pip_model.specs.Tree.{Component}
-use Rattle.leaf_check.specs.Known.{KnownForms}
+use Rattle.leaf_check.proofs.Words.{arith, refl, ◌≡◌, ◌∙◌, ap, ap₂, ℕ, ℤ, List, [], ◌∷◌, ◌++◌, ◌+◌, ◌-◌, length, get_or, negsuc, append_assoc, common_steps, take_at, plus, not_above, Component, KnownForms}
 use Rattle.leaf_check.proofs.Smaller.{last_smaller}
 use Rattle.leaf_check.proofs.NextGoal.{rest_is}
 use Rattle.leaf_check.proofs.known.Known.push_next_smaller.Goals as goal

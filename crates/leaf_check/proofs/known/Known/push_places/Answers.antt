@@ -1,4 +1,4 @@
-use Rattle.std.proofs.Common.{rules}
+use Rattle.leaf_check.proofs.Words.{rules}
 use Rattle.leaf_check.proofs.Making.{places_step}
 use Rattle.leaf_check.proofs.known.Known.push_places.Goals as goal
 

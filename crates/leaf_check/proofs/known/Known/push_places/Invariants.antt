@@ -1,5 +1,4 @@
-use Rattle.std.proofs.Common.{◌≡◌, ◌++◌}
-use Rattle.pip_model.specs.Check.{places_from}
+use Rattle.leaf_check.proofs.Words.{◌≡◌, ◌++◌, places_from}
 use Rattle.leaf_check.proofs.known.Known.push_places.Given as goal
 
 abbrev pub invariant-loop-i : goal.invariant-loop-i

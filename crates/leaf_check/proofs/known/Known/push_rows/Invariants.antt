@@ -1,5 +1,4 @@
-use Rattle.std.proofs.Common.{◌≡◌, ◌++◌, take, map}
-use Rattle.pip_model.specs.Check.{row_form}
+use Rattle.leaf_check.proofs.Words.{◌≡◌, ◌++◌, take, map, row_form}
 use Rattle.leaf_check.proofs.known.Known.push_rows.Given as goal
 
 abbrev pub invariant-loop-row : goal.invariant-loop-row

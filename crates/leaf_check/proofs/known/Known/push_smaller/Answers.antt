@@ -1,5 +1,4 @@
-use Rattle.std.proofs.Common.{arith, rules, [], ◌-◌, length}
-use Rattle.std.proofs.lemmas.Grind.{common_steps}
+use Rattle.leaf_check.proofs.Words.{arith, rules, [], ◌-◌, length, common_steps}
 use Rattle.leaf_check.proofs.Smaller.{not_aboves_step, last_smaller, smaller_is}
 use Rattle.leaf_check.proofs.known.Known.push_smaller.Goals as goal
 

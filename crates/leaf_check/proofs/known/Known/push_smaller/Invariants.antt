@@ -1,4 +1,4 @@
-use Rattle.std.proofs.Common.{◌≡◌, ◌++◌, take}
+use Rattle.leaf_check.proofs.Words.{◌≡◌, ◌++◌, take}
 use Rattle.leaf_check.proofs.Smaller.{not_aboves}
 use Rattle.leaf_check.proofs.known.Known.push_smaller.Given as goal
 

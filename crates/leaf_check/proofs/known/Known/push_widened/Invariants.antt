@@ -1,5 +1,4 @@
-use Rattle.std.proofs.Common.{◌≡◌, ◌++◌, take, map}
-use Rattle.pip_model.specs.Forms.{widen_to}
+use Rattle.leaf_check.proofs.Words.{◌≡◌, ◌++◌, take, map, widen_to}
 use Rattle.leaf_check.proofs.known.Known.push_widened.Given as goal
 
 abbrev pub invariant-loop-form : goal.invariant-loop-form

@@ -1,7 +1,4 @@
-use Rattle.std.proofs.Common.{◌≡◌, true, false, arith}
-use Rattle.std.specs.Prelude.{option_copied}
-use Rattle.std.proofs.lemmas.Grind.{common_steps}
-use Rattle.leaf_check.specs.Leaves.{case_of, has_shape}
+use Rattle.leaf_check.proofs.Words.{◌≡◌, true, false, arith, option_copied, common_steps, case_of, has_shape}
 use Rattle.leaf_check.proofs.Owned.{without_shape, shape_count}
 use Rattle.leaf_check.proofs.leaf.Leaf.check.Goals as goal
 

@@ -1,13 +1,5 @@
-use Rattle.std.proofs.Common.{arith, ◌≡◌, ◌∙◌, ap, sym, subst, ◌+◌, ◌-◌, ◌++◌, ℕ, List, ℤ, [], ◌∷◌, length, drop, Some}
-use Rattle.std.specs.Prelude.{Option, OnOk, slice_index_or, option_copied}
-use Rattle.pip_model.specs.Forms.{constant}
-use Rattle.pip_model.specs.Tree.{Component}
-use Rattle.pip_model.specs.Agreement.{IsChecked}
-use Rattle.pip_model.specs.Check.{leaf_premises, scope_forms, smaller_from}
-use Rattle.affine_forms.specs.Checks.{is_form_overflow}
-use Rattle.leaf_check.specs.Goals.{without_last}
-use Rattle.leaf_check.specs.Known.{KnownForms}
-use Rattle.leaf_check.specs.Leaves.{case_of, own_premises, nothing}
+use Rattle.leaf_check.proofs.Words.{arith, ◌≡◌, ◌∙◌, ap, sym, subst, ◌+◌, ◌-◌, ◌++◌, ℕ, List, ℤ, [], ◌∷◌, length, drop, Option, OnOk, slice_index_or, option_copied, constant, Component, IsChecked, leaf_premises, scope_forms, smaller_from, is_form_overflow, without_last, KnownForms, case_of, own_premises, nothing}
+use Rattle.std.proofs.Common.{Some}
 use Rattle.leaf_check.proofs.Owned.{own_place}
 use Rattle.leaf_check.proofs.NextGoal.{without_one, one_of_own, next_forms, next_listed, still}
 use Rattle.leaf_check.proofs.leaf.Leaf.next_list_goal.Goals as goal

@@ -1,5 +1,4 @@
-use Rattle.std.proofs.Common.{◌≡◌, ap, ◌-◌, arith, rules, length}
-use Rattle.leaf_check.specs.Leaves.{case_of}
+use Rattle.leaf_check.proofs.Words.{◌≡◌, ap, ◌-◌, arith, rules, length, case_of}
 use Rattle.leaf_check.proofs.Owned.{own_least}
 use Rattle.leaf_check.proofs.leaf.Leaf.push_list_goal.Goals as goal
 

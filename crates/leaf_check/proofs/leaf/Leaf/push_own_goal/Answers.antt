@@ -1,6 +1,4 @@
-use Rattle.std.proofs.Common.{rules}
-use Rattle.std.specs.Prelude.{option_copied}
-use Rattle.leaf_check.specs.Leaves.{case_of}
+use Rattle.leaf_check.proofs.Words.{rules, option_copied, case_of}
 use Rattle.leaf_check.proofs.Owned.{own_place}
 use Rattle.leaf_check.proofs.leaf.Leaf.push_own_goal.Goals as goal
 

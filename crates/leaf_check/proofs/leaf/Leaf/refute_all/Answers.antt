@@ -1,9 +1,4 @@
-use Rattle.std.proofs.Common.{◌≡◌, ◌∙◌, rules, arith, get_or}
-use Rattle.std.specs.Prelude.{option_copied}
-use Rattle.std.proofs.lemmas.Result.{err_from_is_err_and}
-use Rattle.pip_model.specs.Check.{leaf_premises}
-use Rattle.leaf_check.specs.Faults.{fault_of}
-use Rattle.leaf_check.specs.Leaves.{case_of}
+use Rattle.leaf_check.proofs.Words.{◌≡◌, ◌∙◌, rules, arith, get_or, option_copied, err_from_is_err_and, leaf_premises, fault_of, case_of}
 use Rattle.leaf_check.proofs.Refuted.{bare, refutations_next, refutations_stop}
 use Rattle.leaf_check.proofs.leaf.Leaf.refute_all.Goals as goal
 

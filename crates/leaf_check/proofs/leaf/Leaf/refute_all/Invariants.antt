@@ -1,7 +1,4 @@
-use Rattle.std.proofs.Common.{◌≡◌, ◌+◌, drop, map, []}
-use Rattle.std.specs.Prelude.{option_copied}
-use Rattle.pip_model.specs.Check.{joined, leaf_premises, check_refutations}
-use Rattle.leaf_check.specs.Leaves.{case_of}
+use Rattle.leaf_check.proofs.Words.{◌≡◌, ◌+◌, drop, map, [], option_copied, joined, leaf_premises, check_refutations, case_of}
 use Rattle.leaf_check.proofs.leaf.Leaf.refute_all.Given as goal
 
 abbrev pub invariant-loop-r : goal.invariant-loop-r

@@ -1,7 +1,4 @@
-use Rattle.std.proofs.Common.{ap}
-use Rattle.leaf_check.specs.Known.{KnownForms}
-use Rattle.std.proofs.lemmas.Grind.{common_steps}
-use Rattle.std.proofs.Common.{arith}
+use Rattle.leaf_check.proofs.Words.{ap, KnownForms, common_steps, arith}
 use Rattle.leaf_check.proofs.Refuted.{front_kept}
 use Rattle.leaf_check.proofs.leaf.Leaf.refute_goal.Goals as goal
 

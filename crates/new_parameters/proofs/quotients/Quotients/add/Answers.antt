@@ -1,6 +1,5 @@
-use Rattle.std.proofs.Common.{rules, ◌≡◌, ◌+◌, ◌∷◌, ◌++◌, [], length, arith, length-append}
+use Rattle.new_parameters.proofs.Words.{rules, ◌≡◌, ◌+◌, ◌∷◌, ◌++◌, [], length, arith, length-append, find_from}
 use Rattle.std.specs.Prelude.{None}
-use Rattle.pip_model.specs.Cuts.{find_from}
 use Rattle.new_parameters.proofs.Finding.{absent_key, absent_place, AreQuotients-append}
 use Rattle.new_parameters.proofs.quotients.Quotients.add.Goals as goal
 

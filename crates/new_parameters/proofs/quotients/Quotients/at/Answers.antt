@@ -1,6 +1,4 @@
-use Rattle.std.proofs.Common.{rules, arith, ap, ◌≡◌, ◌-◌, Some}
-use Rattle.std.specs.Prelude.{slice_get}
-use Rattle.new_parameters.specs.Scopes.{Scope}
+use Rattle.new_parameters.proofs.Words.{rules, arith, ap, ◌≡◌, ◌-◌, Some, slice_get, Scope}
 use Rattle.new_parameters.proofs.Finding.{quotient_got}
 use Rattle.new_parameters.proofs.quotients.Quotients.at.Goals as goal
 

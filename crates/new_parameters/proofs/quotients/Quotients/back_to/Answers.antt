@@ -1,5 +1,4 @@
-use Rattle.std.proofs.Common.{arith}
-use Rattle.std.proofs.lemmas.List.{length-take}
+use Rattle.new_parameters.proofs.Words.{arith, length-take}
 use Rattle.new_parameters.proofs.Finding.{AreQuotients-take}
 use Rattle.new_parameters.proofs.quotients.Quotients.back_to.Goals as goal
 

@@ -1,6 +1,4 @@
-use Rattle.std.proofs.Common.{rules, ◌≡◌, Some, None}
-use Rattle.std.specs.Prelude.{position}
-use Rattle.new_parameters.specs.Keys.{is_same_key}
+use Rattle.new_parameters.proofs.Words.{rules, ◌≡◌, Some, None, position, is_same_key}
 use Rattle.new_parameters.proofs.Finding.{find_at_place, find_nowhere, found_at}
 use Rattle.new_parameters.proofs.quotients.Quotients.find.Goals as goal
 

@@ -1,4 +1,4 @@
-use Rattle.std.proofs.Common.{arith}
+use Rattle.pip_items.proofs.Words.{arith}
 use Rattle.quast.proofs.Lists.{list-components}
 use Rattle.pip_items.proofs.commands.value.point.Goals as goal
 

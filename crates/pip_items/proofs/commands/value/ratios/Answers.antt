@@ -1,7 +1,5 @@
-use Rattle.std.proofs.Common.{◌≡◌, pos, [], ◌∷◌, get_or, rules, arith, refl}
+use Rattle.pip_items.proofs.Words.{◌≡◌, pos, [], ◌∷◌, get_or, rules, arith, refl, reduced, IsComponent}
 use Rattle.std.proofs.lemmas.List.Elements.{All-push}
-use Rattle.pip_model.specs.Tree.{reduced}
-use Rattle.quast.specs.Components.{IsComponent}
 use Rattle.pip_items.proofs.Values.{ratios_more}
 use Rattle.pip_items.proofs.commands.value.ratios.Goals as goal
 

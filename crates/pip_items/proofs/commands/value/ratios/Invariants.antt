@@ -1,7 +1,4 @@
-use Rattle.std.proofs.Common.{◌≡◌, ◌++◌, length, drop}
-use Rattle.std.specs.Prelude.{All}
-use Rattle.quast.specs.Components.{IsComponent}
-use Rattle.pip_items.specs.Values.{ratios_of}
+use Rattle.pip_items.proofs.Words.{◌≡◌, ◌++◌, length, drop, All, IsComponent, ratios_of}
 use Rattle.pip_items.proofs.commands.value.ratios.Given as goal
 
 abbrev pub invariant-loop-i : goal.invariant-loop-i

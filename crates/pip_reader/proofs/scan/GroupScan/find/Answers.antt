@@ -1,4 +1,4 @@
-use Rattle.std.proofs.Common.{arith, refl, sym, ◌∙◌, ◌≤◌, ◌+◌, ◌-◌, length, take, drop}
+use Rattle.pip_reader.proofs.Words.{arith, refl, sym, ◌∙◌, ◌≤◌, ◌+◌, ◌-◌, length, take, drop}
 use Rattle.std.proofs.lemmas.List.{length-take}
 use Rattle.pip_reader.proofs.Scanning.{quiet-fold, quiet-none, run-more, run-found, fold-run}
 use Rattle.pip_reader.proofs.scan.GroupScan.find.Goals as goal

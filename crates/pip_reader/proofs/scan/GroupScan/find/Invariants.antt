@@ -1,7 +1,4 @@
-use Rattle.std.proofs.Common.{◌≡◌, ◌+◌, ◌-◌, ◌≤◌, take, drop, length}
-use Rattle.std.specs.Prelude.{fold}
-use Rattle.pip_model.specs.Reading.{open_after}
-use Rattle.pip_reader.specs.Groups.{group_end_from}
+use Rattle.pip_reader.proofs.Words.{◌≡◌, ◌+◌, ◌-◌, ◌≤◌, take, drop, length, fold, open_after, group_end_from}
 use Rattle.pip_reader.proofs.scan.GroupScan.find.Given as goal
 
 abbrev pub invariant-loop-at : goal.invariant-loop-at

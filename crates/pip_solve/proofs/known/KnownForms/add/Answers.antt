@@ -1,5 +1,4 @@
-use Rattle.std.proofs.Common.{rules, ◌≡◌, [], ◌∷◌, ◌++◌, ◌+◌, length}
-use Rattle.std.specs.Prelude.{is_ok, if◌then◌else◌}
+use Rattle.pip_solve.proofs.Words.{rules, ◌≡◌, [], ◌∷◌, ◌++◌, ◌+◌, length, is_ok, if◌then◌else◌}
 use Rattle.pip_solve.proofs.KnownPlaces.{forms_after}
 use Rattle.pip_solve.proofs.known.KnownForms.add.Goals as goal
 

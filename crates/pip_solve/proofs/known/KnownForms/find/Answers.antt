@@ -1,7 +1,6 @@
-use Rattle.std.proofs.Common.{◌≡◌, ◌<◌, get_or, length, slice_range, pos}
+use Rattle.pip_solve.proofs.Words.{◌≡◌, ◌<◌, get_or, length, slice_range, pos, KnownPlace}
 use Rattle.std.proofs.lemmas.Bool.Decides.{Decides-int_eq}
 use Rattle.std.proofs.lemmas.Slice.Eq.{slice_eq-Decides}
-use Rattle.pip_solve.specs.declared.known.KnownPlace.{KnownPlace}
 use Rattle.pip_solve.proofs.KnownPlaces.{form_within}
 use Rattle.pip_solve.proofs.known.KnownForms.find.Goals as goal
 

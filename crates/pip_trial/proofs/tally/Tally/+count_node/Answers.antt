@@ -1,6 +1,4 @@
-use Rattle.std.proofs.Common.{◌≡◌, ◌+◌, ap, arith}
-use Rattle.pip_model.specs.Tree.{size}
-use Rattle.quast.specs.Trees.{tree_of}
+use Rattle.pip_trial.proofs.Words.{◌≡◌, ◌+◌, ap, arith, size, tree_of}
 use Rattle.pip_trial.proofs.Rooms.{less_room, room_behind}
 use Rattle.pip_trial.proofs.tally.Tally.+count_node.Goals as goal
 

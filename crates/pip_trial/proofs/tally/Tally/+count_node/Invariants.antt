@@ -1,5 +1,4 @@
-use Rattle.pip_model.specs.Tree.{size}
-use Rattle.quast.specs.Trees.{tree_of}
+use Rattle.pip_trial.proofs.Words.{size, tree_of}
 use Rattle.pip_trial.proofs.tally.Tally.+count_node.Given as goal
 
 abbrev pub decreases-count_node : goal.decreases-count_node

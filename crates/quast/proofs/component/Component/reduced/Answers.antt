@@ -1,9 +1,5 @@
-use Rattle.std.proofs.Common.{◌≡◌, pos, ◌≤ℤ◌, subst, sym, arith, rules, to_z, of_z}
+use Rattle.quast.proofs.Words.{◌≡◌, pos, ◌≤ℤ◌, subst, sym, arith, rules, to_z, of_z, width, Component, reduced, Fits, IsComponent}
 use Rattle.std.specs.Int.{w128}
-use Rattle.pip_model.specs.Forms.{width}
-use Rattle.pip_model.specs.Tree.{Component, reduced}
-use Rattle.affine_forms.specs.Checks.{Fits}
-use Rattle.quast.specs.Components.{IsComponent}
 use Rattle.quast.proofs.Lists.{own-width}
 use Rattle.quast.proofs.Lowest.{reduced-component}
 use Rattle.quast.proofs.component.Component.reduced.Goals as goal

@@ -1,6 +1,5 @@
-use Rattle.std.proofs.Common.{arith}
+use Rattle.quast.proofs.Words.{arith, component_without}
 use Rattle.std.proofs.lemmas.List.Edits.{map_over_more}
-use Rattle.pip_model.specs.Simplified.{component_without}
 use Rattle.quast.proofs.component.Components.remove.Goals as goal
 
 pub loop-c-preserved : goal.loop-c-preserved

@@ -1,5 +1,4 @@
-use Rattle.std.proofs.Common.{◌≡◌, ◌++◌, map, take, drop}
-use Rattle.pip_model.specs.Simplified.{component_without}
+use Rattle.quast.proofs.Words.{◌≡◌, ◌++◌, map, take, drop, component_without}
 use Rattle.quast.proofs.component.Components.remove.Given as goal
 
 abbrev pub invariant-loop-c : goal.invariant-loop-c

@@ -1,5 +1,4 @@
-use Rattle.std.proofs.Common.{◌≡◌, ◌+◌, ap, arith, rules}
-use Rattle.quast.specs.Trees.{ScopedTree}
+use Rattle.quast.proofs.Words.{◌≡◌, ◌+◌, ap, arith, rules, ScopedTree}
 use Rattle.quast.proofs.Scopes.{newparm-quast}
 use Rattle.quast.proofs.quast.Quast.define.Goals as goal
 

@@ -1,5 +1,4 @@
-use Rattle.std.proofs.Common.{◌≡◌, arith, refl, rules}
-use Rattle.quast.specs.Components.{width_of}
+use Rattle.quast.proofs.Words.{◌≡◌, arith, refl, rules, width_of}
 use Rattle.quast.proofs.Scopes.{leaf-quast}
 use Rattle.quast.proofs.Lists.{first-width}
 use Rattle.quast.proofs.quast.Quast.list.Goals as goal

@@ -1,5 +1,4 @@
-use Rattle.std.proofs.Common.{◌≡◌, ap, arith}
-use Rattle.quast.specs.Trees.{ScopedTree}
+use Rattle.quast.proofs.Words.{◌≡◌, ap, arith, ScopedTree}
 use Rattle.quast.proofs.Scopes.{if-quast}
 use Rattle.quast.proofs.quast.Quast.select.Goals as goal
 

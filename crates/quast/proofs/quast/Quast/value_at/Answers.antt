@@ -1,8 +1,4 @@
-use Rattle.std.proofs.Common.{◌≡◌, refl, rules, true, Some, None}
-use Rattle.std.proofs.lemmas.Result.{err_from_is_err_and}
-use Rattle.pip_model.specs.Listed.{all_fit}
-use Rattle.pip_model.specs.Tree.{leaf_of}
-use Rattle.quast.specs.Places.{path_listed}
+use Rattle.quast.proofs.Words.{◌≡◌, refl, rules, true, Some, None, err_from_is_err_and, all_fit, leaf_of, path_listed}
 use Rattle.quast.proofs.Paths.{path-refused, list-refused, all-listed}
 use Rattle.quast.proofs.quast.Quast.value_at.Goals as goal
 

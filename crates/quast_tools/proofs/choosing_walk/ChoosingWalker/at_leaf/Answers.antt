@@ -1,14 +1,4 @@
-use Rattle.std.proofs.Common.{ap, sym, ◌∙◌, ℕ}
-use Rattle.pip_model.specs.Tree.{Tree}
-use Rattle.pip_model.specs.Tools.{least_second, spread_tree, tree_or_bottom}
-use Rattle.quast.specs.Answers.{answer_of}
-use Rattle.quast.specs.Trees.{tree_of}
-use Rattle.quast_walk.specs.Faults.{tool_fault}
-use Rattle.quast_walk.specs.Readings.{leaf_tree}
-use Rattle.quast_walk.specs.Visits.{visit_of}
-use Rattle.quast_walk.proofs.Placing.{spread_tree-none}
-use Rattle.quast_walk.proofs.Readied.{leaf_scoped}
-use Rattle.quast_walk.proofs.Walking.{agrees_as}
+use Rattle.quast_tools.proofs.Words.{ap, sym, ◌∙◌, ℕ, Tree, least_second, spread_tree, tree_or_bottom, answer_of, tree_of, tool_fault, leaf_tree, visit_of, spread_tree-none, leaf_scoped, agrees_as}
 use Rattle.quast_tools.proofs.choosing_walk.ChoosingWalker.at_leaf.Goals as goal
 
 pub choose_second-requires-clause-leaf : goal.choose_second-requires-clause-leaf

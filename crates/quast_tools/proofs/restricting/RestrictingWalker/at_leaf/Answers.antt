@@ -1,8 +1,4 @@
-use Rattle.std.proofs.Common.{◌∙◌, ap, sym, ℕ}
-use Rattle.pip_model.specs.Tree.{Tree}
-use Rattle.pip_model.specs.Tools.{spread_tree}
-use Rattle.pip_model.specs.Walks.{Made}
-use Rattle.quast_walk.specs.Readings.{leaf_tree}
+use Rattle.quast_tools.proofs.Words.{◌∙◌, ap, sym, ℕ, Tree, spread_tree, Made, leaf_tree}
 use Rattle.quast_tools.proofs.restricting.RestrictingWalker.at_leaf.Goals as goal
 
 pub leaf_node-requires : goal.leaf_node-requires

@@ -1,10 +1,5 @@
-use Rattle.std.proofs.Common.{ap}
+use Rattle.quast_tools.proofs.Words.{ap, same_leaves, tool_fault, leaf_answer, spread_answer, visit_of, agrees_as}
 use Rattle.pip_model.specs.Tree as model
-use Rattle.pip_model.specs.Tools.{same_leaves}
-use Rattle.quast_walk.specs.Faults.{tool_fault}
-use Rattle.quast_walk.specs.Readings.{leaf_answer, spread_answer}
-use Rattle.quast_walk.specs.Visits.{visit_of}
-use Rattle.quast_walk.proofs.Walking.{agrees_as}
 use Rattle.quast_tools.proofs.searching.MeetingWalker.at_leaf.Goals as goal
 
 pub returns-clause-gives : goal.returns-clause-gives

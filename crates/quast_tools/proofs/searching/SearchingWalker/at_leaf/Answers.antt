@@ -1,12 +1,5 @@
-use Rattle.std.proofs.Common.{ap}
+use Rattle.quast_tools.proofs.Words.{ap, Tree, Solved, same_second, answer_of, tool_fault, visit_of, leaf_scoped, leaf_whole, agrees_as}
 use Rattle.pip_model.specs.Tree as model
-use Rattle.pip_model.specs.Tree.{Tree, Solved}
-use Rattle.pip_model.specs.Tools.{same_second}
-use Rattle.quast.specs.Answers.{answer_of}
-use Rattle.quast_walk.specs.Faults.{tool_fault}
-use Rattle.quast_walk.specs.Visits.{visit_of}
-use Rattle.quast_walk.proofs.Readied.{leaf_scoped, leaf_whole}
-use Rattle.quast_walk.proofs.Walking.{agrees_as}
 use Rattle.quast_tools.proofs.searching.SearchingWalker.at_leaf.Goals as goal
 
 pub search_second-requires-clause-leaf : goal.search_second-requires-clause-leaf

@@ -1,7 +1,4 @@
-use Rattle.std.proofs.Common.{subst}
-use Rattle.std.specs.Prelude.{All}
-use Rattle.tableau.specs.Tableaus.{TableauRows}
-use Rattle.short_tableau.specs.Dense.{IsShortReduced}
+use Rattle.short_tableau.proofs.Words.{subst, All, TableauRows, IsShortReduced}
 use Rattle.short_tableau.proofs.short_table.ShortTableau.columns.Goals as goal
 
 pub returns-clause-rows : goal.returns-clause-rows

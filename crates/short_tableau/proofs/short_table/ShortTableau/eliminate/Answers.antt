@@ -1,13 +1,4 @@
-use Rattle.std.proofs.Common.{◌≡◌, ◌∙◌, ap, sym, subst, arith, rules, ℕ, ℤ, false, List, map}
-use Rattle.std.specs.Prelude.{IsTrue, IsFalse, flat_map}
-use Rattle.std.specs.List.{list_all}
-use Rattle.dual_pivot.specs.Choices.{IsCandidate}
-use Rattle.pip_model.specs.Listed.{all_fit}
-use Rattle.pip_model.specs.Rows.{Row, row_at, eliminated, eliminated_listed}
-use Rattle.tableau.specs.Tableaus.{TableauRows}
-use Rattle.short_tableau.specs.Dense.{rows_in, IsShortReduced}
-use Rattle.short_tableau.specs.Rows.{row_of}
-use Rattle.short_tableau.specs.Turned.{is_short_row}
+use Rattle.short_tableau.proofs.Words.{◌≡◌, ◌∙◌, ap, sym, subst, arith, rules, ℕ, ℤ, false, List, map, IsTrue, IsFalse, flat_map, list_all, IsCandidate, all_fit, Row, row_at, eliminated, eliminated_listed, TableauRows, rows_in, IsShortReduced, row_of, is_short_row}
 use Rattle.short_tableau.proofs.Fitting.{flat_fit}
 use Rattle.short_tableau.proofs.short_table.ShortTableau.eliminate.Goals as goal
 

@@ -1,8 +1,4 @@
-use Rattle.std.proofs.Common.{◌≡◌, take}
-use Rattle.std.specs.Prelude.{IfSome}
-use Rattle.pip_model.specs.Rows.{entering}
-use Rattle.short_tableau.specs.Rows.{row_of}
-use Rattle.dual_pivot.specs.Choices.{choice, candidates_from, IsCandidate}
+use Rattle.short_tableau.proofs.Words.{◌≡◌, take, IfSome, entering, row_of, choice, candidates_from, IsCandidate}
 use Rattle.short_tableau.proofs.short_table.ShortTableau.entering.Given as goal
 
 abbrev pub invariant-loop-k : goal.invariant-loop-k

@@ -1,5 +1,4 @@
-use Rattle.std.proofs.Common.{◌<◌, subst}
-use Rattle.std.specs.Prelude.{IfSome}
+use Rattle.short_tableau.proofs.Words.{◌<◌, subst, IfSome}
 use Rattle.short_tableau.proofs.Places.{count_is}
 use Rattle.short_tableau.proofs.short_table.ShortTableau.first_below.Goals as goal
 

@@ -1,5 +1,4 @@
-use Rattle.std.proofs.Common.{◌≡◌, drop, take}
-use Rattle.pip_model.specs.Rows.{fraction_from, first_fraction}
+use Rattle.short_tableau.proofs.Words.{◌≡◌, drop, take, fraction_from, first_fraction}
 use Rattle.short_tableau.proofs.short_table.ShortTableau.first_fraction.Given as goal
 
 abbrev pub invariant-loop-i : goal.invariant-loop-i

@@ -1,4 +1,4 @@
-use Rattle.std.proofs.Common.{arith}
+use Rattle.short_tableau.proofs.Words.{arith}
 use Rattle.short_tableau.proofs.Places.{count_is}
 use Rattle.short_tableau.proofs.short_table.ShortTableau.is_below.Goals as goal
 

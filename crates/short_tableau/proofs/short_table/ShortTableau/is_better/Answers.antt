@@ -1,8 +1,4 @@
-use Rattle.std.proofs.Common.{rules, arith, sym, ◌∙◌, ◌≡◌, to_z, of_z}
-use Rattle.std.specs.Prelude.{int_lt}
-use Rattle.std.specs.Int.{w128}
-use Rattle.short_tableau.specs.Rows.{row_of}
-use Rattle.dual_pivot.specs.Choices.{product_at}
+use Rattle.short_tableau.proofs.Words.{rules, arith, sym, ◌∙◌, ◌≡◌, to_z, of_z, int_lt, w128, row_of, product_at}
 use Rattle.dual_pivot.proofs.Comparisons.{better_same, better_differ}
 use Rattle.short_tableau.proofs.short_table.ShortTableau.is_better.Goals as goal
 

@@ -1,6 +1,4 @@
-use Rattle.std.proofs.Common.{◌≡◌, drop, take}
-use Rattle.pip_model.specs.Rows.{is_better}
-use Rattle.short_tableau.specs.Rows.{row_of}
+use Rattle.short_tableau.proofs.Words.{◌≡◌, drop, take, is_better, row_of}
 use Rattle.short_tableau.proofs.short_table.ShortTableau.is_better.Given as goal
 
 abbrev pub invariant-loop-i : goal.invariant-loop-i

@@ -1,11 +1,4 @@
-use Rattle.std.proofs.Common.{◌≡◌, ◌∙◌, ap, subst, arith, rules, false, List, ℤ}
-use Rattle.std.specs.Prelude.{IsTrue, IsFalse}
-use Rattle.std.specs.List.{list_all}
-use Rattle.pip_model.specs.Listed.{all_fit}
-use Rattle.pip_model.specs.Rows.{pivot, pivot_listed}
-use Rattle.tableau.specs.Tableaus.{TableauRows}
-use Rattle.short_tableau.specs.Dense.{rows_in}
-use Rattle.short_tableau.specs.Turned.{is_short_row}
+use Rattle.short_tableau.proofs.Words.{◌≡◌, ◌∙◌, ap, subst, arith, rules, false, List, ℤ, IsTrue, IsFalse, list_all, all_fit, pivot, pivot_listed, TableauRows, rows_in, is_short_row}
 use Rattle.short_tableau.proofs.Fitting.{pivot_fits}
 use Rattle.short_tableau.proofs.Places.{count_is, length_rows}
 use Rattle.short_tableau.proofs.short_table.ShortTableau.pivot.Goals as goal

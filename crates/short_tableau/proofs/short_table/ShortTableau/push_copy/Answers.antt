@@ -1,8 +1,4 @@
-use Rattle.std.proofs.Common.{◌≡◌, ◌∙◌, ap, sym, subst, ℕ}
-use Rattle.pip_model.specs.Rows.{Row}
-use Rattle.tableau.specs.Tableaus.{TableauRows, with_row}
-use Rattle.short_tableau.specs.Dense.{IsShortReduced}
-use Rattle.short_tableau.specs.Rows.{row_of}
+use Rattle.short_tableau.proofs.Words.{◌≡◌, ◌∙◌, ap, sym, subst, ℕ, Row, TableauRows, with_row, IsShortReduced, row_of}
 use Rattle.short_tableau.proofs.Places.{dense_push, pushed_view}
 use Rattle.short_tableau.proofs.short_table.ShortTableau.push_copy.Goals as goal
 

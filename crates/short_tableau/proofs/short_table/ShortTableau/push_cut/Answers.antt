@@ -1,8 +1,4 @@
-use Rattle.std.proofs.Common.{◌∙◌, ap, arith}
-use Rattle.pip_model.specs.Cuts.{constant_cut}
-use Rattle.pip_model.specs.Rows.{row_at}
-use Rattle.tableau.specs.Tableaus.{TableauRows, with_row}
-use Rattle.short_tableau.specs.Dense.{rows_in}
+use Rattle.short_tableau.proofs.Words.{◌∙◌, ap, arith, constant_cut, row_at, TableauRows, with_row, rows_in}
 use Rattle.short_tableau.proofs.Places.{dense_push, pushed_view, count_is}
 use Rattle.short_tableau.proofs.short_table.ShortTableau.push_cut.Goals as goal
 

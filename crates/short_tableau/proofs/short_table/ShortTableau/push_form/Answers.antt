@@ -1,9 +1,4 @@
-use Rattle.std.proofs.Common.{rules, ◌≡◌, ◌∙◌, ap, arith, ◌++◌, ℕ}
-use Rattle.pip_model.specs.Forms.{widen_to}
-use Rattle.pip_model.specs.Rows.{form_row}
-use Rattle.tableau.specs.Flat.{numbers_of}
-use Rattle.tableau.specs.Short.{IsShortRow}
-use Rattle.tableau.specs.Tableaus.{TableauRows, with_row}
+use Rattle.short_tableau.proofs.Words.{rules, ◌≡◌, ◌∙◌, ap, arith, ◌++◌, ℕ, widen_to, form_row, numbers_of, IsShortRow, TableauRows, with_row}
 use Rattle.short_tableau.proofs.Places.{dense_push, pushed_view}
 use Rattle.short_tableau.proofs.UnitNumbers.{form_kept}
 use Rattle.short_tableau.proofs.short_table.ShortTableau.push_form.Goals as goal

@@ -1,6 +1,4 @@
-use Rattle.std.proofs.Common.{◌≡◌, ◌∙◌, ap, arith, ℕ}
-use Rattle.pip_model.specs.Rows.{unit_row}
-use Rattle.tableau.specs.Tableaus.{TableauRows, with_row}
+use Rattle.short_tableau.proofs.Words.{◌≡◌, ◌∙◌, ap, arith, ℕ, unit_row, TableauRows, with_row}
 use Rattle.short_tableau.proofs.Places.{dense_push, pushed_view}
 use Rattle.short_tableau.proofs.ShortParts.{unit_short}
 use Rattle.short_tableau.proofs.short_table.ShortTableau.push_unit.Goals as goal

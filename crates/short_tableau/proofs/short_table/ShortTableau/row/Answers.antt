@@ -1,5 +1,4 @@
-use Rattle.std.proofs.Common.{◌≡◌, ◌∙◌, ap, sym, length, arith}
-use Rattle.tableau.specs.Tableaus.{TableauRows}
+use Rattle.short_tableau.proofs.Words.{◌≡◌, ◌∙◌, ap, sym, length, arith, TableauRows}
 use Rattle.short_tableau.proofs.Places.{length_rows}
 use Rattle.short_tableau.proofs.short_table.ShortTableau.row.Goals as goal
 

@@ -1,8 +1,4 @@
-use Rattle.std.proofs.Common.{◌≡◌, []}
-use Rattle.pip_model.specs.Made.{made_leaf}
-use Rattle.certificate_check.specs.Leaves.{case_of}
-use Rattle.context.specs.Scoped.{AreFirst}
-use Rattle.solve_certified.specs.Leaves.{IsBefore}
+use Rattle.solve_certified.proofs.Words.{◌≡◌, [], made_leaf, case_of, AreFirst, IsBefore}
 use Rattle.solve_certified.proofs.MadeGoals.{from_here}
 use Rattle.solve_certified.proofs.leaf.LeafMaking.refute_all.Given as goal
 

@@ -1,12 +1,5 @@
-use Rattle.std.proofs.Common.{rules, ◌≡◌, ◌∙◌, ap, ◌-◌, ◌++◌, length, IsTrue}
-use Rattle.std.specs.Prelude.{option_copied, slice_index_or}
-use Rattle.std.proofs.lemmas.Result.{err_from_is_err_and}
-use Rattle.pip_model.specs.Listed.{all_fit}
-use Rattle.pip_model.specs.Check.{scope_forms}
-use Rattle.pip_problem.specs.Faults.{run_fault}
-use Rattle.certificate_check.specs.Known.{KnownForms}
-use Rattle.certificate_check.specs.Leaves.{case_of, own_premises, nothing}
-use Rattle.solve_certified.specs.Goals.{unknowns_at}
+use Rattle.solve_certified.proofs.Words.{rules, ◌≡◌, ◌∙◌, ap, ◌-◌, ◌++◌, length, option_copied, slice_index_or, err_from_is_err_and, all_fit, scope_forms, run_fault, KnownForms, case_of, own_premises, nothing, unknowns_at}
+use Rattle.std.proofs.Common.{IsTrue}
 use Rattle.solve_certified.proofs.GoalsBefore.{first_still}
 use Rattle.solve_certified.proofs.Refuting.{goal_same, goal_fault}
 use Rattle.solve_certified.proofs.leaf.LeafMaking.refute_goal.Goals as goal

@@ -1,8 +1,5 @@
-use Rattle.std.proofs.Common.{arith, ◌∙◌, ◌≡◌, ◌-◌, length, take}
-use Rattle.std.specs.Prelude.{slice_index_or}
-use Rattle.certificate_check.specs.Goals.{without_last}
+use Rattle.solve_certified.proofs.Words.{arith, ◌∙◌, ◌≡◌, ◌-◌, length, take, slice_index_or, without_last, own_premises, nothing}
 use Rattle.context.proofs.KeptFirst.{on_ok}
-use Rattle.certificate_check.specs.Leaves.{own_premises, nothing}
 use Rattle.solve_certified.proofs.GoalsBefore.{before_later, pushed_still}
 use Rattle.solve_certified.proofs.leaf.LeafMaking.turn_to.Goals as goal
 

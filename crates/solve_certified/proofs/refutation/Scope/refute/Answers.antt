@@ -1,9 +1,5 @@
-use Rattle.std.proofs.Common.{rules, arith, ◌≡◌, ◌∙◌, refl, ap, ◌+◌, pos, length, map, List, ℤ, ℕ, to_z, of_z}
+use Rattle.solve_certified.proofs.Words.{rules, arith, ◌≡◌, ◌∙◌, refl, ap, ◌+◌, pos, length, map, List, ℤ, ℕ, to_z, of_z, err_from_is_err_and, narrow_to, run_fault, places_of}
 use Rattle.std.specs.Int.{w128}
-use Rattle.std.proofs.lemmas.Result.{err_from_is_err_and}
-use Rattle.pip_model.specs.Made.{narrow_to}
-use Rattle.pip_problem.specs.Faults.{run_fault}
-use Rattle.solve_certified.specs.Refutations.{places_of}
 use Rattle.solve_certified.proofs.Refuting.{length-places, all-longer, refuted_done, refuted_fault}
 use Rattle.solve_certified.proofs.refutation.Scope.refute.Goals as goal
 

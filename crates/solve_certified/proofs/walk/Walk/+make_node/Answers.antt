@@ -1,14 +1,5 @@
-use Rattle.std.proofs.Common.{rules, arith, ◌≡◌, ◌∙◌, ap, ◌+◌, [], ◌∷◌, ◌++◌, IsTrue}
-use Rattle.std.specs.Prelude.{IsFalse}
-use Rattle.std.proofs.lemmas.Result.{err_from_is_err_and}
-use Rattle.pip_model.specs.Forms.{opposite, constant}
-use Rattle.pip_model.specs.Listed.{all_fit, opposite_listed}
-use Rattle.pip_model.specs.Cuts.{Quotient, upper_bound}
-use Rattle.pip_model.specs.Tree.{size}
-use Rattle.affine_forms.specs.Checks.{is_form_overflow}
-use Rattle.pip_problem.specs.Faults.{run_fault}
-use Rattle.quast.specs.Trees.{tree_of}
-use Rattle.solve_certified.specs.Trails.{TrailForms, below_quotient}
+use Rattle.solve_certified.proofs.Words.{rules, arith, ◌≡◌, ◌∙◌, ap, ◌+◌, [], ◌∷◌, ◌++◌, IsFalse, err_from_is_err_and, opposite, constant, all_fit, opposite_listed, Quotient, upper_bound, size, is_form_overflow, run_fault, tree_of, TrailForms, below_quotient}
+use Rattle.std.proofs.Common.{IsTrue}
 use Rattle.solve_certified.proofs.AtNode.{select_stop, select_unfit, select_next, select_later, define_unfit, define_next, define_later, second_at, below_at, select_back}
 use Rattle.solve_certified.proofs.walk.Walk.+make_node.Goals as goal
 

@@ -1,5 +1,4 @@
-use Rattle.pip_model.specs.Tree.{size}
-use Rattle.quast.specs.Trees.{tree_of}
+use Rattle.solve_certified.proofs.Words.{size, tree_of}
 use Rattle.solve_certified.proofs.walk.Walk.+make_node.Given as goal
 
 abbrev pub decreases-make_node : goal.decreases-make_node

@@ -1,8 +1,4 @@
-use Rattle.std.proofs.Common.{◌≡◌, ap₂, [], ℕ, ℤ, List}
-use Rattle.std.specs.Prelude.{option_copied}
-use Rattle.std.proofs.lemmas.Result.{err_from_is_err_and}
-use Rattle.pip_model.specs.Check.{LeafCase}
-use Rattle.pip_problem.specs.Faults.{run_fault}
+use Rattle.solve_certified.proofs.Words.{◌≡◌, ap₂, [], ℕ, ℤ, List, option_copied, err_from_is_err_and, LeafCase, run_fault}
 use Rattle.solve_certified.proofs.LeafBelow.{here, leaf_is_done, leaf_is_refused}
 use Rattle.solve_certified.proofs.walk.Walk.make_leaf.Goals as goal
 

@@ -1,5 +1,4 @@
-use Rattle.std.proofs.Common.{rules, arith}
-use Rattle.std.proofs.lemmas.Grind.{common_steps}
+use Rattle.tableau.proofs.Words.{rules, arith, common_steps}
 use Rattle.tableau.proofs.Flat.{flat_same}
 use Rattle.tableau.proofs.flat_rows.FlatRows.copy.Goals as goal
 

@@ -1,6 +1,4 @@
-use Rattle.std.proofs.Common.{rules, ◌≡◌, ◌≤◌, ◌∙◌, ap, sym, length, subst}
-use Rattle.std.proofs.lemmas.List.{length-map}
-use Rattle.tableau.specs.KeptRows.{KeptRows, row_kept, rows_kept}
+use Rattle.tableau.proofs.Words.{rules, ◌≡◌, ◌≤◌, ◌∙◌, ap, sym, length, subst, length-map, KeptRows, row_kept, rows_kept}
 use Rattle.tableau.proofs.Runs.{kept_flat}
 use Rattle.tableau.proofs.flat_rows.FlatRows.lent.Goals as goal
 

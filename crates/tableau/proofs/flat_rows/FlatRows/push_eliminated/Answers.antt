@@ -1,9 +1,4 @@
-use Rattle.std.proofs.Common.{rules, subst, sym}
-use Rattle.pip_model.specs.Rows.{eliminated}
-use Rattle.tableau_row.specs.Rows.{IsRow}
-use Rattle.tableau_row.specs.Views.{row_of}
-use Rattle.tableau_row.proofs.Stepping.{elimination}
-use Rattle.tableau.specs.KeptRows.{KeptRows}
+use Rattle.tableau.proofs.Words.{rules, subst, sym, eliminated, IsRow, row_of, elimination, KeptRows}
 use Rattle.tableau.proofs.Flat.{unsealed, pushed}
 use Rattle.tableau.proofs.flat_rows.FlatRows.push_eliminated.Goals as goal
 

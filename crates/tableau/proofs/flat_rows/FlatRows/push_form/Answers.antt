@@ -1,8 +1,4 @@
-use Rattle.std.proofs.Common.{rules, ap, refl, ◌≡◌, ◌∙◌, ◌+◌, ◌++◌, sym, subst, List, ℤ, length}
-use Rattle.pip_model.specs.Rows.{form_row}
-use Rattle.tableau_row.specs.Flat.{numbers_of}
-use Rattle.tableau_row.proofs.Contents.{content-one}
-use Rattle.tableau.specs.KeptRows.{KeptRows, with_more}
+use Rattle.tableau.proofs.Words.{rules, ap, refl, ◌≡◌, ◌∙◌, ◌+◌, ◌++◌, sym, subst, List, ℤ, length, form_row, numbers_of, content-one, KeptRows, with_more}
 use Rattle.tableau.proofs.Flat.{unsealed, pushed}
 use Rattle.tableau.proofs.FormRows.{form_numbers, form_fits, form_short}
 use Rattle.tableau.proofs.flat_rows.FlatRows.push_form.Goals as goal

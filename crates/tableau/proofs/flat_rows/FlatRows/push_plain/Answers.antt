@@ -1,9 +1,4 @@
-use Rattle.std.proofs.Common.{rules, arith, ap, ◌≡◌, subst, sym, List, length}
-use Rattle.std.proofs.lemmas.Grind.{common_steps}
-use Rattle.pip_model.specs.Rows.{Row}
-use Rattle.tableau_row.specs.Flat.{row_of_numbers}
-use Rattle.tableau.specs.KeptRows.{KeptRows, IsPlainRow, row_length, rows_kept, with_more}
-use Rattle.tableau.specs.declared.kept.RowPlace.{RowPlace}
+use Rattle.tableau.proofs.Words.{rules, arith, ap, ◌≡◌, subst, sym, List, length, common_steps, Row, row_of_numbers, KeptRows, IsPlainRow, row_length, rows_kept, with_more, RowPlace}
 use Rattle.tableau.proofs.Flat.{with_plain, rows_more}
 use Rattle.tableau.proofs.flat_rows.FlatRows.push_plain.Goals as goal
 

@@ -1,8 +1,4 @@
-use Rattle.std.proofs.Common.{rules, subst, sym}
-use Rattle.pip_model.specs.Cuts.{rounded}
-use Rattle.tableau_row.specs.Rows.{IsRow}
-use Rattle.tableau.specs.KeptRows.{KeptRows}
-use Rattle.tableau_row.specs.Views.{row_of}
+use Rattle.tableau.proofs.Words.{rules, subst, sym, rounded, IsRow, KeptRows, row_of}
 use Rattle.tableau.proofs.Flat.{unsealed, pushed}
 use Rattle.tableau.proofs.flat_rows.FlatRows.push_rounded.Goals as goal
 

@@ -1,13 +1,5 @@
-use Rattle.std.proofs.Common.{rules, ap, ◌≡◌, ◌++◌, ◌∙◌, subst, sym}
-use Rattle.pip_model.specs.Listed.{all_fit}
-use Rattle.pip_model.specs.Rows.{Row, unit_row, eliminated, eliminated_listed}
-use Rattle.std.specs.Prelude.{IsTrue, true}
-use Rattle.tableau_row.specs.Flat.{numbers_of}
-use Rattle.tableau_row.specs.Rows.{IsRow}
-use Rattle.tableau_row.specs.Steps.{IsMadeReduced}
-use Rattle.tableau_row.proofs.Stepping.{pivot_row}
-use Rattle.tableau.specs.KeptRows.{KeptRows, with_more}
-use Rattle.tableau_row.specs.Views.{row_of}
+use Rattle.tableau.proofs.Words.{rules, ap, ◌≡◌, ◌++◌, ◌∙◌, subst, sym, all_fit, Row, unit_row, eliminated, eliminated_listed, IsTrue, numbers_of, IsRow, IsMadeReduced, pivot_row, KeptRows, with_more, row_of}
+use Rattle.std.specs.Prelude.{true}
 use Rattle.tableau.proofs.Flat.{unsealed, pushed, unit_over}
 use Rattle.tableau.proofs.flat_rows.FlatRows.push_solved.Goals as goal
 

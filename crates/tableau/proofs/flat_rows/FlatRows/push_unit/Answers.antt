@@ -1,6 +1,4 @@
-use Rattle.std.proofs.Common.{rules, arith, ap, ◌<◌}
-use Rattle.std.proofs.lemmas.Grind.{common_steps}
-use Rattle.tableau.specs.KeptRows.{KeptRows}
+use Rattle.tableau.proofs.Words.{rules, arith, ap, ◌<◌, common_steps, KeptRows}
 use Rattle.tableau.proofs.Flat.{with_unit}
 use Rattle.tableau.proofs.flat_rows.FlatRows.push_unit.Goals as goal
 

@@ -1,11 +1,5 @@
-use Rattle.std.proofs.Common.{rules, arith, ◌≡◌, ◌∙◌, ◌+◌, ◌-◌, ◌<◌, subst, sym}
-use Rattle.pip_model.specs.Rows.{widened}
-use Rattle.tableau_row.specs.Rows.{IsRow}
-use Rattle.tableau.specs.KeptRows.{KeptRows}
-use Rattle.tableau_row.specs.Views.{row_of}
+use Rattle.tableau.proofs.Words.{rules, arith, ◌≡◌, ◌∙◌, ◌+◌, ◌-◌, ◌<◌, subst, sym, widened, IsRow, KeptRows, row_of, widened_is_row, widened_content, widened_short}
 use Rattle.tableau.proofs.Flat.{unsealed, pushed}
-use Rattle.tableau_row.proofs.RowLaws.{widened_is_row, widened_content}
-use Rattle.tableau_row.proofs.ShortRows.{widened_short}
 use Rattle.tableau.proofs.flat_rows.FlatRows.push_widened.Goals as goal
 
 pub seal-requires-clause-unsealed : goal.seal-requires-clause-unsealed

@@ -1,11 +1,4 @@
-use Rattle.std.proofs.Common.{rules, refl, arith, ◌≡◌, ◌∙◌, ◌+◌, ◌<◌, ap, sym, subst, length, List, [], ◌∷◌, ◌++◌, append_assoc}
-use Rattle.std.specs.Prelude.{IsTrue, IsFalse, slice_set}
-use Rattle.std.proofs.lemmas.List.{length-map, length_push, length-set}
-use Rattle.pip_model.specs.Listed.{all_fit}
-use Rattle.pip_model.specs.Rows.{Row, row_at}
-use Rattle.pip_model.specs.Cuts.{rounded, rounded_listed}
-use Rattle.tableau.specs.KeptRows.{KeptRows, lent_row, lent_rows, with_more, with_rows}
-use Rattle.tableau_row.specs.Views.{row_of}
+use Rattle.tableau.proofs.Words.{rules, refl, arith, ◌≡◌, ◌∙◌, ◌+◌, ◌<◌, ap, sym, subst, length, List, [], ◌∷◌, ◌++◌, append_assoc, IsTrue, IsFalse, slice_set, length-map, length_push, length-set, all_fit, Row, row_at, rounded, rounded_listed, KeptRows, lent_row, lent_rows, with_more, with_rows, row_of}
 use Rattle.tableau.proofs.Left.{begun_rows, formed_next, over_next, room_next, row_sides}
 use Rattle.tableau.proofs.Turning.{replaced_row, shape_with, still_spare, swapped}
 use Rattle.tableau.proofs.flat_rows.FlatRows.round.Goals as goal

@@ -1,6 +1,4 @@
-use Rattle.std.proofs.Common.{◌∙◌, ap, rules, List}
-use Rattle.pip_model.specs.Rows.{Row, row_at}
-use Rattle.tableau.specs.KeptRows.{row_kept}
+use Rattle.tableau.proofs.Words.{◌∙◌, ap, rules, List, Row, row_at, row_kept}
 use Rattle.tableau.proofs.Turning.{row_is}
 use Rattle.tableau.proofs.flat_rows.FlatRows.row.Goals as goal
 

@@ -1,10 +1,4 @@
-use Rattle.std.proofs.Common.{rules, refl, arith, ◌≡◌, ◌∙◌, ◌+◌, ◌<◌, ap, sym, subst, length, pos, ◌≤ℤ◌, List, [], ◌∷◌, ◌++◌, append_assoc}
-use Rattle.std.proofs.lemmas.Grind.{common_steps}
-use Rattle.std.proofs.lemmas.List.{length-map, length_push}
-use Rattle.pip_model.specs.Forms.{entry}
-use Rattle.pip_model.specs.Rows.{Row, unit_row, eliminated, pivot}
-use Rattle.tableau.specs.KeptRows.{KeptRows, lent_row, turned, with_more, with_rows}
-use Rattle.tableau_row.specs.Views.{row_of}
+use Rattle.tableau.proofs.Words.{rules, refl, arith, ◌≡◌, ◌∙◌, ◌+◌, ◌<◌, ap, sym, subst, length, pos, ◌≤ℤ◌, List, [], ◌∷◌, ◌++◌, append_assoc, common_steps, length-map, length_push, entry, Row, unit_row, eliminated, pivot, KeptRows, lent_row, turned, with_more, with_rows, row_of}
 use Rattle.tableau.proofs.Left.{begun_rows, formed_next, over_next, room_next, row_sides}
 use Rattle.tableau.proofs.Turning.{length_pivot, shape_more, shape_with, still_spare, swapped, turned_pivot, turned_sides}
 use Rattle.tableau.proofs.flat_rows.FlatRows.turn.Goals as goal

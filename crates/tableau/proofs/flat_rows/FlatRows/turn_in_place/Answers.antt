@@ -1,10 +1,4 @@
-use Rattle.std.proofs.Common.{rules, arith, sym, subst, ◌<◌, [], length}
-use Rattle.std.specs.Prelude.{IsTrue}
-use Rattle.pip_model.specs.Listed.{all_fit}
-use Rattle.pip_model.specs.Rows.{row_at, form_row, pivot_listed}
-use Rattle.tableau_row.specs.Short.{IsShortRow}
-use Rattle.tableau.specs.Along.{is_ready_front}
-use Rattle.tableau.specs.KeptRows.{KeptRows, rows_kept}
+use Rattle.tableau.proofs.Words.{rules, arith, sym, subst, ◌<◌, [], length, IsTrue, all_fit, row_at, form_row, pivot_listed, IsShortRow, is_ready_front, KeptRows, rows_kept}
 use Rattle.tableau.proofs.InPlace.{front_short, front_some, listed_pivot}
 use Rattle.tableau.proofs.flat_rows.FlatRows.turn_in_place.Goals as goal
 

@@ -1,6 +1,4 @@
-use Rattle.std.proofs.Common.{◌∙◌, ap, sym, map}
-use Rattle.pip_model.specs.Rows.{widened}
-use Rattle.tableau.specs.KeptRows.{row_kept, with_rows}
+use Rattle.tableau.proofs.Words.{◌∙◌, ap, sym, map, widened, row_kept, with_rows}
 use Rattle.tableau.proofs.Turning.{map_twice}
 use Rattle.tableau.proofs.flat_rows.FlatRows.widen.Goals as goal
 

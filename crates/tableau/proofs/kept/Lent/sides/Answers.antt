@@ -1,5 +1,4 @@
-use Rattle.std.proofs.Common.{rules}
-use Rattle.tableau_row.specs.Views.{row_of}
+use Rattle.tableau.proofs.Words.{rules, row_of}
 use Rattle.tableau.proofs.Runs.{kept_sides}
 use Rattle.tableau.proofs.kept.Lent.sides.Goals as goal
 

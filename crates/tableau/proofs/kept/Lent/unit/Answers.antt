@@ -1,5 +1,4 @@
-use Rattle.std.proofs.Common.{◌≡◌, ◌+◌, ◌∙◌, ap, subst, sym, length, max, suc, arith, rules}
-use Rattle.tableau_row.specs.Short.{IsShortRow}
+use Rattle.tableau.proofs.Words.{◌≡◌, ◌+◌, ◌∙◌, ap, subst, sym, length, max, suc, arith, rules, IsShortRow}
 use Rattle.tableau.proofs.Flat.{unit_short}
 use Rattle.tableau.proofs.UnitRun.{length_run, lent_unit}
 use Rattle.tableau.proofs.kept.Lent.unit.Goals as goal

@@ -1,8 +1,5 @@
-use Rattle.std.proofs.Common.{◌≡◌, ◌+◌, ◌≤◌, ◌++◌, ◌∙◌, length, arith, map, replicate, max, pos, ◌∷◌, suc}
-use Rattle.std.proofs.lemmas.List.{length-map, length-append}
-use Rattle.pip_model.specs.Rows.{unit_row, form_row, count_from}
-use Rattle.pip_model.proofs.Forms.{length-count}
-use Rattle.tableau.specs.KeptRows.{unit_run}
+use Rattle.tableau.proofs.Words.{◌≡◌, ◌+◌, ◌≤◌, ◌++◌, ◌∙◌, length, arith, map, replicate, max, pos, ◌∷◌, suc, length-map, unit_row, form_row, count_from, length-count, unit_run}
+use Rattle.std.proofs.lemmas.List.{length-append}
 use Rattle.tableau.proofs.tableau.Tableau.restart.Goals as goal
 
 pub push_forms-requires-clause-room : goal.push_forms-requires-clause-room

@@ -1,5 +1,4 @@
-use Rattle.std.proofs.Common.{subst, sym}
-use Rattle.tableau.specs.KeptRows.{IsSpare}
+use Rattle.tableau.proofs.Words.{subst, sym, IsSpare}
 use Rattle.tableau.proofs.tableau.Tableau.round_constant.Goals as goal
 
 pub round-requires-clause-spare : goal.round-requires-clause-spare

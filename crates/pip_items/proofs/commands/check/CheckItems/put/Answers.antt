@@ -1,4 +1,4 @@
-use Rattle.std.proofs.lemmas.Result.{err_from_is_err_and}
+use Rattle.pip_items.proofs.Words.{err_from_is_err_and}
 use Rattle.pip_items.proofs.Triples.{check_refused}
 use Rattle.pip_items.proofs.commands.check.CheckItems.put.Goals as goal
 

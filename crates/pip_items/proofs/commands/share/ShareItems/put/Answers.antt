@@ -1,4 +1,4 @@
-use Rattle.std.proofs.lemmas.Result.{err_from_is_err_and}
+use Rattle.pip_items.proofs.Words.{err_from_is_err_and}
 use Rattle.pip_items.proofs.Triples.{share_refused}
 use Rattle.pip_items.proofs.commands.share.ShareItems.put.Goals as goal
 
