@@ -32,18 +32,16 @@ length-count i (suc n) = ap suc (length-count (i + 1) n)
 -- ---- entries
 
 pub entry-zeros : (n k : ℕ) → entry (replicate n (pos 0)) k ≡ pos 0
-entry-zeros zero k = refl
-entry-zeros (suc n) zero = refl
 entry-zeros (suc n) (suc k) = entry-zeros n k
+entry-zeros _ _ = refl
 
 pub entry-negate : (c : List ℤ) (k : ℕ) → entry (negate c) k ≡ neg_ℤ (entry c k)
 entry-negate c k = get_or-map neg_ℤ c k (pos 0)
 
 entry-plus : (c : List ℤ) (n : ℕ) (z : ℤ) → length c ≡ suc n → entry (add c (replicate n (pos 0) ++ z ∷ [])) n ≡ entry c n +ℤ z
-entry-plus [] n z e = absurd (omega arith)
 entry-plus (x ∷ []) zero z e = refl
-entry-plus (x ∷ y ∷ c) zero z e = absurd (omega arith)
 entry-plus (x ∷ c) (suc n) z e = entry-plus c n z (omega arith)
+entry-plus _ _ z e = absurd (omega arith)
 
 -- the constant of a form plus a number
 pub constant-plus : (c : List ℤ) (z : ℤ) → 1 ≤ length c → constant (plus c z) ≡ constant c +ℤ z
@@ -60,10 +58,9 @@ products_none a b = omega (arith, ints)
 pub entry-combine : (a : ℤ) (us : List ℤ) (b : ℤ) (vs : List ℤ) (k : ℕ) → length us ≡ length vs
     → entry (combine a us b vs) k ≡ a *ℤ entry us k -ℤ b *ℤ entry vs k
 entry-combine a [] b [] k e = products_none a b
-entry-combine a [] b (y ∷ vs) k e = absurd (omega arith)
-entry-combine a (x ∷ us) b [] k e = absurd (omega arith)
 entry-combine a (x ∷ us) b (y ∷ vs) zero e = refl
 entry-combine a (x ∷ us) b (y ∷ vs) (suc k) e = entry-combine a us b vs k (omega arith)
+entry-combine a _ b _ k e = absurd (omega arith)
 
 pub entry-scale : (g : ℤ) (xs : List ℤ) (k : ℕ) → entry (scale g xs) k ≡ g *ℤ entry xs k
 entry-scale g [] k = times_zero g
@@ -125,6 +122,5 @@ dot-take (x ∷ c) (y ∷ u) = ap (λ (k : ℤ). x *ℤ y +ℤ k) (dot-take c u)
 
 -- a constant has no coefficient that a divisor does not divide
 pub no_coefficients : (d : ℤ) (c : List ℤ) → length c ≡ 1 → is_whole d (coefficients c) ≡ true
-no_coefficients d [] e = refl
-no_coefficients d (x ∷ []) e = refl
 no_coefficients d (x ∷ y ∷ c) e = absurd (omega arith)
+no_coefficients d _ e = refl

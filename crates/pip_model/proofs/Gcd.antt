@@ -31,8 +31,7 @@ common-one : (b : ℕ) → common 1 b ≡ 1
 common-one b = dvd_antisymm (common-IsGcd 1 b).0 ((common-IsGcd 1 b).2 1 (dvd_refl 1) (one-dvd b))
 
 euclid-done : (steps a : ℕ) → euclid steps a 0 ≡ a
-euclid-done zero a = refl
-euclid-done (suc steps) a = refl
+euclid-done _ a = refl
 
 pub euclid-zero : (steps b : ℕ) → 0 < steps → euclid steps 0 b ≡ b
 euclid-zero zero b h = absurd (omega arith)
@@ -62,9 +61,8 @@ pub common-scaled : (x a b : ℕ) → 0 < x → common (x * a) (x * b) ≡ x * c
 common-scaled x a b h = sym (euclid_only (x * a) (x * b) (x * common a b) (euclid-scaled x (b + 1) a b h (omega arith)))
 
 pub times-one : (g k : ℕ) → 0 < g → g * k ≡ g → k ≡ 1
-times-one g zero h e = absurd (omega arith)
 times-one g (suc zero) h e = refl
-times-one g (suc (suc k)) h e = absurd (omega arith)
+times-one g _ h e = absurd (omega arith)
 
 -- ---- integers
 
@@ -106,12 +104,11 @@ some_quotient n g (suc q) r e lt le = omega arith
 
 -- a smaller number goes at least once into one from 1 on
 pub quotient_positive : (a d : ℤ) → pos 1 ≤ℤ d → d ≤ℤ a → pos 1 ≤ℤ floor_div a d
-quotient_positive a (negsuc n) h le = absurd (omega (arith, ints))
-quotient_positive (negsuc n) (pos g) h le = absurd (omega (arith, ints))
 quotient_positive (pos n) (pos g) h le =
     let some : 0 < g = positive_is g h in
     let q : 0 < n / g = some_quotient n g (n / g) (n % g) (div-add-mod n g) (mod-lt n some) (omega (arith, ints, le)) in
     omega (arith, ints, q)
+quotient_positive _ _ h le = absurd (omega (arith, ints))
 
 pub multiple-dvd : (d : ℕ) (x : ℤ) → Multiple (pos d) x → d ∣ nat_abs x
 multiple-dvd d x m = subst (λ (n : ℕ). d ∣ n) (sym (ap nat_abs m.is ∙ unsigned_abs-mul (pos d) m.times)) (dvd-mul_right d (nat_abs m.times))
