@@ -49,21 +49,15 @@ constant-plus c z some =
     let same : width (plus c z) ≡ width c = omega (arith, length-plus c z some) in
     ap (entry (plus c z)) same ∙ entry-plus c (width c) z (omega arith)
 
-times_zero : (g : ℤ) → pos 0 ≡ g *ℤ pos 0
-times_zero g = omega (arith, ints)
-
-products_none : (a b : ℤ) → pos 0 ≡ a *ℤ pos 0 -ℤ b *ℤ pos 0
-products_none a b = omega (arith, ints)
-
 pub entry-combine : (a : ℤ) (us : List ℤ) (b : ℤ) (vs : List ℤ) (k : ℕ) → length us ≡ length vs
     → entry (combine a us b vs) k ≡ a *ℤ entry us k -ℤ b *ℤ entry vs k
-entry-combine a [] b [] k e = products_none a b
+entry-combine a [] b [] k e = omega (arith, ints)
 entry-combine a (x ∷ us) b (y ∷ vs) zero e = refl
 entry-combine a (x ∷ us) b (y ∷ vs) (suc k) e = entry-combine a us b vs k (omega arith)
 entry-combine a _ b _ k e = absurd (omega arith)
 
 pub entry-scale : (g : ℤ) (xs : List ℤ) (k : ℕ) → entry (scale g xs) k ≡ g *ℤ entry xs k
-entry-scale g [] k = times_zero g
+entry-scale g [] k = omega (arith, ints)
 entry-scale g (x ∷ xs) zero = refl
 entry-scale g (x ∷ xs) (suc k) = entry-scale g xs k
 
