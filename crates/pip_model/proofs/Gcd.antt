@@ -87,15 +87,12 @@ gcd_one z = ap pos (common-one (unsigned_abs z))
 pub gcd-zero : (n : ℕ) → gcd (pos 0) (pos n) ≡ pos n
 gcd-zero n = ap pos (euclid-zero (n + 1) n (omega arith))
 
-positive_is : (n : ℕ) → pos 1 ≤ℤ pos n → 0 < n
-positive_is n h = omega (arith, ints)
-
 -- the greatest common divisor of a number from 1 on
 pub gcd_between : (a b : ℤ) → pos 1 ≤ℤ a → (pos 1 ≤ℤ gcd a b) × (gcd a b ≤ℤ a)
 gcd_between (negsuc n) b h = absurd (omega (arith, ints))
 gcd_between (pos n) b h =
-    let some : 0 < common n (unsigned_abs b) = pos_of_dvd_of_pos (common-IsGcd n (unsigned_abs b)).0 (positive_is n h) in
-    let le : common n (unsigned_abs b) ≤ n = le_of_dvd (positive_is n h) (common-IsGcd n (unsigned_abs b)).0 in
+    let some : 0 < common n (unsigned_abs b) = pos_of_dvd_of_pos (common-IsGcd n (unsigned_abs b)).0 (omega (arith, ints)) in
+    let le : common n (unsigned_abs b) ≤ n = le_of_dvd (omega (arith, ints)) (common-IsGcd n (unsigned_abs b)).0 in
     (omega (arith, ints, some), omega (arith, ints, le))
 
 some_quotient : (n g q r : ℕ) → g * q + r ≡ n → r < g → g ≤ n → 0 < q
@@ -105,7 +102,7 @@ some_quotient n g (suc q) r e lt le = omega arith
 -- a smaller number goes at least once into one from 1 on
 pub quotient_positive : (a d : ℤ) → pos 1 ≤ℤ d → d ≤ℤ a → pos 1 ≤ℤ floor_div a d
 quotient_positive (pos n) (pos g) h le =
-    let some : 0 < g = positive_is g h in
+    let some : 0 < g = omega (arith, ints) in
     let q : 0 < n / g = some_quotient n g (n / g) (n % g) (div-add-mod n g) (mod-lt n some) (omega (arith, ints, le)) in
     omega (arith, ints, q)
 quotient_positive _ _ h le = absurd (omega (arith, ints))

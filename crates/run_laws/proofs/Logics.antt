@@ -85,8 +85,7 @@ module _ (L : Logic) where
     after_unknown : (kept : Signs) (d : List ℤ) (r : Row) (rows : List Row) (i : ℕ) → Told r.constant (Unknown d) → (s : Signs) → Scanned (keep kept d) rows (i + 1) s → Scanned kept (r ∷ rows) i s
     after_unknown kept d r rows i t s (inr h) = inr (later r rows i s h)
     after_unknown AllPlus d r rows i t s (inl h) = inr (subst (Found (r ∷ rows) i) (sym h.0) (0, omega arith, t))
-    after_unknown (MinusAt j) d r rows i t s (inl h) = inl (h.0, λ e. cc)
-    after_unknown (UnknownBy c) d r rows i t s (inl h) = inl (h.0, λ e. cc)
+    after_unknown _ d r rows i t s (inl h) = inl (h.0, λ e. cc)
 
     scan_law : (rows : List Row) (i : ℕ) (kept : Signs) → AllByRecursion ToldRow rows → L.Holds (Scanned kept rows i) (scan S N i kept rows)
     scan_law [] i kept h = L.gives (Scanned kept [] i) kept (inl (refl, λ e. tt))
@@ -123,8 +122,7 @@ module _ (L : Logic) where
         at_known q e Plus t =
             let next = Again (record N { rows = slice_set N.rows i (rounded R q) }) in
             then_do (all_fit (rounded_listed R q) ≡ true) T (listed (rounded_listed R q)) (give next) (L.lists (rounded_listed R q)) (λ f. L.gives T next (rounds i q integer l e t f))
-        at_known q e Minus t = L.gives T (Again (record N { rows = N.rows ++ parametric_cut R q ∷ [] })) (cut_by i q integer l e)
-        at_known q e (Unknown c) t = L.gives T (Again (record N { rows = N.rows ++ parametric_cut R q ∷ [] })) (cut_by i q integer l e)
+        at_known q e _ t = L.gives T (Again (record N { rows = N.rows ++ parametric_cut R q ∷ [] })) (cut_by i q integer l e)
 
         at_quotient : is_whole R.den (coefficients R.constant) ≡ false → (o : Option ℕ) → find_from S.params N.quotients (residue_of R) ≡ o → L.Holds T (quotient_cut S N i R o)
         at_quotient f (Some q) e =

@@ -16,11 +16,8 @@ module _ (w : ℕ) (K : List (List ℤ)) (c : List ℤ) (wide : length c ≡ suc
   pub value_is : (u : List ℤ) → length u ≡ w → value c u ≡ affine c u
   value_is u l = value-affine c u (wide ∙ ap suc (sym l))
 
-  opposite_is : (u : List ℤ) → length u ≡ w → affine (opposite c) u ≡ pos 0 -ℤ value c u -ℤ pos 1
-  opposite_is u l = sym (value-affine (opposite c) u (opposite_wide ∙ ap suc (sym l))) ∙ value-opposite c u (omega (arith, wide, l)) ∙ minus (value c u)
-    where
-      minus : (x : ℤ) → neg_ℤ x -ℤ pos 1 ≡ pos 0 -ℤ x -ℤ pos 1
-      minus x = omega (arith, ints)
+  opposite_is : (u : List ℤ) → length u ≡ w → affine (opposite c) u ≡ neg_ℤ (value c u) -ℤ pos 1
+  opposite_is u l = sym (value-affine (opposite c) u (opposite_wide ∙ ap suc (sym l))) ∙ value-opposite c u (omega (arith, wide, l))
 
   pub to_this : (u : List ℤ) → InScope w K u → pos 0 ≤ℤ value c u → InScope w (K ++ c ∷ []) u
   to_this u i h = more_context w K c u i (subst (λ (x : ℤ). pos 0 ≤ℤ x) (value_is u i.width) h)
