@@ -15,7 +15,7 @@ pub use Rattle.pip_model.specs.Printed.{component_fits, tree_fits, IsPrintableAn
 pub use Rattle.pip_model.specs.Run.{Class, Plus, Minus, Unknown, class, listed, check_nesting, point, Work, standard_budget, start_work, count_split, Refusal, Nesting, Refused, Budget, Outcome, Done, Counted, Overflow, Splits}
 pub use Rattle.pip_model.specs.Walks.{ToolRefusal, ByRun, Negative, Lengths, Walked, Made, Stopped, Walking, ◌>>=◌, ◌>>◌, make, stop, by_run, Visit, where_holds, Walker, by_class, walk, below, start_visit, walk_on, walked_as, below_listed, not_negative}
 pub use Rattle.pip_model.specs.Tools.{if_of, restricting, spread, spread_component, spread_tree, second_at, widened_component, widened_components, difference, difference_listed, count_if, not_below, least_lists, least_leaves, choosing, least_second, least_first, first_numbers, differ_here, differ_or, same_lists, same, same_leaves, comparing, restrict, Same, Differ, least, first_of_both, restrict_on, tree_or_bottom, least_on, same_second, same_first, Sameness, sameness, same_on}
-pub use Rattle.pip_model.proofs.Tests.{both, three, both_true, all_three, if_cases, chosen_true, chosen_false, same_number_yes, same_number_no, less_true, nonneg_is, is_nonneg_is, negative_is, not_nonneg, not_true, one_le, one_at_least}
+pub use Rattle.pip_model.proofs.Tests.{all_pass-map, both, three, both_true, all_three, if_cases, chosen_true, chosen_false, same_number_yes, same_number_no, less_true, nonneg_is, is_nonneg_is, negative_is, not_nonneg, not_true, one_le, one_at_least}
 pub use Rattle.run_laws.proofs.Ensured.{ends-listed, OnDone, Ensures, OnEnd, Ends, ensures-weaken}
 pub use Rattle.pip_model.specs.ToolLaws.{same_ratio, same_point, IsSplitRefusal, same_found, same_value, MeetsNegative, IsRestriction, IsSameness, IsLeastAnswer, meets_negative, lesser, HasComponents, EqualLengths, IsRestricted, IsRestrictRefusal, IsSameRefusal, ratio_below, point_below, found_at, IsLesser, IsLeastRefusal, IsPieceAt}
 pub use Rattle.pip_model.proofs.Laws.{value-plus, value-opposite, dot-negate, value-combine, opposite-parts}
