@@ -14,5 +14,5 @@ pub use Rattle.pip_model.specs.Forms.{same_form, dot, value, width, entry, coeff
 pub use Rattle.pip_model.specs.Limits.{most_params, most_nesting, most_components}
 pub use Rattle.pip_model.specs.Listed.{all_fit, combine_listed, opposite_listed}
 pub use Rattle.pip_model.specs.Tree.{Tree, NewParm, If, is_form, IsWellFormed, Bottom, Leaf, Component, is_scoped, is_component, Ratio, component_value, tree_value, size, nesting, leaf_of, leaf_point}
-pub use Rattle.pip_model.specs.Rows.{row_at, entering, first_fraction, is_whole, count_from}
+pub use Rattle.pip_model.specs.Rows.{row_at, is_whole, count_from}
 pub use Rattle.pip_model.specs.Simplified.{simplified, same_components, same_tree, is_unused, component_without, without, simple_if, simple_new}

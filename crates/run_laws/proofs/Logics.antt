@@ -64,13 +64,13 @@ module _ (L : Logic) where
     all_told told (r ∷ rows) = (told r.constant, all_told told rows)
 
     -- what is found in the rows from place i on
-    abbrev Found : List Row → ℕ → Signs → Type 0
+    abbrev pub Found : List Row → ℕ → Signs → Type 0
     Found rows i AllPlus = ⊥
     Found rows i (MinusAt j) = (k : ℕ) × (j ≡ i + k) × (k < length rows) × Told (row_at rows k).constant Minus
     Found rows i (UnknownBy c) = (k : ℕ) × (k < length rows) × Told (row_at rows k).constant (Unknown c)
 
     -- what was kept, or what is found
-    abbrev Scanned : Signs → List Row → ℕ → Signs → Type 0
+    abbrev pub Scanned : Signs → List Row → ℕ → Signs → Type 0
     Scanned kept rows i s = ((s ≡ kept) × (kept ≡ AllPlus → AllByRecursion (λ (r : Row). Told r.constant Plus) rows)) ⊎ Found rows i s
 
     later : (r : Row) (rows : List Row) (i : ℕ) (s : Signs) → Found rows (i + 1) s → Found (r ∷ rows) i s
@@ -87,7 +87,7 @@ module _ (L : Logic) where
     after_unknown AllPlus d r rows i t s (inl h) = inr (subst (Found (r ∷ rows) i) (sym h.0) (0, omega arith, t))
     after_unknown _ d r rows i t s (inl h) = inl (h.0, λ e. cc)
 
-    scan_law : (rows : List Row) (i : ℕ) (kept : Signs) → AllByRecursion ToldRow rows → L.Holds (Scanned kept rows i) (scan S N i kept rows)
+    pub scan_law : (rows : List Row) (i : ℕ) (kept : Signs) → AllByRecursion ToldRow rows → L.Holds (Scanned kept rows i) (scan S N i kept rows)
     scan_law [] i kept h = L.gives (Scanned kept [] i) kept (inl (refl, λ e. tt))
     scan_law (r ∷ rows) i kept h = L.bind (Told r.constant) (Scanned kept (r ∷ rows) i) (S.class N.context (scope S N) r.constant) (λ c. scan_on c i kept (λ now. scan S N (i + 1) now rows)) h.0 (go (λ now. scan_law rows (i + 1) now h.1))
       where
