@@ -46,7 +46,7 @@ module _ (w : ℕ) where
   same_turn fuel T (Closed Bottom) v h p = refl
   same_turn fuel T (Closed (Leaf cs)) v h p = refl
   same_turn zero T (Again N) v h p = absurd (omega arith)
-  same_turn (suc fuel) T (Again N) v h p = at_scan fuel T N h (scan (point_setting w) N 0 AllPlus N.rows v) (λ U next x flat q. same_turn fuel U next x flat q) ((scan_signs w N 0 N.rows).ensures v)
+  same_turn (suc fuel) T (Again N) v h p = at_scan fuel T N h (scan (point_setting w) N 0 AllPlus N.rows v) (λ U next x flat q. same_turn fuel U next x flat q) ((scan_signs w N N.rows).ensures v)
       (turned (point_setting w) falls-constant_class N fuel v (omega arith))
   same_turn fuel T _ v h p = absurd h
 

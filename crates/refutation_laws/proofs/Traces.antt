@@ -1,5 +1,5 @@
 -- What a pivot, a cut and a bottom keep of the trace holds along the run without parameters.
-use Rattle.refutation_laws.proofs.Words.{◌≡◌, refl, subst, ℕ, zero, suc, ◌<◌, arith, Option, Some, None, List, [], ◌∷◌, ◌++◌, take, length, Bool, true, false, if◌then◌else◌, is_nonneg, entry, constant, coefficients, Bottom, Leaf, Row, row_at, pivot, pivot_listed, entering, entering_listed, is_whole, first_fraction, constant_cut, residue_of, find_from, Refutation, Counted, ◌>>=◌, ◌>>◌, give, listed, count_pivot, count_cut, Node, Turn, Closed, Again, Signs, AllPlus, MinusAt, UnknownBy, scan, pivot_turn, last_turn, quotient_cut, leaf, turn_by, point_setting, Trace, last_step, pivot_trace, cut_trace, traced, refute_run, Ensures, ensures-bind, ensures-then, ensures-give, after_listed, FormsWide, wide_form_at}
+use Rattle.refutation_laws.proofs.Words.{if_cases, ◌≡◌, refl, subst, ℕ, zero, suc, ◌<◌, arith, Option, Some, None, List, [], ◌∷◌, ◌++◌, take, length, true, if◌then◌else◌, is_nonneg, entry, constant, coefficients, Bottom, Leaf, Row, row_at, pivot, pivot_listed, entering, entering_listed, is_whole, first_fraction, constant_cut, residue_of, find_from, Refutation, Counted, ◌>>=◌, ◌>>◌, give, listed, count_pivot, count_cut, Node, Turn, Closed, Again, Signs, AllPlus, MinusAt, UnknownBy, scan, pivot_turn, last_turn, quotient_cut, leaf, turn_by, point_setting, Trace, last_step, pivot_trace, cut_trace, traced, refute_run, Ensures, ensures-bind, ensures-then, ensures-give, after_listed, FormsWide, wide_form_at}
 use Rattle.pip_model.specs.Listed.{all_fit}
 use Rattle.pip_model.proofs.Forms.{no_coefficients}
 use Rattle.run_laws.proofs.Fractions.{fraction_some, below_take}
@@ -44,12 +44,8 @@ module _ (H : ℕ → List Row → Trace → Type 0) (Q : Refutation → Type 0)
         let K = Kept fuel (cut_trace T N.rows (Some i)) in
         let other = quotient_cut (point_setting w) N i R (find_from 0 N.quotients (residue_of R)) in
         ensures-then K count_cut (if is_whole R.den (coefficients R.constant) then give next else other)
-        (chosen K (is_whole R.den (coefficients R.constant)) (give next) other (no_coefficients R.den R.constant (wide_form_at 1 N.rows i inside (rules.flat (suc fuel) N.rows T h)))
-        (ensures-give K next (rules.cuts fuel N.rows T h i inside)))
-      where
-        chosen : (K : Turn → Type 0) (b : Bool) (x y : Counted Turn) → b ≡ true → Ensures K x → Ensures K (if b then x else y)
-        chosen K true x y e h = h
-        chosen K false x y e h = absurd cc
+        (if_cases (λ (part : Counted Turn). Ensures K part) (is_whole R.den (coefficients R.constant)) (give next) other (λ e. ensures-give K next (rules.cuts fuel N.rows T h i inside))
+        (λ e. let yes = no_coefficients R.den R.constant (wide_form_at 1 N.rows i inside (rules.flat (suc fuel) N.rows T h)) in absurd cc))
 
     pub turn_kept : (signs : Signs) → IsSigns N.rows 0 signs → Ensures (Kept fuel (traced w N.rows signs T)) (turn_by (point_setting w) N signs)
     turn_kept AllPlus h = cut_kept (first_fraction w N.rows) refl
@@ -62,11 +58,11 @@ module _ (H : ℕ → List Row → Trace → Type 0) (Q : Refutation → Type 0)
 
   pub run_kept : (w fuel : ℕ) (T : Trace) (t : Turn) → Kept fuel T t → Ensures (IfSteps Q) (refute_run w fuel T t)
   run_kept w fuel T (Closed Bottom) h = ensures-give (IfSteps Q) (Some T.steps) h
-  run_kept w fuel T (Closed (Leaf cs)) h = ensures-give (IfSteps Q) None tt
-  run_kept w zero T (Again N) h = ensures-give (IfSteps Q) None tt
   run_kept w (suc fuel) T (Again N) h =
       ensures-bind (IsSigns N.rows 0) (IfSteps Q) (scan (point_setting w) N 0 AllPlus N.rows) (λ signs. turn_by (point_setting w) N signs >>= λ next. refute_run w fuel (traced w N.rows signs T) next)
-      (scan_signs w N 0 N.rows)
+      (scan_signs w N N.rows)
       (λ signs is. ensures-bind (Kept fuel (traced w N.rows signs T)) (IfSteps Q) (turn_by (point_setting w) N signs) (λ next. refute_run w fuel (traced w N.rows signs T) next)
       (turn_kept w fuel N T h signs is) (λ next k. run_kept w fuel (traced w N.rows signs T) next k))
+  run_kept w fuel T (Closed (Leaf cs)) h = ensures-give (IfSteps Q) None tt
+  run_kept w zero T (Again N) h = ensures-give (IfSteps Q) None tt
   run_kept w fuel T _ h = absurd h
