@@ -1,5 +1,5 @@
 -- All numbers of the certificate that is made fit.
-use Rattle.certificate_laws.proofs.Words.{◌≡◌, refl, ap, sym, subst, ◌∙◌, ℕ, zero, suc, ◌+◌, ◌-◌, ◌*◌, ◌≤◌, arith, Option, Some, None, List, [], ◌∷◌, ◌++◌, append_assoc, drop, length, length-append, Bool, true, false, eqb-true, ℤ, pos, ◌*ℤ◌, map, replicate, ◌==◌, slice_index_or, if◌then◌else◌, list_all, AllByRecursion, most_unknowns, most_params, most_rows, most_context_rows, most_nesting, fits, is_nonneg, same_number, constant, coefficients, width, scale, add, widen_to, opposite, all_fit, opposite_listed, Problem, component_fits, step_fits, vector_fits, certificate_fits, tree_fits, leaf_fits, Tree, Leaf, Component, Answer, Void, Solved, is_scoped, nesting, IsRight, IsProblem, Refutation, LeafProofs, Certificate, LeafCase, leaf_cases, places_from, scope_forms, unknown_forms, row_form, plus_term, is_whole_list, put_in, put_in_listed, Premises, row_premises, sign_premises, least_premises, smaller_from, fronts_from, leaf_premises, joined, leaf_forms, Budget, IsBudget, Work, start_work, Outcome, Done, Refused, Overflow, Counted, go_on, ◌>>=◌, ◌>>◌, give, listed, left, Plus, Minus, root, run_from, numbers_of, point_setting, point_run, point, setting, answer_from, solve, first_node, indices, positive_terms, refute, PathQuotient, path_quotients, quotient_step, quotient_steps, narrow_to, steps_or_none, made_refutation, made_refutations, made_leaf, made_leaves, void_leaf, run_certificate, solve_with_certificate, unshared, both, both_true, every-append, every-parts, fit_parts, fit_head, fit_take, fit_drop, fit_entry, fit_widen, OnDone, Ensures, ensures-bind, ensures-give, length_map, start_fits, solve_good, narrow_rows, IsPointOf, point_right, IsRefutedPoint, IfSteps, refute-same, length-places, list_all-append}
+use Rattle.certificate_laws.proofs.Words.{◌≡◌, refl, ap, sym, subst, ◌∙◌, ℕ, zero, suc, ◌+◌, ◌-◌, ◌*◌, ◌≤◌, arith, Option, Some, None, List, [], ◌∷◌, ◌++◌, append_assoc, drop, length, length-append, true, false, eqb-true, ℤ, pos, ◌*ℤ◌, map, replicate, ◌==◌, slice_index_or, if◌then◌else◌, list_all, AllByRecursion, most_unknowns, most_params, most_rows, most_context_rows, most_nesting, fits, is_nonneg, same_number, constant, coefficients, width, scale, add, widen_to, opposite, all_fit, opposite_listed, Problem, component_fits, step_fits, vector_fits, certificate_fits, tree_fits, leaf_fits, Tree, Leaf, Component, Answer, Void, Solved, is_scoped, nesting, IsRight, IsProblem, Refutation, LeafProofs, Certificate, LeafCase, leaf_cases, places_from, scope_forms, unknown_forms, row_form, plus_term, is_whole_list, put_in, put_in_listed, Premises, row_premises, sign_premises, least_premises, smaller_from, fronts_from, leaf_premises, joined, leaf_forms, Budget, IsBudget, Work, start_work, Outcome, Done, Refused, Overflow, Counted, go_on, ◌>>=◌, ◌>>◌, give, listed, left, Plus, Minus, root, run_from, numbers_of, point_setting, point_run, point, setting, answer_from, solve, first_node, indices, positive_terms, refute, PathQuotient, path_quotients, quotient_step, quotient_steps, narrow_to, steps_or_none, made_refutation, made_refutations, made_leaf, made_leaves, void_leaf, run_certificate, solve_with_certificate, unshared, both, both_true, every-append, every-parts, fit_parts, fit_head, fit_take, fit_drop, fit_entry, fit_widen, OnDone, Ensures, ensures-bind, ensures-give, length_map, start_fits, solve_good, narrow_rows, IsPointOf, point_right, IsRefutedPoint, IfSteps, refute-same, length-places, if_cases, scope_long, unknown_long, length-smaller}
 use Rattle.pip_model.proofs.Fuel.{AtMost, falls-point, falls-run_from, falls-class}
 use Rattle.run_laws.proofs.FitRun.{ClassFits, TreeFits, AnswerFits, run_from_fits, solve-fits, fitting_rows}
 use Rattle.run_laws.proofs.Budgets.{solve-nested}
@@ -7,8 +7,8 @@ use Rattle.certificate_laws.proofs.TreeShape.{Shaped}
 use Rattle.certificate_laws.proofs.LeafFacts.{AllPairs, pairs-kept, AllQuotients, LeafFacts, SizedList, leaf_facts}
 use Rattle.certificate_laws.proofs.MadeRefutation.{IsPremises, narrow_context, known_long}
 use Rattle.certificate_laws.proofs.MadeLeaves.{Ready, leaf_ready}
-use Rattle.certificate_laws.proofs.FitSteps.{most_index, UpTo, AllUpTo, fits_up_to, up_to_indices, term_fits, positive_fits, StepsFit, steps_fit_append, AllFit, refute_fits, fit_widened}
-use Rattle.certificate_laws.proofs.Accepted.{void_whole, void_none, void_known, tree_shaped, answer_of, done_by, fitting_done, certified_by, certified-answer}
+use Rattle.certificate_laws.proofs.FitSteps.{most_index, UpTo, AllUpTo, fits_up_to, up_to_indices, term_fits, positive_fits, StepsFit, AllFit, refute_fits, fit_widened, all_append}
+use Rattle.certificate_laws.proofs.Accepted.{value_in, void_whole, void_none, void_known, tree_shaped, done_by, fitting_done, certified_by, certified-answer}
 use Rattle.certificate_laws.proofs.FitForms.{places_fit, narrowed_fit, row_forms_fit, opposite_fits, put_in_fits, smaller_fit, ListFits, QuotientsFit, MaybeListFits, FitFacts, fit_facts}
 
 -- ---- parts that begin with at most n left
@@ -30,18 +30,8 @@ within-bind n Q R part f h k = record { within = λ v l. at_within n Q R (part v
 within-give : {A : Type 0} (n : ℕ) (Q : A → Type 0) (x : A) → Q x → Within n Q (give x)
 within-give n Q x h = record { within = λ v l. (h, l) }
 
-abbrev tested : Bool → Work → Outcome (Unit {0})
-tested b v = if b then Done tt v else Refused Overflow v
-
-listed_at : {B : Type 0} (n : ℕ) (R : B → Type 0) (zs : List ℤ) (rest : Counted B) (v : Work) → left v ≤ n → (all_fit zs ≡ true → Within n R rest) → OnWithin n R ((listed zs >> rest) v)
-listed_at n R zs rest v l k = go (all_fit zs) refl
-  where
-    go : (b : Bool) → all_fit zs ≡ b → OnWithin n R (go_on (tested b v) (λ done. rest))
-    go true e = (k e).within v l
-    go false e = tt
-
 within-listed : {B : Type 0} (n : ℕ) (R : B → Type 0) (zs : List ℤ) (rest : Counted B) → (all_fit zs ≡ true → Within n R rest) → Within n R (listed zs >> rest)
-within-listed n R zs rest k = record { within = λ v l. listed_at n R zs rest v l k }
+within-listed n R zs rest k = record { within = λ v l. if_cases (λ (o : Outcome (Unit {0})). OnWithin n R (go_on o (λ done. rest))) (all_fit zs) (Done tt v) (Refused Overflow v) (λ e. (k e).within v l) (λ e. tt) }
 
 -- ---- the quotients' steps
 
@@ -98,8 +88,8 @@ module _ (P : Problem) (L : LeafCase) (ks : List PathQuotient) (n W limit most :
         (up_to_indices k (front + length L.path) n (omega (arith, long)))
 
     with_first : (o : Option Refutation) → IfSteps StepsFit o → StepsFit (first ++ steps_or_none o)
-    with_first None h = steps_fit_append first [] first_fits refl
-    with_first (Some ss) h = steps_fit_append first ss first_fits h
+    with_first None h = all_append step_fits first [] first_fits refl
+    with_first (Some ss) h = all_append step_fits first ss first_fits h
 
     -- what is left does not rise
     falls : (o : Outcome (Option (List ℤ))) (r : Outcome (Option Refutation)) (k : ℕ) → IsRefutedPoint o r → AtMost k o → OnDone (IfSteps StepsFit) r → k ≤ limit → OnWithin limit (IfSteps StepsFit) r
@@ -139,9 +129,6 @@ module _ (P : Problem) (L : LeafCase) (ks : List PathQuotient) (n W limit most :
 abbrev most_known : ℕ
 most_known = 100000
 
-fit_both : (xs ys : List Refutation) → AllStepsFit xs → AllStepsFit ys → AllStepsFit (xs ++ ys)
-fit_both xs ys h k = list_all-append (list_all step_fits) xs ys ∙ both_true (list_all (list_all step_fits) xs) (list_all (list_all step_fits) ys) h k
-
 module _ (P : Problem) (formed : IsProblem P) (t : Tree) (shallow : nesting t ≤ most_nesting) (L : LeafCase) (ks : List PathQuotient) (facts : LeafFacts P.unknowns P.params P.params [] [] t L ks) (fit : FitFacts (2 * nesting t) (nesting t) L ks) where
   abbrev nu : ℕ
   nu = P.unknowns
@@ -162,18 +149,14 @@ module _ (P : Problem) (formed : IsProblem P) (t : Tree) (shallow : nesting t �
       (every-append (λ (c : List ℤ). all_fit c ≡ true) (places_from W 0 P.params) (map (widen_to W) P.context) (places_fit W 0 P.params) (fit_widened W P.context (fitting_rows P.params P.context formed.context)))
       (fit_widened W L.path (fit.path_fit e))
 
-  scope_long : length (scope_forms P L) ≤ most_params + most_context_rows + 2 * most_nesting
-  scope_long =
-      let A = places_from W 0 P.params in
-      let B = map (widen_to W) P.context in
-      let C = map (widen_to W) L.path in
-      omega (arith, length-append (A ++ B) C, length-append A B, length-places W 0 P.params, length_map (widen_to W) P.context, length_map (widen_to W) L.path, formed.few_params, formed.few_context_rows, fit.short, shallow)
+  few_in_scope : length (scope_forms P L) ≤ most_params + most_context_rows + 2 * most_nesting
+  few_in_scope = omega (arith, scope_long P L, formed.few_params, formed.few_context_rows, fit.short, shallow)
 
   unknowns_fit : AllFit (unknown_forms P L)
   unknowns_fit = every-append (λ (c : List ℤ). all_fit c ≡ true) (places_from W sc nu) (map (row_form nu sc) P.rows) (places_fit W sc nu) (row_forms_fit nu sc P.rows (fitting_rows (nu + P.params) P.rows formed.rows))
 
-  unknowns_long : length (unknown_forms P L) ≤ most_unknowns + most_rows
-  unknowns_long = omega (arith, length-append (places_from W sc nu) (map (row_form nu sc) P.rows), length-places W sc nu, length_map (row_form nu sc) P.rows, formed.few_unknowns, formed.few_rows)
+  few_unknowns : length (unknown_forms P L) ≤ most_unknowns + most_rows
+  few_unknowns = omega (arith, unknown_long P L, formed.few_unknowns, formed.few_rows)
 
   -- a goal that a form over the scope is below 0
   goal_fits : (c : List ℤ) → 1 ≤ length c → (s : Premises) → s.known ≡ scope_forms P L ++ widen_to W (opposite c) ∷ [] → (all_fit s.listed ≡ true → (all_fit L.listed ≡ true) × (all_fit c ≡ true) × (all_fit (opposite_listed c) ≡ true)) → KnownFits most_known s
@@ -181,7 +164,7 @@ module _ (P : Problem) (formed : IsProblem P) (t : Tree) (shallow : nesting t �
     fit = λ e.
         let es = parts e in
         subst AllFit (sym is) (every-append (λ (c : List ℤ). all_fit c ≡ true) (scope_forms P L) (widen_to W (opposite c) ∷ []) (scope_fit es.0) (fit_widened W (opposite c ∷ []) (opposite_fits c some es.1 es.2, tt)));
-    few = omega (arith, ap length is, length-append (scope_forms P L) (widen_to W (opposite c) ∷ []), scope_long);
+    few = omega (arith, ap length is, length-append (scope_forms P L) (widen_to W (opposite c) ∷ []), few_in_scope);
   }
 
   module _ (cs : List Component) (sized : SizedList sc (Some cs)) (numbers : ListFits cs) (count : length cs ≡ nu) where
@@ -217,10 +200,6 @@ module _ (P : Problem) (formed : IsProblem P) (t : Tree) (shallow : nesting t �
       signs_fit ds z.1 f.1,
     )
 
-    smaller_long : (place : ℕ) (ds : List Component) → length (smaller_from W place ds) ≡ length ds
-    smaller_long place (d ∷ e ∷ ds) = ap suc (smaller_long (place + 1) (e ∷ ds))
-    smaller_long place _ = refl
-
     least_fit : (front ds : List Component) → cs ≡ front ++ ds → AllByRecursion (KnownFits most_known) (map whole_of (map (least_premises P L) (fronts_from front ds)))
     least_fit front [] e = tt
     least_fit front (d ∷ ds) e =
@@ -236,7 +215,7 @@ module _ (P : Problem) (formed : IsProblem P) (t : Tree) (shallow : nesting t �
               every-append (λ (c : List ℤ). all_fit c ≡ true) (scope_forms P L) (unknown_forms P L ++ goal) (scope_fit fs.0)
               (every-append (λ (c : List ℤ). all_fit c ≡ true) (unknown_forms P L) goal unknowns_fit
               (smaller_fit W sc sc now now_sized now_fit (omega arith) (omega (arith, few)) (fit_head (constant (slice_index_or goal (length goal - 1) [])) [] fs.1).0));
-          few = omega (arith, length-append (scope_forms P L) (unknown_forms P L ++ goal), length-append (unknown_forms P L) goal, scope_long, unknowns_long, smaller_long sc now, few, formed.few_unknowns);
+          few = omega (arith, length-append (scope_forms P L) (unknown_forms P L ++ goal), length-append (unknown_forms P L) goal, few_in_scope, few_unknowns, length-smaller W sc now, few, formed.few_unknowns);
         } in
         (here, least_fit now ds joined)
 
@@ -249,7 +228,7 @@ module _ (P : Problem) (formed : IsProblem P) (t : Tree) (shallow : nesting t �
         let s : Premises = whole_of (record { known = unknown_forms P L; listed = [] }) in
         let known : KnownFits most_known s = record {
           fit = λ f. every-append (λ (c : List ℤ). all_fit c ≡ true) (scope_forms P L) (unknown_forms P L) (scope_fit (fit_parts L.listed [] f).0) unknowns_fit;
-          few = omega (arith, length-append (scope_forms P L) (unknown_forms P L), scope_long, unknowns_long);
+          few = omega (arith, length-append (scope_forms P L) (unknown_forms P L), few_in_scope, few_unknowns);
         } in
         refutations_fit P L ks nu W limit most_known fit.quotients few_quotients (map whole_of (leaf_premises P L None)) (leaf_ready P formed integer t right L ks facts None e) (known, tt)
     leaf_numbers (Some cs) e =
@@ -267,7 +246,7 @@ module _ (P : Problem) (formed : IsProblem P) (t : Tree) (shallow : nesting t �
         (refutations_fit P L ks 0 W limit most_known fit.quotients few_quotients signs ready.1 (signs_fit cs sized numbers count cs sized numbers))
         (λ b hb. within-bind limit AllStepsFit AllStepsFit (made_refutations P L ks nu least) (λ c. give (a ++ b ++ c))
         (refutations_fit P L ks nu W limit most_known fit.quotients few_quotients least ready.2 (least_fit cs sized numbers count [] cs refl))
-        (λ c hc. within-give limit AllStepsFit (a ++ b ++ c) (fit_both (a ++ b) c (fit_both a b ha hb) hc))))
+        (λ c hc. within-give limit AllStepsFit (a ++ b ++ c) (all_append (list_all step_fits) (a ++ b) c (all_append (list_all step_fits) a b ha hb) hc))))
 
 -- ---- all leaves, and the certificate
 
@@ -300,15 +279,11 @@ module _ (w : ℕ) (K : List (List ℤ)) (fit : AllFit K) where
   numbers_fit (Leaf cs) h = constants_fit cs h
   numbers_fit _ h = refl
 
-  class_fits : (b : Bool) → ClassFits (if b then Plus else Minus)
-  class_fits true = tt
-  class_fits false = tt
-
   run_point_fits : Ensures VectorFits (point_run w K)
   run_point_fits =
       let N = root w 0 (map (widen_to w) K) [] in
       ensures-bind TreeFits VectorFits (run_from (point_setting w) N) (λ t. give (numbers_of t))
-      (run_from_fits (point_setting w) (λ L v c h. ensures-give ClassFits (if is_nonneg (constant c) then Plus else Minus) (class_fits (is_nonneg (constant c)))) N (start_fits w 0 (map (widen_to w) K) (fit_widened w K fit)))
+      (run_from_fits (point_setting w) (λ L v c h. ensures-give ClassFits (if is_nonneg (constant c) then Plus else Minus) (if_cases ClassFits (is_nonneg (constant c)) Plus Minus (λ e. tt) (λ e. tt))) N (start_fits w 0 (map (widen_to w) K) (fit_widened w K fit)))
       (λ t h. ensures-give VectorFits (numbers_of t) (numbers_fit t h))
 
 pub point_fits : (w : ℕ) (K : List (List ℤ)) → AllFit K → Ensures (λ (p : Option (List ℤ)). vector_fits p ≡ true) (point w K)
@@ -325,9 +300,6 @@ falls-answer_from P (Some p) v = go (run_from (setting P) (first_node P) v) ((fa
     go : (o : Outcome Tree) → AtMost (left v) o → AtMost (left v) (go_on o (λ t. give (Solved t)))
     go (Done t w) h = h
     go (Refused e w) h = h
-
-most_of : {A : Type 0} (n : ℕ) (o : Outcome A) (x : A) (w : Work) → AtMost n o → o ≡ Done x w → left w ≤ n
-most_of n o x w h e = subst (AtMost n) e h
 
 module _ (P : Problem) (formed : IsProblem P) (limit : ℕ) (room : most_known + most_nesting + suc limit ≤ most_index) where
   void_fits : IsRight P Void → (p : Option (List ℤ)) (v : Work) → left v ≤ limit → OnWithin limit (λ (c : Certificate). certificate_fits c ≡ true) (run_certificate P p Void v)
@@ -368,8 +340,8 @@ certificate-fits P b a c w formed integer budget e =
     let good = solve_good P b a solved.0 formed solved.1 in
     let limit = left (start_work b) in
     let room : most_known + most_nesting + suc limit ≤ most_index = omega (arith, budget.pivots, budget.cuts, budget.splits) in
-    let before : left parts.before ≤ limit = most_of limit (point P.params P.context (start_work b)) parts.found parts.before ((falls-point P.params P.context).falls (start_work b)) parts.found_is in
-    let between : left parts.between ≤ limit = omega (arith, before, most_of (left parts.before) (answer_from P parts.found parts.before) a parts.between (falls-answer_from P parts.found parts.before) parts.answer_is) in
+    let before : left parts.before ≤ limit = subst (AtMost limit) parts.found_is ((falls-point P.params P.context).falls (start_work b)) in
+    let between : left parts.between ≤ limit = omega (arith, before, subst (AtMost (left parts.before)) parts.answer_is (falls-answer_from P parts.found parts.before)) in
     let vector : vector_fits parts.found ≡ true = subst (OnDone (λ (p : Option (List ℤ)). vector_fits p ≡ true)) parts.found_is ((point_fits P.params P.context (fitting_rows P.params P.context formed.context)).ensures (start_work b)) in
     let here = subst (OnDone (IsPointOf P.params P.context)) parts.found_is ((point_right P.params P.context (narrow_rows P.params P.context formed.context)).ensures (start_work b)) in
     let certificate = fitting_done (run_certificate P parts.found a parts.between) c parts.after parts.certificate_is in
@@ -382,12 +354,12 @@ certificate-fits P b a c w formed integer budget e =
     by_point_fits : (p : Option (List ℤ)) (a : Answer) (v w : Work) → IsPointOf P.params P.context p → vector_fits p ≡ true → answer_from P p v ≡ Done a w → IsRight P a → ((t : Tree) → a ≡ Solved t → is_scoped P.params t ≡ true) → AnswerFits a
         → ((t : Tree) → a ≡ Solved t → nesting t ≤ b.nesting) → (limit : ℕ) → most_known + most_nesting + suc limit ≤ most_index → left w ≤ limit → (c : Certificate) (x : Work) → run_certificate P p a w ≡ Done c x → certificate_fits c ≡ true
     by_point_fits None a v w h vector e right scoped fit nested limit room l c x is =
-        let same : Void ≡ a = ap (answer_of P formed a) e in
+        let same : Void ≡ a = ap (value_in a) e in
         of_outcome limit (run_certificate P None a w) c x (subst (λ (y : Answer). OnWithin limit (λ (z : Certificate). certificate_fits z ≡ true) (run_certificate P None y w)) same (void_fits P formed limit room (subst (IsRight P) (sym same) right) None w l)) is
     by_point_fits (Some p) a v w h vector e right scoped fit nested limit room l c x is =
         let made = done_by (run_from (setting P) (first_node P) v) (λ t. give (Solved t)) a w e in
         let t = made.value in
-        let same : Solved t ≡ a = ap (answer_of P formed a) made.rest in
+        let same : Solved t ≡ a = ap (value_in a) made.rest in
         let shaped : Shaped P.unknowns t = subst (OnDone (Shaped P.unknowns)) made.first ((tree_shaped P formed integer p h).ensures v) in
         let shallow : nesting t ≤ most_nesting = omega (arith, nested t (sym same), budget.nesting) in
         of_outcome limit (run_certificate P (Some p) a w) c x (subst (λ (y : Answer). OnWithin limit (λ (z : Certificate). certificate_fits z ≡ true) (run_certificate P (Some p) y w)) same

@@ -1,5 +1,5 @@
 -- A refutation that is made succeeds, where no whole vector makes its known forms >= 0.
-use Rattle.certificate_laws.proofs.Words.{◌≡◌, refl, ap, ap₂, sym, subst, ◌∙◌, ℕ, zero, suc, ◌+◌, ◌<◌, ◌≤◌, arith, Option, Some, None, List, [], ◌∷◌, ◌++◌, append_assoc, length, length-append, true, ℤ, pos, get_or-append, get_or-append_seam, get_or-append-add, get_or-map, map, slice_index_or, if◌then◌else◌, entry, unit_form, widen_to, Problem, Refutation, LeafCase, places_from, Premises, named, known_at_end, all_fit, Work, Refusal, Outcome, Done, Refused, ◌>>=◌, give, listed, point, indices, refute, PathQuotient, quotient_steps, narrow_to, steps_or_none, made_refutation, every-append, OnDone, Ensures, OnMade, Makes, ensures-bind, ensures-give, ends-listed, Narrow, InScope, IsPointOf, point_right, length_map, IfSteps, IsRefutedPoint, refute-same, length-places, every-kept}
+use Rattle.certificate_laws.proofs.Words.{◌≡◌, refl, ap, ap₂, sym, subst, ◌∙◌, ℕ, zero, suc, ◌+◌, ◌<◌, ◌≤◌, arith, Option, Some, None, List, [], ◌∷◌, ◌++◌, append_assoc, length, length-append, true, ℤ, pos, get_or-append, get_or-append_seam, get_or-append-add, get_or-map, map, slice_index_or, entry, unit_form, widen_to, Problem, Refutation, LeafCase, places_from, Premises, named, known_at_end, all_fit, Work, Refusal, Outcome, Done, Refused, ◌>>=◌, give, listed, point, indices, refute, PathQuotient, quotient_steps, narrow_to, steps_or_none, made_refutation, every-append, OnDone, Ensures, OnMade, Makes, ensures-bind, ensures-give, ends-listed, Narrow, InScope, IsPointOf, point_right, length_map, IfSteps, IsRefutedPoint, refute-same, length-places, every-kept}
 use Rattle.pip_model.specs.Contexts.{IsPointRefusal}
 use Rattle.run_laws.proofs.ContextRight.{context_of}
 use Rattle.run_laws.proofs.PointRefusals.{point-refusal}

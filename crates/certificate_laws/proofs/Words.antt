@@ -1,12 +1,12 @@
 -- The words of other modules that the proofs of this crate cite, passed on from one place. Declares nothing.
-pub use Rattle.std.proofs.Common.{◌≡◌, refl, ap, ◌∙◌, ℕ, suc, arith, None, Some, List, [], ◌∷◌, take, length, true, ℤ, pos, negsuc, neg_ℤ, ◌≤ℤ◌, ◌<ℤ◌, ap₂, sym, subst, zero, ◌+◌, ◌<◌, ◌≤◌, Option, ◌++◌, append_assoc, length-append, Bool, false, ◌&&◌, ◌+ℤ◌, append-nil, drop, cond, not, eqb-true, ◌-ℤ◌, ◌*ℤ◌, inl, inr, length-set, ◌-◌, ◌*◌, int_lt, max}
+pub use Rattle.std.proofs.Common.{◌≡◌, refl, ap, ◌∙◌, ℕ, suc, arith, None, Some, List, [], ◌∷◌, take, length, true, ℤ, pos, negsuc, neg_ℤ, ◌≤ℤ◌, ◌<ℤ◌, ap₂, sym, subst, zero, ◌+◌, ◌<◌, ◌≤◌, Option, ◌++◌, append_assoc, length-append, Bool, false, ◌&&◌, ◌+ℤ◌, append-nil, drop, cond, not, eqb-true, ◌-ℤ◌, ◌*ℤ◌, inl, inr, length-set, ◌-◌, ◌*◌, int_lt, eq-eqb}
 pub use Rattle.std.proofs.lemmas.List.{length-take-le, get_or-append-add, get_or-map, take-append-drop, length-replicate, take_at, get_or-take, map-append, map-set}
 pub use Rattle.std.proofs.lemmas.Int.{ints}
 pub use Rattle.std.proofs.lemmas.Bool.Decides.{nat_tests}
 pub use Rattle.std.specs.Prelude.{◌==◌, map, slice_index_or, if◌then◌else◌, slice_set, int_le, nat_le, replicate, MatchBool, unsigned_abs, nat_lt, Err}
 pub use Rattle.std.specs.List.{list_all, AllByRecursion}
 pub use Rattle.std.proofs.Math.ListN.{get_or-append}
-pub use Rattle.std.proofs.Math.Seq.{get_or-append_seam, take-length, drop-append_seam}
+pub use Rattle.std.proofs.Math.Seq.{get_or-append_seam, take-length, drop-append_seam, drop-cons, take-suc}
 pub use Rattle.std.proofs.lemmas.List.Folds.{list_all-append}
 pub use Rattle.std.proofs.lemmas.Bool.{cond-true, cases_lt, cases_eq}
 pub use Rattle.pip_model.specs.Numbers.{same_number, fits, is_positive, is_nonneg, floor_div, gcd, gcd_of, floor_mod, is_zero, is_negative, divides}
@@ -15,7 +15,7 @@ pub use Rattle.pip_model.specs.Tree.{Tree, Bottom, Leaf, If, NewParm, Component,
 pub use Rattle.pip_model.specs.Rows.{Row, row_at, first_fraction, pivot, pivot_listed, entering, unit_row, form_row, count_from, start}
 pub use Rattle.pip_model.specs.Check.{is_whole_list, LeafCase, places_from, Premises, leaf_cases, scope_forms, unknown_forms, row_form, plus_term, put_in, put_in_listed, row_premises, sign_premises, least_premises, smaller_from, fronts_from, leaf_premises, joined, leaf_forms, not_above, derived, is_absurd, is_divisible, spot, void_forms, void_premises, check, plus_term_listed, Spot, ends_absurd, Rejected, Unfit, CheckFault}
 pub use Rattle.pip_model.specs.Run.{Class, Setting, Node, scope, Turn, row_component, leaf, turn, run_from, left, Work, Refusal, Outcome, Done, Refused, ◌>>=◌, give, listed, point, Again, root, Budget, IsBudget, start_work, Overflow, Counted, go_on, ◌>>◌, Plus, Minus, numbers_of, point_setting, point_run, setting, answer_from, solve, first_node, Pivots, Cuts, Splits, Nesting}
-pub use Rattle.pip_model.proofs.Tests.{both_true, every-append, both, three, is_nonneg_is, every-parts, same_number_is, one_le, negative_is, never_both, above}
+pub use Rattle.pip_model.proofs.Tests.{both_true, every-append, both, three, is_nonneg_is, every-parts, same_number_is, one_le, negative_is, never_both, above, if_cases, every-map, every-set, every-at, every-take}
 pub use Rattle.run_laws.proofs.Tableaux.{Positive, NonNegativeAt, equation_at, all_pivoted, Divided, AllDivided}
 pub use Rattle.run_laws.proofs.Ensured.{Ensures, ensures-weaken, OnDone, OnMade, Makes, ensures-bind, ensures-give, ends-listed, done_of}
 pub use Rattle.run_laws.proofs.RowsAt.{rows_of, FormsWide, wide_form_at, forms_more, forms_pivot, row_of, rows_append, row_with, row_at_of, length_rows, pivot_at}
@@ -33,8 +33,8 @@ pub use Rattle.run_laws.proofs.PointRight.{IsPointOf, point_right}
 pub use Rattle.refutation_laws.proofs.Traces.{IfSteps, Traces, run_kept}
 pub use Rattle.pip_model.specs.RefutedPoint.{IsRefutedPoint}
 pub use Rattle.refutation_laws.proofs.SameRun.{refute-same, length_cut, start_flat}
-pub use Rattle.check_laws.proofs.ShareReadable.{length-places}
-pub use Rattle.check_laws.proofs.StartingForms.{every-kept, every-map, every-set, value-row_form, length-row_form, every-at, point_parts, length-scope_part}
+pub use Rattle.check_laws.proofs.ShareReadable.{length-places, scope_long, unknown_long, length-smaller}
+pub use Rattle.check_laws.proofs.StartingForms.{every-kept, value-row_form, length-row_form, point_parts, length-scope_part}
 pub use Rattle.pip_model.specs.Printed.{step_fits, component_fits, vector_fits, certificate_fits, tree_fits, leaf_fits}
 pub use Rattle.pip_model.specs.Cuts.{constant_cut, fractional_parts, Quotient, lower_bound, upper_bound, rounding}
 pub use Rattle.pip_model.proofs.Fitting.{fit_head, fits-le, fit_negate, fit_mods, fit_widen, fit_parts, fit_take, fit_drop, fit_entry, fit_cons, fit_join, fit_zeros}

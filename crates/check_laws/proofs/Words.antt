@@ -1,7 +1,7 @@
 -- The words of other modules that the proofs of this crate cite, passed on from one place. Declares nothing.
 pub use Rattle.std.proofs.Common.{◌≡◌, refl, ap, sym, ◌∙◌, ℕ, suc, ◌+◌, ◌≤◌, ℤ, pos, arith, List, [], ◌∷◌, ◌++◌, length, Bool, true, false, eqb-true, append_assoc, length-append, ◌<◌, eq-eqb, ap₂, subst, zero, negsuc, ◌+ℤ◌, ◌*ℤ◌, ◌-◌, ◌-ℤ◌, inl, inr, ◌*◌, ◌^◌, max, leb-true, neg_ℤ, cond}
 pub use Rattle.std.proofs.lemmas.List.{get_or_at, length-map, nil_from_length, append-nil, length-drop, length-take, length-replicate, length-take-le, take-append-drop, get_or-append-add, map-append}
-pub use Rattle.std.specs.Prelude.{◌&&◌, ◌==◌, nat_lt, unsigned_abs, int_le, drop, map, replicate, slice_index_or, Option, Some, None, Ok, Err, if◌then◌else◌, ⊤, IsTrue, take, not, slice_set, MatchBool, int_lt, ◌≤ℤ◌, ◌<ℤ◌, nat_le}
+pub use Rattle.std.specs.Prelude.{◌&&◌, ◌==◌, nat_lt, unsigned_abs, int_le, drop, map, replicate, slice_index_or, Option, Some, None, Ok, Err, if◌then◌else◌, ⊤, IsTrue, take, not, MatchBool, int_lt, ◌<ℤ◌, nat_le}
 pub use Rattle.std.specs.List.{list_all, AllByRecursion, All}
 pub use Rattle.std.proofs.lemmas.Bool.Decides.{nat_tests}
 pub use Rattle.std.proofs.lemmas.Int.{ints}
@@ -19,7 +19,7 @@ pub use Rattle.pip_model.specs.Conditions.{place, steps_at, IsPlace, FirstUnmet,
 pub use Rattle.pip_model.specs.WellFormed.{IsProblem, IsRow, IsWellFormedAnswer}
 pub use Rattle.pip_model.specs.Printed.{steps_fit, shared_fit, leaf_fits, vector_fits, certificate_fits, has_few, few_steps, step_fits}
 pub use Rattle.pip_model.specs.Share.{share_leaf, share_leaves, shared_leaves, share, is_own, lowered, moved_index, renumbered, shareable, shared_by, IsFront, IsCommon, after_shared, is_shareable, same_step, common_front, same_terms}
-pub use Rattle.pip_model.proofs.Tests.{both, both_true, every-append, same_number_is, never_both, below, above, less_true, three, all_three, same_number-itself, if_cases, every-parts, not_false}
+pub use Rattle.pip_model.proofs.Tests.{both, both_true, every-append, same_number_is, never_both, below, above, less_true, three, all_three, same_number-itself, if_cases, every-parts, not_false, every-map, is_nonneg_is, one_at_least, chosen_true}
 pub use Rattle.pip_model.proofs.Laws.{opposite-parts, dot-add, dot-negate, value-plus, floor_div-law}
 pub use Rattle.pip_model.proofs.Vectors.{dot-append, dot-parts, value-unit_form, length-unit_form, value-widen_to, length-widen_to, dot-zeros}
 pub use Rattle.pip_model.specs.Holds.{Holds}

@@ -1,31 +1,24 @@
 -- The text that `solve` makes of a problem with certificates is that of a right answer and of a certificate that the check does not reject.
-use Rattle.headline.proofs.Words.{◌≡◌, refl, ap, sym, subst, ◌∙◌, arith, ℕ, ◌+◌, ◌-◌, length, length-append, Bool, true, false, Option, Some, None, List, [], ◌∷◌, ◌++◌, append_assoc, drop, Ok, Err, codes, IsTrue, if◌then◌else◌, Problem, Answer, certificate_fits, newline, spell_answer, spell, read_answer, Certificate, spell_certificate, read_certificate, ◌>>◌, Budget, IsBudget, Work, Outcome, Done, Refused, rational_certificate, certified_answer_text, certified_outcome, certified_text, IsCertified, solve-right, leaves-reached, solve-printable, read_answer-spell_first, read_certificate-spell, Whole, certificate-fits, certified-answer, certificate-not_rejected}
+use Rattle.headline.proofs.Words.{◌≡◌, refl, ap, sym, subst, ◌∙◌, arith, ℕ, ◌+◌, ◌-◌, length, length-append, Bool, true, false, Option, Some, None, List, [], ◌++◌, append_assoc, drop, Ok, Err, codes, IsTrue, if◌then◌else◌, Problem, Answer, certificate_fits, newline, spell_answer, spell, read_answer, Certificate, spell_certificate, read_certificate, ◌>>◌, Budget, IsBudget, Work, Outcome, Done, Refused, rational_certificate, certified_answer_text, certified_outcome, certified_text, IsCertified, solve-right, leaves-reached, solve-printable, read_answer-spell_first, read_certificate-spell, Whole, certificate-fits, certified-answer, certificate-not_rejected, append-nil}
 use Rattle.pip_model.specs.Made.{solve_with_certificate}
+use Rattle.std.proofs.Math.Seq.{drop-append_seam}
 
 -- ---- the text of an answer and its certificate
-
-drop_front : (xs ys : List ℕ) → drop (length xs) (xs ++ ys) ≡ ys
-drop_front [] ys = refl
-drop_front (x ∷ xs) ys = drop_front xs ys
 
 -- behind the answer's last byte but one stands a newline, and then the certificate
 after_answer : (front rest : List ℕ) → drop (length (front ++ codes ")\n") - 1) ((front ++ codes ")\n") ++ rest) ≡ codes "\n" ++ rest
 after_answer front rest =
     let one : length (front ++ codes ")\n") - 1 ≡ length (front ++ codes ")") = omega (arith, length-append front (codes ")\n"), length-append front (codes ")")) in
     let split : (front ++ codes ")\n") ++ rest ≡ (front ++ codes ")") ++ (codes "\n" ++ rest) = append_assoc front (codes ")\n") rest ∙ sym (append_assoc front (codes ")") (codes "\n" ++ rest)) in
-    ap (λ (n : ℕ). drop n ((front ++ codes ")\n") ++ rest)) one ∙ ap (drop (length (front ++ codes ")"))) split ∙ drop_front (front ++ codes ")") (codes "\n" ++ rest)
+    ap (λ (n : ℕ). drop n ((front ++ codes ")\n") ++ rest)) one ∙ ap (drop (length (front ++ codes ")"))) split ∙ drop-append_seam (front ++ codes ")") (codes "\n" ++ rest)
 
 certificate_back : (front : List ℕ) (c : Certificate) (t : List ℕ) → t ≡ (front ++ codes ")\n") ++ spell_certificate c → IsTrue (certificate_fits c) → read_certificate t (length (front ++ codes ")\n") - 1) ≡ Ok (Some (c, length t - 1))
 certificate_back front c t is fits =
     let start = length (front ++ codes ")\n") - 1 in
-    let append_nil : spell_certificate c ≡ spell_certificate c ++ [] = sym (nothing_after (spell_certificate c)) in
+    let append_nil : spell_certificate c ≡ spell_certificate c ++ [] = sym (append-nil (spell_certificate c)) in
     let at : drop start t ≡ codes "\n" ++ (spell_certificate c ++ []) = ap (drop start) is ∙ after_answer front (spell_certificate c) ∙ ap (λ (x : List ℕ). codes "\n" ++ x) append_nil in
     let place : start + length (codes "\n") + length (spell_certificate c) - 1 ≡ length t - 1 = omega (arith, ap length is, length-append (front ++ codes ")\n") (spell_certificate c), length-append front (codes ")\n")) in
     read_certificate-spell t start (codes "\n") c [] at refl fits ∙ ap (λ (n : ℕ). Ok (Some (c, n))) place
-  where
-    nothing_after : (xs : List ℕ) → xs ++ [] ≡ xs
-    nothing_after [] = refl
-    nothing_after (x ∷ xs) = ap (λ (ys : List ℕ). x ∷ ys) (nothing_after xs)
 
 module _ (b : Budget) (budget : IsBudget b) where
   of_certificate : (P : Problem) → Whole P → P.integer ≡ true → (a : Answer) (c : Option Certificate) (w : Work) → solve_with_certificate b P ≡ Done (a, c) w → (t : List ℕ) → certified_answer_text P a c ≡ Ok t → IsCertified P t

@@ -1,6 +1,5 @@
 -- The value of an answer that is read can be printed as an answer over no parameters.
-use Rattle.headline.proofs.Words.{◌≡◌, subst, refl, arith, ℕ, ◌+◌, ◌≤◌, ℤ, pos, ◌*ℤ◌, ◌+ℤ◌, ◌<ℤ◌, Bool, true, false, Option, Some, None, List, [], ◌∷◌, ◌++◌, IfSome, int_le, nat_le, map, flat_map, if◌then◌else◌, AllByRecursion, list_all, most_components, all_fit, dot_listed, value_listed, fits, is_nonneg, floor_div, gcd, gcd_of, same_number, dot, value, Tree, Bottom, Leaf, If, NewParm, Component, reduced, component_value, Ratio, Answer, Void, Solved, tree_value, is_scoped, is_component, is_form, Row, value_tree, tree_value_listed, answer_at, answer_at_listed, IsCommentedAnswer, IsPrintableAnswer, component_fits, tree_fits, fit_head, fit_parts, fits-floor, var, num, ◌⊕◌, ring, both, three, both_true, all_three, all_passed, one_at_least, one_le, same_number_yes, component-is}
-use Rattle.std.proofs.lemmas.Bool.Decides.{nat_tests}
+use Rattle.headline.proofs.Words.{◌≡◌, subst, refl, arith, ℕ, ◌+◌, ◌≤◌, ℤ, pos, ◌*ℤ◌, ◌+ℤ◌, ◌<ℤ◌, true, Option, Some, None, List, [], ◌∷◌, ◌++◌, IfSome, int_le, nat_le, map, flat_map, if◌then◌else◌, AllByRecursion, list_all, most_components, all_fit, dot_listed, value_listed, fits, is_nonneg, floor_div, gcd, gcd_of, same_number, dot, value, Tree, Bottom, Leaf, If, NewParm, Component, reduced, component_value, Ratio, Answer, Void, Solved, tree_value, is_scoped, is_component, is_form, Row, value_tree, tree_value_listed, answer_at, answer_at_listed, IsCommentedAnswer, IsPrintableAnswer, component_fits, tree_fits, fit_head, fit_parts, fits-floor, var, num, ◌⊕◌, ring, both, three, both_true, all_three, all_passed, one_at_least, one_le, same_number_yes, component-is, leb-true, le-leb, cases_Bool, inl, inr}
 use Rattle.std.proofs.lemmas.List.{length-map}
 use Rattle.std.specs.Prelude.{length}
 
@@ -38,27 +37,24 @@ components-good w (c ∷ cs) u h k l =
       components-good w cs u h.1 numbers.1 listed.1,
     )
 
-least_of : (n m : ℕ) → nat_le n m ≡ true → n ≤ m
-least_of n m h = grind (arith, nat_tests)
-
 value-good : (w : ℕ) (t : Tree) (u : List ℤ) → is_scoped w t ≡ true → tree_fits t ≡ true → all_fit (tree_value_listed t u) ≡ true → IfSome (tree_value t u) IsGoodPoint
 value-good w Bottom u h k l = tt
 value-good w (Leaf cs) u h k l =
     let parts = three (nat_le 1 (length cs)) (nat_le (length cs) most_components) (list_all (is_component w) cs) h in
     let same = length-map cs (component_value u) in
     record {
-      some = omega (arith, same, least_of 1 (length cs) parts.0);
-      few = omega (arith, same, least_of (length cs) most_components parts.1);
+      some = omega (arith, same, leb-true 1 (length cs) parts.0);
+      few = omega (arith, same, leb-true (length cs) most_components parts.1);
       each = components-good w cs u (all_passed (is_component w) cs parts.2) k l;
     }
 value-good w (If v a b) u h k l =
     let parts = three (is_form w v) (is_scoped w a) (is_scoped w b) h in
     let numbers = three (all_fit v) (tree_fits a) (tree_fits b) k in
-    either (is_nonneg (value v u)) (value-good w a u parts.1 numbers.1) (value-good w b u parts.2 numbers.2) (fit_parts (value_listed v u) (if is_nonneg (value v u) then tree_value_listed a u else tree_value_listed b u) l).1
-  where
-    either : (s : Bool) → (all_fit (tree_value_listed a u) ≡ true → IfSome (tree_value a u) IsGoodPoint) → (all_fit (tree_value_listed b u) ≡ true → IfSome (tree_value b u) IsGoodPoint) → all_fit (if s then tree_value_listed a u else tree_value_listed b u) ≡ true → IfSome (if s then tree_value a u else tree_value b u) IsGoodPoint
-    either true p q e = p e
-    either false p q e = q e
+    let listed = (fit_parts (value_listed v u) (if is_nonneg (value v u) then tree_value_listed a u else tree_value_listed b u) l).1 in
+    elim (cases_Bool (is_nonneg (value v u))) [
+      | inl e ↦ rw e (value-good w a u parts.1 numbers.1 (rw e at listed))
+      | inr e ↦ rw e (value-good w b u parts.2 numbers.2 (rw e at listed))
+    ]
 value-good w (NewParm v d a) u h k l =
     value-good (w + 1) a (u ++ floor_div (value v u) d ∷ []) (three (is_form w v) (int_le (pos 1) d) (is_scoped (w + 1) a) h).2 (three (all_fit v) (fits d) (tree_fits a) k).2
     (fit_parts (value_listed v u) (tree_value_listed a (u ++ floor_div (value v u) d ∷ [])) l).1
@@ -85,9 +81,6 @@ ones-fit : (fs : List Ratio) → AllByRecursion IsGood fs → list_all component
 ones-fit [] h = refl
 ones-fit (f ∷ fs) h = both_true (component_fits (one f)) (list_all component_fits (map one fs)) (one-fits f h.0) (ones-fit fs h.1)
 
-at_least : (n m : ℕ) → n ≤ m → nat_le n m ≡ true
-at_least n m h = grind (arith, nat_tests)
-
 tree-printable : (o : Option (List Ratio)) → IfSome o IsGoodPoint → IsPrintableAnswer 0 (Solved (value_tree o))
 tree-printable None h = record { well_formed = record { scoped = refl; nested = omega arith }; numbers = refl; scope = omega arith }
 tree-printable (Some fs) h =
@@ -95,7 +88,7 @@ tree-printable (Some fs) h =
     record {
       well_formed = record {
         scoped = all_three (nat_le 1 (length (map one fs))) (nat_le (length (map one fs)) most_components) (list_all (is_component 0) (map one fs))
-            (at_least 1 (length (map one fs)) (omega (arith, same, h.some))) (at_least (length (map one fs)) most_components (omega (arith, same, h.few))) (ones-scoped fs h.each);
+            (le-leb 1 (length (map one fs)) (omega (arith, same, h.some))) (le-leb (length (map one fs)) most_components (omega (arith, same, h.few))) (ones-scoped fs h.each);
         nested = omega arith;
       };
       numbers = ones-fit fs h.each;

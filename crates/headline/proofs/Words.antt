@@ -5,7 +5,7 @@ pub use Rattle.std.specs.List.{AllByRecursion, list_all}
 pub use Rattle.pip_model.specs.Problem.{Problem}
 pub use Rattle.pip_model.specs.Tree.{Answer, Void, Solved, Tree, Bottom, Leaf, If, NewParm, Component, reduced, component_value, Ratio, tree_value, is_scoped, is_component, is_form}
 pub use Rattle.pip_model.specs.WellFormed.{IsProblem, IsWellFormedAnswer, AreContextRows, IsRow}
-pub use Rattle.pip_model.specs.Reading.{Fault, ◌>>=◌, ◌>>◌, same_bracket, expect, row}
+pub use Rattle.pip_model.specs.Reading.{Fault, ◌>>◌, same_bracket}
 pub use Rattle.pip_model.specs.NativeText.{read_native}
 pub use Rattle.pip_model.specs.MatrixText.{read_matrices}
 pub use Rattle.pip_model.specs.TreeText.{read_answer, newline, spell_answer, spell, Commented}
@@ -15,7 +15,7 @@ pub use Rattle.pip_model.specs.Printed.{IsCommented, IsCommentedAnswer, certific
 pub use Rattle.program_model.specs.Endings.{Ending, rational_certificate, refusal_ending, tool_ending, finished}
 pub use Rattle.program_model.specs.Items.{or_ending, needed, one_item, ItemAt, Gives, FirstItems, Ends, Items, IsItself, NoEnd, text_with, text_of_item, FirstItemsTo}
 pub use Rattle.program_model.specs.ItemKinds.{problem_item, matrix_item, answer_item, needed_answer, Triple, is_certifiable, rest_of_triple, triple_by, triple, Pair, pair_by, pair, Trio, trio_by, trio}
-pub use Rattle.text_laws.proofs.ReadPlaces.{Read, found, failed, look, Between, through, Opens, expect-opens, expect-reads, Numbers}
+pub use Rattle.text_laws.proofs.ReadPlaces.{Read, Between, through, Opens, expect-opens, expect-reads, Numbers}
 pub use Rattle.text_laws.proofs.ReadProblems.{Whole, read_native-reads, row-reads}
 pub use Rattle.text_laws.proofs.ReadMatrices.{read_matrices-reads}
 pub use Rattle.text_laws.proofs.ReadTrees.{read_answer-reads, printable, to_after}
@@ -38,10 +38,10 @@ pub use Rattle.pip_model.specs.Forms.{value, dot}
 pub use Rattle.pip_model.specs.Rows.{Row}
 pub use Rattle.pip_model.specs.Values.{value_tree, answer_at, answer_at_listed, tree_value_listed, simplified_by}
 pub use Rattle.pip_model.proofs.Polynomials.{var, num, ◌⊕◌, ◌⊗◌, ring}
-pub use Rattle.pip_model.proofs.Tests.{three, both_true, all_passed, same_number_yes, one_at_least, both, all_three, one_le}
+pub use Rattle.pip_model.proofs.Tests.{three, both_true, all_passed, same_number_yes, one_at_least, both, all_three, one_le, if_cases}
 pub use Rattle.run_laws.proofs.Components.{component-is}
 pub use Rattle.pip_model.proofs.Fitting.{fit_head, fit_parts, fits-floor, scope-fits}
-pub use Rattle.pip_model.specs.Check.{Spot, Checks, CheckFault, check}
+pub use Rattle.pip_model.specs.Check.{Checks, check}
 pub use Rattle.pip_model.specs.Moved.{Ended, is_closed}
 pub use Rattle.pip_model.proofs.SimplerTrees.{simplified-simpler}
 pub use Rattle.run_laws.proofs.Headline.{solve-simplified-right, simplified-leaves-reached, simplified-right, solve-well_formed_answer, solve-simplified-well_formed_answer}
@@ -52,3 +52,4 @@ pub use Rattle.text_laws.proofs.LocalProblems.{read_native-alone, read_native-en
 pub use Rattle.text_laws.proofs.LocalAnswers.{read_answer-alone, read_answer-ends, read_answer-moved}
 pub use Rattle.text_laws.proofs.LocalCertificates.{read_certificate-alone, read_certificate-ends, read_certificate-moved}
 pub use Rattle.run_laws.proofs.ContextRight.{point-tells, class-tells, narrow_of}
+pub use Rattle.std.proofs.lemmas.Bool.{leb-true, le-leb, cases_Bool}

@@ -11,7 +11,7 @@ pub use Rattle.pip_model.specs.Tokens.{token}
 pub use Rattle.pip_model.specs.Printed.{IsGroup}
 pub use Rattle.pip_model.specs.Reading.{Fault, Syntax, Wide, Limit, BigParameter, OptionWord, ◌>>=◌, same_bracket, expect, number, number_of, numbers, row, rows, block, closing, group, group_to, within, no_big_parameter, next_open, item_at, open_after, Reads}
 pub use Rattle.pip_model.specs.NativeText.{problem_at, read_native, form_of_row}
-pub use Rattle.text_laws.proofs.Items.{next_open-first, item-closed, item-none}
+pub use Rattle.text_laws.proofs.Items.{next_open-first, item-none}
 pub use Rattle.text_laws.proofs.ReadProblems.{row-reads, AreRows, rows-reads, block-reads, InRange, within-reads, big-reads, group-reads, problem_at-reads, read_native-none}
 pub use Rattle.pip_model.specs.ContextText.{context_rows, context_at, read_context}
 pub use Rattle.text_reading.proofs.Ends.{behind, list_by, full_by, list_end, list_more, list_refused}

@@ -1,5 +1,5 @@
 -- What is read of a certificate has no more steps in a refutation than the text has bytes.
-use Rattle.text_laws.proofs.Words.{arith, ◌≡◌, refl, ap₂, ℕ, zero, suc, ◌≤◌, List, length, Bool, true, inl, inr, le-leb, cases_Bool, ◌&&◌, drop, Option, Some, None, IfOk, IfSome, codes, ⊤, list_all, Kind, LeftParen, RightParen, token, Reads, expect, same_bracket, up_to, item_at, next_open, expect_word, LeafProofs, step, list_of, shared_steps, leaf_proofs, version, vector, certificate_at, read_certificate, has_few, few_steps}
+use Rattle.text_laws.proofs.Words.{arith, ◌≡◌, refl, ap₂, ℕ, zero, suc, ◌≤◌, List, length, Bool, true, inl, inr, le-leb, cases_Bool, drop, Option, Some, None, IfOk, IfSome, codes, ⊤, list_all, Kind, LeftParen, RightParen, token, Reads, expect, same_bracket, up_to, item_at, next_open, expect_word, LeafProofs, step, list_of, shared_steps, leaf_proofs, version, vector, certificate_at, read_certificate, has_few, few_steps, ◌&&◌}
 use Rattle.text_laws.proofs.Binds.{then-ok}
 use Rattle.text_laws.proofs.ReadPlaces.{any, weaker}
 

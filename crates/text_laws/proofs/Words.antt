@@ -15,11 +15,11 @@ pub use Rattle.pip_model.specs.declared.Kind.{Kind}
 pub use Rattle.pip_model.specs.declared.Kind.TheVariants.{LeftParen, RightParen, LeftRow, RightRow, Number, Fraction, Word, WideNumber, WideFraction, Finish, Bad}
 pub use Rattle.pip_model.specs.Numbers.{fits, same_number, floor_div, gcd, gcd_of, is_zero, is_nonneg}
 pub use Rattle.pip_model.specs.Tokens.{is_digit, is_letter, is_sign, is_blank, natural_of, unsigned_part, digits_at, integer_of, number_kind, fraction_kind, lexeme, behind_stroke, numeral_at, token_here, token, same_bytes, spells, is_word}
-pub use Rattle.pip_model.proofs.Tests.{both, not_is}
+pub use Rattle.pip_model.proofs.Tests.{both, not_is, three, if_cases, one_at_least}
 pub use Rattle.pip_model.specs.Limits.{most_nesting, most_unknowns, most_params, most_rows, most_context_rows, most_components}
 pub use Rattle.pip_model.specs.TreeText.{spell, Commented, read_answer, spell_fraction, spell_fractions, fractions, common_denominators, last_of, component_of, component, lowest_terms, fraction_of, components, read_form, expect_word, Head, Ends, Lists, Chooses, Defines, head, scope_number, divisor, definition, room_for, behind_head, tree_by, tree, tree_or_void, commented_at, spell_numbers, spell_form, head_of, spell_components, spell_tree, spell_answer}
 pub use Rattle.pip_model.specs.Certificate.{Certificate, spell_certificate, read_certificate, term, step, list_of, shared_steps, leaf_proofs, version, vector, certificate_at, Step, Refutation, LeafProofs, spell_terms, spell_steps, spell_refutations, spell_leaves, spell_vector, groups, format}
-pub use Rattle.pip_model.specs.Printed.{IsCommented, certificate_fits, IsGroup, step_fits, steps_fit, shared_fit, leaf_fits, vector_fits, component_fits, IsPrintable, tree_fits, IsPrintableAnswer, IsCommentedAnswer, has_few, few_steps}
+pub use Rattle.pip_model.specs.Printed.{IsCommented, certificate_fits, IsGroup, step_fits, steps_fit, shared_fit, leaf_fits, vector_fits, component_fits, tree_fits, IsPrintableAnswer, IsCommentedAnswer, has_few, few_steps}
 pub use Rattle.pip_model.specs.Reading.{closing, open_after, group, Syntax, same_bracket, Reads, expect, group_to, next_open, item, Version, number, up_to, Fault, Wide, TooNested, Components, Limit, BigParameter, ◌>>=◌, number_of, within, no_big_parameter, numbers, row, rows, block, item_at}
 pub use Rattle.pip_model.specs.declared.Lexeme.{Lexeme}
 pub use Rattle.pip_model.specs.Moved.{moved, is_closed, Alone, Ended, moved_fault}
@@ -28,6 +28,7 @@ pub use Rattle.pip_model.specs.NativeText.{problem_at, read_native, form_of_row}
 pub use Rattle.pip_model.specs.Listed.{all_fit}
 pub use Rattle.pip_model.specs.Tree.{Component, is_component, is_form, Tree, Bottom, Leaf, If, NewParm, Void, Solved, Answer, is_scoped, nesting}
 pub use Rattle.pip_model.proofs.Gcd.{common, common-IsGcd, euclid-scaled, times-one, div_one, size-divided}
-pub use Rattle.pip_model.proofs.Fitting.{fits-le, fits-neg, fit_join, fit_take, fit_drop, fit_entry}
+pub use Rattle.pip_model.proofs.Fitting.{fits-le, fit_join, fit_take, fit_drop, fit_entry, fit_negate}
 pub use Rattle.pip_model.proofs.Forms.{length-form}
 pub use Rattle.pip_model.specs.declared.LimitKind.{LimitKind}
+pub use Rattle.std.proofs.lemmas.Int.{ints}
