@@ -10,7 +10,7 @@ pub record Reaches {A : Type 0} (bytes : List ℕ) (close : Kind) (read : ℕ �
   pub count : length front + place ≤ at
   pub high : at ≤ length bytes
 
-module _ {A : Type 0} (bytes : List ℕ) (close : Kind) (read : ℕ → Reads A) (place : ℕ) where
+module _ {A : Type 0} (bytes : List ℕ) (close : Kind) (read : ℕ → Reads A) where
   up_to_more : (left p : ℕ) → 0 < left → same_bracket (token bytes p).kind close ≡ false → up_to bytes close read left p ≡ one_more (read p) (λ at. up_to bytes close read (left - 1) at)
   up_to_more zero p h open_at = absurd (omega arith)
   up_to_more (suc left) p h open_at = rw (open_at, sub-one) refl
@@ -19,23 +19,24 @@ module _ {A : Type 0} (bytes : List ℕ) (close : Kind) (read : ℕ → Reads A)
   up_to_end zero p h closed = absurd (omega arith)
   up_to_end (suc left) p h closed = rw closed refl
 
-  pub reaches_next : (front : List A) (x : A) (at after : ℕ) → 0 < place → Reaches bytes close read place front at → same_bracket (token bytes at).kind close ≡ false → read at ≡ Ok (x, after) → at < after → after ≤ length bytes → Reaches bytes close read place (front ++ x ∷ []) after
-  reaches_next front x at after some r open_at one low high =
+module _ {A : Type 0} {bytes : List ℕ} {close : Kind} {read : ℕ → Reads A} {place : ℕ} {front : List A} {at : ℕ} (some : 0 < place) (r : Reaches bytes close read place front at) where
+  pub reaches_next : {x : A} {after : ℕ} → same_bracket (token bytes at).kind close ≡ false → read at ≡ Ok (x, after) → at < after → after ≤ length bytes → Reaches bytes close read place (front ++ x ∷ []) after
+  reaches_next {x = x} {after = after} open_at one low high =
       let size : length (front ++ x ∷ []) ≡ length front + 1 = simp length-append refl in
       let left : length bytes - (length front + 1) ≡ length bytes - length front - 1 = omega arith in
-      let by = up_to_more (length bytes - length front) at (omega (arith, r.count, r.high)) open_at in
+      let by = up_to_more bytes close read (length bytes - length front) at (omega (arith, r.count, r.high)) open_at in
       record {
         so_far = rw (size, left) (step_more front x after (read at) (λ p. up_to bytes close read (length bytes - length front - 1) p) _ _ by r.so_far one);
         count = rw size (omega (arith, r.count));
         high = high;
       }
 
-  pub reaches_end : (front : List A) (at : ℕ) → 0 < place → Reaches bytes close read place front at → same_bracket (token bytes at).kind close ≡ true → up_to bytes close read (length bytes) place ≡ Ok (front, (token bytes at).after)
-  reaches_end front at some r closed =
-      let ends = up_to_end (length bytes - length front) at (omega (arith, r.count, r.high)) closed in
+  pub reaches_end : same_bracket (token bytes at).kind close ≡ true → up_to bytes close read (length bytes) place ≡ Ok (front, (token bytes at).after)
+  reaches_end closed =
+      let ends = up_to_end bytes close read (length bytes - length front) at (omega (arith, r.count, r.high)) closed in
       sym r.so_far ∙ ap (with_front front) ends ∙ ap (λ (xs : List A). Ok (xs, (token bytes at).after)) (append-nil front)
 
-  pub reaches_refused : (fault : Option Fault) (front : List A) (at : ℕ) → 0 < place → Reaches bytes close read place front at → same_bracket (token bytes at).kind close ≡ false → IfSome fault (λ f. read at ≡ Err f) → IfSome fault (λ f. up_to bytes close read (length bytes) place ≡ Err f)
-  reaches_refused fault front at some r open_at h =
-      let by = up_to_more (length bytes - length front) at (omega (arith, r.count, r.high)) open_at in
+  pub reaches_refused : (fault : Option Fault) → same_bracket (token bytes at).kind close ≡ false → IfSome fault (λ f. read at ≡ Err f) → IfSome fault (λ f. up_to bytes close read (length bytes) place ≡ Err f)
+  reaches_refused fault open_at h =
+      let by = up_to_more bytes close read (length bytes - length front) at (omega (arith, r.count, r.high)) open_at in
       refused_more fault front (read at) (λ p. up_to bytes close read (length bytes - length front - 1) p) _ _ by r.so_far h

@@ -1,6 +1,7 @@
 -- Texts of lists.
 use Rattle.leaf_certificate.proofs.Words.{◌≡◌, ◌∙◌, refl, ap, append_assoc, ℕ, ℤ, Bool, List, [], ◌∷◌, ◌++◌, flat_map, OnOk, Refutation, LeafProofs, spell_terms, spell_steps, spell_refutations, spell_leaves, spell_term, spell_step, spell_refutation, spell_leaf}
 use Rattle.std.specs.Prelude.{Result, Ok, Err}
+use Rattle.text_laws.proofs.CertificateTexts.{read_certificate-spell_first}
 
 pub terms_flat : (ts : List (ℤ × ℤ)) → flat_map spell_term ts ≡ spell_terms ts
 terms_flat [] = refl
@@ -23,3 +24,5 @@ pub joined : {X E : Type 0} (r : Result X E) (old x y z first second new : List 
 joined (Err e) old x y z first second new p q h = tt
 joined (Ok u) old x y z first second new p q h =
     h ∙ ap (λ t. t ++ z) (q ∙ ap (λ t. t ++ y) p) ∙ ap (λ t. t ++ z) (append_assoc old x y) ∙ append_assoc old (x ++ y) z
+
+pub ruleset read_back = (read_certificate-spell_first)

@@ -9,6 +9,5 @@ pub use Rattle.pip_model.specs.TreeText.{expect_word}
 pub use Rattle.pip_model.specs.Tokens.{token}
 pub use Rattle.text_reading.specs.Steps.{fault_of}
 pub use Rattle.affine_forms.specs.Checks.{Fits}
-pub use Rattle.text_printing.proofs.Spellings.{written}
 pub use Rattle.leaf_certificate.specs.Sequences.{leaves_to_end}
 pub use Rattle.leaf_certificate.specs.Printing.{spell_term, spell_step, spell_refutation, spell_leaf, spell_head}

@@ -12,6 +12,7 @@ use text_printing::{put, put_entry, put_number, put_row};
 
 /// Appends the text of a certificate, or leaves `out` as it was. The text is read back as this certificate, whatever
 /// stands behind it.
+#[tactic(auto, using(crate::proofs::Spellings::read_back))]
 pub fn print_certificate(c: &Certificate, out: &mut Vec<u8>) -> Result<(), WantOfMemory>
     ensures ok { Appends (spell_certificate c.now) out.old.items out.new.items result }
     ensures err { OnErr result (out.new.items ≡ out.old.items) }
@@ -66,6 +67,7 @@ fn put_vector(out: &mut Vec<u8>, c: &Certificate) -> Result<(), AllocError>
     }
 }
 
+#[tactic(auto, using(std::proofs::lemmas::List::take_all, crate::proofs::Spellings::leaves_flat))]
 fn put_leaves(out: &mut Vec<u8>, shares: bool, leaves: &[LeafProofs]) -> Result<(), AllocError>
     ensures ok { Appends (spell_leaves shares leaves.now) out.old.items out.new.items result }
     ensures kept { Begins out.old.items out.new.items }
@@ -96,6 +98,7 @@ fn put_groups(out: &mut Vec<u8>, shares: bool, leaf: &LeafProofs) -> Result<(), 
     put_refutations(out, leaf.as_slice())
 }
 
+#[tactic(auto, using(std::proofs::lemmas::List::take_all, crate::proofs::Spellings::refutations_flat))]
 fn put_refutations(out: &mut Vec<u8>, refutations: &[Refutation]) -> Result<(), AllocError>
     ensures ok { Appends (spell_refutations refutations.now) out.old.items out.new.items result }
     ensures kept { Begins out.old.items out.new.items }
@@ -115,6 +118,7 @@ fn put_refutation(out: &mut Vec<u8>, refutation: &Refutation) -> Result<(), Allo
     put(out, b")\n")
 }
 
+#[tactic(auto, using(std::proofs::lemmas::List::take_all, crate::proofs::Spellings::steps_flat))]
 fn put_steps(out: &mut Vec<u8>, steps: &[Step]) -> Result<(), AllocError>
     ensures ok { Appends (spell_steps steps.now) out.old.items out.new.items result }
     ensures kept { Begins out.old.items out.new.items }
@@ -142,6 +146,7 @@ fn put_divisor(out: &mut Vec<u8>, divisor: i128) -> Result<(), AllocError>
     put_number(out, divisor)
 }
 
+#[tactic(auto, using(std::proofs::lemmas::List::take_all, crate::proofs::Spellings::terms_flat))]
 fn put_terms(out: &mut Vec<u8>, terms: &[(i128, i128)]) -> Result<(), AllocError>
     ensures ok { Appends (spell_terms terms.now) out.old.items out.new.items result }
     ensures kept { Begins out.old.items out.new.items }
