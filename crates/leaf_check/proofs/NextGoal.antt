@@ -1,7 +1,10 @@
 -- From the forms of one goal of a list to those of the next.
-use Rattle.leaf_check.proofs.Words.{◌≡◌, refl, ap, sym, ◌∙◌, ℕ, zero, suc, ◌+◌, ◌-◌, ◌<◌, ◌≤◌, ℤ, pos, negsuc, List, [], ◌∷◌, ◌++◌, length, take, drop, map, get_or, append_assoc, arith, inl, inr, slice_index_or, Some, ◌⊎◌, length-append, length-map, length-take, take_at, take_more, take-take, drop_at, get_or_append_left, get_or-append_right, get_or-map, constant, plus, Problem, Component, LeafCase, Premises, leaf_premises, unknown_forms, row_premises, sign_premises, least_premises, fronts_from, not_above, smaller_from, KnownForms, nothing, without_last}
-use Rattle.leaf_check.proofs.Owned.{own_least}
-use Rattle.leaf_check.proofs.Smaller.{not_aboves, not_aboves_more, smaller_is}
+use Rattle.leaf_check.proofs.Words.{◌≡◌, refl, ap, sym, ◌∙◌, ℕ, zero, suc, ◌+◌, ◌-◌, ◌<◌, ℤ, pos, List, [], ◌∷◌, ◌++◌, length, take, drop, get_or, append_assoc, arith, inl, inr, slice_index_or, Some, length-append, length-take, take_at, take-take, get_or_append_left, get_or-append_right, get_or-map, constant, Problem, Component, LeafCase, Premises, leaf_premises, unknown_forms, row_premises, sign_premises, least_premises, not_above, smaller_from, KnownForms, nothing, without_last}
+use Rattle.std.proofs.Math.Seq.{take-append-add}
+use Rattle.std.proofs.lemmas.Bool.{cases_lt}
+use Rattle.std.proofs.lemmas.List.{take-append-drop}
+use Rattle.leaf_check.proofs.Owned.{rows, signs, lasts, length-rows, length-both, own_least}
+use Rattle.leaf_check.proofs.Smaller.{length-smaller_from}
 
 -- behind these forms stands one
 pub without_one : (F xs : List (List ℤ)) → length xs ≡ 1 → without_last (F ++ xs) ≡ F
@@ -20,104 +23,49 @@ still old dropped now e h =
 -- ---- goals of one form
 
 module _ (P : Problem) (L : LeafCase) (cs : List Component) where
-  abbrev rows : List Premises
-  rows = map (row_premises P L cs) P.rows
-
-  abbrev signs : List Premises
-  signs = map (sign_premises P L) cs
-
-  abbrev lasts : List Premises
-  lasts = map (least_premises P L) (fronts_from [] cs)
-
-  length-rows : length rows ≡ length P.rows
-  length-rows = length-map P.rows (row_premises P L cs)
-
-  length-signs : length signs ≡ length cs
-  length-signs = length-map cs (sign_premises P L)
-
-  one_of_row : (r : ℕ) → r < length P.rows → length (get_or rows r nothing).known ≡ 1
+  one_of_row : (r : ℕ) → r < length P.rows → length (get_or (rows P L cs) r nothing).known ≡ 1
   one_of_row r h = ap (λ (s : Premises). length s.known) (get_or-map (row_premises P L cs) P.rows r [] nothing h)
 
-  one_of_sign : (i : ℕ) → i < length cs → length (get_or signs i nothing).known ≡ 1
+  one_of_sign : (i : ℕ) → i < length cs → length (get_or (signs P L cs) i nothing).known ≡ 1
   one_of_sign i h = ap (λ (s : Premises). length s.known) (get_or-map (sign_premises P L) cs i (record { den = pos 1; form = [] }) nothing h)
 
-  one_of_both : (r : ℕ) → r < length P.rows + length cs → length (get_or (rows ++ signs) r nothing).known ≡ 1
-  one_of_both r h = by (split r (length P.rows))
-    where
-      split : (a b : ℕ) → (a < b) ⊎ (b ≤ a)
-      split zero zero = inr (omega arith)
-      split zero (suc b) = inl (omega arith)
-      split (suc a) zero = inr (omega arith)
-      split (suc a) (suc b) = elim (split a b) [ inl k ↦ inl (omega (arith, k)) | inr k ↦ inr (omega (arith, k)) ]
-
-      by : (r < length P.rows) ⊎ (length P.rows ≤ r) → length (get_or (rows ++ signs) r nothing).known ≡ 1
-      by (inl k) = ap (λ (s : Premises). length s.known) (get_or_append_left rows signs nothing r (omega (arith, length-rows, k))) ∙ one_of_row r k
-      by (inr k) =
-          ap (λ (s : Premises). length s.known) (get_or-append_right rows signs (length P.rows) r nothing length-rows k)
-          ∙ one_of_sign (r - length P.rows) (omega (arith, h, k))
+  one_of_both : (r : ℕ) → r < length P.rows + length cs → length (get_or (rows P L cs ++ signs P L cs) r nothing).known ≡ 1
+  one_of_both r h = elim (cases_lt r (length P.rows)) [
+    | inl k ↦ ap (λ (s : Premises). length s.known) (get_or_append_left (rows P L cs) (signs P L cs) nothing r (omega (arith, length-rows P L cs, k))) ∙ one_of_row r k
+    | inr k ↦
+        ap (λ (s : Premises). length s.known) (get_or-append_right (rows P L cs) (signs P L cs) (length P.rows) r nothing (length-rows P L cs) k)
+        ∙ one_of_sign (r - length P.rows) (omega (arith, h, k))
+  ]
 
   pub one_of_own : (r : ℕ) → r < length P.rows + length cs → length (slice_index_or (leaf_premises P L (Some cs)) r nothing).known ≡ 1
   one_of_own r h =
-      let both = length-append rows signs in
-      ap (λ (s : Premises). length s.known) (get_or_append_left (rows ++ signs) lasts nothing r (omega (arith, length-rows, length-signs, both, h)))
+      ap (λ (s : Premises). length s.known) (get_or_append_left (rows P L cs ++ signs P L cs) (lasts P L cs) nothing r (omega (arith, length-both P L cs, h)))
       ∙ one_of_both r h
 
 -- ---- goals of a smaller point
 
-length-not_aboves : (all place : ℕ) (cs : List Component) → length (not_aboves all place cs) ≡ length cs
-length-not_aboves all place [] = refl
-length-not_aboves all place (c ∷ cs) = ap suc (length-not_aboves all (place + 1) cs)
-
-module _ (all place : ℕ) (cs : List Component) (n : ℕ) (d e : Component) (long : length cs ≡ n + 2) where
-  abbrev pub last_two : List (List ℤ)
-  last_two = not_above all (place + n) (get_or cs n d) ∷ plus (not_above all (place + (n + 1)) (get_or cs (n + 1) e)) (negsuc 0) ∷ []
-
-  abbrev front : List (List ℤ)
-  front = not_aboves all place (take n cs)
-
-  count : length (take n cs) ≡ n
-  count = simp length-take (omega (arith, long))
-
-  more : not_aboves all place (take (n + 1) cs) ≡ front ++ not_above all (place + n) (get_or cs n d) ∷ []
-  more =
-      ap (not_aboves all place) (take_more cs n d (omega (arith, long)))
-      ∙ not_aboves_more all place (take n cs) (get_or cs n d)
-      ∙ ap (λ (k : ℕ). front ++ not_above all (place + k) (get_or cs n d) ∷ []) count
-
-  smaller_two : smaller_from all place cs ≡ front ++ last_two
-  smaller_two =
-      let final : List ℤ = plus (not_above all (place + (n + 1)) (get_or cs (n + 1) e)) (negsuc 0) in
-      smaller_is all place cs (n + 1) e (omega (arith, long))
-      ∙ ap (λ (xs : List (List ℤ)). xs ++ final ∷ []) more
-      ∙ append_assoc front (not_above all (place + n) (get_or cs n d) ∷ []) (final ∷ [])
-
-  pub rest_is : drop n (smaller_from all place cs) ≡ last_two
-  rest_is = ap (drop n) smaller_two ∙ drop_at front last_two n (length-not_aboves all place (take n cs) ∙ count)
-
-  pub smaller_split : smaller_from all place cs ≡ front ++ drop n (smaller_from all place cs)
-  smaller_split = smaller_two ∙ ap (λ (xs : List (List ℤ)). front ++ xs) (sym rest_is)
-
-abbrev some : Component
-some = record { den = pos 1; form = [] }
+-- where the last component is left out, the goal is the same up to the one before
+front_smaller : (all place : ℕ) (cs : List Component) (n : ℕ) → take n (smaller_from all place (take (suc n) cs)) ≡ take n (smaller_from all place cs)
+front_smaller all place [] n = refl
+front_smaller all place (c ∷ cs) zero = refl
+front_smaller all place (c ∷ []) (suc n) = refl
+front_smaller all place (c ∷ e ∷ cs) (suc n) = ap (λ (rest : List (List ℤ)). not_above all place c ∷ rest) (front_smaller all (place + 1) (e ∷ cs) n)
 
 pub least_next : (F U : List (List ℤ)) (all place : ℕ) (cs before : List Component) (n : ℕ) → length cs ≡ n + 2 → before ≡ take (n + 1) cs
     → without_last (F ++ (U ++ smaller_from all place before)) ++ drop n (smaller_from all place cs) ≡ F ++ (U ++ smaller_from all place cs)
 least_next F U all place cs before n long is =
-    let N : List (List ℤ) = not_aboves all place (take n cs) in
-    let R : List (List ℤ) = drop n (smaller_from all place cs) in
-    let x : List ℤ = plus (not_above all (place + n) (get_or before n some)) (negsuc 0) in
-    let size : length before ≡ n + 1 = ap length is ∙ simp length-take (omega (arith, long)) in
-    let same : take n before ≡ take n cs = ap (take n) is ∙ take-take n (n + 1) cs (omega arith) in
-    let of_before : smaller_from all place before ≡ not_aboves all place (take n cs) ++ x ∷ []
-    = smaller_is all place before n some size ∙ ap (λ (ds : List Component). not_aboves all place ds ++ x ∷ []) same in
-    let apart : F ++ (U ++ smaller_from all place before) ≡ (F ++ (U ++ N)) ++ x ∷ []
-    = ap (λ (xs : List (List ℤ)). F ++ (U ++ xs)) of_before
-    ∙ ap (λ (xs : List (List ℤ)). F ++ xs) (sym (append_assoc U N (x ∷ [])))
-    ∙ sym (append_assoc F (U ++ N) (x ∷ [])) in
-    ap (λ (xs : List (List ℤ)). without_last xs ++ R) apart
-    ∙ ap (λ (xs : List (List ℤ)). xs ++ R) (without_one (F ++ (U ++ N)) (x ∷ []) refl)
-    ∙ append_assoc F (U ++ N) R
-    ∙ ap (λ (xs : List (List ℤ)). F ++ xs) (append_assoc U N R ∙ ap (λ (xs : List (List ℤ)). U ++ xs) (sym (smaller_split all place cs n some some long)))
+    let B = smaller_from all place before in
+    let S = smaller_from all place cs in
+    let size : length (smaller_from all place before) ≡ n + 1 = length-smaller_from all place before ∙ ap length is ∙ simp length-take (omega (arith, long)) in
+    let last : length ((F ++ U) ++ smaller_from all place before) - 1 ≡ length (F ++ U) + n = simp length-append (omega (arith, size)) in
+    let more : n + 1 ≡ suc n = omega arith in
+    let same = ap (λ (ds : List Component). take n (smaller_from all place ds)) (is ∙ ap (λ (k : ℕ). take k cs) more) ∙ front_smaller all place cs n in
+    ap (λ (xs : List (List ℤ)). without_last xs ++ drop n S) (sym (append_assoc F U B))
+    ∙ ap (λ (k : ℕ). take k ((F ++ U) ++ B) ++ drop n S) last
+    ∙ ap (λ (xs : List (List ℤ)). xs ++ drop n S) (take-append-add (F ++ U) B n ∙ ap (λ (xs : List (List ℤ)). (F ++ U) ++ xs) same)
+    ∙ append_assoc (F ++ U) (take n S) (drop n S)
+    ∙ ap (λ (xs : List (List ℤ)). (F ++ U) ++ xs) (take-append-drop n S)
+    ∙ append_assoc F U S
 
 module _ (P : Problem) (L : LeafCase) (cs front : List Component) (r i : ℕ) (is : r ≡ length P.rows + length cs + i) (h : i + 1 < length cs) (split : front ≡ take (i + 2) cs) where
   abbrev before : List Component

@@ -14,22 +14,22 @@ front_at front (c ∷ cs) zero d h = refl
 front_at front (c ∷ cs) (suc k) d h = front_at (front ++ c ∷ []) cs k d (omega arith) ∙ append_assoc front (c ∷ []) (take (suc k) cs)
 
 module _ (P : Problem) (L : LeafCase) (cs : List Component) where
-  abbrev rows : List Premises
+  abbrev pub rows : List Premises
   rows = map (row_premises P L cs) P.rows
 
-  abbrev signs : List Premises
+  abbrev pub signs : List Premises
   signs = map (sign_premises P L) cs
 
-  abbrev lasts : List Premises
+  abbrev pub lasts : List Premises
   lasts = map (least_premises P L) (fronts_from [] cs)
 
-  length-rows : length rows ≡ length P.rows
+  pub length-rows : length rows ≡ length P.rows
   length-rows = length-map P.rows (row_premises P L cs)
 
   length-signs : length signs ≡ length cs
   length-signs = length-map cs (sign_premises P L)
 
-  length-both : length (rows ++ signs) ≡ length P.rows + length cs
+  pub length-both : length (rows ++ signs) ≡ length P.rows + length cs
   length-both = length-append rows signs ∙ (let e = length-rows in let f = length-signs in omega arith)
 
   pub length-own : length (leaf_premises P L (Some cs)) ≡ length P.rows + length cs + length cs

@@ -1,5 +1,5 @@
 -- The goals of a list's refutations.
-use Rattle.leaf_check.proofs.Words.{◌≡◌, refl, ap, sym, ◌∙◌, ℕ, zero, suc, ◌+◌, ◌-◌, ◌<◌, ◌≤◌, ℤ, pos, negsuc, ◌+ℤ◌, ◌-ℤ◌, neg_ℤ, Bool, true, List, [], ◌∷◌, ◌++◌, length, take, drop, get_or, append_assoc, arith, Ok, Err, Result, IsTrue, IsFalse, slice_index_or, IfOk, ints, drop_more, drop_all, take_more, length-map, length-append, length-take, get_or-map, get_or_at, take_all, entry, constant, add, negate, plus, opposite, unit_form, widen_to, all_fit, opposite_listed, Component, plus_term, plus_term_listed, put_in, put_in_listed, not_above, smaller_from, IsChecked, fit_behind, fit_never, length-add, length-plus, constant-plus, length-widened}
+use Rattle.leaf_check.proofs.Words.{◌≡◌, refl, ap, sym, ◌∙◌, ℕ, zero, suc, ◌+◌, ◌-◌, ◌<◌, ◌≤◌, ℤ, pos, negsuc, ◌+ℤ◌, ◌-ℤ◌, neg_ℤ, Bool, true, List, [], ◌∷◌, ◌++◌, length, drop, get_or, append_assoc, arith, Ok, Err, Result, IsTrue, IsFalse, slice_index_or, IfOk, ints, drop_more, drop_all, length-map, get_or-map, entry, constant, add, negate, plus, opposite, unit_form, widen_to, all_fit, opposite_listed, Component, plus_term, plus_term_listed, put_in, put_in_listed, not_above, smaller_from, IsChecked, fit_behind, fit_never, length-add, length-plus, constant-plus, length-widened}
 use Rattle.pip_model.specs.Cuts.{rounding, lower_bound}
 use Rattle.affine_forms.proofs.Units.{negate_unit}
 use Rattle.leaf_check.proofs.Making.{length-unit}
@@ -77,63 +77,43 @@ below_listed w q c h k =
     let long : length (negate r) ≡ w + 1 = ap length (not_above_is w q c) ∙ length-not_above w q c h k in
     ap (λ (z : ℤ). z ∷ []) (constant-opposite r (omega arith) ∙ ap constant (below_is w q c))
 
--- that each unknown from a place on is not above its component
-abbrev pub not_aboves : ℕ → ℕ → List Component → List (List ℤ)
-not_aboves all place [] = []
-not_aboves all place (c ∷ cs) = not_above all place c ∷ not_aboves all (place + 1) cs
+pub length-smaller_from : (all place : ℕ) (cs : List Component) → length (smaller_from all place cs) ≡ length cs
+length-smaller_from all place [] = refl
+length-smaller_from all place (c ∷ []) = refl
+length-smaller_from all place (c ∷ e ∷ cs) = ap suc (length-smaller_from all (place + 1) (e ∷ cs))
 
-pub not_aboves_more : (all place : ℕ) (cs : List Component) (c : Component) → not_aboves all place (cs ++ c ∷ []) ≡ not_aboves all place cs ++ not_above all (place + length cs) c ∷ []
-not_aboves_more all place [] c = ap (λ (q : ℕ). not_above all q c ∷ []) (let e : place ≡ place + 0 = omega arith in e)
-not_aboves_more all place (d ∷ cs) c =
-    let e : place + 1 + length cs ≡ place + suc (length cs) = omega arith in
-    ap (λ (rest : List (List ℤ)). not_above all place d ∷ rest) (not_aboves_more all (place + 1) cs c ∙ ap (λ (q : ℕ). not_aboves all (place + 1) cs ++ not_above all q c ∷ []) e)
+-- the goal's forms from one on, which is the last or not
+smaller_more : (all place : ℕ) (cs : List Component) (i : ℕ) (d : Component) → i + 1 < length cs → drop i (smaller_from all place cs) ≡ not_above all (place + i) (get_or cs i d) ∷ drop (i + 1) (smaller_from all place cs)
+smaller_more all place [] i d h = absurd (omega arith)
+smaller_more all place (c ∷ []) i d h = absurd (omega arith)
+smaller_more all place (c ∷ e ∷ cs) zero d h = let here : place + 0 ≡ place = omega arith in rw here refl
+smaller_more all place (c ∷ e ∷ cs) (suc i) d h =
+    let next : suc i + 1 ≡ suc (i + 1) = omega arith in
+    let at : place + suc i ≡ place + 1 + i = omega arith in
+    rw (next, at) (smaller_more all (place + 1) (e ∷ cs) i d (omega arith))
 
-pub smaller_from_split : (all place : ℕ) (cs : List Component) (c : Component) → smaller_from all place (cs ++ c ∷ []) ≡ not_aboves all place cs ++ plus (not_above all (place + length cs) c) (negsuc 0) ∷ []
-smaller_from_split all place [] c = ap (λ (q : ℕ). plus (not_above all q c) (negsuc 0) ∷ []) (let e : place ≡ place + 0 = omega arith in e)
-smaller_from_split all place (d ∷ []) c =
-    let e : place + 1 ≡ place + suc zero = omega arith in
-    ap (λ (q : ℕ). not_above all place d ∷ plus (not_above all q c) (negsuc 0) ∷ []) e
-smaller_from_split all place (d ∷ b ∷ cs) c =
-    let e : place + 1 + length (b ∷ cs) ≡ place + suc (length (b ∷ cs)) = omega arith in
-    ap (λ (rest : List (List ℤ)). not_above all place d ∷ rest)
-    (smaller_from_split all (place + 1) (b ∷ cs) c ∙ ap (λ (q : ℕ). not_aboves all (place + 1) (b ∷ cs) ++ plus (not_above all q c) (negsuc 0) ∷ []) e)
+smaller_last : (all place : ℕ) (cs : List Component) (i : ℕ) (d : Component) → length cs ≡ i + 1 → drop i (smaller_from all place cs) ≡ plus (not_above all (place + i) (get_or cs i d)) (negsuc 0) ∷ []
+smaller_last all place [] i d h = absurd (omega arith)
+smaller_last all place (c ∷ []) zero d h = let here : place + 0 ≡ place = omega arith in rw here refl
+smaller_last all place (c ∷ []) (suc i) d h = absurd (omega arith)
+smaller_last all place (c ∷ e ∷ cs) zero d h = absurd (omega arith)
+smaller_last all place (c ∷ e ∷ cs) (suc i) d h = let at : place + suc i ≡ place + 1 + i = omega arith in rw at (smaller_last all (place + 1) (e ∷ cs) i d (omega arith))
 
--- the last of the goal's forms
-module _ (all place : ℕ) (cs : List Component) (n : ℕ) (d : Component) (long : length cs ≡ n + 1) where
-  abbrev last : Component
-  last = get_or cs n d
+module _ (all place : ℕ) (cs : List Component) (i : ℕ) (d : Component) where
+  pub last_smaller : length cs ≡ i + 1 → (e : List ℤ) → slice_index_or (smaller_from all place cs) (length (smaller_from all place cs) - 1) e ≡ plus (not_above all (place + i) (get_or cs i d)) (negsuc 0)
+  last_smaller long e =
+      let last : length (smaller_from all place cs) - 1 ≡ i = omega (arith, length-smaller_from all place cs) in
+      let parts = drop_more (smaller_from all place cs) i e (omega (arith, length-smaller_from all place cs)) in
+      let is = smaller_last all place cs i d long in
+      rw last (cc)
 
-  abbrev final : List ℤ
-  final = plus (not_above all (place + n) last) (negsuc 0)
+  pub smaller_step : (mid now whole : List (List ℤ)) (form : List ℤ) → i + 1 < length cs → mid ++ drop i (smaller_from all place cs) ≡ whole
+      → now ≡ mid ++ form ∷ [] → form ≡ not_above all (place + i) (get_or cs i d) → now ++ drop (i + 1) (smaller_from all place cs) ≡ whole
+  smaller_step mid now whole form h so_far e same = rw (e, same) (append_assoc mid _ _ ∙ ap (λ (xs : List (List ℤ)). mid ++ xs) (sym (smaller_more all place cs i d h)) ∙ so_far)
 
-  parts : cs ≡ take n cs ++ last ∷ []
-  parts = sym (take_all (n + 1) cs (omega arith)) ∙ take_more cs n d (omega arith)
-
-  count : length (take n cs) ≡ n
-  count = simp length-take (omega arith)
-
-  pub smaller_is : smaller_from all place cs ≡ not_aboves all place (take n cs) ++ final ∷ []
-  smaller_is =
-      ap (smaller_from all place) parts
-      ∙ smaller_from_split all place (take n cs) last
-      ∙ ap (λ (k : ℕ). not_aboves all place (take n cs) ++ plus (not_above all (place + k) last) (negsuc 0) ∷ []) count
-
-  pub last_smaller : (e : List ℤ) → slice_index_or (smaller_from all place cs) (length (smaller_from all place cs) - 1) e ≡ final
-  last_smaller e =
-      let front = not_aboves all place (take n cs) in
-      let size : length (front ++ final ∷ []) - 1 ≡ length front = simp length-append (omega arith) in
-      ap (λ (goal : List (List ℤ)). slice_index_or goal (length goal - 1) e) smaller_is
-      ∙ ap (λ (k : ℕ). slice_index_or (front ++ final ∷ []) k e) size
-      ∙ get_or_at front final [] e (length front) refl
-
-pub not_aboves_step : (old now : List (List ℤ)) (all place : ℕ) (cs : List Component) (i : ℕ) (d : Component) (form : List ℤ) → i < length cs
-    → now ≡ (old ++ not_aboves all place (take i cs)) ++ form ∷ [] → form ≡ not_above all (place + i) (get_or cs i d) → now ≡ old ++ not_aboves all place (take (i + 1) cs)
-not_aboves_step old now all place cs i d form h e same =
-    let c = get_or cs i d in
-    let count : length (take i cs) ≡ i = simp length-take (omega arith) in
-    let more : not_aboves all place (take (i + 1) cs) ≡ not_aboves all place (take i cs) ++ not_above all (place + i) c ∷ [] =
-    ap (not_aboves all place) (take_more cs i d h) ∙ not_aboves_more all place (take i cs) c ∙ ap (λ (k : ℕ). not_aboves all place (take i cs) ++ not_above all (place + k) c ∷ []) count in
-    e ∙ rw (same, more) (append_assoc old (not_aboves all place (take i cs)) (not_above all (place + i) c ∷ []))
+  pub smaller_end : (mid whole : List (List ℤ)) (form : List ℤ) → length cs ≡ i + 1 → mid ++ drop i (smaller_from all place cs) ≡ whole
+      → form ≡ plus (not_above all (place + i) (get_or cs i d)) (negsuc 0) → mid ++ form ∷ [] ≡ whole
+  smaller_end mid whole form long so_far same = rw same (ap (λ (xs : List (List ℤ)). mid ++ xs) (sym (smaller_last all place cs i d long)) ∙ so_far)
 
 -- ---- clauses of results
 

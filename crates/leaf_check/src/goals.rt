@@ -177,51 +177,28 @@ fn form_below(
 
 impl Known {
     // Puts behind the forms that the unknowns from a place on agree with the components but for the last, which is
-    // smaller.
+    // smaller: all of these forms from so many on.
     pub(crate) fn push_smaller(
         &mut self,
         alloc: Global,
         scope: usize,
         front: &[Component],
+        first: usize,
     ) -> Result<(), FormRefusal>
-        requires some { 0 < length front.now }
+        requires some { first < length front.now }
         requires places { scope + length front.now ≤ self.old.width }
         requires widths { All (λ (c : Component). length c.form ≡ scope + 1) front.now }
         ensures listed { let goal = model.smaller_from self.old.width scope front.now in
             IsChecked is_form_overflow (constant (slice_index_or goal (length goal - 1) []) ∷ []) result }
         ensures pushed { ArePushed result
-            (model.smaller_from self.old.width scope front.now) self.old self.new }
+            (drop first (model.smaller_from self.old.width scope front.now)) self.old self.new }
     {
         let width = self.width();
         let last = front.len() - 1;
-        for i in 0..last {
+        for i in first..last {
             let form = not_above(alloc, width, scope + i, &front[i])?;
             self.push(form)?;
         }
-        let form = form_below(alloc, width, scope + last, &front[last])?;
-        self.push(form)?;
-        Ok(())
-    }
-    // Puts the last two forms of the goal of a smaller point behind the others: the unknown in front of the last one agrees
-    // with its component, and the last one is smaller.
-    pub(crate) fn push_next_smaller(
-        &mut self,
-        alloc: Global,
-        scope: usize,
-        front: &[Component],
-    ) -> Result<(), FormRefusal>
-        requires some { 1 < length front.now }
-        requires places { scope + length front.now ≤ self.old.width }
-        requires widths { All (λ (c : Component). length c.form ≡ scope + 1) front.now }
-        ensures listed { let goal = model.smaller_from self.old.width scope front.now in
-            IsChecked is_form_overflow (constant (slice_index_or goal (length goal - 1) []) ∷ []) result }
-        ensures pushed { ArePushed result
-            (drop (length front.now - 2) (model.smaller_from self.old.width scope front.now)) self.old self.new }
-    {
-        let width = self.width();
-        let last = front.len() - 1;
-        let form = not_above(alloc, width, scope + (last - 1), &front[last - 1])?;
-        self.push(form)?;
         let form = form_below(alloc, width, scope + last, &front[last])?;
         self.push(form)?;
         Ok(())

@@ -170,7 +170,7 @@ impl Leaf<'_> {
             known.old known.new }
     {
         self.push_unknowns(alloc, known)?;
-        known.push_smaller(alloc, self.scope, front)?;
+        known.push_smaller(alloc, self.scope, front, 0)?;
         Ok(())
     }
 
@@ -273,7 +273,7 @@ impl Leaf<'_> {
             return self.push_list_goal(alloc, known, components, r + 1);
         }
         let (front, _) = components.split_at(r - single + 2);
-        known.push_next_smaller(alloc, self.scope, front)
+        known.push_smaller(alloc, self.scope, front, r - single)
     }
 
     /// Turns the forms of a refutation, from 0, into those of the next one, from which they differ at their end. It

@@ -50,10 +50,10 @@ returns-clause-listed c =
     let i = r - (length c.rows.result.now + length cs) in
     let is : c.args.r ≡ length c.args.self.now.problem.now.rows + length c.args.components.now + (c.args.r - (length c.rows.result.now + length c.args.components.now)) = omega (arith, same, c.if-r-single.false) in
     let width : c.drop_last.new.self.width ≡ c.args.self.now.scope + c.args.self.now.problem.now.unknowns = ap (λ (k : KnownForms). k.width) c.drop_last.ensures ∙ c.requires.goal.width in
-    let given = subst (λ (w : ℕ). let goal = smaller_from w c.args.self.now.scope c.split_at.result.0.now in IsChecked is_form_overflow (constant (slice_index_or goal (length goal - 1) []) ∷ []) c.push_next_smaller.result) width c.push_next_smaller.ensures.listed in
+    let given = subst (λ (w : ℕ). let goal = smaller_from w c.args.self.now.scope c.split_at.result.0.now in IsChecked is_form_overflow (constant (slice_index_or goal (length goal - 1) []) ∷ []) c.push_smaller.result) width c.push_smaller.ensures.listed in
     let next = next_listed P L cs c.split_at.result.0.now r i is (omega (arith, same, place, c.if-r-single.false)) c.split_at.ensures.front in
-    subst (λ (o : Option (List Component)). IsChecked is_form_overflow (slice_index_or (leaf_premises P L o) (r + 1) nothing).listed c.push_next_smaller.result) (sym c.requires.list)
-    (subst (λ (zs : List ℤ). IsChecked is_form_overflow zs c.push_next_smaller.result) (sym next) given)
+    subst (λ (o : Option (List Component)). IsChecked is_form_overflow (slice_index_or (leaf_premises P L o) (r + 1) nothing).listed c.push_smaller.result) (sym c.requires.list)
+    (subst (λ (zs : List ℤ). IsChecked is_form_overflow zs c.push_smaller.result) (sym next) given)
 
 pub returns-clause-turned : goal.returns-clause-turned
 returns-clause-turned c =
@@ -67,19 +67,17 @@ returns-clause-turned c =
     let place = own_place P L (option_copied c.args.self.now.list) cs (r + 1) c.requires.list c.requires.place in
     let i = r - (length c.rows.result.now + length cs) in
     let is : c.args.r ≡ length c.args.self.now.problem.now.rows + length c.args.components.now + (c.args.r - (length c.rows.result.now + length c.args.components.now)) = omega (arith, same, c.if-r-single.false) in
-    let size : length c.split_at.result.0.now - 2 ≡ c.args.r - (length c.rows.result.now + length c.args.components.now) = omega (arith, c.split_at.ensures.front_len, same, place, c.if-r-single.false) in
     let held : c.args.known.now.forms ≡ scope_forms c.args.self.now.problem.now (case_of c.args.self.now) ++ (slice_index_or (leaf_premises c.args.self.now.problem.now (case_of c.args.self.now) (Some c.args.components.now)) c.args.r nothing).known
     = c.requires.goal.forms ∙ ap (λ (o : Option (List Component)). F ++ (slice_index_or (leaf_premises P L o) r nothing).known) c.requires.list in
-    let R = c.push_next_smaller.result in
-    let now = c.push_next_smaller.new.self in
+    let R = c.push_smaller.result in
+    let now = c.push_smaller.new.self in
     let w = c.args.known.now.width in
-    let by_drop = subst (λ (k : KnownForms). OnOk R (now ≡ record k { forms = k.forms ++ drop (length front - 2) (smaller_from k.width c.args.self.now.scope front) })) c.drop_last.ensures c.push_next_smaller.ensures.pushed.ok in
-    let by_width = subst (λ (v : ℕ). OnOk R (now ≡ record { width = w; forms = without_last c.args.known.now.forms ++ drop (length front - 2) (smaller_from v c.args.self.now.scope front) })) c.requires.goal.width by_drop in
-    let by_size = subst (λ (k : ℕ). OnOk R (now ≡ record { width = w; forms = without_last c.args.known.now.forms ++ drop k (smaller_from (c.args.self.now.scope + P.unknowns) c.args.self.now.scope front) })) size by_width in
+    let by_drop = subst (λ (k : KnownForms). OnOk R (now ≡ record k { forms = k.forms ++ drop i (smaller_from k.width c.args.self.now.scope front) })) c.drop_last.ensures c.push_smaller.ensures.pushed.ok in
+    let by_width = subst (λ (v : ℕ). OnOk R (now ≡ record { width = w; forms = without_last c.args.known.now.forms ++ drop i (smaller_from v c.args.self.now.scope front) })) c.requires.goal.width by_drop in
     let next = next_forms P L cs front r i is (omega (arith, same, place, c.if-r-single.false)) c.split_at.ensures.front F c.args.known.now.forms held in
     record {
       ok = subst (λ (o : Option (List Component)). OnOk R (now ≡ record { width = w; forms = F ++ (slice_index_or (leaf_premises P L o) (r + 1) nothing).known })) (sym c.requires.list)
-          (subst (λ (G : List (List ℤ)). OnOk R (now ≡ record { width = w; forms = G })) next by_size);
-      stay = still c.args.known.now c.drop_last.new.self now c.drop_last.ensures c.push_next_smaller.ensures.pushed.front;
-      width = c.push_next_smaller.ensures.pushed.width ∙ ap (λ (k : KnownForms). k.width) c.drop_last.ensures;
+          (subst (λ (G : List (List ℤ)). OnOk R (now ≡ record { width = w; forms = G })) next by_width);
+      stay = still c.args.known.now c.drop_last.new.self now c.drop_last.ensures c.push_smaller.ensures.pushed.front;
+      width = c.push_smaller.ensures.pushed.width ∙ ap (λ (k : KnownForms). k.width) c.drop_last.ensures;
     }
