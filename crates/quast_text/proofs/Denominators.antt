@@ -1,6 +1,7 @@
 -- The common denominator, fraction by fraction, and the numerators over it.
-use Rattle.quast_text.proofs.Words.{◌≡◌, ◌∙◌, refl, ap, sym, ℕ, ◌+◌, ◌<◌, ◌≤◌, ℤ, pos, Bool, true, false, ◌&&◌, IsTrue, IsFalse, List, [], ◌∷◌, ◌++◌, length, take, drop, get_or, map, drop_more, take_more, take_all, map-append, All, Fits, fits, lcm, all_fit, common_denominators, last_of, component_of, Wide, numerator_of}
+use Rattle.quast_text.proofs.Words.{◌≡◌, ◌∙◌, refl, ap, sym, ℕ, ◌+◌, ◌<◌, ◌≤◌, ℤ, pos, Bool, false, ◌&&◌, IsTrue, IsFalse, List, [], ◌∷◌, ◌++◌, length, take, drop, get_or, map, drop_more, take_more, take_all, map-append, All, Fits, fits, lcm, all_fit, common_denominators, last_of, component_of, Wide, numerator_of}
 use Rattle.std.specs.Prelude.{Err}
+use Rattle.std.proofs.Math.Bool.{and-false}
 use Rattle.quast.proofs.Conditions.{all_fit_from}
 use Rattle.std.proofs.lemmas.List.Folds.{list_all-map, list_all_at}
 
@@ -40,12 +41,8 @@ numerators_end d fs i found h so_far = so_far ∙ ap (map (numerator_of d)) (tak
 pub numerators_fit : (d : ℤ) (fs : List (ℤ × ℤ)) (i : ℕ) (found : List ℤ) → length fs ≤ i → found ≡ map (numerator_of d) (take i fs) → All Fits found → IsTrue (all_fit (map (numerator_of d) fs))
 numerators_fit d fs i found h so_far all = rw (← numerators_end d fs i found h so_far) (all_fit_from found all)
 
-and_false : (b : Bool) → (b && false) ≡ false
-and_false true = refl
-and_false false = refl
-
 -- a numerator that does not fit
 pub component_wide : (start : ℕ) (fs : List (ℤ × ℤ)) (d : ℤ) → d ≡ last_of (pos 1) (common_denominators (pos 1) fs) → IsFalse (all_fit (map (numerator_of d) fs)) → component_of start fs ≡ Err (Wide start)
 component_wide start fs d is wide =
     let c : all_fit (map (numerator_of (last_of (pos 1) (common_denominators (pos 1) fs))) fs) ≡ false = rw is at wide in
-    rw (c, and_false (all_fit (common_denominators (pos 1) fs))) refl
+    rw (c, and-false (all_fit (common_denominators (pos 1) fs))) refl

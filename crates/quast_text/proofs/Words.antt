@@ -24,7 +24,7 @@ pub use Rattle.text_reading.specs.Fronts.{with_front}
 pub use Rattle.quast.specs.Trees.{ScopedTree}
 pub use Rattle.quast.specs.Components.{IsComponent}
 pub use Rattle.pip_model.specs.Printed.{IsCommented, IsPrintableAnswer}
-pub use Rattle.text_printing.proofs.Spellings.{written, spelt_more, begins_more}
+pub use Rattle.text_printing.proofs.Spellings.{written}
 pub use Rattle.quast_text.specs.Trees.{next_component, opening}
 unfoldable pub use Rattle.quast_text.specs.Trees.{components_behind, list_at, choice_at, define_at}
 pub use Rattle.quast_text.specs.Faults.{text_fault}

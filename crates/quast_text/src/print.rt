@@ -162,6 +162,7 @@ fn put_list(out: &mut Vec<u8>, components: &[Component]) -> Result<(), AllocErro
     put(out, b")\n")
 }
 
+#[tactic(auto, using(std::proofs::lemmas::List::take_all, crate::proofs::Spellings::components_flat))]
 fn put_components(out: &mut Vec<u8>, components: &[Component]) -> Result<(), AllocError>
     ensures ok { Appends (spell_components components.now) out.old.items out.new.items result }
     ensures kept { Begins out.old.items out.new.items }
