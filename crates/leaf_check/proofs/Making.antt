@@ -29,14 +29,6 @@ last_entry form some =
     ap (drop (length form - 1)) (form-parts (width form) form (omega arith)).0
     ∙ drop_at (coefficients form) (constant form ∷ []) (length form - 1) (length-coefficients form)
 
--- a form read over so many places: its coefficients, zeros, and its constant
-pub widened_made : (w : ℕ) (form made : List ℤ) → 0 < length form → length form ≤ w + 1
-    → made ≡ (take w (coefficients form) ++ replicate (w - length (coefficients form)) (pos 0)) ++ drop (length form - 1) form → made ≡ widen_to w form
-widened_made w form made some narrow e =
-    let front : length (coefficients form) ≡ width form = length-coefficients form in
-    let whole : take w (coefficients form) ≡ coefficients form = take_all w (coefficients form) (omega (arith, front)) in
-    e ∙ rw (whole, front, last_entry form some) refl
-
 -- the parts of a row that is turned: the other places, and zeros up to the scope; the unknowns; the constant
 module _ (n w : ℕ) (row : List ℤ) (some : n < length row) (within : length row ≤ n + w + 1) where
   abbrev rest : List ℤ

@@ -1,5 +1,5 @@
 -- What each refutation of a leaf starts from beside the leaf's forms.
-use Rattle.leaf_check.proofs.Words.{◌≡◌, refl, ap, sym, ◌∙◌, ℕ, zero, suc, ◌+◌, ◌-◌, ◌*◌, ◌<◌, pos, List, [], ◌∷◌, ◌++◌, length, take, map, get_or, append_assoc, arith, eqb-true, Bool, true, false, ◌&&◌, Err, slice_index_or, Option, Some, None, ◌==◌, length-map, length-append, get_or-append_right, get_or-map, same_number, Problem, Component, ◌>>◌, LeafProofs, spot, Rejected, Checks, holds, check_leaf, Premises, LeafCase, leaf_premises, row_premises, sign_premises, least_premises, fronts_from, is_whole_list, nothing, goal_count, has_shape}
+use Rattle.leaf_check.proofs.Words.{◌≡◌, refl, ap, sym, ◌∙◌, ℕ, zero, suc, ◌+◌, ◌-◌, ◌<◌, pos, List, [], ◌∷◌, ◌++◌, length, take, map, get_or, append_assoc, arith, eqb-true, Bool, true, false, ◌&&◌, Err, slice_index_or, Option, Some, None, ◌==◌, length-map, length-append, get_or-append_right, get_or-map, same_number, Problem, Component, ◌>>◌, LeafProofs, spot, Rejected, Checks, holds, check_leaf, Premises, LeafCase, leaf_premises, row_premises, sign_premises, least_premises, fronts_from, is_whole_list, nothing, goal_count, has_shape}
 use Rattle.std.proofs.Common.{IsTrue}
 use Rattle.std.specs.List.{list_all}
 use Rattle.pip_model.proofs.Tests.{both}
@@ -58,13 +58,6 @@ own_place P L list cs r e h =
 
 pub whole_count : (n : ℕ) (cs : List Component) → IsTrue (is_whole_list n (Some cs)) → length cs ≡ n
 whole_count n cs h = eqb-true (length cs) n (both (length cs == n) (list_all (λ (c : Component). same_number c.den (pos 1)) cs) h).0
-
-pub goals_of_list : (P : Problem) (list : Option (List Component)) (cs : List Component) → list ≡ Some cs → IsTrue (is_whole_list P.unknowns list)
-    → length P.rows + 2 * P.unknowns ≡ goal_count P list
-goals_of_list P list cs e h =
-    let same : goal_count P list ≡ goal_count P (Some cs) = ap (goal_count P) e in
-    let count = whole_count P.unknowns cs (rw e at h) in
-    omega arith
 
 -- a leaf has as many goals as it has premises of refutations
 pub own_goals : (P : Problem) (L : LeafCase) (list : Option (List Component)) → length (leaf_premises P L list) ≡ goal_count P list

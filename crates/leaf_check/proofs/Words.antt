@@ -1,7 +1,7 @@
 -- The words of other modules that the proofs of this crate cite, passed on from one place. Declares nothing.
 pub use Rattle.std.proofs.Common.{◌≡◌, refl, ap, sym, ◌∙◌, ℕ, ◌+◌, ◌<◌, ◌≤◌, ℤ, ◌+ℤ◌, ◌*ℤ◌, pos, Bool, true, false, ◌&&◌, List, [], ◌∷◌, ◌++◌, length, take, drop, set, get_or, append_assoc, arith, Ok, Err, ap₂, map, zero, suc, ◌-◌, negsuc, ◌-ℤ◌, neg_ℤ, Result, ◌*◌, eqb-true, replicate, inl, inr, rules, subst}
-pub use Rattle.std.specs.Prelude.{IsTrue, IsFalse, nat_lt, unsigned_abs, slice_index_or, Option, Some, None, IfSome, IfOk, ◌==◌, int_le, ◌⊎◌, All, option_copied, OnOk}
-pub use Rattle.std.proofs.lemmas.List.{drop_more, drop_all, take_more_set, drop-set-lt, length-append, length-map, take-take, take_at, get_or-map, take_more, length-take, get_or_at, take_all, get_or-append_right, length-replicate, set_split, take-replicate, drop-replicate, drop_at, length-drop, get_or_append_left, take-append-le}
+pub use Rattle.std.specs.Prelude.{IsTrue, IsFalse, nat_lt, unsigned_abs, slice_index_or, Option, Some, None, IfSome, IfOk, ◌==◌, int_le, All, option_copied, OnOk}
+pub use Rattle.std.proofs.lemmas.List.{drop_more, drop_all, take_more_set, drop-set-lt, length-append, length-map, take-take, take_at, get_or-map, length-take, get_or_at, take_all, get_or-append_right, length-replicate, set_split, take-replicate, drop-replicate, drop_at, length-drop, get_or_append_left, take-append-le}
 pub use Rattle.std.proofs.lemmas.Int.{ints, to_z-of_z}
 pub use Rattle.std.specs.Int.{w128}
 pub use Rattle.std.proofs.lemmas.Result.{err_from_is_err_and}

@@ -11,6 +11,7 @@ use affine_forms::{Form, WantOfMemory};
 use std::alloc::Global;
 
 // A form over so many places that is a number at one of them.
+#[tactic(auto, using(crate::proofs::Making::unit_made))]
 fn unit(alloc: Global, width: usize, place: usize) -> Result<Form, WantOfMemory>
     requires { place < width }
     ensures { IfOk result (λ form. form ≡ unit_form width place (pos 1)) }

@@ -1,4 +1,4 @@
-ghost use Rattle.std.specs.Prelude.{◌≡◌, true, length, IfOk};
+ghost use Rattle.std.specs.Prelude.{◌≡◌, true, IfOk};
 ghost use Rattle.pip_model.specs.Agreement.{Agrees};
 ghost use Rattle.pip_model.specs.Check as model;
 ghost use Rattle.leaf_check.specs.Faults.{fault_of};
@@ -23,18 +23,7 @@ pub fn void_forms(alloc: Global, problem: &Problem) -> Result<Known, WantOfMemor
     Ok(known)
 }
 
-// Checks the one refutation of `void`, with the steps that stand before it.
-fn refute_void(alloc: Global, problem: &Problem, proofs: &LeafProofs) -> Result<(), Fault>
-    requires { length proofs.now.refutations ≡ 1 }
-    ensures { Agrees (λ _. tt) fault_of result (model.check_proofs true 1 problem.now.params
-        (model.void_forms problem.now) model.void_premises proofs.now) }
-{
-    let mut known = void_forms(alloc, problem)?;
-    known.add_steps(alloc, 1, 0, proofs.shared().as_slice())?;
-    known.refute(alloc, 1, 1, proofs.as_slice()[0].as_slice())
-}
-
-// Checks the proofs of `void`: they have one refutation.
+// Checks the proofs of `void`: they have one refutation, with the steps that stand before it.
 fn check_void_proofs(alloc: Global, problem: &Problem, proofs: &LeafProofs) -> Result<(), Fault>
     ensures { Agrees (λ _. tt) fault_of result (model.check_proofs true 1 problem.now.params
         (model.void_forms problem.now) model.void_premises proofs.now) }
@@ -46,7 +35,9 @@ fn check_void_proofs(alloc: Global, problem: &Problem, proofs: &LeafProofs) -> R
             step: 0,
         }));
     }
-    refute_void(alloc, problem, proofs)
+    let mut known = void_forms(alloc, problem)?;
+    known.add_steps(alloc, 1, 0, proofs.shared().as_slice())?;
+    known.refute(alloc, 1, 1, proofs.as_slice()[0].as_slice())
 }
 
 /// Checks the answer `void`: the certificate has one leaf, whose proofs are checked. Both formats are checked alike.
