@@ -1,6 +1,7 @@
 -- The tests of the definitions are those of the code.
-use Rattle.std.proofs.Common.{◌≡◌, ap, ap₂, refl, sym, ◌∙◌, length, Bool, true, false, ◌&&◌, List, [], ◌∷◌, ℤ, pos, negsuc, arith}
+use Rattle.std.proofs.Common.{◌≡◌, ap, ap₂, refl, sym, ◌∙◌, length, Bool, true, false, ◌&&◌, List, [], ◌∷◌, ℤ, pos, arith}
 use Rattle.std.specs.List.{list_all}
+use Rattle.std.proofs.Math.Bool.{and-false}
 use Rattle.std.specs.Ordering.{int_eq}
 use Rattle.std.specs.Cmp.Lexicographic.{pointwise}
 use Rattle.std.proofs.lemmas.Bool.Decides.{Decides-int_eq}
@@ -41,8 +42,4 @@ other_lengths [] (d ∷ ds) h = refl
 other_lengths (c ∷ cs) [] h = refl
 other_lengths (c ∷ cs) (d ∷ ds) h =
     let e = other_lengths cs ds (λ k. h (omega (arith, k))) in
-    never (same_number c.den d.den && same_form c.form d.form) ∙ ap (λ b. same_number c.den d.den && same_form c.form d.form && b) e
-  where
-    never : (b : Bool) → false ≡ (b && false)
-    never true = refl
-    never false = refl
+    sym (and-false (same_number c.den d.den && same_form c.form d.form)) ∙ ap (λ b. same_number c.den d.den && same_form c.form d.form && b) e
