@@ -1,5 +1,6 @@
 -- Steps that refutations share, one after another.
 use Rattle.certificate_check.proofs.Words.{◌≡◌, refl, ap, ap₂, sym, ◌∙◌, ℕ, zero, suc, ◌+◌, ◌<◌, ◌≤◌, ℤ, Bool, true, false, ◌&&◌, List, [], ◌∷◌, ◌++◌, length, map, take, drop, get_or, replicate, append_assoc, append-nil, arith, inl, inr, length-append, length-map, length-replicate, length-drop, drop_more, drop_all, take_more, take_all, map-append, get_or-map, same_number, Step, Refutation, LeafProofs, Premises, lowered, renumbered, moved_index, shareable, same_terms, common_front, shared_by, after_shared, IsCommon, same_number_yes, same_number_no, sized, counts_from}
+use Rattle.std.proofs.Math.Bool.{and-false}
 use Rattle.std.proofs.lemmas.Bool.{cases_lt}
 use Rattle.check_laws.proofs.Fronts.{shared-fronts, shareable-short}
 
@@ -9,11 +10,7 @@ pub other_lengths : (ts us : List (ℤ × ℤ)) → ¬ (length ts ≡ length us)
 other_lengths [] [] h = absurd (h refl)
 other_lengths [] (u ∷ us) h = refl
 other_lengths (t ∷ ts) [] h = refl
-other_lengths (t ∷ ts) (u ∷ us) h = never (same_number t.0 u.0 && same_number t.1 u.1) ∙ ap (λ (b : Bool). same_number t.0 u.0 && same_number t.1 u.1 && b) (other_lengths ts us (λ k. h (omega (arith, k))))
-  where
-    never : (b : Bool) → false ≡ (b && false)
-    never true = refl
-    never false = refl
+other_lengths (t ∷ ts) (u ∷ us) h = sym (and-false (same_number t.0 u.0 && same_number t.1 u.1)) ∙ ap (λ (b : Bool). same_number t.0 u.0 && same_number t.1 u.1 && b) (other_lengths ts us (λ k. h (omega (arith, k))))
 
 module _ (ts us : List (ℤ × ℤ)) (i : ℕ) (d : ℤ × ℤ) (h : i < length ts) (k : i < length us) where
   heads : same_terms (drop i ts) (drop i us) ≡ (same_number (get_or ts i d).0 (get_or us i d).0 && same_number (get_or ts i d).1 (get_or us i d).1 && same_terms (drop (i + 1) ts) (drop (i + 1) us))

@@ -4,4 +4,5 @@ pub mod Walks
 pub mod Shares
 pub mod Commons
 pub mod Indices
+pub mod Lengths
 pub use Rattle.leaf_check.proofs.Owned

@@ -1,5 +1,6 @@
 -- The shared proofs of leaves by the numbers of their forms alone, and what an accepted certificate has of refutations.
 use Rattle.certificate_check.proofs.Words.{◌≡◌, refl, ap, ap₂, sym, ◌∙◌, ℕ, zero, suc, ◌+◌, ◌<◌, ◌≤◌, ℤ, Bool, true, List, [], ◌∷◌, ◌++◌, length, map, drop, get_or, replicate, append_assoc, subst, arith, Ok, eqb-true, ◌==◌, Option, Some, None, length-append, length-map, length-replicate, drop-drop, drop_more, map-append, opposite, constant, widen_to, opposite_listed, Quotient, lower_bound, upper_bound, Problem, is_vector, Tree, Bottom, Leaf, If, NewParm, Component, Answer, Void, Solved, leaves, Refutation, LeafProofs, Certificate, ◌>>=◌, ◌>>◌, spot, holds, fit, after_steps, joined, carried, listed_before, check_refutations, places_from, scope_forms, unknown_forms, row_form, Premises, LeafCase, leaf_cases, leaf_forms, leaf_premises, row_premises, sign_premises, least_premises, smaller_from, fronts_from, check_proofs, check_leaf, check_leaves, is_whole_list, check_context, check_void, check_tree, check_by, void_forms, void_premises, proofs_at, Accepted, shareable, common_front, shared_by, after_shared, share_leaf, share_leaves, shared_leaves, renumbered, moved_index, check_leaves-if, goal_count, no_proofs, counts_from, own_sizes, sized, share_sized, share_at, share_below, IsCounted, IsCountedAt, own_goals}
+use Rattle.leaf_check.proofs.Smaller.{length-smaller_from}
 use Rattle.check_laws.proofs.Paths.{length-leaf_cases}
 use Rattle.check_laws.proofs.Refutations.{then_ok, holds_ok}
 use Rattle.check_laws.proofs.ShareReadable.{length-places}
@@ -60,11 +61,6 @@ module _ (P : Problem) (L : LeafCase) where
       let i = length-append (places_from all 0 P.params ++ map (widen_to all) P.context) (map (widen_to all) L.path) in
       omega arith
 
-  length-smaller : (all place : ℕ) (cs : List Component) → length (smaller_from all place cs) ≡ length cs
-  length-smaller all place [] = refl
-  length-smaller all place (c ∷ []) = refl
-  length-smaller all place (c ∷ d ∷ cs) = ap suc (length-smaller all (place + 1) (d ∷ cs))
-
   ones : {X : Type 0} (f : X → Premises) (xs : List X) → ((x : X) → length (f x).known ≡ 1) → sizes (map f xs) ≡ replicate (length xs) 1
   ones f [] h = refl
   ones f (x ∷ xs) h = ap₂ (λ (n : ℕ) (rest : List ℕ). n ∷ rest) (h x) (ones f xs h)
@@ -74,7 +70,7 @@ module _ (P : Problem) (L : LeafCase) where
   least_sizes front (c ∷ cs) =
       let more : length (front ++ c ∷ []) ≡ length front + 1 = length-append front (c ∷ []) in
       let first : length (unknown_forms P L ++ smaller_from (L.scope + P.unknowns) L.scope (front ++ c ∷ [])) ≡ unknowns + length front + 1
-      = length-append (unknown_forms P L) (smaller_from (L.scope + P.unknowns) L.scope (front ++ c ∷ [])) ∙ (let e = length-unknowns in let f = length-smaller (L.scope + P.unknowns) L.scope (front ++ c ∷ []) in omega arith) in
+      = length-append (unknown_forms P L) (smaller_from (L.scope + P.unknowns) L.scope (front ++ c ∷ [])) ∙ (let e = length-unknowns in let f = length-smaller_from (L.scope + P.unknowns) L.scope (front ++ c ∷ []) in omega arith) in
       let next : unknowns + length (front ++ c ∷ []) + 1 ≡ unknowns + length front + 1 + 1 = omega arith in
       ap₂ (λ (n : ℕ) (rest : List ℕ). n ∷ rest) first (least_sizes (front ++ c ∷ []) cs ∙ ap (λ (n : ℕ). counts_from n (length cs)) next)
 

@@ -33,10 +33,18 @@ fn shareable_len(numbering: Numbering, steps: &[Step]) -> usize
     most
 }
 
-// The steps that a refutation can share, with their indices lowered.
-fn shareable(alloc: Global, numbering: Numbering, steps: &[Step]) -> Result<Vec<Step>, WantOfMemory>
-    ensures { IfOk result (λ made. made.items ≡ model.shareable numbering.leaf numbering.own steps.now) }
+// The steps that a refutation can share, with their indices lowered, where so many forms of its own stand behind those
+// of the leaf.
+fn shareable(
+    alloc: Global,
+    leaf: usize,
+    own: usize,
+    steps: &Refutation,
+) -> Result<Vec<Step>, WantOfMemory>
+    ensures { IfOk result (λ made. made.items ≡ model.shareable leaf own steps.now) }
 {
+    let numbering = Numbering { leaf, own };
+    let steps = steps.as_slice();
     let n = shareable_len(numbering, steps);
     renumbered_steps(alloc, &steps[..n], Renumbering::Lowered(numbering))
 }
@@ -81,18 +89,6 @@ fn common_len(steps: &[Step], other: &[Step]) -> usize
     most
 }
 
-// The same, where so many forms of its own stand behind those of the leaf.
-fn shareable_of(
-    alloc: Global,
-    leaf: usize,
-    own: usize,
-    steps: &Refutation,
-) -> Result<Vec<Step>, WantOfMemory>
-    ensures { IfOk result (λ made. made.items ≡ model.shareable leaf own steps.now) }
-{
-    shareable(alloc, Numbering { leaf, own }, steps.as_slice())
-}
-
 // What all refutations of a leaf can share, where each has so many forms of its own behind those of the leaf.
 #[tactic(auto, using(crate::proofs::Commons::nothing_shared))]
 pub(crate) fn shared_steps(
@@ -108,10 +104,10 @@ pub(crate) fn shared_steps(
         return Ok(Vec::new(alloc));
     }
     let mut r = refutations.len() - 1;
-    let mut shared = shareable_of(alloc, leaf, sizes[r], &refutations[r])?;
+    let mut shared = shareable(alloc, leaf, sizes[r], &refutations[r])?;
     while r > 0 {
         r -= 1;
-        let mut own = shareable_of(alloc, leaf, sizes[r], &refutations[r])?;
+        let mut own = shareable(alloc, leaf, sizes[r], &refutations[r])?;
         let n = common_len(&own, &shared);
         own.truncate(n);
         shared = own;

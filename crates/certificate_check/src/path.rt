@@ -27,18 +27,6 @@ impl Model for NodePath {
     ghost invariant = { λ p. All (λ c. length c ≤ p.scope + 1) p.forms.items };
 }
 
-// The opposite of a form.
-fn opposite_of(alloc: Global, form: &Form) -> Result<Form, FormRefusal>
-    requires { 0 < length form.now }
-    ensures listed { IsChecked is_form_overflow (opposite_listed form.now) result }
-    ensures value { IfOk result (λ made. made ≡ opposite form.now) }
-    ensures long { IfOk result (λ made. length made ≡ length form.now) }
-{
-    let mut made = form.try_clone(alloc)?;
-    made.opposite()?;
-    Ok(made)
-}
-
 // That the quotient at a place is at most the form over d.
 fn lower(alloc: Global, place: usize, form: &Form, d: i128) -> Result<Form, WantOfMemory>
     requires width { length form.now ≡ place + 1 }
@@ -139,13 +127,15 @@ impl NodePath {
     }
 
     /// Goes on to the second tree of a choice. A refusal leaves the path as it was.
+    #[tactic(auto, using(crate::proofs::Lengths::path_lengths))]
     pub fn push_opposite(&mut self, alloc: Global, form: &Form) -> Result<(), FormRefusal>
         requires { length form.now ≡ self.old.scope + 1 }
         ensures listed { IsChecked is_form_overflow (opposite_listed form.now) result }
         ensures ok { OnOk result (self.new ≡ record self.old { forms = self.old.forms ++ opposite form.now ∷ [] }) }
         ensures err { OnErr result (self.new ≡ self.old) }
     {
-        let opposite = opposite_of(alloc, form)?;
+        let mut opposite = form.try_clone(alloc)?;
+        opposite.opposite()?;
         self.put(opposite)?;
         Ok(())
     }

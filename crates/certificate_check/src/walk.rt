@@ -72,26 +72,6 @@ impl TreeCheck<'_> {
         Ok(l + 1)
     }
 
-    // The fault of leaf l, from 0, where a number of its path does not fit.
-    fn path_fault(&self, list: Option<&[Component]>, l: usize) -> Fault
-        requires { l < length self.now.proofs.now }
-        ensures { fault_of result ≡ Some (path_fault self.now.problem.now self.now.shares (l + 1)
-            (option_copied list.entry) (slice_index_or self.now.proofs.now l no_proofs)) }
-    {
-        let fits = has_shape(self.problem, list, &self.proofs[l]);
-        let refutation = if fits && !self.shares { 1 } else { 0 };
-        let at = Spot {
-            leaf: l + 1,
-            refutation,
-            step: 0,
-        };
-        if fits {
-            Fault::Overflow(at)
-        } else {
-            Fault::Rejected(at)
-        }
-    }
-
     // Why the walk ends at a node, the first of whose leaves is l, where the path to it is refused.
     fn refusal_at(&self, refusal: FormRefusal, node: &Node, l: usize) -> Fault
         requires { l < length self.now.proofs.now }
@@ -100,7 +80,20 @@ impl TreeCheck<'_> {
             else None) }
     {
         match refusal {
-            FormRefusal::Overflow => self.path_fault(first_list(node), l),
+            FormRefusal::Overflow => {
+                let fits = has_shape(self.problem, first_list(node), &self.proofs[l]);
+                let refutation = if fits && !self.shares { 1 } else { 0 };
+                let at = Spot {
+                    leaf: l + 1,
+                    refutation,
+                    step: 0,
+                };
+                if fits {
+                    Fault::Overflow(at)
+                } else {
+                    Fault::Rejected(at)
+                }
+            }
             FormRefusal::WantOfMemory => Fault::WantOfMemory,
         }
     }
