@@ -1,5 +1,5 @@
 -- The form of a quotient, `-g + d*q`, and the form with a number added, as they are made in place.
-use Rattle.affine_forms.proofs.Words.{◌≡◌, ℕ, ◌+◌, ◌-◌, ◌<◌, ◌≤◌, ℤ, pos, ◌+ℤ◌, neg_ℤ, List, length, [], ◌∷◌, refl, ap, sym, ◌∙◌, arith, slice_set, IsTrue, ints, length-map, get_or-map, width, constant, entry, negate, plus, widen_to, all_fit, Fits}
+use Rattle.affine_forms.proofs.Words.{◌≡◌, ℕ, ◌+◌, ◌-◌, ◌<◌, ◌≤◌, ℤ, pos, ◌+ℤ◌, neg_ℤ, List, length, ap, sym, ◌∙◌, arith, slice_set, ints, length-map, get_or-map, width, constant, entry, negate, plus, widen_to}
 use Rattle.pip_model.specs.Cuts.{rounding}
 use Rattle.pip_model.proofs.Forms.{length-widened, entry-widened, constant-plus}
 use Rattle.affine_forms.proofs.Units.{add_unit, add_last}
@@ -7,7 +7,7 @@ use Rattle.affine_forms.proofs.Units.{add_unit, add_last}
 from_zero : (z g : ℤ) → g ≡ pos 0 → neg_ℤ g +ℤ z ≡ z
 from_zero z g e = omega (arith, ints, e)
 
-rounding_is : (w q : ℕ) (g : List ℤ) (d : ℤ) → width g ≤ w → q < w → (q < width g → entry g q ≡ pos 0)
+pub rounding_is : (w q : ℕ) (g : List ℤ) (d : ℤ) → width g ≤ w → q < w → (q < width g → entry g q ≡ pos 0)
     → slice_set (negate (widen_to w g)) q d ≡ rounding w q (record { form = g; den = d })
 rounding_is w q g d h lt free =
     let wide = widen_to w g in
@@ -29,6 +29,3 @@ constant_plus c z h = constant-plus c z (omega (arith, h))
 
 pub plus_made : (c : List ℤ) (z v : ℤ) → 0 < length c → v ≡ entry c (length c - 1) +ℤ z → slice_set c (length c - 1) v ≡ plus c z
 plus_made c z v h e = ap (λ x. slice_set c (length c - 1) x) e ∙ plus_is c z h
-
-pub plus_listed : (c : List ℤ) (z : ℤ) → 0 < length c → Fits (entry c (length c - 1) +ℤ z) → IsTrue (all_fit (constant (plus c z) ∷ []))
-plus_listed c z h f = rw (constant_plus c z h, f) refl

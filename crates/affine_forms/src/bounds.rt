@@ -39,26 +39,6 @@ pub fn negate_around(entries: &mut [i128], q: usize, d: i128)
     entries[q] = d;
 }
 
-// The entries of the opposite of the form over so many places, and then d at place q.
-fn opposite_around(
-    alloc: Global,
-    width: usize,
-    form: &[i128],
-    q: usize,
-    d: i128,
-) -> Result<Vec<i128>, WantOfMemory>
-    requires form { IsForm form.now }
-    requires within { length form.now ≤ width + 1 }
-    requires place { q < width }
-    requires d { Fits d }
-    ensures value { IfOk result (λ v. v.items ≡ slice_set (negate (widen_to width form.now)) q d) }
-    ensures form { IfOk result (λ v. IsForm v.items) }
-{
-    let mut made = widen_entries(alloc, width, form)?;
-    negate_around(&mut made, q, d);
-    Ok(made)
-}
-
 // The entries of `-g + d*q` over so many places.
 fn rounding_entries(
     alloc: Global,
@@ -75,7 +55,8 @@ fn rounding_entries(
     ensures value { IfOk result (λ v. v.items ≡ model.rounding width place (record { form = g.now; den = d })) }
     ensures form { IfOk result (λ v. IsForm v.items) }
 {
-    let made = opposite_around(alloc, width, g, place, d)?;
+    let mut made = widen_entries(alloc, width, g)?;
+    negate_around(&mut made, place, d);
     Ok(made)
 }
 
@@ -98,15 +79,6 @@ pub fn rounding(
     Ok(Form::from_entries(entries))
 }
 
-// The opposite form.
-fn negate_form(entries: &mut [i128])
-    requires { IsForm entries.old }
-    ensures value { entries.new ≡ negate entries.old }
-    ensures form { IsForm entries.new }
-{
-    negate_all(entries);
-}
-
 /// The form `g - d*q` over so many places, where q stands at a place at which g is 0: at least 0 where q is at most the
 /// floor of g over d.
 pub fn lower_bound(
@@ -124,7 +96,7 @@ pub fn lower_bound(
     ensures { IfOk result (λ form. form ≡ model.lower_bound width place (record { form = g.now; den = d })) }
 {
     let mut entries = rounding_entries(alloc, width, place, g, d)?;
-    negate_form(&mut entries);
+    negate_all(&mut entries);
     Ok(Form::from_entries(entries))
 }
 

@@ -1,12 +1,6 @@
 use Rattle.affine_forms.proofs.Words.{◌≡◌, rules, pos, ◌-◌, ◌+ℤ◌, ◌-ℤ◌, get_or, length, to_z, of_z, w128, All-set, Fits}
-use Rattle.affine_forms.proofs.QuotientForms.{plus_made, plus_listed}
+use Rattle.affine_forms.proofs.QuotientForms.{plus_made}
 use Rattle.affine_forms.proofs.bounds.add_below.Goals as goal
-
-pub returns-clause-listed : goal.returns-clause-listed
-returns-clause-listed c =
-    let entries = c.args.entries.now in
-    let fits : Fits (get_or entries (length entries - 1) (pos 0) +ℤ (c.args.d -ℤ pos 1)) = search rules in
-    plus_listed entries (c.args.d -ℤ pos 1) c.requires.form.some fits
 
 pub returns-clause-ok : goal.returns-clause-ok
 returns-clause-ok c =
