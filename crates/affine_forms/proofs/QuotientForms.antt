@@ -16,10 +16,6 @@ rounding_is w q g d h lt free =
     let one : entry (negate wide) q +ℤ d ≡ d = ap (λ z. z +ℤ d) at ∙ from_zero d (entry wide q) (entry-widened w g h q lt free) in
     ap (λ z. slice_set (negate wide) q z) (sym one) ∙ sym (add_unit (negate wide) w q d (simp length-map long) (omega (arith, lt)))
 
-pub rounding_made : (w q : ℕ) (g : List ℤ) (d : ℤ) (v : List ℤ) → width g ≤ w → q < w → (q < width g → entry g q ≡ pos 0)
-    → v ≡ slice_set (negate (widen_to w g)) q d → v ≡ rounding w q (record { form = g; den = d })
-rounding_made w q g d v h lt free e = e ∙ rounding_is w q g d h lt free
-
 -- a form and a number
 pub plus_is : (c : List ℤ) (z : ℤ) → 0 < length c → slice_set c (length c - 1) (entry c (length c - 1) +ℤ z) ≡ plus c z
 plus_is c z h = sym (add_last c (width c) z (omega (arith, h)))

@@ -1,8 +1,7 @@
 -- Quotients by key and by place.
-use Rattle.new_parameters.proofs.Words.{◌≡◌, ℕ, zero, suc, ◌+◌, ◌-◌, ◌<◌, ◌≤◌, ℤ, pos, Bool, true, false, Option, Some, None, List, [], ◌∷◌, ◌++◌, length, take, get_or, refl, ap, sym, ◌∙◌, arith, cond, subst, length-append, ltb-false, nat_lt, position, slice_get, unwrap_or, get_or-take, length-replicate, width, coefficients, entry, Quotient, same_quotient, find_from, trimmed, is_same_key, IsQuotient, AreQuotients, length-coefficients, entry-padded}
-use Rattle.std.specs.List.{position_or_len, list_any}
-use Rattle.std.proofs.lemmas.List.Quantifiers.{position-Some}
-use Rattle.std.proofs.lemmas.List.Sums.{fails_before_first}
+use Rattle.new_parameters.proofs.Words.{◌≡◌, ℕ, zero, suc, ◌+◌, ◌-◌, ◌<◌, ◌≤◌, ℤ, pos, Bool, true, false, Option, Some, None, List, [], ◌∷◌, ◌++◌, length, take, refl, ap, sym, ◌∙◌, arith, cond, subst, length-append, position, slice_get, unwrap_or, get_or-take, length-replicate, width, coefficients, entry, Quotient, same_quotient, find_from, trimmed, is_same_key, IsQuotient, AreQuotients, length-coefficients, entry-padded}
+use Rattle.std.specs.List.{position_from, position_or_len, list_any}
+use Rattle.std.proofs.lemmas.Iterator.Adapters.{position_from-zero}
 use Rattle.new_parameters.proofs.Trimming.{trimmed_is}
 use Rattle.new_parameters.proofs.SameKeys.{same_quotient_is_key, same_key}
 
@@ -29,50 +28,35 @@ quotient_got n i ks k le = by (i - n) n i ks (omega arith)
 
 -- ---- the first that is the same
 
-pub find_first : (i j : ℕ) (ls : List Quotient) (k d : Quotient) → j < length ls → is_same_key k (get_or ls j d) ≡ true
-    → ((n : ℕ) → n < j → is_same_key k (get_or ls n d) ≡ false) → find_from i ls k ≡ Some (i + j)
-find_first i j [] k d lt e h = absurd (omega arith)
-find_first i zero (l ∷ ls) k d lt e h = rw (same_quotient_is_key k l, e) (ap Some (omega arith))
-find_first i (suc j) (l ∷ ls) k d lt e h =
-    rw (same_quotient_is_key k l, h 0 (omega arith))
-    (find_first (i + 1) j ls k d (omega arith) e (λ n less. h (suc n) (omega arith)) ∙ ap Some (omega arith))
+-- the place of the first that passes the test, with i places before the list
+abbrev pub shifted : ℕ → Option ℕ → Option ℕ
+shifted i None = None
+shifted i (Some n) = Some (i + n)
 
-pub find_none : (i : ℕ) (ls : List Quotient) (k d : Quotient) → ((n : ℕ) → n < length ls → is_same_key k (get_or ls n d) ≡ false) → find_from i ls k ≡ None
-find_none i [] k d h = refl
-find_none i (l ∷ ls) k d h = rw (same_quotient_is_key k l, h 0 (omega arith)) (find_none (i + 1) ls k d (λ n less. h (suc n) (omega arith)))
+find_from_is : (i j : ℕ) (ls : List Quotient) (k : Quotient) → find_from (i + j) ls k ≡ shifted i (position_from (is_same_key k) j ls)
+find_from_is i j [] k = refl
+find_from_is i j (l ∷ ls) k =
+    let next : i + j + 1 ≡ i + (j + 1) = omega arith in
+    rw (same_quotient_is_key k l, next, find_from_is i (j + 1) ls k) (by (is_same_key k l))
+  where
+    by : (t : Bool) → cond t (Some (i + j)) (shifted i (position_from (is_same_key k) (j + 1) ls)) ≡ shifted i (cond t (Some j) (position_from (is_same_key k) (j + 1) ls))
+    by true = refl
+    by false = refl
 
-beyond : (n m : ℕ) (t : Bool) → nat_lt n m ≡ t → cond t (Some n) None ≡ None → m ≤ n
-beyond n m true e h = absurd cc
-beyond n m false e h = grind (arith, ltb-false)
-
--- where the test of a key gives a place, and where it gives none
-pub find_at_place : (i j : ℕ) (ls : List Quotient) (k d : Quotient) → position (is_same_key k) ls ≡ Some j → find_from i ls k ≡ Some (i + j)
-find_at_place i j ls k d e =
-    let first = position-Some (is_same_key k) ls j d e in
-    find_first i j ls k d first.0 first.1 first.2
-
-pub find_nowhere : (i : ℕ) (ls : List Quotient) (k d : Quotient) → position (is_same_key k) ls ≡ None → find_from i ls k ≡ None
-find_nowhere i ls k d e =
-    let all = beyond (position_or_len (is_same_key k) ls) (length ls) (nat_lt (position_or_len (is_same_key k) ls) (length ls)) refl e in
-    find_none i ls k d (λ n less. fails_before_first (is_same_key k) ls n d (omega (arith, all, less)))
+pub find_is : (i : ℕ) (ls : List Quotient) (k : Quotient) (o : Option ℕ) → position (is_same_key k) ls ≡ o → find_from i ls k ≡ shifted i o
+find_is i ls k o e =
+    let start : i ≡ i + 0 = omega arith in
+    ap (λ (n : ℕ). find_from n ls k) start ∙ find_from_is i 0 ls k ∙ ap (shifted i) (sym (position_from-zero (is_same_key k) ls) ∙ e)
 
 -- a key that is not found passes no test
-absent_by : (i : ℕ) (l : Quotient) (ls : List Quotient) (k : Quotient) (t : Bool) → is_same_key k l ≡ t → cond t (Some i) (find_from (i + 1) ls k) ≡ None
-    → (is_same_key k l ≡ false) × (find_from (i + 1) ls k ≡ None)
-absent_by i l ls k true e h = absurd cc
-absent_by i l ls k false e h = (e, h)
-
-absent_more : (i : ℕ) (l : Quotient) (ls : List Quotient) (k : Quotient) → find_from i (l ∷ ls) k ≡ None → (is_same_key k l ≡ false) × (find_from (i + 1) ls k ≡ None)
-absent_more i l ls k h =
-    absent_by i l ls k (is_same_key k l) refl (ap (λ (t : Bool). cond t (Some i) (find_from (i + 1) ls k)) (sym (same_quotient_is_key k l)) ∙ h)
-
-pub absent_key : (i : ℕ) (ls : List Quotient) (k : Quotient) → find_from i ls k ≡ None → list_any (is_same_key k) ls ≡ false
-absent_key i [] k h = refl
-absent_key i (l ∷ ls) k h = let more = absent_more i l ls k h in rw more.0 (absent_key (i + 1) ls k more.1)
-
-pub absent_place : (i : ℕ) (ls : List Quotient) (k : Quotient) → find_from i ls k ≡ None → position_or_len (is_same_key k) ls ≡ length ls
-absent_place i [] k h = refl
-absent_place i (l ∷ ls) k h = let more = absent_more i l ls k h in let rest = absent_place (i + 1) ls k more.1 in rw more.0 (omega (arith, rest))
+pub absent : (i : ℕ) (ls : List Quotient) (k : Quotient) → find_from i ls k ≡ None → (list_any (is_same_key k) ls ≡ false) × (position_or_len (is_same_key k) ls ≡ length ls)
+absent i [] k h = (refl, refl)
+absent i (l ∷ ls) k h = by (is_same_key k l) refl (ap (λ (t : Bool). cond t (Some i) (find_from (i + 1) ls k)) (sym (same_quotient_is_key k l)) ∙ h) (absent (i + 1) ls k)
+  where
+    by : (t : Bool) → is_same_key k l ≡ t → cond t (Some i) (find_from (i + 1) ls k) ≡ None → (find_from (i + 1) ls k ≡ None → (list_any (is_same_key k) ls ≡ false) × (position_or_len (is_same_key k) ls ≡ length ls))
+        → (list_any (is_same_key k) (l ∷ ls) ≡ false) × (position_or_len (is_same_key k) (l ∷ ls) ≡ length (l ∷ ls))
+    by true e f later = absurd cc
+    by false e f later = let rest = later f in rw e (rest.0, omega (arith, rest.1))
 
 -- ---- the form of a key that is found at place q is 0 there
 

@@ -1,5 +1,5 @@
 -- The upper bound of a quotient fits, since the constant of its form lies in 0 .. d - 1.
-use Rattle.new_parameters.proofs.Words.{◌≡◌, ℕ, ◌+◌, ◌-◌, ◌<◌, ◌≤◌, ℤ, pos, ◌+ℤ◌, ◌-ℤ◌, ◌≤ℤ◌, neg_ℤ, refl, Bool, true, false, List, [], ◌∷◌, length, ap, sym, ◌∙◌, arith, length-append, length-set, slice_set, IsTrue, IsFalse, length-map, length-replicate, get_or-map, get_or-set_other, width, coefficients, constant, entry, negate, widen_to, Quotient, rounding, upper_bound, length-coefficients, length-widened, constant-plus, IsQuotient}
+use Rattle.new_parameters.proofs.Words.{◌≡◌, ℕ, ◌+◌, ◌-◌, ◌<◌, ◌≤◌, ℤ, pos, ◌+ℤ◌, ◌-ℤ◌, ◌≤ℤ◌, neg_ℤ, refl, false, List, [], ◌∷◌, length, ap, sym, ◌∙◌, arith, length-append, length-set, slice_set, IsTrue, IsFalse, length-map, length-replicate, get_or-map, get_or-set_other, width, coefficients, constant, entry, negate, widen_to, Quotient, rounding, upper_bound, length-coefficients, length-widened, constant-plus, IsQuotient}
 use Rattle.std.proofs.Math.Seq.{get_or-append_seam}
 use Rattle.std.proofs.lemmas.Int.{ints}
 use Rattle.pip_model.specs.Listed.{all_fit}
@@ -9,7 +9,7 @@ use Rattle.affine_forms.specs.Checks.{Fits, is_form_overflow}
 use Rattle.affine_forms.specs.declared.memory.FormRefusal.{FormRefusal}
 use Rattle.affine_forms.specs.declared.memory.FormRefusal.TheVariants.{Overflow}
 use Rattle.affine_forms.specs.Forms.{IsResidue}
-use Rattle.affine_forms.proofs.QuotientForms.{rounding_made}
+use Rattle.affine_forms.proofs.QuotientForms.{rounding_is}
 use Rattle.new_parameters.proofs.Trimming.{padded}
 
 widened_last : (w : ℕ) (c : List ℤ) → width c ≤ w → entry (widen_to w c) w ≡ constant c
@@ -22,7 +22,7 @@ rounding_constant w q k h lt free =
     let wide = widen_to w k.form in
     let long : length (negate wide) ≡ w + 1 = simp length-map (length-widened w k.form h) in
     let last : length (slice_set (negate wide) q k.den) - 1 ≡ w = omega (arith, length-set (negate wide) q k.den, long) in
-    ap constant (sym (rounding_made w q k.form k.den (slice_set (negate wide) q k.den) h lt free refl)) ∙ ap (λ (n : ℕ). entry (slice_set (negate wide) q k.den) n) last
+    ap constant (sym (rounding_is w q k.form k.den h lt free)) ∙ ap (λ (n : ℕ). entry (slice_set (negate wide) q k.den) n) last
     ∙ get_or-set_other (negate wide) q w k.den (pos 0) (omega (arith, lt))
     ∙ get_or-map neg_ℤ wide w (pos 0) (pos 0) (omega (arith, length-widened w k.form h))
     ∙ ap neg_ℤ (widened_last w k.form h)
@@ -47,7 +47,4 @@ pub overflow_never : (w q : ℕ) (k : Quotient) (g : List ℤ) (d : ℤ) (e : Fo
 overflow_never w q k g d e over same den h some lt free fit listed =
     let fits = upper_fits w q k h (rw same at some) lt free (rw den at fit) in
     let wide : all_fit (constant (upper_bound w q k) ∷ []) ≡ false = rw (same, den) at (listed (rw over refl)) in
-    absurd (clash (all_fit (constant (upper_bound w q k) ∷ [])) fits wide)
-  where
-    clash : (b : Bool) → b ≡ true → b ≡ false → ⊥
-    clash b h k = cc
+    cc

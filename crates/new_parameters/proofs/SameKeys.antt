@@ -1,5 +1,5 @@
 -- Two quotients are one key exactly where their divisors are equal, and their forms over the wider scope.
-use Rattle.new_parameters.proofs.Words.{◌≡◌, ℕ, ◌+◌, ◌-◌, ◌≤◌, ℤ, pos, negsuc, Bool, true, ◌&&◌, List, [], ◌∷◌, ◌++◌, length, drop, get_or, replicate, refl, ap, sym, ◌∙◌, arith, append_assoc, length-append, eqb, max, unsigned_abs, int_eq, Decides-int_eq, Decides-eqb, Decides-and, length-replicate, replicate-append-replicate, same_from_push, width, coefficients, constant, same_form, widen_to, Quotient, same_quotient, trimmed, is_same_key, length-coefficients}
+use Rattle.new_parameters.proofs.Words.{◌≡◌, ℕ, ◌+◌, ◌-◌, ◌≤◌, ℤ, pos, negsuc, Bool, true, ◌&&◌, List, [], ◌∷◌, ◌++◌, length, replicate, refl, ap, sym, ◌∙◌, arith, append_assoc, length-append, eqb, max, unsigned_abs, int_eq, Decides-int_eq, Decides-eqb, Decides-and, length-replicate, replicate-append-replicate, same_from_push, width, coefficients, constant, same_form, widen_to, Quotient, same_quotient, trimmed, is_same_key, length-coefficients}
 use Rattle.std.specs.Bool.{Decides, one_answer}
 use Rattle.std.specs.Cmp.Rules.{signed_items}
 use Rattle.std.specs.Cmp.Lexicographic.{pointwise}
@@ -16,17 +16,11 @@ decides_number (pos a) (pos b) = decides_other (eqb a b) (Decides-eqb a b) (λ e
 decides_number (negsuc a) (negsuc b) = decides_other (eqb a b) (Decides-eqb a b) (λ e. ap negsuc e) (λ e. omega (arith, ap unsigned_abs e))
 decides_number _ _ = (λ e. absurd cc, λ e. absurd cc)
 
-first_is : (x y : ℤ) (xs ys : List ℤ) → x ∷ xs ≡ y ∷ ys → x ≡ y
-first_is x y xs ys e = ap (λ (zs : List ℤ). get_or zs 0 x) e
-
-rest_is : (x y : ℤ) (xs ys : List ℤ) → x ∷ xs ≡ y ∷ ys → xs ≡ ys
-rest_is x y xs ys e = ap (λ (zs : List ℤ). drop 1 zs) e
-
 decides_form : (xs ys : List ℤ) → Decides (same_form xs ys) (xs ≡ ys)
 decides_form [] [] = (λ e. refl, λ e. refl)
 decides_form (x ∷ xs) (y ∷ ys) =
     decides_other (same_number x y && same_form xs ys) (Decides-and (same_number x y) (same_form xs ys) (decides_number x y) (decides_form xs ys))
-    (λ (h : (x ≡ y) × (xs ≡ ys)). (λ i. h.0 i ∷ h.1 i)) (λ e. (first_is x y xs ys e, rest_is x y xs ys e))
+    (λ h. cc) (λ e. (cc, cc))
 decides_form _ _ = (λ e. absurd cc, λ e. absurd cc)
 
 -- ---- forms over a wider scope
