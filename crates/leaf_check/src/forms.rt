@@ -55,6 +55,7 @@ pub(crate) fn widen_form(alloc: Global, width: usize, form: &Form) -> Result<For
 }
 
 // A tableau row over the parameters and quotients in scope, and then the unknowns.
+#[tactic(auto, using(crate::proofs::Making::row_made))]
 fn turned_row(
     alloc: Global,
     unknowns: usize,

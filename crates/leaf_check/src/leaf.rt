@@ -207,6 +207,7 @@ impl Leaf<'_> {
     }
 
     // Puts the forms of a refutation, from 0, behind the others.
+    #[tactic(auto, using(crate::proofs::Owned::own_place))]
     fn push_own_goal(&self, alloc: Global, known: &mut Known, r: usize) -> Result<(), FormRefusal>
         requires leaf { IsLeaf self.now.problem.now (case_of self.now) }
         requires whole { IsTrue (model.is_whole_list self.now.problem.now.unknowns (option_copied self.now.list)) }
@@ -321,6 +322,7 @@ impl Leaf<'_> {
     }
 
     // Checks a refutation, from 0, behind the leaf's known forms, which are as they were where it succeeds.
+    #[tactic(auto, using(crate::proofs::Refuted::front_kept))]
     fn refute_goal(
         &self,
         alloc: Global,
