@@ -1,9 +1,6 @@
 ghost use Rattle.std.specs.Prelude.{◌≡◌, IfOk};
 ghost use Rattle.clap.specs.Words.{app_of, rows_of, found_of};
-ghost use Rattle.program_model.specs.Commands.{Simplify as model_simplify, Pieces as model_pieces};
-ghost use Rattle.program_model.specs.Commands.{Restrict as model_restrict, Same as model_same, Least as model_least};
 ghost use Rattle.pip_words.specs.Words.{Gives, meaning_of, pip_app, command_named, solve_of, eval_of, trial_of};
-ghost use Rattle.pip_words.specs.Words.{counted_of, walked_of};
 
 use crate::arguments::{Argument, Entry, with_commands};
 use crate::command::{Command, PiecesOptions, SimplifyOptions, SolveOptions, TrialOptions};
@@ -108,7 +105,8 @@ pub(crate) fn command_of_name(
     } else if name == "eval" {
         eval(alloc, matches)
     } else if name == "simplify" {
-        simplify(matches)
+        let params = parameter_count(matches).ok_or(WordsRefusal::Usage)?;
+        Ok(Command::Simplify(SimplifyOptions { params }))
     } else if name == "check" {
         Ok(Command::Check)
     } else if name == "share" {
@@ -116,13 +114,14 @@ pub(crate) fn command_of_name(
     } else if name == "trial" {
         trial(matches)
     } else if name == "pieces" {
-        pieces(matches)
+        let params = parameter_count(matches).ok_or(WordsRefusal::Usage)?;
+        Ok(Command::Pieces(PiecesOptions { params }))
     } else if name == "restrict" {
-        restrict(matches)
+        Ok(Command::Restrict(walk(matches).ok_or(WordsRefusal::Usage)?))
     } else if name == "same" {
-        same(matches)
+        Ok(Command::Same(walk(matches).ok_or(WordsRefusal::Usage)?))
     } else if name == "least" {
-        least(matches)
+        Ok(Command::Least(walk(matches).ok_or(WordsRefusal::Usage)?))
     } else {
         Err(WordsRefusal::Usage)
     }
@@ -137,15 +136,13 @@ fn solve(matches: &ArgMatches<'_>) -> Result<Command, WordsRefusal>
     if simplify && certificate {
         return Err(WordsRefusal::Usage);
     }
-    match limits(matches) {
-        Some(limits) => Ok(Command::Solve(SolveOptions {
-            polylib,
-            simplify,
-            certificate,
-            limits,
-        })),
-        None => Err(WordsRefusal::Usage),
-    }
+    let limits = limits(matches).ok_or(WordsRefusal::Usage)?;
+    Ok(Command::Solve(SolveOptions {
+        polylib,
+        simplify,
+        certificate,
+        limits,
+    }))
 }
 
 #[tactic(auto, using(crate::proofs::Rows::value_rows, crate::proofs::Giving::refused_mapped))]
@@ -161,61 +158,13 @@ fn eval(alloc: Global, matches: &ArgMatches<'_>) -> Result<Command, WordsRefusal
     }
 }
 
-fn simplify(matches: &ArgMatches<'_>) -> Result<Command, WordsRefusal>
-    ensures { Gives meaning_of (counted_of model_simplify (rows_of (found_of matches.now))) result }
-{
-    match parameter_count(matches) {
-        Some(params) => Ok(Command::Simplify(SimplifyOptions { params })),
-        None => Err(WordsRefusal::Usage),
-    }
-}
-
 fn trial(matches: &ArgMatches<'_>) -> Result<Command, WordsRefusal>
     ensures { Gives meaning_of (trial_of (rows_of (found_of matches.now))) result }
 {
-    let seed = required_number(matches, names::SEED, u64::MAX);
-    let count = required_number(matches, names::COUNT, MOST_DRAWN);
-    match (seed, count) {
-        (Some(seed), Some(count)) => Ok(Command::Trial(TrialOptions {
-            seed,
-            count: count as u16,
-        })),
-        _ => Err(WordsRefusal::Usage),
-    }
-}
-
-fn pieces(matches: &ArgMatches<'_>) -> Result<Command, WordsRefusal>
-    ensures { Gives meaning_of (counted_of model_pieces (rows_of (found_of matches.now))) result }
-{
-    match parameter_count(matches) {
-        Some(params) => Ok(Command::Pieces(PiecesOptions { params })),
-        None => Err(WordsRefusal::Usage),
-    }
-}
-
-fn restrict(matches: &ArgMatches<'_>) -> Result<Command, WordsRefusal>
-    ensures { Gives meaning_of (walked_of model_restrict (rows_of (found_of matches.now))) result }
-{
-    match walk(matches) {
-        Some(options) => Ok(Command::Restrict(options)),
-        None => Err(WordsRefusal::Usage),
-    }
-}
-
-fn same(matches: &ArgMatches<'_>) -> Result<Command, WordsRefusal>
-    ensures { Gives meaning_of (walked_of model_same (rows_of (found_of matches.now))) result }
-{
-    match walk(matches) {
-        Some(options) => Ok(Command::Same(options)),
-        None => Err(WordsRefusal::Usage),
-    }
-}
-
-fn least(matches: &ArgMatches<'_>) -> Result<Command, WordsRefusal>
-    ensures { Gives meaning_of (walked_of model_least (rows_of (found_of matches.now))) result }
-{
-    match walk(matches) {
-        Some(options) => Ok(Command::Least(options)),
-        None => Err(WordsRefusal::Usage),
-    }
+    let seed = required_number(matches, names::SEED, u64::MAX).ok_or(WordsRefusal::Usage)?;
+    let count = required_number(matches, names::COUNT, MOST_DRAWN).ok_or(WordsRefusal::Usage)?;
+    Ok(Command::Trial(TrialOptions {
+        seed,
+        count: count as u16,
+    }))
 }

@@ -29,10 +29,8 @@ pub(crate) fn short_number(text: &[u8], most: u64) -> Option<u64>
     ensures value { result ≡ number_of most text.now }
     ensures within { IfSome result (λ n. n ≤ most) }
 {
-    match number(text, u128::from(most)) {
-        Some(value) => Some(value as u64),
-        None => None,
-    }
+    let value = number(text, u128::from(most))?;
+    Some(value as u64)
 }
 
 // The value of a parameter: a number that fits.
@@ -41,8 +39,6 @@ pub(crate) fn parameter(text: &[u8]) -> Option<i128>
     ensures fitting { IfSome result (λ z. IsTrue (fits z)) }
     ensures nonnegative { IfSome result (λ z. IsTrue (is_nonneg z)) }
 {
-    match number(text, i128::MAX as u128) {
-        Some(value) => Some(value as i128),
-        None => None,
-    }
+    let value = number(text, i128::MAX as u128)?;
+    Some(value as i128)
 }

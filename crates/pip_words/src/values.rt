@@ -42,20 +42,17 @@ pub(crate) fn parameter_count(matches: &ArgMatches<'_>) -> Option<usize>
     ensures value { result ≡ needed_of (codes "parameters") most_params (rows_of (found_of matches.now)) }
     ensures few { IfSome result (λ n. n ≤ most_params) }
 {
-    match required_number(matches, names::PARAMETERS, MOST_PARAMETERS as u64) {
-        Some(count) => Some(count as usize),
-        None => None,
-    }
+    let count = required_number(matches, names::PARAMETERS, MOST_PARAMETERS as u64)?;
+    Some(count as usize)
 }
 
 // The number of parameters and the budgets of a walk.
 pub(crate) fn walk(matches: &ArgMatches<'_>) -> Option<WalkOptions>
     ensures { option_map (λ o. (o.params, o.limits)) result ≡ walk_of (rows_of (found_of matches.now)) }
 {
-    match (parameter_count(matches), limits(matches)) {
-        (Some(params), Some(limits)) => Some(WalkOptions { params, limits }),
-        _ => None,
-    }
+    let params = parameter_count(matches)?;
+    let limits = limits(matches)?;
+    Some(WalkOptions { params, limits })
 }
 
 // The budgets of the options, each its standard where it is not given.
@@ -63,16 +60,11 @@ pub(crate) fn limits(matches: &ArgMatches<'_>) -> Option<Limits>
     ensures { result ≡ budget_of (rows_of (found_of matches.now)) }
 {
     let standard = Limits::standard();
-    let pivots = limit(matches, names::PIVOTS, MOST_PIVOTS, standard.pivots());
-    let cuts = limit(matches, names::CUTS, MOST_CUTS, standard.cuts());
-    let splits = limit(matches, names::SPLITS, MOST_SPLITS, standard.splits());
-    let nesting = limit(matches, names::NESTING, MOST_NESTING, standard.nesting());
-    match (pivots, cuts, splits, nesting) {
-        (Some(pivots), Some(cuts), Some(splits), Some(nesting)) => {
-            Some(Limits::new(pivots, cuts, splits, nesting))
-        }
-        _ => None,
-    }
+    let pivots = limit(matches, names::PIVOTS, MOST_PIVOTS, standard.pivots())?;
+    let cuts = limit(matches, names::CUTS, MOST_CUTS, standard.cuts())?;
+    let splits = limit(matches, names::SPLITS, MOST_SPLITS, standard.splits())?;
+    let nesting = limit(matches, names::NESTING, MOST_NESTING, standard.nesting())?;
+    Some(Limits::new(pivots, cuts, splits, nesting))
 }
 
 // The number of a required argument.
@@ -81,10 +73,7 @@ pub(crate) fn required_number(matches: &ArgMatches<'_>, name: &str, most: u64) -
     ensures value { result ≡ needed_of name.now most (rows_of (found_of matches.now)) }
     ensures within { IfSome result (λ n. n ≤ most) }
 {
-    match matches.get_str(name) {
-        Some(text) => short_number(text.as_bytes(), most),
-        None => None,
-    }
+    short_number(matches.get_str(name)?.as_bytes(), most)
 }
 
 // The flag is given.
