@@ -77,7 +77,7 @@ within-fault kind low high n z = choose n (int_le (pos low) z.0 && int_le z.0 (p
 big-fault : (n : ℕ) (z : ℤ × ℕ) → IfErr (no_big_parameter z) (FaultWithin n)
 big-fault n z = choose n (int_le z.0 (pos 0) && (unsigned_abs z.0 == 1)) z.1 (BigParameter z.0) tt
 
-problem_at-fault : (bytes : List ℕ) (place : ℕ) → place ≤ length bytes → IfErr (problem_at bytes place) (FaultWithin (length bytes))
+pub problem_at-fault : (bytes : List ℕ) (place : ℕ) → place ≤ length bytes → IfErr (problem_at bytes place) (FaultWithin (length bytes))
 problem_at-fault bytes place h =
     let n = length bytes in
     then-err _ _ _ (Opens bytes place) (expect-fault bytes LeftParen place h) (expect-opens bytes place h) (λ first p1.

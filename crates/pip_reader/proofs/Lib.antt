@@ -2,7 +2,6 @@ mod Words
 pub mod Constants
 pub mod Stepwise
 pub mod FaultPlaces
-pub mod NoOptions
+pub mod Found
 pub mod RowSteps
-pub mod FoundContexts
 pub mod Scanning

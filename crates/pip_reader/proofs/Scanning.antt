@@ -1,6 +1,6 @@
 -- The end of the first group of a text, piece by piece.
 use Rattle.pip_reader.proofs.Words.{◌≡◌, ◌≢◌, ◌∙◌, refl, sym, ap, ℕ, zero, suc, ◌+◌, ◌-◌, ◌<◌, ◌≤◌, false, ◌⊎◌, inl, inr, List, [], ◌∷◌, ◌++◌, length, drop, append_assoc, add-one, zero-add, drop-cons, take, arith, length_push, take_more, length-take-le, drop-drop, take-append-drop, Option, Some, None, IfNone, fold, slice_index, ◌==◌, All, open_after, closing, next_open, NoBracket, group_behind, first_group_end, group_end_from, IsScanned, place_behind}
-use Rattle.std.proofs.lemmas.Bool.{ne_eqb, cases_Bool}
+use Rattle.std.proofs.lemmas.Bool.{ne_eqb, cases_Bool, cases_eq}
 use Rattle.std.proofs.lemmas.List.{length-drop}
 use Rattle.std.proofs.Math.Seq.{take-add}
 use Rattle.std.proofs.lemmas.List.Sums.{fold-append}
@@ -13,23 +13,7 @@ from_closing (suc d) place (b ∷ bs) e = refl
 not_open : (b : ℕ) → (b == 40) ≡ false → open_after 0 b ≡ 0
 not_open b e = rw e (elim (cases_Bool (b == 41)) [ inl closed ↦ rw closed refl | inr other ↦ rw other refl ])
 
--- a byte ends the search, or leaves it to the bytes behind
-abbrev Step : ℕ → ℕ → ℕ → Type 0
-Step depth place b = ((bs : List ℕ) → group_end_from depth place (b ∷ bs) ≡ Some (suc place)) ⊎ ((bs : List ℕ) → group_end_from depth place (b ∷ bs) ≡ group_end_from (open_after depth b) (suc place) bs)
-
-step : (depth place b : ℕ) → Step depth place b
-step zero place b =
-    elim (cases_Bool (b == 40)) [
-      | inl open_one ↦ inr (λ bs. rw open_one (sym (from_closing 1 (suc place) bs refl)))
-      | inr other ↦ inr (λ bs. rw (not_open b other, other) refl)
-    ]
-step (suc d) place b =
-    elim (cases_Bool (open_after (suc d) b == 0)) [
-      | inl ended ↦ inl (λ bs. rw ended refl)
-      | inr more ↦ inr (λ bs. rw more (sym (from_closing (open_after (suc d) b) (suc place) bs more)))
-    ]
-
--- the same at a byte of a list, by what is open behind it
+-- a byte that does not end the search leaves it to the bytes behind
 step_on : (depth place b : ℕ) (bs : List ℕ) → (depth ≡ 0) ⊎ (open_after depth b ≢ 0) → group_end_from depth place (b ∷ bs) ≡ group_end_from (open_after depth b) (suc place) bs
 step_on zero place b bs h = elim (cases_Bool (b == 40)) [ inl open_one ↦ rw open_one (sym (from_closing 1 (suc place) bs refl)) | inr other ↦ rw (not_open b other, other) refl ]
 step_on (suc d) place b bs h =
@@ -37,6 +21,15 @@ step_on (suc d) place b bs h =
       | inl none ↦ absurd (omega (arith, none))
       | inr some ↦ let e = ne_eqb (open_after (suc d) b) 0 some in rw e (sym (from_closing (open_after (suc d) b) (suc place) bs e))
     ]
+
+-- a byte ends the search, or leaves it to the bytes behind
+abbrev Step : ℕ → ℕ → ℕ → Type 0
+Step depth place b = ((bs : List ℕ) → group_end_from depth place (b ∷ bs) ≡ Some (suc place)) ⊎ ((bs : List ℕ) → group_end_from depth place (b ∷ bs) ≡ group_end_from (open_after depth b) (suc place) bs)
+
+step : (depth place b : ℕ) → Step depth place b
+step zero place b = inr (λ bs. step_on zero place b bs (inl refl))
+step (suc d) place b =
+    elim (cases_eq (open_after (suc d) b) 0) [ inl ended ↦ inl (λ bs. rw ended refl) | inr more ↦ inr (λ bs. step_on (suc d) place b bs (inr more)) ]
 
 pub end_more : (depth now i : ℕ) (xs : List ℕ) → i < length xs → now ≡ open_after depth (slice_index xs i) → (depth ≡ 0) ⊎ (now ≢ 0) → group_end_from depth i (drop i xs) ≡ group_end_from now (i + 1) (drop (i + 1) xs)
 end_more depth now i xs h e goes_on =
@@ -50,10 +43,6 @@ fold_more start now i xs h e = rw (take_more xs i 0 h, fold-append open_after st
 pub other_byte : (depth b : ℕ) → b ≢ 40 → b ≢ 41 → depth ≡ open_after depth b
 other_byte depth b not_open not_closed = rw (ne_eqb b 40 not_open, ne_eqb b 41 not_closed) refl
 
-pub none_or_some : (n : ℕ) → (n ≡ 0) ⊎ (n ≢ 0)
-none_or_some zero = inl refl
-none_or_some (suc n) = inr (λ e. omega (arith, e))
-
 -- behind bytes that hold no end
 end-append : (depth place : ℕ) (xs ys : List ℕ) → group_end_from depth place xs ≡ None → group_end_from depth place (xs ++ ys) ≡ group_end_from (fold open_after depth xs) (place + length xs) ys
 end-append depth place [] ys h = let e : place + 0 ≡ place = omega arith in rw e refl
@@ -65,7 +54,7 @@ end-append depth place (b ∷ xs) ys h =
           more (xs ++ ys) ∙ end-append (open_after depth b) (suc place) xs ys (sym (more xs) ∙ h) ∙ ap (λ p. group_end_from (fold open_after (open_after depth b) xs) p ys) e
     ]
 
-closing-moved : (n depth place : ℕ) (bs : List ℕ) → closing depth (n + place) bs ≡ place_behind n (closing depth place bs)
+pub closing-moved : (n depth place : ℕ) (bs : List ℕ) → closing depth (n + place) bs ≡ place_behind n (closing depth place bs)
 closing-moved n depth place [] = refl
 closing-moved n depth place (b ∷ bs) =
     let e : suc (n + place) ≡ n + suc place = omega arith in
@@ -133,7 +122,7 @@ pub quiet-none : (depth place : ℕ) (xs : List ℕ) → All NoBracket xs → No
 quiet-none depth place [] h = refl
 quiet-none depth place (b ∷ bs) h =
     let e = depth_stays depth b bs h in
-    let goes_on : (depth ≡ 0) ⊎ (open_after depth b ≢ 0) = elim (none_or_some depth) [ inl none ↦ inl none | inr some ↦ inr (λ ended. some (sym e ∙ ended)) ] in
+    let goes_on : (depth ≡ 0) ⊎ (open_after depth b ≢ 0) = elim (cases_eq depth 0) [ inl none ↦ inl none | inr some ↦ inr (λ ended. some (sym e ∙ ended)) ] in
     quiet-none depth (suc place) bs (rest b bs h) ∙ ap (λ d. group_end_from d (suc place) bs) (sym e) ∙ sym (step_on depth place b bs goes_on)
 
 end-found : (depth place after : ℕ) (xs ys : List ℕ) → group_end_from depth place xs ≡ Some after → group_end_from depth place (xs ++ ys) ≡ Some after

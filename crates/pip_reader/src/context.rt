@@ -72,25 +72,6 @@ fn context_at(alloc: Global, bytes: &[u8], np: usize, place: usize) -> Reads<For
     Ok((rows, after))
 }
 
-// The context that begins with the first `(` at or behind `start`, and the place behind its `)`.
-fn first_context(
-    alloc: Global,
-    bytes: &[u8],
-    start: usize,
-    np: usize,
-) -> Result<Option<(Forms, usize)>, ReadRefusal>
-    requires start { start ≤ length bytes.now }
-    requires np { np ≤ most_params }
-    ensures agrees { Agrees context_found read_fault result (model.read_context bytes.now start np) }
-    ensures place { IfOk result (λ o. IfSome o (λ x. (start < x.1) × (x.1 ≤ length bytes.now))) }
-    ensures width { IfOk result (λ o. IfSome o (λ x. x.0.width ≡ np)) }
-{
-    match next_open(bytes, start) {
-        None => Ok(None),
-        Some(place) => Ok(Some(context_at(alloc, bytes, np, place)?)),
-    }
-}
-
 /// The rows over `np` parameters, within their limit, of the context `( #[ .. ] .. )` that begins with the first `(` at
 /// or behind `start`, and the place behind its `)`; none exactly where there is no `(`.
 ///
@@ -110,5 +91,8 @@ pub fn read_context(
     ensures place { IfOk result (λ o. IfSome o (λ x. (start < x.1) × (x.1 ≤ length bytes.now))) }
     ensures width { IfOk result (λ o. IfSome o (λ x. x.0.width ≡ np)) }
 {
-    first_context(alloc, bytes, start, np)
+    match next_open(bytes, start) {
+        None => Ok(None),
+        Some(place) => Ok(Some(context_at(alloc, bytes, np, place)?)),
+    }
 }

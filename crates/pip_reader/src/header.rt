@@ -17,21 +17,6 @@ pub(crate) struct Sizes {
     pub context_rows: usize,
 }
 
-// The number that is the next token, from `low` to `high`, and the place behind it.
-fn number_between(
-    bytes: &[u8],
-    kind: LimitKind,
-    low: usize,
-    high: usize,
-    place: usize,
-) -> Reads<usize, ReadRefusal>
-    requires { place ≤ length bytes.now }
-    ensures reads { IsRead (λ n. n) read_fault bytes.now place result (model.limited bytes.now kind low high place) }
-    ensures range { IfOk result (λ x. (low ≤ x.0) × (x.0 ≤ high)) }
-{
-    within(kind, low, high, number(bytes, place)?)
-}
-
 // The four numbers of sizes, each in its range, and the place behind them.
 pub(crate) fn read_sizes(bytes: &[u8], place: usize) -> Reads<Sizes, ReadRefusal>
     requires { place ≤ length bytes.now }
@@ -39,15 +24,19 @@ pub(crate) fn read_sizes(bytes: &[u8], place: usize) -> Reads<Sizes, ReadRefusal
     ensures unknowns { IfOk result (λ x. x.0.unknowns ≤ most_unknowns) }
     ensures params { IfOk result (λ x. x.0.params ≤ most_params) }
 {
-    let (unknowns, at) = number_between(bytes, LimitKind::Unknowns, 1, MOST_UNKNOWNS, place)?;
-    let (params, at) = number_between(bytes, LimitKind::Parameters, 0, MOST_PARAMETERS, at)?;
-    let (rows, at) = number_between(bytes, LimitKind::Rows, 0, MOST_ROWS, at)?;
-    let (context_rows, at) = number_between(
-        bytes,
+    let (unknowns, at) = within(LimitKind::Unknowns, 1, MOST_UNKNOWNS, number(bytes, place)?)?;
+    let (params, at) = within(
+        LimitKind::Parameters,
+        0,
+        MOST_PARAMETERS,
+        number(bytes, at)?,
+    )?;
+    let (rows, at) = within(LimitKind::Rows, 0, MOST_ROWS, number(bytes, at)?)?;
+    let (context_rows, at) = within(
         LimitKind::ContextRows,
         0,
         MOST_CONTEXT_ROWS,
-        at,
+        number(bytes, at)?,
     )?;
     let sizes = Sizes {
         unknowns,

@@ -103,23 +103,6 @@ fn problem_at(alloc: Global, bytes: &[u8], place: usize) -> Reads<Problem, ReadR
     Ok((problem, after))
 }
 
-// The problem that begins with the first `(` at or behind `start`, and the place behind its last `)`.
-fn first_problem(
-    alloc: Global,
-    bytes: &[u8],
-    start: usize,
-) -> Result<Option<(Problem, usize)>, ReadRefusal>
-    requires { start ≤ length bytes.now }
-    ensures agrees { Agrees (λ x. x) read_fault result (read_native bytes.now start) }
-    ensures place { IfOk result (λ o. IfSome o (λ x. (start < x.1) × (x.1 ≤ length bytes.now))) }
-    ensures group { IfOk result (λ o. IfSome o (λ x. IsGroup x.0.comment)) }
-{
-    match next_open(bytes, start) {
-        None => Ok(None),
-        Some(place) => Ok(Some(problem_at(alloc, bytes, place)?)),
-    }
-}
-
 /// The problem that begins with the first `(` at or behind `start`, and the place behind its last `)`; none exactly
 /// where there is no `(`.
 ///
@@ -139,5 +122,8 @@ pub fn read_problem(
     ensures group { IfOk result (λ o. IfSome o (λ x. IsGroup x.0.comment)) }
     ensures no_option { IfErr result IsNoOption }
 {
-    first_problem(alloc, bytes, start)
+    match next_open(bytes, start) {
+        None => Ok(None),
+        Some(place) => Ok(Some(problem_at(alloc, bytes, place)?)),
+    }
 }

@@ -1,8 +1,9 @@
-use Rattle.pip_reader.proofs.Words.{drop, list_all, is_closed, context_at, read_context, item-none}
-use Rattle.pip_reader.proofs.FoundContexts.{found_none}
+use Rattle.pip_reader.proofs.Words.{sym, ◌∙◌, drop}
+use Rattle.pip_reader.proofs.Found.{none_left, one_left}
 use Rattle.pip_reader.proofs.context.read_context.Goals as goal
 
-pub returns-clause-none : goal.returns-clause-none
-returns-clause-none c =
-    found_none c.first_context.result (read_context c.args.bytes.now c.args.start c.args.np) (list_all is_closed (drop c.args.start c.args.bytes.now))
-    (item-none (context_at c.args.bytes.now c.args.np) c.args.bytes.now c.args.start) c.first_context.ensures.agrees
+pub returns-in-None-clause-none : goal.returns-in-None-clause-none
+returns-in-None-clause-none c = none_left c.args.start (drop c.args.start c.args.bytes.now) (sym c.next_open.ensures.value ∙ c.in-None.is)
+
+pub returns-in_ok-context_at-in-Some-clause-none : goal.returns-in_ok-context_at-in-Some-clause-none
+returns-in_ok-context_at-in-Some-clause-none c = one_left _ c.args.start c.in-Some.place (drop c.args.start c.args.bytes.now) (sym c.next_open.ensures.value ∙ c.in-Some.is)

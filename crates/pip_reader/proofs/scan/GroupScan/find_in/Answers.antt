@@ -1,5 +1,6 @@
 use Rattle.pip_reader.proofs.Words.{◌≡◌, ◌≢◌, ◌+◌, ◌≤◌, ◌∙◌, ◌⊎◌, inl, inr, sym, ap, arith, slice_index, open_after}
-use Rattle.pip_reader.proofs.Scanning.{end_more, fold_more, none_or_some, other_byte}
+use Rattle.std.proofs.lemmas.Bool.{cases_eq}
+use Rattle.pip_reader.proofs.Scanning.{end_more, fold_more, other_byte}
 use Rattle.pip_reader.proofs.scan.GroupScan.find_in.Goals as goal
 use Rattle.pip_reader.proofs.scan.GroupScan.find_in.Goals.{then-byte-eq40+else-before-gt0, else-before-gt0-via-then-before-gt0+else-depth-eq0, else-before-gt0-via-else-before-gt0, else-byte-eq40+else-byte-eq41}
 
@@ -18,7 +19,7 @@ loop-i-preserved c =
         | else-before-gt0-via-then-before-gt0+else-depth-eq0 v ↦ inr (λ e. v.if-depth-eq0.false (sym w.depth-is ∙ e))
         | else-before-gt0-via-else-before-gt0 v ↦ inl (omega arith)
       ]
-      | else-byte-eq40+else-byte-eq41 w ↦ rw w.depth-is (none_or_some c.loop-i.depth)
+      | else-byte-eq40+else-byte-eq41 w ↦ rw w.depth-is (cases_eq c.loop-i.depth 0)
     ] in
     let few : c.if-byte-eq40.depth ≤ c.loop-i.depth + 1 =
     elim c.if-byte-eq40.branch [
