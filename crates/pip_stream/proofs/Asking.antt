@@ -138,7 +138,7 @@ module _ {S : Type 0} (Calls : S → S → Type 0) (taken : S → ℕ) where
 
   -- ---- the item is read
 
-  turns-any : (s u : S) (b : Bool) → AsksInTurns Calls taken s u b → AsksOn Calls taken s u
+  pub turns-any : (s u : S) (b : Bool) → AsksInTurns Calls taken s u b → AsksOn Calls taken s u
   turns-any s u true h = asks-none Calls taken s u h
   turns-any s u false h = h
 

@@ -60,16 +60,13 @@ module _ (w u : HeldBytes) where
   -- no more came, or the one byte too many
   pub err-open : (e : NextRefusal) → next_open 0 w.held ≡ Some 0 → IsMore w u (Err e) → next_open 0 u.held ≡ Some 0
   err-open next.InputBytes h m = ap (next_open 0) m.0.held ∙ open-longer w.held m.0.piece h
-  err-open next.Failed h m = ap (λ (x : HeldBytes). next_open 0 x.held) m ∙ h
-  err-open next.WantOfMemory h m = ap (λ (x : HeldBytes). next_open 0 x.held) m ∙ h
   err-open (next.Read e) h m = absurd m
+  err-open e h m = ap (λ (x : HeldBytes). next_open 0 x.held) m ∙ h
 
   pub ended-err : (e : NextRefusal) (d : ℕ) → IsScanned w.held d → taken_by w ≤ most_input_bytes → IsMore w u (Err e) → IsEnded u (Err e)
   ended-err next.InputBytes d h within m =
       let size : length u.held - 1 ≡ length w.held = omega (arith, ap length m.0.held, length-append w.held m.0.piece, m.0.count) in
       (ap (λ i. first_group_end (take i u.held)) size ∙ ap first_group_end (front 1 m.0) ∙ h.not_ended, m.1)
-  ended-err next.Failed d h within m =
-      (ap (λ (x : HeldBytes). first_group_end x.held) m ∙ h.not_ended, omega (arith, ap (λ (x : HeldBytes). taken_by x) m, within))
-  ended-err next.WantOfMemory d h within m =
-      (ap (λ (x : HeldBytes). first_group_end x.held) m ∙ h.not_ended, omega (arith, ap (λ (x : HeldBytes). taken_by x) m, within))
   ended-err (next.Read e) d h within m = absurd m
+  ended-err e d h within m =
+      (ap (λ (x : HeldBytes). first_group_end x.held) m ∙ h.not_ended, omega (arith, ap (λ (x : HeldBytes). taken_by x) m, within))

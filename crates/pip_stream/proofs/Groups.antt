@@ -1,6 +1,7 @@
 -- Where the first group of a text ends.
-use Rattle.pip_stream.proofs.Words.{◌≡◌, refl, sym, ap, ◌∙◌, ℕ, suc, ◌+◌, ◌-◌, ◌<◌, ◌≤◌, arith, List, [], ◌∷◌, ◌++◌, append_assoc, length, Bool, true, false, length-append, length-take, take, drop, take-append-add, drop-append-add, take-append-drop, list_all-append, ◌==◌, Option, Some, None, if◌then◌else◌, list_all, is_closed, open_after, closing, next_open, next_open-append, next_open-closed, next_open-first, next_open-none, group_behind, first_group_end, place_behind}
+use Rattle.pip_stream.proofs.Words.{◌≡◌, refl, sym, ap, ◌∙◌, ℕ, suc, ◌+◌, ◌-◌, ◌<◌, ◌≤◌, arith, List, ◌∷◌, ◌++◌, append_assoc, length, true, length-append, length-take, take, drop, take-append-add, drop-append-add, take-append-drop, list_all-append, Option, Some, None, list_all, is_closed, closing, next_open, next_open-append, next_open-closed, next_open-first, next_open-none, group_behind, first_group_end, place_behind}
 use Rattle.text_laws.proofs.Groups.{closing-append, closing-closes}
+use Rattle.pip_reader.proofs.Scanning.{closing-moved}
 
 -- bytes with a first `(`
 pub record Opened (bytes : List ℕ) (place : ℕ) : Type 0 where
@@ -32,16 +33,6 @@ drop-one before b tail =
 pub group_end-opened : (before tail : List ℕ) → list_all is_closed before ≡ true → first_group_end (before ++ (40 ∷ tail)) ≡ closing 1 (suc (length before)) tail
 group_end-opened before tail h =
     ap (group_behind (before ++ (40 ∷ tail))) (next_open-append 0 before tail h ∙ ap Some (omega arith)) ∙ ap (closing 1 (suc (length before))) (drop-one before 40 tail)
-
-closing-moved : (n depth place : ℕ) (bs : List ℕ) → closing depth (n + place) bs ≡ place_behind n (closing depth place bs)
-closing-moved n depth place [] = refl
-closing-moved n depth place (b ∷ bs) = by_case (closing-moved n (open_after depth b) (suc place) bs) (open_after depth b == 0)
-  where
-    by_case : closing (open_after depth b) (n + suc place) bs ≡ place_behind n (closing (open_after depth b) (suc place) bs) → (t : Bool) → (if t then Some (suc (n + place)) else closing (open_after depth b) (suc (n + place)) bs) ≡ place_behind n (if t then Some (suc place) else closing (open_after depth b) (suc place) bs)
-    by_case rest true = ap Some (omega arith)
-    by_case rest false =
-        let size : suc (n + place) ≡ n + suc place = omega arith in
-        ap (λ p. closing (open_after depth b) p bs) size ∙ rest
 
 -- closed bytes before a text move the end of its group
 pub group_end-behind : (front bytes : List ℕ) → list_all is_closed front ≡ true → first_group_end (front ++ bytes) ≡ place_behind (length front) (first_group_end bytes)

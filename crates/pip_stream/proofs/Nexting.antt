@@ -1,5 +1,5 @@
 -- What a call for the next problem finds, by the step that ends it.
-use Rattle.pip_stream.proofs.Words.{◌≡◌, refl, sym, ap, subst, ◌∙◌, ℕ, ◌+◌, ◌-◌, ◌<◌, ◌≤◌, arith, false, List, [], length, length-drop, drop, take-length, Option, Some, None, IfOk, IfSome, Result, Ok, Err, HeldBytes, most_input_bytes, Problem, next_open, first_group_end, taken_by, Skips, IsOpened, HoldsItem, IsEnded, IsRead, ReadsNext, IsSpared, RefusesNext, FindsNext, LeavesWindow, IsReady, IsPeak, NextRefusal}
+use Rattle.pip_stream.proofs.Words.{◌≡◌, refl, sym, ap, subst, ◌∙◌, ℕ, ◌+◌, ◌-◌, ◌<◌, ◌≤◌, arith, false, List, [], length, length-drop, drop, take-length, Option, Some, None, IfSome, Result, Ok, Err, HeldBytes, most_input_bytes, Problem, next_open, first_group_end, taken_by, Skips, IsOpened, HoldsItem, IsEnded, IsRead, ReadsNext, IsSpared, RefusesNext, FindsNext, LeavesWindow, TakesTo, NextRefusal}
 use Rattle.std.specs.Io.KnownBytes.{IsAtEnd}
 use Rattle.pip_stream.specs.declared.refusal.NextRefusal.TheVariants as next
 use Rattle.pip_stream.proofs.Groups.{group_end-ends}
@@ -20,7 +20,7 @@ opened-finds : (old w : HeldBytes) (left : List ℕ) (m : Option (List ℕ)) (e 
 opened-finds old w left m next.InputBytes s h = stays old left w m s 0 _ (omega arith) refl (omega (arith, s.drops.base, h.0, h.1))
 opened-finds old w left m next.Failed s h = stays old left w m s 0 _ (omega arith) refl (omega (arith, s.drops.base, ap length h.0))
 opened-finds old w left m next.WantOfMemory s h = open-spared old left w m s (ap first_group_end h.0)
-opened-finds old w left m (next.Read e) s h = absurd h
+opened-finds old w left m (next.Read e) s h = absurd h.1
 
 pub finds-unopened : (old w : HeldBytes) (o m : Option (List ℕ)) (e : NextRefusal) → IfSome o (λ left. Skips old left w m) → IsOpened w (Err e) → IfSome o (λ left. FindsNext old left w m (Err e))
 finds-unopened old w None m e s h = tt
@@ -45,17 +45,10 @@ leaves-by old w e base h = record {
   limit = (λ p. h.1 (let same : e ≡ next.InputBytes = cc in same), λ p. ap (λ x. Err x) (h.2 p));
 }
 
-pub opened-limit : (w : HeldBytes) (e : NextRefusal) → IsOpened w (Err e) → AtLimit e w
-opened-limit w next.InputBytes h = (omega (arith, h.1), λ _. omega (arith, h.1), λ _. refl)
-opened-limit w next.Failed h = (omega (arith, h.1), λ p. absurd cc, λ p. absurd (omega (arith, h.1, p)))
-opened-limit w next.WantOfMemory h = (omega (arith, h.1), λ p. absurd cc, λ p. absurd (omega (arith, h.1, p)))
-opened-limit w (next.Read e) h = absurd h
-
-pub ended-limit : (w : HeldBytes) (e : NextRefusal) → IsEnded w (Err e) → AtLimit e w
-ended-limit w next.InputBytes h = (omega (arith, h.1), λ _. omega (arith, h.1), λ _. refl)
-ended-limit w next.Failed h = (omega (arith, h.1), λ p. absurd cc, λ p. absurd (omega (arith, h.1, p)))
-ended-limit w next.WantOfMemory h = (omega (arith, h.1), λ p. absurd cc, λ p. absurd (omega (arith, h.1, p)))
-ended-limit w (next.Read e) h = absurd h
+pub limit-by : (w : HeldBytes) (e : NextRefusal) → TakesTo w e → AtLimit e w
+limit-by w next.InputBytes h = (omega (arith, h), λ _. omega (arith, h), λ _. refl)
+limit-by w (next.Read e) h = absurd h
+limit-by w e h = (omega (arith, h), λ p. absurd cc, λ p. absurd (omega (arith, h, p)))
 
 pub none-leaves : (old w : HeldBytes) → old.base ≤ w.base → IsOpened w (Ok false) → LeavesWindow old w (Ok None)
 none-leaves old w base h = record {
@@ -74,7 +67,7 @@ ended-finds old w left m next.InputBytes s first h = stays old left w m s (lengt
 ended-finds old w left m next.Failed s first h =
     stays old left w m s (length w.held) _ (omega arith) (ap first_group_end (take-length w.held) ∙ h.0) (omega (arith, s.drops.base))
 ended-finds old w left m next.WantOfMemory s first h = open-spared old left w m s h.0
-ended-finds old w left m (next.Read e) s first h = absurd h
+ended-finds old w left m (next.Read e) s first h = absurd h.1
 
 pub finds-unended : (old w : HeldBytes) (o m : Option (List ℕ)) (e : NextRefusal) → IfSome o (λ left. Skips old left w m) → next_open 0 w.held ≡ Some 0 → IsEnded w (Err e) → IfSome o (λ left. FindsNext old left w m (Err e))
 finds-unended old w None m e s first h = tt
@@ -90,8 +83,7 @@ taken-finds old w v left m n (Err (next.Read e)) s first h end k =
     subst (λ x. RefusesNext old left x m e) (sym k.1) (refuses-next old left w m s first n e h (λ none. at-end old w left m s (end none)) k.0)
 taken-finds old w v left m n (Err next.WantOfMemory) s first h end k =
     subst (λ x. IsSpared old left x m) (sym k) (item-spared old left w m s first n h (λ none. at-end old w left m s (end none)))
-taken-finds old w v left m n (Err next.Failed) s first h end k = absurd k
-taken-finds old w v left m n (Err next.InputBytes) s first h end k = absurd k
+taken-finds old w v left m n (Err e) s first h end k = absurd k
 
 pub finds-item : (old w v : HeldBytes) (o m : Option (List ℕ)) (n : ℕ) (r : Result Found NextRefusal) → IfSome o (λ left. Skips old left w m) → next_open 0 w.held ≡ Some 0 → HoldsItem w n → (first_group_end w.held ≡ None → IsAtEnd m) → IsRead w v n r → IfSome o (λ left. FindsNext old left v m r)
 finds-item old w v None m n r s first h end k = tt
@@ -117,42 +109,32 @@ module _ (w v : HeldBytes) (n : ℕ) (h : HoldsItem w n) where
   item-taken (Ok None) k = absurd k
   item-taken (Err (next.Read e)) k = (ap (λ (x : HeldBytes). taken_by x) k.1, omega (arith, ap (λ (x : HeldBytes). x.base) k.1))
   item-taken (Err next.WantOfMemory) k = (ap (λ (x : HeldBytes). taken_by x) k, omega (arith, ap (λ (x : HeldBytes). x.base) k))
-  item-taken (Err next.Failed) k = absurd k
-  item-taken (Err next.InputBytes) k = absurd k
+  item-taken (Err e) k = absurd k
 
   -- the window, for the next call
   pub item-leaves : (old : HeldBytes) → old.base ≤ w.base → (r : Result Found NextRefusal) → IsRead w v n r → LeavesWindow old v r
-  item-leaves old low r k =
-      let t = item-taken r k in
+  item-leaves old low (Ok None) k = absurd k
+  item-leaves old low (Ok (Some x)) k =
+      let d = dropped k.3 in
+      let e = group_end-ends w.held n k.1 in
       record {
-        ready = ready r k;
-        peak = peak r k;
-        dropped = gone r k;
+        ready = record { few = omega (arith, d.held, h.behind); within = omega (arith, d.held, d.base, h.few, h.within) };
+        peak = omega (arith, d.peak, h.peak, k.0);
+        dropped = (omega (arith, k.0, e.low), omega (arith, k.0, d.base, low));
+        base = omega (arith, d.base, low);
+        bound = omega (arith, d.held, d.base, h.few, h.within);
+        limit = (λ p. absurd cc, λ p. absurd (omega (arith, p, d.held, d.base, h.few, h.within)));
+      }
+  item-leaves old low (Err e) k =
+      let t = item-taken (Err e) k in
+      record {
+        ready = tt;
+        peak = tt;
+        dropped = tt;
         base = omega (arith, low, t.1);
         bound = omega (arith, t.0, h.within);
-        limit = (λ e. absurd (subst (IsRead w v n) e k), λ p. absurd (omega (arith, p, t.0, h.within)));
+        limit = (λ p. absurd (subst (IsRead w v n) p k), λ p. absurd (omega (arith, p, t.0, h.within)));
       }
-    where
-      ready : (r : Result Found NextRefusal) → IsRead w v n r → IfOk r (λ _. IsReady v)
-      ready (Ok (Some x)) k =
-          let d = dropped k.3 in
-          let t = item-taken (Ok (Some x)) k in
-          record { few = omega (arith, d.held, h.behind); within = omega (arith, t.0, h.within) }
-      ready (Ok None) k = absurd k
-      ready (Err e) k = tt
-
-      peak : (r : Result Found NextRefusal) → IsRead w v n r → IfOk r (IsPeak v)
-      peak (Ok (Some x)) k = let d = dropped k.3 in omega (arith, d.peak, h.peak, k.0)
-      peak (Ok None) k = absurd k
-      peak (Err e) k = tt
-
-      gone : (r : Result Found NextRefusal) → IsRead w v n r → IfOk r (λ o. IfSome o (λ x. (0 < x.1) × (old.base + x.1 ≤ v.base)))
-      gone (Ok (Some x)) k =
-          let d = dropped k.3 in
-          let e = group_end-ends w.held n k.1 in
-          (omega (arith, k.0, e.low), omega (arith, k.0, d.base, low))
-      gone (Ok None) k = absurd k
-      gone (Err e) k = tt
 
   pub item-not_none : (r : Result Found NextRefusal) → IsRead w v n r → r ≡ Ok None → ⊥
   item-not_none r k e = subst (IsRead w v n) e k

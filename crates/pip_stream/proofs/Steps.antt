@@ -44,16 +44,14 @@ some_more v u n h =
 
 pub err-base : (v u : HeldBytes) (e : NextRefusal) → IsMore v u (Err e) → u.base ≡ v.base
 err-base v u next.InputBytes h = h.0.base
-err-base v u next.Failed h = ap (λ (x : HeldBytes). x.base) h
-err-base v u next.WantOfMemory h = ap (λ (x : HeldBytes). x.base) h
 err-base v u (next.Read e) h = absurd h
+err-base v u e h = ap (λ (x : HeldBytes). x.base) h
 
 pub opened-err : (v u : HeldBytes) (e : NextRefusal) → v.held ≡ [] → taken_by v ≤ most_input_bytes → IsMore v u (Err e) → IsOpened u (Err e)
 opened-err v u next.InputBytes none within h =
     let g = h.0 in (omega (arith, ap length g.held, length-append v.held g.piece, g.count, ap length none), h.1)
-opened-err v u next.Failed none within h = subst (λ (x : HeldBytes). (x.held ≡ []) × (taken_by x ≤ most_input_bytes)) (sym h) (none, within)
-opened-err v u next.WantOfMemory none within h = subst (λ (x : HeldBytes). (x.held ≡ []) × (taken_by x ≤ most_input_bytes)) (sym h) (none, within)
 opened-err v u (next.Read e) none within h = absurd h
+opened-err v u e none within h = subst (λ (x : HeldBytes). (x.held ≡ []) × (taken_by x ≤ most_input_bytes)) (sym h) (none, within)
 
 pub opened-end : (v u : HeldBytes) (n : ℕ) → v.held ≡ [] → v.peak ≤ 4096 → IsMore v u (Ok n) → n ≡ 0 → IsOpened u (Ok false)
 opened-end v u n none peak h zero =

@@ -8,7 +8,7 @@ use Rattle.pip_model.specs.NativeText.{read_native}
 use Rattle.pip_model.specs.Moved.{moved}
 use Rattle.pip_problem.specs.Faults.{read_fault}
 use Rattle.pip_reader.specs.Groups.{first_group_end}
-use Rattle.pip_stream.specs.Windows.{taken_by}
+use Rattle.pip_stream.specs.Windows.{taken_by, TakesTo}
 use Rattle.pip_stream.specs.declared.refusal.NextRefusal.{NextRefusal}
 use Rattle.pip_stream.specs.declared.refusal.NextRefusal.TheVariants as next
 
@@ -24,14 +24,15 @@ pub record HoldsItem (w : HeldBytes) (n : ℕ) : Type 0 where
   pub peak : w.peak ≤ n + 4095
   pub within : taken_by w ≤ most_input_bytes
 
--- the window where the search for the end of a group ends
+-- the group is open in all that is held where the search for its end is refused, but for the one byte too many
+abbrev pub IsUnended : HeldBytes → NextRefusal → Type 0
+IsUnended w next.InputBytes = first_group_end (take (length w.held - 1) w.held) ≡ None
+IsUnended w e = first_group_end w.held ≡ None
+
+-- the window where that search ends
 abbrev pub IsEnded : HeldBytes → Result ℕ NextRefusal → Type 0
 IsEnded w (Ok n) = HoldsItem w n
-IsEnded w (Err next.InputBytes) =
-    (first_group_end (take (length w.held - 1) w.held) ≡ None) × (taken_by w ≡ most_input_bytes + 1)
-IsEnded w (Err next.Failed) = (first_group_end w.held ≡ None) × (taken_by w ≤ most_input_bytes)
-IsEnded w (Err next.WantOfMemory) = (first_group_end w.held ≡ None) × (taken_by w ≤ most_input_bytes)
-IsEnded w (Err (next.Read e)) = ⊥
+IsEnded w (Err e) = IsUnended w e × TakesTo w e
 
 -- A search for the end of a group drops nothing, and leaves a group that the held bytes begin with.
 pub record EndsGroup (old new : HeldBytes) (r : Result ℕ NextRefusal) : Type 0 where
@@ -48,5 +49,4 @@ IsRead old new n (Ok None) = ⊥
 IsRead old new n (Err (next.Read e)) =
     IfSome (read_fault e) (λ f. moved old.base (read_native (take n old.held) 0) ≡ Err f) × (new ≡ old)
 IsRead old new n (Err next.WantOfMemory) = new ≡ old
-IsRead old new n (Err next.Failed) = ⊥
-IsRead old new n (Err next.InputBytes) = ⊥
+IsRead old new n (Err e) = ⊥

@@ -2,10 +2,9 @@
 use Rattle.std.specs.Prelude.{◌≡◌, ℕ, ◌+◌, ◌≤◌, Bool, true, false, [], length, take, drop, Some, Result, Ok, Err}
 use Rattle.std.specs.List.{list_all}
 use Rattle.pip_outside.specs.Windows.{HeldBytes}
-use Rattle.pip_model.specs.Limits.{most_input_bytes}
 use Rattle.pip_model.specs.Moved.{is_closed}
 use Rattle.pip_model.specs.Reading.{next_open}
-use Rattle.pip_stream.specs.Windows.{taken_by, HoldsPiece}
+use Rattle.pip_stream.specs.Windows.{HoldsPiece, TakesTo}
 use Rattle.pip_stream.specs.declared.refusal.NextRefusal.{NextRefusal}
 use Rattle.pip_stream.specs.declared.refusal.NextRefusal.TheVariants as next
 
@@ -22,10 +21,12 @@ pub record DropsClosed (old new : HeldBytes) (found : Bool) : Type 0 where
   pub closed : list_all is_closed (take count old.held) ≡ true
   pub open_now : BeginsOpen new found
 
--- the window where the search for a `(` ends
+-- no byte is held where the search for a `(` is refused, but for the one too many
+abbrev pub IsUnopened : HeldBytes → NextRefusal → Type 0
+IsUnopened w next.InputBytes = length w.held ≡ 1
+IsUnopened w e = w.held ≡ []
+
+-- the window where that search ends
 abbrev pub IsOpened : HeldBytes → Result Bool NextRefusal → Type 0
 IsOpened w (Ok found) = BeginsOpen w found × HoldsPiece w
-IsOpened w (Err next.InputBytes) = (length w.held ≡ 1) × (taken_by w ≡ most_input_bytes + 1)
-IsOpened w (Err next.Failed) = (w.held ≡ []) × (taken_by w ≤ most_input_bytes)
-IsOpened w (Err next.WantOfMemory) = (w.held ≡ []) × (taken_by w ≤ most_input_bytes)
-IsOpened w (Err (next.Read e)) = ⊥
+IsOpened w (Err e) = IsUnopened w e × TakesTo w e

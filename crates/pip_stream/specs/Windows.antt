@@ -47,6 +47,11 @@ pub record Grows (old new : HeldBytes) (n : ℕ) : Type 0 where
 abbrev pub IsMore : HeldBytes → HeldBytes → Result ℕ NextRefusal → Type 0
 IsMore old new (Ok n) = Grows old new n × (n ≤ 4096) × (taken_by new ≤ most_input_bytes)
 IsMore old new (Err next.InputBytes) = Grows old new 1 × (taken_by new ≡ most_input_bytes + 1)
-IsMore old new (Err next.Failed) = new ≡ old
-IsMore old new (Err next.WantOfMemory) = new ≡ old
 IsMore old new (Err (next.Read e)) = ⊥
+IsMore old new (Err e) = new ≡ old
+
+-- how many bytes were taken where a search is refused
+abbrev pub TakesTo : HeldBytes → NextRefusal → Type 0
+TakesTo w next.InputBytes = taken_by w ≡ most_input_bytes + 1
+TakesTo w (next.Read e) = ⊥
+TakesTo w e = taken_by w ≤ most_input_bytes

@@ -1,7 +1,7 @@
 use Rattle.pip_stream.proofs.Words.{◌≡◌, refl, sym, ap, subst, ◌∙◌, ◌≤◌, arith, true, false, length, err_from_is_err_and, None, Ok, Err, HeldBytes, counts-none, counts-refused, taken_by, IsOpened}
 use Rattle.pip_stream.specs.declared.refusal.NextRefusal.TheVariants as next
 use Rattle.pip_stream.proofs.Asking.{seeks-as, seeks-restart, seeks-then, seeks-skips, seeks-calls, calls-item, held-restart, held-opens, held-ends}
-use Rattle.pip_stream.proofs.Nexting.{finds-unopened, finds-none, finds-unended, finds-item, leaves-by, opened-limit, ended-limit, none-leaves, item-leaves, item-taken, item-not_none, item-not_failed}
+use Rattle.pip_stream.proofs.Nexting.{finds-unopened, finds-none, finds-unended, finds-item, leaves-by, limit-by, none-leaves, item-leaves, item-taken, item-not_none, item-not_failed}
 use Rattle.pip_stream.proofs.next.next_problem.Goals as goal
 
 pub find_open-requires : goal.find_open-requires
@@ -22,7 +22,7 @@ returns-in_err-find_open g c =
     record {
       finds = rw (p.1, p.2) (finds-unopened c.args.window.now c.find_open.new.window o (g.S.Source.left c.find_open.new.source) _ (seeks-skips g.S.Source.calls g.S.Source.taken c.args.source.now c.find_open.new.source c.args.window.now c.find_open.new.window o (g.S.Source.left c.find_open.new.source) false told) c.in_err-find_open.ensures.window);
       end = λ h. absurd (let e : Err p.0 ≡ Ok None = sym p.1 ∙ h in cc);
-      window = rw (p.1, p.2) (leaves-by c.args.window.now c.find_open.new.window _ base (opened-limit c.find_open.new.window _ c.in_err-find_open.ensures.window));
+      window = rw (p.1, p.2) (leaves-by c.args.window.now c.find_open.new.window _ base (limit-by c.find_open.new.window _ c.in_err-find_open.ensures.window.1));
       calls = rw p.1 (seeks-calls g.S.Source.calls g.S.Source.taken c.args.source.now c.find_open.new.source c.args.window.now c.find_open.new.window o (g.S.Source.left c.find_open.new.source) false told);
       faults = rw (p.1, p.2) (counts-refused _ next.Failed _ _ _ refl c.in_err-find_open.ensures.faults);
       untouched = λ some. (c.find_open.ensures.untouched (held-opens c.restart.new.self (held-restart c.args.window.now c.restart.new.self _ c.restart.ensures some))).0;
@@ -69,7 +69,7 @@ returns-in_err-n g c =
     record {
       finds = rw (p.1, p.2) (finds-unended c.args.window.now c.find_end.new.window o (g.S.Source.left c.find_end.new.source) _ (seeks-skips g.S.Source.calls g.S.Source.taken c.args.source.now c.find_end.new.source c.args.window.now c.find_end.new.window o (g.S.Source.left c.find_end.new.source) false told) w.open_still w.place);
       end = λ h. absurd (let e : Err p.0 ≡ Ok None = sym p.1 ∙ h in cc);
-      window = rw (p.1, p.2) (leaves-by c.args.window.now c.find_end.new.window _ base (ended-limit c.find_end.new.window _ w.place));
+      window = rw (p.1, p.2) (leaves-by c.args.window.now c.find_end.new.window _ base (limit-by c.find_end.new.window _ w.place.1));
       calls = rw p.1 (seeks-calls g.S.Source.calls g.S.Source.taken c.args.source.now c.find_end.new.source c.args.window.now c.find_end.new.window o (g.S.Source.left c.find_end.new.source) false told);
       faults = rw (p.1, p.2) (counts-refused _ next.Failed _ _ _ (c.in_ok-find_open.ensures.faults.quiet (λ e. cc)) c.in_err-n.ensures.faults);
       untouched = λ some.
