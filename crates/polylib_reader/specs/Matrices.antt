@@ -1,16 +1,11 @@
 -- The steps of reading two matrices.
-use Rattle.std.specs.Prelude.{ℕ, ◌+◌, ◌-◌, ℤ, Bool, List, Result, Ok}
+use Rattle.std.specs.Prelude.{ℕ, ◌+◌, ◌-◌, ℤ, Bool, true, List, length, codes, Result, Ok}
 use Rattle.pip_model.specs.declared.LimitKind.{LimitKind}
 use Rattle.pip_model.specs.declared.LimitKind.TheVariants.{Rows, ContextRows, Columns, ContextColumns}
 use Rattle.pip_model.specs.Limits.{most_unknowns, most_params, most_rows, most_context_rows}
+use Rattle.pip_model.specs.Problem.{Problem}
 use Rattle.pip_model.specs.Reading.{Fault, Reads, ◌>>=◌, within, no_big_parameter}
-use Rattle.pip_model.specs.MatrixText.{word, matrix_number, is_equality, count_of, counted, matrix_rows}
-
--- the number that is the next word, from low to high
-abbrev pub limited : List ℕ → LimitKind → ℕ → ℕ → ℕ → Reads ℕ
-limited bytes kind low high place = do
-  z ← matrix_number bytes place
-  within kind low high z
+use Rattle.pip_model.specs.MatrixText.{word, matrix_number, is_equality, count_of, counted, matrix_rows, options}
 
 -- whether the next row is an equality, and how many inequalities there are with it
 abbrev pub row_head : List ℕ → LimitKind → ℕ → ℕ → ℕ → Reads (Bool × ℕ)
@@ -23,20 +18,36 @@ row_head bytes kind most count place = do
 -- the number of parameters and the context's inequalities
 abbrev pub context_matrix : List ℕ → Reads (ℕ × List (List ℤ))
 context_matrix bytes = do
-  rows ← limited bytes ContextRows 0 most_context_rows 0
-  columns ← limited bytes ContextColumns 2 (most_params + 2) rows.1
+  k ← matrix_number bytes 0
+  rows ← within ContextRows 0 most_context_rows k
+  kc ← matrix_number bytes rows.1
+  columns ← within ContextColumns 2 (most_params + 2) kc
   forms ← matrix_rows bytes ContextRows most_context_rows (columns.0 - 2 + 1) 0 rows.0 columns.1
   Ok ((columns.0 - 2, forms.0), forms.1)
-
-abbrev pub big_parameter : List ℕ → ℕ → Result ℕ Fault
-big_parameter bytes place = do
-  big ← matrix_number bytes place
-  no_big_parameter big
 
 -- the number of unknowns and the tableau's inequalities
 abbrev pub constraint_matrix : List ℕ → ℕ → ℕ → Reads (ℕ × List (List ℤ))
 constraint_matrix bytes params place = do
-  rows ← limited bytes Rows 0 most_rows place
-  columns ← limited bytes Columns (params + 3) (params + 2 + most_unknowns) rows.1
+  l ← matrix_number bytes place
+  rows ← within Rows 0 most_rows l
+  lc ← matrix_number bytes rows.1
+  columns ← within Columns (params + 3) (params + 2 + most_unknowns) lc
   forms ← matrix_rows bytes Rows most_rows (columns.0 - params - 2 + params + 1) 0 rows.0 columns.1
   Ok ((columns.0 - params - 2, forms.0), forms.1)
+
+-- the problem that all the bytes spell
+abbrev pub problem_by_steps : List ℕ → Result Problem Fault
+problem_by_steps bytes = do
+  context ← context_matrix bytes
+  big ← matrix_number bytes context.1
+  place ← no_big_parameter big
+  constraints ← constraint_matrix bytes context.0.0 place
+  integer ← options bytes (length bytes) true constraints.1
+  Ok (record {
+    unknowns = constraints.0.0;
+    params = context.0.0;
+    rows = constraints.0.1;
+    context = context.0.1;
+    integer = integer;
+    comment = codes "()";
+  })

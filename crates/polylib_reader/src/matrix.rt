@@ -6,12 +6,12 @@ ghost use Rattle.text_reading.specs.Steps.{AreRead};
 ghost use Rattle.pip_problem.specs.Faults.{read_fault};
 ghost use Rattle.polylib_reader.specs.Matrices.{context_matrix as context_matrix_of, constraint_matrix as constraint_matrix_of};
 
-use crate::number::{number_between, numbers};
+use crate::number::{number, numbers};
 use crate::row::{push_inequalities, row_head};
 use affine_forms::{Form, MOST_CONTEXT_ROWS, MOST_PARAMETERS, MOST_ROWS, MOST_UNKNOWNS};
 use pip_problem::{LimitKind, ReadRefusal};
 use std::alloc::Global;
-use text_reading::Reads;
+use text_reading::{Reads, within};
 
 // A matrix that was read.
 #[derive(Drop)]
@@ -59,13 +59,18 @@ pub(crate) fn context_matrix(alloc: Global, bytes: &[u8]) -> Result<Matrix, Read
     ensures params { IfOk result (λ m. m.size ≤ most_params) }
     ensures order { IfOk result (λ m. m.after ≤ length bytes.now) }
 {
-    let (rows, at) = number_between(bytes, LimitKind::ContextRows, 0, MOST_CONTEXT_ROWS, 0)?;
-    let (columns, at) = number_between(
-        bytes,
+    let (rows, at) = within(
+        LimitKind::ContextRows,
+        0,
+        MOST_CONTEXT_ROWS,
+        number(bytes, 0)?,
+    )?;
+    let most_columns = MOST_PARAMETERS + 2;
+    let (columns, at) = within(
         LimitKind::ContextColumns,
         2,
-        MOST_PARAMETERS + 2,
-        at,
+        most_columns,
+        number(bytes, at)?,
     )?;
     let params = columns - 2;
     let (forms, after) = matrix_rows(
@@ -97,13 +102,13 @@ pub(crate) fn constraint_matrix(
         (constraint_matrix_of bytes.now params place) }
     ensures order { IfOk result (λ m. m.after ≤ length bytes.now) }
 {
-    let (rows, at) = number_between(bytes, LimitKind::Rows, 0, MOST_ROWS, place)?;
-    let (columns, at) = number_between(
-        bytes,
+    let (rows, at) = within(LimitKind::Rows, 0, MOST_ROWS, number(bytes, place)?)?;
+    let most_columns = params + 2 + MOST_UNKNOWNS;
+    let (columns, at) = within(
         LimitKind::Columns,
         params + 3,
-        params + 2 + MOST_UNKNOWNS,
-        at,
+        most_columns,
+        number(bytes, at)?,
     )?;
     let unknowns = columns - params - 2;
     let width = unknowns + params + 1;

@@ -5,12 +5,11 @@ ghost use Rattle.affine_forms.specs.Checks.{Fits};
 ghost use Rattle.text_reading.specs.Steps.{AreRead, IsRead};
 ghost use Rattle.pip_problem.specs.Faults.{read_fault};
 ghost use Rattle.polylib_reader.specs.Words.{word_of};
-ghost use Rattle.polylib_reader.specs.Matrices.{limited as limited_of};
 
 use crate::word::{Word, next_word};
-use pip_problem::{LimitKind, ReadRefusal};
+use pip_problem::ReadRefusal;
 use std::alloc::Global;
-use text_reading::{Reads, within};
+use text_reading::Reads;
 use text_tokens::{digits, integer, unsigned_part};
 
 // The number that a word spells, and the place behind it.
@@ -59,19 +58,4 @@ pub(crate) fn numbers(
         at = after;
     }
     Ok((read, at))
-}
-
-// The number that is the next word, from `low` to `high`, and the place behind it.
-pub(crate) fn number_between(
-    bytes: &[u8],
-    kind: LimitKind,
-    low: usize,
-    high: usize,
-    place: usize,
-) -> Reads<usize, ReadRefusal>
-    requires { place ≤ length bytes.now }
-    ensures reads { IsRead (λ n. n) read_fault bytes.now place result (limited_of bytes.now kind low high place) }
-    ensures range { IfOk result (λ x. (low ≤ x.0) × (x.0 ≤ high)) }
-{
-    within(kind, low, high, number(bytes, place)?)
 }

@@ -1,9 +1,8 @@
-ghost use Rattle.std.specs.Prelude.{◌≤◌, length, IfOk};
+ghost use Rattle.std.specs.Prelude.{IfOk};
 ghost use Rattle.pip_model.specs.MatrixText.{read_matrices as read_matrices_of};
 ghost use Rattle.pip_model.specs.Printed.{IsGroup};
 ghost use Rattle.pip_model.specs.Agreement.{Agrees};
 ghost use Rattle.pip_problem.specs.Faults.{read_fault};
-ghost use Rattle.polylib_reader.specs.Matrices.{big_parameter as big_parameter_of};
 
 use crate::matrix::{constraint_matrix, context_matrix};
 use crate::number::number;
@@ -12,26 +11,18 @@ use pip_problem::{Bytes, Problem, ReadRefusal};
 use std::alloc::Global;
 use text_reading::no_big_parameter;
 
-// The place behind the big parameter's column, which is to be -1: none.
-fn big_parameter(bytes: &[u8], place: usize) -> Result<usize, ReadRefusal>
-    requires { place ≤ length bytes.now }
-    ensures agrees { Agrees (λ x. x) read_fault result (big_parameter_of bytes.now place) }
-    ensures bound { IfOk result (λ after. after ≤ length bytes.now) }
-{
-    no_big_parameter(number(bytes, place)?)
-}
-
 /// The problem that all the bytes spell, with the comment `()`.
 ///
 /// A row whose first entry is 0 is two inequalities, the given one and then the one with all entries negated; both are
 /// counted. The first word that differs decides the refusal, which keeps the place of that word's first byte, the count
 /// or the column.
+#[tactic(auto, using(crate::proofs::Problems::read_matrices_by_steps))]
 pub fn read_matrices(alloc: Global, bytes: &[u8]) -> Result<Problem, ReadRefusal>
     ensures agrees { Agrees (λ x. x) read_fault result (read_matrices_of bytes.now) }
     ensures group { IfOk result (λ p. IsGroup p.comment) }
 {
     let context = context_matrix(alloc, bytes)?;
-    let place = big_parameter(bytes, context.after)?;
+    let place = no_big_parameter(number(bytes, context.after)?)?;
     let constraints = constraint_matrix(alloc, bytes, context.size, place)?;
     let integer = options(bytes, constraints.after)?;
     let comment = Bytes::try_new(alloc, b"()")?;
