@@ -62,16 +62,6 @@ module _ {S : Type 0} (Calls : S → S → Type 0) (taken : S → ℕ) where
   }
 
   module _ (s t : S) (a w : HeldBytes) (o m : Option (List ℕ)) where
-    -- what is sought is found, or not, by another test
-    pub seeks-as : (b found : Bool) → b ≡ found → IfSome o (λ left. Seeks Calls taken s t a w left m b) → IfSome o (λ left. Seeks Calls taken s t a w left m found)
-    seeks-as b found e h = subst (λ x. IfSome o (λ left. Seeks Calls taken s t a w left m x)) e h
-
-    pub seeks-ended : (n end : ℕ) (g : Option ℕ) → g ≡ Some end → IfSome o (λ left. Seeks Calls taken s t a w left m true) → IfSome o (λ left. Seeks Calls taken s t a w left m (is_ended {E = NextRefusal} (Ok n) g))
-    seeks-ended n end g e h = seeks-as true (is_ended {E = NextRefusal} (Ok n) g) (sym (ap (is_ended {E = NextRefusal} (Ok n)) e)) h
-
-    pub seeks-open : (n : ℕ) (g : Option ℕ) → g ≡ None → IfSome o (λ left. Seeks Calls taken s t a w left m false) → IfSome o (λ left. Seeks Calls taken s t a w left m (is_ended {E = NextRefusal} (Ok n) g))
-    seeks-open n g e h = seeks-as false (is_ended {E = NextRefusal} (Ok n) g) (sym (ap (is_ended {E = NextRefusal} (Ok n)) e)) h
-
     pub seeks-skips : (found : Bool) → IfSome o (λ left. Seeks Calls taken s t a w left m found) → IfSome o (λ left. Skips a left w m)
     seeks-skips found h = if-map (λ left. Seeks Calls taken s t a w left m found) (λ left. Skips a left w m) o (λ left k. k.skips) h
 

@@ -1,5 +1,5 @@
 -- Bytes that are dropped, and bytes that come: what is told of the input through each step.
-use Rattle.pip_stream.proofs.Words.{◌≡◌, refl, sym, ap, subst, ◌∙◌, ℕ, ◌+◌, ◌-◌, arith, List, ◌++◌, length, Bool, true, length-append, length-drop, take, drop, take-add, drop-drop, drop-append-le, take-append-le, list_all-append, Option, Some, None, IfSome, list_all, HeldBytes, is_closed, taken_by, bytes_from, Drops, Skips, Grows, DropsClosed}
+use Rattle.pip_stream.proofs.Words.{◌≡◌, refl, sym, ap, ◌∙◌, ℕ, ◌+◌, ◌-◌, arith, List, ◌++◌, length, Bool, true, length-append, length-drop, take, drop, take-add, drop-drop, drop-append-le, take-append-le, list_all-append, Option, Some, None, IfSome, list_all, HeldBytes, is_closed, taken_by, bytes_from, Drops, Skips, Grows, DropsClosed}
 
 abbrev Bytes : Type 0
 Bytes = List ℕ
@@ -9,8 +9,7 @@ if-map P Q (Some x) f h = f x h
 if-map P Q None f h = tt
 
 pub if-some : {X : Type 0} (P : X → Type 0) (o : Option X) (x : X) → o ≡ Some x → IfSome o P → P x
-if-some P (Some y) x e h = let same : y ≡ x = cc in subst P same h
-if-some P None x e h = absurd cc
+if-some P o x e h = rw e at h
 
 pub taken-grown : (a b : HeldBytes) (n : ℕ) → Grows a b n → taken_by b ≡ taken_by a + n
 taken-grown a b n g =

@@ -2,6 +2,7 @@
 use Rattle.pip_stream.proofs.Words.{◌≡◌, refl, sym, ap, subst, ◌∙◌, ℕ, ◌+◌, ◌-◌, ◌<◌, ◌≤◌, arith, false, List, [], length, length-drop, drop, take-length, Option, Some, None, IfSome, Result, Ok, Err, HeldBytes, most_input_bytes, Problem, next_open, first_group_end, taken_by, Skips, IsOpened, HoldsItem, IsEnded, IsRead, ReadsNext, IsSpared, RefusesNext, FindsNext, LeavesWindow, TakesTo, NextRefusal}
 use Rattle.std.specs.Io.KnownBytes.{IsAtEnd}
 use Rattle.pip_stream.specs.declared.refusal.NextRefusal.TheVariants as next
+use Rattle.pip_stream.proofs.Dropping.{if-map}
 use Rattle.pip_stream.proofs.Groups.{group_end-ends}
 use Rattle.pip_stream.proofs.Scanned.{begins_some}
 use Rattle.pip_stream.proofs.Finding.{stays, open-spared, item-spared, reads-none, reads-next, refuses-next}
@@ -23,12 +24,10 @@ opened-finds old w left m next.WantOfMemory s h = open-spared old left w m s (ap
 opened-finds old w left m (next.Read e) s h = absurd h.1
 
 pub finds-unopened : (old w : HeldBytes) (o m : Option (List ℕ)) (e : NextRefusal) → IfSome o (λ left. Skips old left w m) → IsOpened w (Err e) → IfSome o (λ left. FindsNext old left w m (Err e))
-finds-unopened old w None m e s h = tt
-finds-unopened old w (Some left) m e s h = opened-finds old w left m e s h
+finds-unopened old w o m e s h = if-map (λ left. Skips old left w m) (λ left. FindsNext old left w m (Err e)) o (λ left k. opened-finds old w left m e k h) s
 
 pub finds-none : (old w : HeldBytes) (o m : Option (List ℕ)) → IfSome o (λ left. Skips old left w m) → w.held ≡ [] → IsAtEnd m → IfSome o (λ left. FindsNext old left w m (Ok None))
-finds-none old w None m s h e = tt
-finds-none old w (Some left) m s h e = reads-none old left w m s h (at-end old w left m s e)
+finds-none old w o m s h e = if-map (λ left. Skips old left w m) (λ left. FindsNext old left w m (Ok None)) o (λ left k. reads-none old left w m k h (at-end old w left m k e)) s
 
 -- ---- the window behind a refusal, or the input's end
 
@@ -70,8 +69,7 @@ ended-finds old w left m next.WantOfMemory s first h = open-spared old left w m 
 ended-finds old w left m (next.Read e) s first h = absurd h.1
 
 pub finds-unended : (old w : HeldBytes) (o m : Option (List ℕ)) (e : NextRefusal) → IfSome o (λ left. Skips old left w m) → next_open 0 w.held ≡ Some 0 → IsEnded w (Err e) → IfSome o (λ left. FindsNext old left w m (Err e))
-finds-unended old w None m e s first h = tt
-finds-unended old w (Some left) m e s first h = ended-finds old w left m e s first h
+finds-unended old w o m e s first h = if-map (λ left. Skips old left w m) (λ left. FindsNext old left w m (Err e)) o (λ left k. ended-finds old w left m e k first h) s
 
 -- ---- the item is read
 
@@ -86,8 +84,7 @@ taken-finds old w v left m n (Err next.WantOfMemory) s first h end k =
 taken-finds old w v left m n (Err e) s first h end k = absurd k
 
 pub finds-item : (old w v : HeldBytes) (o m : Option (List ℕ)) (n : ℕ) (r : Result Found NextRefusal) → IfSome o (λ left. Skips old left w m) → next_open 0 w.held ≡ Some 0 → HoldsItem w n → (first_group_end w.held ≡ None → IsAtEnd m) → IsRead w v n r → IfSome o (λ left. FindsNext old left v m r)
-finds-item old w v None m n r s first h end k = tt
-finds-item old w v (Some left) m n r s first h end k = taken-finds old w v left m n r s first h end k
+finds-item old w v o m n r s first h end k = if-map (λ left. Skips old left w m) (λ left. FindsNext old left v m r) o (λ left x. taken-finds old w v left m n r x first h end k) s
 
 -- the window, whatever is read
 module _ (w v : HeldBytes) (n : ℕ) (h : HoldsItem w n) where

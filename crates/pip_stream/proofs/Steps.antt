@@ -1,10 +1,7 @@
 -- Facts of a step that asks for more bytes, or drops some, as the loops need them.
-use Rattle.pip_stream.proofs.Words.{◌≡◌, sym, ap, subst, ℕ, ◌+◌, ◌≤◌, arith, true, false, Bool, [], length, length-append, length-drop, nil_from_length, Ok, Err, HeldBytes, most_input_bytes, taken_by, IsMore, DropsClosed, IsOpened, NextRefusal}
+use Rattle.pip_stream.proofs.Words.{◌≡◌, sym, ap, subst, ℕ, ◌+◌, ◌≤◌, arith, false, Bool, [], length, length-append, length-drop, nil_from_length, Ok, Err, HeldBytes, most_input_bytes, taken_by, IsMore, DropsClosed, IsOpened, NextRefusal}
 use Rattle.pip_stream.specs.declared.refusal.NextRefusal.TheVariants as next
 use Rattle.pip_stream.proofs.Dropping.{taken-grown}
-
-pub not_true : {P : Type 0} → true ≡ false → P
-not_true h = absurd cc
 
 -- ---- dropped bytes before a `(`
 

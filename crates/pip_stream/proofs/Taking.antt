@@ -1,33 +1,22 @@
 -- The problem that is read of an item's bytes.
-use Rattle.pip_stream.proofs.Words.{◌≡◌, sym, ap, subst, ◌∙◌, ℕ, zero, suc, ◌+◌, ◌<◌, ◌≤◌, inl, inr, arith, List, ◌∷◌, length, take, drop, take-length, Option, Some, None, IfOk, IfErr, IfSome, Result, Ok, Err, HeldBytes, Problem, Ended, Fault, Syntax, Wide, next_open, read_native, read_fault, ReadRefusal, group_behind, first_group_end, next_open-closed, read_native-none, read_native-ends, IsItem, HoldsItem, IsRead}
+use Rattle.pip_stream.proofs.Words.{◌≡◌, sym, ap, ◌∙◌, ℕ, zero, suc, ◌+◌, ◌<◌, ◌≤◌, inl, inr, arith, List, ◌∷◌, length, take, drop, take-length, Option, Some, None, IfOk, IfSome, Result, Ok, Err, HeldBytes, Problem, Ended, Fault, Syntax, Wide, next_open, read_native, read_fault, ReadRefusal, group_behind, first_group_end, next_open-closed, read_native-none, read_native-ends, IsItem, HoldsItem, IsRead}
 use Rattle.pip_problem.specs.declared.refusal.ReadRefusal.TheVariants as read
-use Rattle.pip_reader.proofs.FaultPlaces.{FaultWithin, read_native-fault}
+use Rattle.pip_reader.proofs.FaultPlaces.{read_native-fault}
 use Rattle.pip_stream.specs.Refusals.{place_told}
 use Rattle.pip_stream.proofs.Groups.{group_end-ends}
 use Rattle.pip_stream.proofs.Scanned.{begins, begins_some}
 
 -- ---- the place of a fault
 
-fault_of : {A : Type 0} (n : ℕ) (r : Result A Fault) (f : Fault) → IfErr r (FaultWithin n) → r ≡ Err f → FaultWithin n f
-fault_of n (Ok x) f h e = absurd cc
-fault_of n (Err g) f h e = let same : g ≡ f = cc in subst (FaultWithin n) same h
-
 pub place-within : (bytes : List ℕ) (e : ReadRefusal) → IfSome (read_fault e) (λ f. read_native bytes 0 ≡ Err f) → place_told e ≤ length bytes
-place-within bytes (read.Syntax place) h = fault_of (length bytes) (read_native bytes 0) (Syntax place) (read_native-fault bytes 0 (omega arith)) h
-place-within bytes (read.Wide place) h = fault_of (length bytes) (read_native bytes 0) (Wide place) (read_native-fault bytes 0 (omega arith)) h
-place-within bytes (read.Limit kind z) h = omega arith
-place-within bytes (read.BigParameter z) h = omega arith
-place-within bytes (read.OptionWord word) h = omega arith
-place-within bytes read.WantOfMemory h = omega arith
+place-within bytes (read.Syntax place) h = rw h at (read_native-fault bytes 0 (omega arith))
+place-within bytes (read.Wide place) h = rw h at (read_native-fault bytes 0 (omega arith))
+place-within bytes e h = omega arith
 
 -- ---- the end of what is read
 
 pub ended-by : (bytes : List ℕ) (x : Problem × ℕ) (r : Result (Option (Problem × ℕ)) Fault) → IfOk r (λ o. IfSome o (λ y. Ended bytes 0 y.1)) → r ≡ Ok (Some x) → first_group_end bytes ≡ Some x.1
-ended-by bytes x (Ok (Some y)) h e =
-    let same : y.1 ≡ x.1 = let s : y ≡ x = cc in ap (λ (z : Problem × ℕ). z.1) s in
-    ap (group_behind bytes) h.opened ∙ h.closed ∙ ap Some same
-ended-by bytes x (Ok None) h e = absurd cc
-ended-by bytes x (Err f) h e = absurd cc
+ended-by bytes x r h e = let k = rw e at h in ap (group_behind bytes) k.opened ∙ k.closed
 
 module _ (w : HeldBytes) (n : ℕ) (first : next_open 0 w.held ≡ Some 0) (h : HoldsItem w n) where
   some : 0 < n

@@ -3,7 +3,7 @@ pub use Rattle.std.proofs.Common.{◌≡◌, refl, sym, ap, ◌∙◌, ℕ, suc,
 pub use Rattle.std.proofs.Math.Seq.{take-append-add, drop-append-add, take-length, take-add}
 pub use Rattle.std.proofs.lemmas.List.{take-append-drop, take_at, drop_at, drop_all, take-append-le, drop-append-le, drop-drop, append-nil, nil_from_length}
 pub use Rattle.std.proofs.lemmas.List.Folds.{list_all-append}
-pub use Rattle.std.specs.Prelude.{Option, Some, None, ◌⊎◌, IfSome, Result, Ok, Err, IfOk, IfErr}
+pub use Rattle.std.specs.Prelude.{Option, Some, None, ◌⊎◌, IfSome, Result, Ok, Err, IfOk}
 pub use Rattle.std.specs.List.{list_all}
 pub use Rattle.std.proofs.lemmas.Result.{err_from_is_err_and}
 pub use Rattle.pip_model.specs.Moved.{is_closed, moved, Ended}

@@ -1,6 +1,6 @@
 use Rattle.pip_stream.proofs.Words.{◌≡◌, refl, sym, ap, ◌∙◌, ◌+◌, ◌≤◌, arith, length, length-drop, take, drop, err_from_is_err_and, Some, None, HeldBytes, counts-none, counts-refused, first_group_end}
 use Rattle.pip_stream.specs.declared.refusal.NextRefusal.TheVariants as next
-use Rattle.pip_stream.proofs.Asking.{seeks-start, seeks-ended, seeks-open, seeks-last, seeks-more}
+use Rattle.pip_stream.proofs.Asking.{seeks-start, seeks-last, seeks-more}
 use Rattle.pip_stream.proofs.Scanned.{begins_some}
 use Rattle.pip_stream.proofs.Steps.{some_more, err-base}
 use Rattle.pip_stream.proofs.Ending.{scan-end, scan-none, holds-ended, rest-open, holds-rest, scanned-front, more-open, err-open, ended-err}
@@ -49,7 +49,7 @@ returns-in-Some g c =
         base = i.base;
       };
       end = λ none. let both : Some (c.loop-scan.seen + c.in-Some.after) ≡ None = sym e ∙ none in absurd cc;
-      told = seeks-ended g.S.Source.calls g.S.Source.taken c.args.source.now c.loop-scan.source c.args.window.now c.loop-scan.window (g.S.Source.left c.args.source.now) (g.S.Source.left c.loop-scan.source) (c.loop-scan.seen + c.in-Some.after) _ _ e i.told;
+      told = rw e i.told;
       faults = counts-none _ _ (λ h. cc) i.quiet;
       untouched = λ some. (i.untouched some).0;
     }
@@ -90,7 +90,7 @@ returns-then-branch-eq0 g c =
         base = s.base ∙ i.base;
       };
       end = λ _. c.in_ok-more.ensures.end c.if-branch-eq0.true;
-      told = seeks-open g.S.Source.calls g.S.Source.taken c.args.source.now c.more.new.source c.args.window.now c.more.new.window (g.S.Source.left c.args.source.now) (g.S.Source.left c.more.new.source) (length c.held-seen.result.now) _ (rest-open c.loop-scan.window c.more.new.window _ _ h c.in_ok-more.ensures.window c.if-branch-eq0.true) (seeks-last g.S.Source.calls g.S.Source.taken c.args.source.now c.loop-scan.source c.more.new.source c.args.window.now c.loop-scan.window c.more.new.window _ _ h.not_ended c.more.ensures.told c.more.ensures.asked (g.S.Source.left c.args.source.now) i.told);
+      told = rw (rest-open c.loop-scan.window c.more.new.window _ _ h c.in_ok-more.ensures.window c.if-branch-eq0.true) (seeks-last g.S.Source.calls g.S.Source.taken c.args.source.now c.loop-scan.source c.more.new.source c.args.window.now c.loop-scan.window c.more.new.window _ _ h.not_ended c.more.ensures.told c.more.ensures.asked (g.S.Source.left c.args.source.now) i.told);
       faults = counts-none _ _ (λ h. cc) (c.in_ok-more.ensures.faults.quiet (λ h. cc) ∙ i.quiet);
       untouched = λ some. absurd (some (ap (λ (x : HeldBytes). first_group_end x.held) (sym (i.untouched some).1) ∙ h.not_ended));
     }

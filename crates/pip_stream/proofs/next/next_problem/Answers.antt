@@ -1,6 +1,6 @@
-use Rattle.pip_stream.proofs.Words.{◌≡◌, refl, sym, ap, subst, ◌∙◌, ◌≤◌, arith, true, false, length, err_from_is_err_and, None, Ok, Err, HeldBytes, counts-none, counts-refused, taken_by, IsOpened}
+use Rattle.pip_stream.proofs.Words.{◌≡◌, refl, sym, ap, ◌∙◌, ◌≤◌, arith, true, false, length, err_from_is_err_and, None, Ok, Err, HeldBytes, counts-none, counts-refused, taken_by}
 use Rattle.pip_stream.specs.declared.refusal.NextRefusal.TheVariants as next
-use Rattle.pip_stream.proofs.Asking.{seeks-as, seeks-restart, seeks-then, seeks-skips, seeks-calls, calls-item, held-restart, held-opens, held-ends}
+use Rattle.pip_stream.proofs.Asking.{seeks-restart, seeks-then, seeks-skips, seeks-calls, calls-item, held-restart, held-opens, held-ends}
 use Rattle.pip_stream.proofs.Nexting.{finds-unopened, finds-none, finds-unended, finds-item, leaves-by, limit-by, none-leaves, item-leaves, item-taken, item-not_none, item-not_failed}
 use Rattle.pip_stream.proofs.next.next_problem.Goals as goal
 
@@ -33,11 +33,11 @@ returns-in_err-find_open g c =
 pub returns-then-not-branch : goal.returns-then-not-branch
 returns-then-not-branch g c =
     let none : c.in_ok-find_open.field-0 ≡ false = c.if-not-branch.true in
-    let w = subst (λ b. IsOpened c.find_open.new.window (Ok b)) none c.in_ok-find_open.ensures.window in
+    let w = rw none at c.in_ok-find_open.ensures.window in
     let o = g.S.Source.left c.args.source.now in
     let base : c.args.window.now.base ≤ c.find_open.new.window.base = omega (arith, ap (λ (x : HeldBytes). x.base) c.restart.ensures, c.find_open.ensures.base) in
     let told =
-    seeks-as g.S.Source.calls g.S.Source.taken c.args.source.now c.find_open.new.source c.args.window.now c.find_open.new.window o (g.S.Source.left c.find_open.new.source) _ false none
+    rw none at
     (seeks-restart g.S.Source.calls g.S.Source.taken c.args.source.now c.find_open.new.source c.args.window.now c.restart.new.self c.find_open.new.window _ o (g.S.Source.left c.find_open.new.source) _ c.restart.ensures c.in_ok-find_open.ensures.told) in
     record {
       finds = finds-none c.args.window.now c.find_open.new.window o (g.S.Source.left c.find_open.new.source) (seeks-skips g.S.Source.calls g.S.Source.taken c.args.source.now c.find_open.new.source c.args.window.now c.find_open.new.window o (g.S.Source.left c.find_open.new.source) false told) w.0 (c.in_ok-find_open.ensures.end none);
@@ -53,7 +53,7 @@ returns-then-not-branch g c =
 pub find_end-requires : goal.find_end-requires
 find_end-requires g c =
     let some : c.in_ok-find_open.field-0 ≡ true = c.if-not-branch.false in
-    subst (λ b. IsOpened c.find_open.new.window (Ok b)) some c.in_ok-find_open.ensures.window
+    rw some at c.in_ok-find_open.ensures.window
 
 pub returns-in_err-n : goal.returns-in_err-n
 returns-in_err-n g c =
@@ -64,7 +64,7 @@ returns-in_err-n g c =
     let base : c.args.window.now.base ≤ c.find_end.new.window.base = omega (arith, ap (λ (x : HeldBytes). x.base) c.restart.ensures, c.find_open.ensures.base, w.base) in
     let told =
     seeks-then g.S.Source.calls g.S.Source.taken c.args.source.now c.find_open.new.source c.find_end.new.source c.args.window.now c.find_open.new.window c.find_end.new.window o (g.S.Source.left c.find_open.new.source) (g.S.Source.left c.find_end.new.source) false
-    (seeks-as g.S.Source.calls g.S.Source.taken c.args.source.now c.find_open.new.source c.args.window.now c.find_open.new.window o (g.S.Source.left c.find_open.new.source) _ true some
+    (rw some at
     (seeks-restart g.S.Source.calls g.S.Source.taken c.args.source.now c.find_open.new.source c.args.window.now c.restart.new.self c.find_open.new.window _ o (g.S.Source.left c.find_open.new.source) _ c.restart.ensures c.in_ok-find_open.ensures.told)) c.in_err-n.ensures.told in
     record {
       finds = rw (p.1, p.2) (finds-unended c.args.window.now c.find_end.new.window o (g.S.Source.left c.find_end.new.source) _ (seeks-skips g.S.Source.calls g.S.Source.taken c.args.source.now c.find_end.new.source c.args.window.now c.find_end.new.window o (g.S.Source.left c.find_end.new.source) false told) w.open_still w.place);
@@ -92,7 +92,7 @@ returns g c =
     let t = item-taken c.find_end.new.window c.take_item.new.window _ w.place c.take_item.result c.take_item.ensures in
     let told =
     seeks-then g.S.Source.calls g.S.Source.taken c.args.source.now c.find_open.new.source c.find_end.new.source c.args.window.now c.find_open.new.window c.find_end.new.window o (g.S.Source.left c.find_open.new.source) (g.S.Source.left c.find_end.new.source) _
-    (seeks-as g.S.Source.calls g.S.Source.taken c.args.source.now c.find_open.new.source c.args.window.now c.find_open.new.window o (g.S.Source.left c.find_open.new.source) _ true some
+    (rw some at
     (seeks-restart g.S.Source.calls g.S.Source.taken c.args.source.now c.find_open.new.source c.args.window.now c.restart.new.self c.find_open.new.window _ o (g.S.Source.left c.find_open.new.source) _ c.restart.ensures c.in_ok-find_open.ensures.told)) c.in_ok-n.ensures.told in
     record {
       finds = finds-item c.args.window.now c.find_end.new.window c.take_item.new.window o (g.S.Source.left c.find_end.new.source) _ c.take_item.result (seeks-skips g.S.Source.calls g.S.Source.taken c.args.source.now c.find_end.new.source c.args.window.now c.find_end.new.window o (g.S.Source.left c.find_end.new.source) _ told) w.open_still w.place c.in_ok-n.ensures.end c.take_item.ensures;

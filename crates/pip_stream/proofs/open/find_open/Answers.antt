@@ -1,8 +1,8 @@
-use Rattle.pip_stream.proofs.Words.{◌≡◌, refl, sym, ap, subst, ◌∙◌, ◌≤◌, ℕ, Bool, true, arith, length, err_from_is_err_and, HeldBytes, counts-none, counts-refused, next_open, first_group_end, DropsClosed}
+use Rattle.pip_stream.proofs.Words.{refl, sym, ap, subst, ◌∙◌, ◌≤◌, true, arith, length, err_from_is_err_and, HeldBytes, counts-none, counts-refused, next_open, first_group_end, DropsClosed}
 use Rattle.pip_stream.specs.declared.refusal.NextRefusal.TheVariants as next
 use Rattle.pip_stream.proofs.Asking.{seeks-start, seeks-closed, seeks-last, seeks-more, closed-none}
 use Rattle.pip_stream.proofs.Dropping.{taken-closed}
-use Rattle.pip_stream.proofs.Steps.{not_true, fewer, some_more, err-base, opened-err, opened-end}
+use Rattle.pip_stream.proofs.Steps.{fewer, some_more, err-base, opened-err, opened-end}
 use Rattle.pip_stream.proofs.open.find_open.Goals as goal
 
 pub loop-window-init : goal.loop-window-init
@@ -91,7 +91,7 @@ returns g c =
         record { few = omega (arith, f.held, i.piece.few); peak = omega (arith, f.peak, i.piece.peak); within = omega (arith, t, i.piece.within) },
       );
       base = omega (arith, f.base, i.base);
-      end = λ h. not_true h;
+      end = λ h. absurd cc;
       told = seeks-closed g.S.Source.calls g.S.Source.taken c.args.source.now c.loop-window.source c.args.window.now c.loop-window.window c.skip_closed.new.window (g.S.Source.left c.args.source.now) (g.S.Source.left c.loop-window.source) true _ i.told c.skip_closed.ensures;
       faults = counts-none _ _ (λ h. cc) i.quiet;
       untouched = λ some.
