@@ -1,8 +1,14 @@
--- How a run ends where the next problem is not read.
+-- How a run ends where its words are refused, or the next problem is not read.
+use Rattle.pip_words.specs.declared.refusal.WordsRefusal.{WordsRefusal}
+use Rattle.pip_words.specs.declared.refusal.WordsRefusal.TheVariants as words
 use Rattle.pip_stream.specs.declared.refusal.NextRefusal.{NextRefusal}
 use Rattle.pip_stream.specs.declared.refusal.NextRefusal.TheVariants as next
 use Rattle.pip_endings.specs.declared.ending.Ending.{Ending}
 use Rattle.pip_endings.specs.declared.ending.Ending.TheVariants as ending
+
+abbrev pub words_ending : WordsRefusal → Ending
+words_ending words.Usage = ending.Usage
+words_ending words.WantOfMemory = ending.WantOfMemory
 
 abbrev pub next_ending : NextRefusal → Ending
 next_ending (next.Read e) = ending.Problem e

@@ -5,8 +5,7 @@ ghost use Rattle.program_model.specs.Endings.{notes_of};
 ghost use Rattle.pip_endings.specs.Endings.{ending_of, pieces_ending};
 ghost use Rattle.pip_problem.specs.declared.refusal.Refusal.TheVariants as run;
 ghost use Rattle.pip_endings.specs.declared.ending.Ending.TheVariants as ending;
-ghost use Rattle.pip_endings.specs.Words.{words_ending};
-ghost use Rattle.pip_endings.specs.Inputs.{next_ending};
+ghost use Rattle.pip_endings.specs.Inputs.{words_ending, next_ending};
 
 use crate::status::Status;
 use crate::told::{tell, write_line};

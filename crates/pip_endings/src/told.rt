@@ -1,10 +1,8 @@
 ghost use Rattle.std.specs.Prelude.{◌≡◌, ◌++◌, ◌<◌, Some, None, pos, length, codes};
 ghost use Rattle.pip_outside.specs.Bytes.{WritesBytes};
-ghost use Rattle.program_model.specs.Endings.{ending, budget_spent, spot_text, memory_ending, kind_name, option_name, fault_ending, check_ending, tool_ending, notes_of};
+ghost use Rattle.program_model.specs.Endings.{ending, budget_spent, spot_text, memory_ending, kind_name, option_name, fault_ending, notes_of};
 ghost use Rattle.pip_model.specs.Reading.{Syntax, Wide};
 ghost use Rattle.pip_endings.specs.Statuses.{number_of};
-ghost use Rattle.pip_model.specs.Check.{Rejected, Unfit};
-ghost use Rattle.pip_model.specs.Walks.{Lengths};
 ghost use Rattle.pip_endings.specs.Endings.{walk_ending};
 ghost use Rattle.certificate_check.specs.Faults.{spot_of};
 ghost use Rattle.pip_endings.specs.Endings.{or_memory, read_ending, text_ending, certificate_ending, run_ending, ending_of};
@@ -139,8 +137,8 @@ pub(crate) fn tell(ending: Ending) -> Told
             Status::NotSupported,
             "unsupported rational certificate",
         ),
-        Ending::Rejected(spot) => tell_rejection(spot),
-        Ending::OverflowAt(spot) => tell_overflow(spot),
+        Ending::Rejected(spot) => tell_place(Status::NotAccepted, "rejected", spot),
+        Ending::OverflowAt(spot) => tell_place(Status::NumberTooLarge, "overflow", spot),
         Ending::Run(refusal) => tell_run(refusal),
         Ending::Walk(refusal) => tell_walk(refusal),
     }
@@ -224,18 +222,6 @@ fn tell_certificate(refusal: CertificateRefusal) -> Told
     }
 }
 
-fn tell_rejection(spot: Spot) -> Told
-    ensures { ending_told result ≡ check_ending (Rejected (spot_of spot)) }
-{
-    tell_place(Status::NotAccepted, "rejected", spot)
-}
-
-fn tell_overflow(spot: Spot) -> Told
-    ensures { ending_told result ≡ check_ending (Unfit (spot_of spot)) }
-{
-    tell_place(Status::NumberTooLarge, "overflow", spot)
-}
-
 fn tell_walk(refusal: ToolRefusal) -> Told
     ensures { ending_told result ≡ or_memory (walk_ending refusal) }
 {
@@ -246,17 +232,11 @@ fn tell_walk(refusal: ToolRefusal) -> Told
         ToolRefusal::Splits(limit) => tell_budget("budget of splits ", limit),
         ToolRefusal::Nesting(limit) => tell_budget("budget of nesting ", limit),
         ToolRefusal::Negative => tell_words(Status::QuotientNegative, "negative quotient"),
-        ToolRefusal::Lengths(first, second) => tell_lengths(first, second),
+        ToolRefusal::Lengths(first, second) => Told {
+            status: Status::LengthsDiffer,
+            line: Line::Lengths(first, second),
+        },
         ToolRefusal::WantOfMemory => tell_want_of_memory(),
-    }
-}
-
-fn tell_lengths(first: usize, second: usize) -> Told
-    ensures { ending_told result ≡ tool_ending (Lengths first second) }
-{
-    Told {
-        status: Status::LengthsDiffer,
-        line: Line::Lengths(first, second),
     }
 }
 
