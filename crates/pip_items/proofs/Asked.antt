@@ -1,9 +1,14 @@
 -- That the source is not called again once the group of a refused problem has ended.
-use Rattle.pip_items.proofs.Words.{◌≡◌, refl, sym, ap, subst, ◌∙◌, ℕ, ◌+◌, ◌≤◌, inl, inr, arith, true, false, List, [], ◌∷◌, length, length-drop, drop, IfSome, Result, Ok, Err, Takes, CallsWithin, takes-then, HeldBytes, Problem, Fault, moved, read_native, Ending, ItemAt, Gives, FirstItemsTo, IsItself, or_ending, text_with, text_of_item, Command, SolveOptions, Solve, text_of, read_native-ends, first_group_end, taken_by, AsksWhileOpen, if-some, reads_by_problem, StopsAtRefused}
+use Rattle.pip_items.proofs.Words.{◌≡◌, refl, sym, ap, subst, ◌∙◌, ℕ, ◌+◌, ◌-◌, ◌<◌, ◌≤◌, ◌↔◌, inl, inr, arith, Bool, true, false, List, [], ◌∷◌, length, length-drop, drop, IfSome, Result, Ok, Err, Takes, AsksOn, CallsWithin, takes-none, takes-then, asks-then, Appends, HeldBytes, most_input_bytes, Problem, Fault, moved, read_native, Ending, finished, ItemAt, Gives, FirstItemsTo, IsItself, or_ending, text_with, text_of_item, Command, SolveOptions, Solve, text_of, read_native-ends, first_group_end, taken_by, AsksWhileOpen, AsksInTurns, CallsFor, if-some, ReadsNone, IsReady, Gained, reads_by_problem, StopsAtRefused, TakesInputAtMost, AreAll, WritesByProblem}
 use Rattle.std.specs.Prelude.{Option, Some, None}
 use Rattle.pip_stream.proofs.Groups.{group_end-ends}
 use Rattle.pip_stream.proofs.Taking.{ended-by}
-use Rattle.pip_items.proofs.ByProblem.{text, text-is, Follows}
+use Rattle.pip_stream.proofs.Asking.{turns-any}
+use Rattle.pip_endings.specs.declared.ending.Ending.{Ending as Refused}
+use Rattle.pip_endings.specs.declared.ending.Ending.TheVariants as ending
+use Rattle.pip_items.specs.Answered.{Answers, AnswersNext}
+use Rattle.pip_items.specs.ByProblem.{CallsBy}
+use Rattle.pip_items.proofs.ByProblem.{text, text-is, Follows, follows-start, follows-more, none-written, err-written}
 
 -- ---- items one after the other
 
@@ -78,6 +83,10 @@ module _ (o : SolveOptions) (native : o.polylib ≡ false) (bytes : List ℕ) wh
 
 -- ---- the calls of the source
 
+pub none-taken : (o : Option (List ℕ)) (i : ℕ) → TakesInputAtMost o i i
+none-taken None i = tt
+none-taken (Some bytes) i = omega arith
+
 module _ {S : Type 0} (Calls : S → S → Type 0) (taken : S → ℕ) where
   pub stops-start : (s : S) (c : Command) (o : Option (List ℕ)) → IfSome o (StopsAtRefused Calls taken s s c)
   stops-start s c None = tt
@@ -99,7 +108,63 @@ module _ {S : Type 0} (Calls : S → S → Type 0) (taken : S → ℕ) where
         by_call h (inl same) = subst (λ x. CallsWithin Calls taken s x 0 (place + n)) (sym same) (before by place n r ends)
         by_call h (inr c) = inr (c.0, takes-then Calls taken s t c.0 led c.1, c.2, omega (arith, c.3, counted, h.low))
 
-    -- behind the next problem
-    pub stops-next : (input : Option (List ℕ)) → IfSome input (λ bytes. Follows o bytes w now a b) → IfSome input (λ _. taken t ≡ taken s + taken_by w) → IfSome input (λ _. Takes Calls taken s t) → IfSome input (StopsAtRefused Calls taken s t (Solve o)) → IfSome now (AsksWhileOpen Calls taken t u w) → IfSome input (StopsAtRefused Calls taken s u (Solve o))
-    stops-next None f counted led before asked = tt
-    stops-next (Some bytes) f counted led before asked = stops-more bytes f counted led before (if-some (AsksWhileOpen Calls taken t u w) now f.left_now f.told asked)
+  -- where the loop stands: the window follows the texts that were written, and what the calls so far did
+  pub record Reached (o : SolveOptions) (bytes : List ℕ) (s t : S) (w : HeldBytes) (now a b : Option (List ℕ)) : Type 0 where
+    pub follows : Follows o bytes w now a b
+    pub counted : taken t ≡ taken s + taken_by w
+    pub led : Takes Calls taken s t
+    pub stops : StopsAtRefused Calls taken s t (Solve o) bytes
+
+  pub starts : (o : SolveOptions) (native : o.polylib ≡ false) (s : S) (input : Option (List ℕ)) (w : HeldBytes) (a : Option (List ℕ)) → w ≡ record { held = []; base = 0; peak = 0 } → IfSome input (λ bytes. Reached o bytes s s w input a a)
+  starts o native s None w a e = tt
+  starts o native s (Some bytes) w a e = record {
+    follows = follows-start o native bytes w a e;
+    counted = omega (arith, ap (λ (x : HeldBytes). taken_by x) e);
+    led = takes-none Calls taken s;
+    stops = λ by place n r e. inl refl;
+  }
+
+-- ---- the ends of the loop
+
+module _ {S : Type 0} (Calls : S → S → Type 0) (taken : S → ℕ) (tells : S → Option (List ℕ)) (o : SolveOptions) (native : o.polylib ≡ false) (s t u : S) (w new : HeldBytes) (a b : Option (List ℕ)) (found : Bool)
+    (rs : IfSome (tells s) (λ bytes. Reached Calls taken o bytes s t w (tells t) a b)) (calls : IfSome (tells t) (λ left. CallsFor Calls taken t u w new left found)) where
+  where_told : (Q : List ℕ → Type 0) → ((bytes : List ℕ) (r : Reached Calls taken o bytes s t w (tells t) a b) → CallsFor Calls taken t u w new r.follows.left_now found → Q bytes) → IfSome (tells s) Q
+  where_told Q f = go (tells s) rs
+    where
+      go : (input : Option (List ℕ)) → IfSome input (λ bytes. Reached Calls taken o bytes s t w (tells t) a b) → IfSome input Q
+      go None r = tt
+      go (Some bytes) r = f bytes r (if-some (λ left. CallsFor Calls taken t u w new left found) (tells t) r.follows.left_now r.follows.told calls)
+
+  pub calls-by : taken_by new ≤ most_input_bytes + 1 → CallsBy tells Calls taken s u (Solve o)
+  calls-by bound = record {
+    asked = where_told (StopsAtRefused Calls taken s u (Solve o)) (λ bytes r k. stops-more Calls taken o native s t u w (tells t) a b bytes r.follows r.counted r.led r.stops k.asked);
+    turns = where_told (λ _. AsksOn Calls taken s u) (λ bytes r k. asks-then Calls taken s t u r.led (turns-any Calls taken t u found k.turns));
+    taken = where_told (λ _. taken u ≤ taken s + (most_input_bytes + 1)) (λ bytes r k. omega (arith, r.counted, k.counted, bound));
+  }
+
+  -- what is written where so many were taken as the window tells
+  told-by : (c : Option (List ℕ)) (P : List ℕ → Type 0) (r : Result (Unit {0}) Refused) → IfSome (tells t) P → ((bytes : List ℕ) (f : Follows o bytes w (tells t) a b) → P f.left_now → WritesByProblem (Solve o) bytes (taken_by new) a c r) → IfSome (tells s) (λ bytes. WritesByProblem (Solve o) bytes (taken u - taken s) a c r)
+  told-by c P r p h = where_told (λ bytes. WritesByProblem (Solve o) bytes (taken u - taken s) a c r) (λ bytes x k.
+      let same : taken_by new ≡ taken u - taken s = omega (arith, x.counted, k.counted) in
+      subst (λ n. WritesByProblem (Solve o) bytes n a c r) same (h bytes x.follows (if-some P (tells t) x.follows.left_now x.follows.told p)))
+
+  -- the problem is not answered
+  pub err-output : (c : Option (List ℕ)) (e : Refused) → IsReady w → (¬ (e ≡ ending.WriteFault) → c ≡ b) → ((e ≡ ending.InputTooLong) ↔ (most_input_bytes < taken_by new)) → IfSome (tells t) (λ left. AnswersNext o w left new (tells u) b c (Err e)) → IfSome (tells s) (λ bytes. WritesByProblem (Solve o) bytes (taken u - taken s) a c (Err e))
+  err-output c e ready same long h =
+      told-by c (λ left. AnswersNext o w left new (tells u) b c (Err e)) (Err e) h (λ bytes f x. err-written o native bytes w (tells t) a b f new (tells u) ready c e same long x)
+
+  -- none is left
+  pub none-output : (c : Option (List ℕ)) → c ≡ b → taken_by new ≤ most_input_bytes → IfSome (tells t) (λ left. ReadsNone w left new (tells u)) → IfSome (tells s) (λ bytes. WritesByProblem (Solve o) bytes (taken u - taken s) a c (Ok tt))
+  none-output c same within h =
+      told-by c (λ left. ReadsNone w left new (tells u)) (Ok tt) h (λ bytes f x. subst (λ y. Gained (AreAll (Solve o) bytes (taken_by new) finished) a y) (sym same) (none-written o native bytes w (tells t) a b f (taken_by new) within new (tells u) x))
+
+  -- it is answered
+  pub reaches : found ≡ true → (c : Option (List ℕ)) → IfSome (tells t) (λ left. Answers o w left new (tells u) (Appends b c)) → IfSome (tells s) (λ bytes. Reached Calls taken o bytes s u new (tells u) a c)
+  reaches is c h = where_told (λ bytes. Reached Calls taken o bytes s u new (tells u) a c) (λ bytes r k.
+      let x = if-some (λ left. Answers o w left new (tells u) (Appends b c)) (tells t) r.follows.left_now r.follows.told h in
+      record {
+        follows = follows-more o native bytes w (tells t) a b r.follows new (tells u) x.problem x.size x.reads c x.text x.made x.gained;
+        counted = omega (arith, r.counted, k.counted);
+        led = takes-then Calls taken s t u r.led (subst (AsksInTurns Calls taken t u) is k.turns);
+        stops = stops-more Calls taken o native s t u w (tells t) a b bytes r.follows r.counted r.led r.stops k.asked;
+      })

@@ -1,5 +1,5 @@
 -- What the loop over the problems of an input has written so far, and what it is at each of its ends.
-use Rattle.pip_items.proofs.Words.{◌≡◌, refl, sym, ap, subst, ◌∙◌, ℕ, ◌+◌, ◌-◌, ◌<◌, ◌≤◌, inl, inr, arith, true, false, List, [], length, length-append, length-drop, take, drop, Appends-nil, drop-drop, drop-take, ◌⊎◌, ◌↔◌, IfSome, Result, Ok, Err, IfErr, IsErrOf, Vec, if◌then◌else◌, Global, IsOfInput, list_all, Appends, AppendsFront, HeldBytes, most_input_bytes, Problem, Fault, moved, is_closed, read_native, Ending, finished, fault_ending, matrix_item, problem_item, ItemAt, or_ending, text_with, text_of_item, IsItself, NoEnd, Ends, SolveOptions, Solve, item_text, text_of, read_native-moved, first_items-end, group_behind, first_group_end, taken_by, bytes_from, if-some, ReadsNext, ReadsNone, IsSpared, StaysOpen, HoldsRest, FindsNext, IsReady, told, IsOfItem, Gained, GainedFront, counts-none, counts-as, counts-refused, TakesInputAtMost, EndsByFaults, AreEnded, AreBefore, AreAll, WritesTillEnd, WritesByProblem}
+use Rattle.pip_items.proofs.Words.{◌≡◌, refl, sym, ap, subst, ◌∙◌, ℕ, ◌+◌, ◌-◌, ◌<◌, ◌≤◌, inl, inr, arith, true, false, List, [], length, length-append, length-drop, take, drop, Appends-nil, drop-drop, drop-take, ◌⊎◌, ◌↔◌, IfSome, Result, Ok, Err, IfErr, IsErrOf, Vec, if◌then◌else◌, Global, IsOfInput, list_all, Appends, AppendsFront, HeldBytes, most_input_bytes, Problem, Fault, moved, is_closed, read_native, Ending, finished, fault_ending, matrix_item, problem_item, ItemAt, or_ending, text_with, text_of_item, IsItself, NoEnd, Ends, SolveOptions, Solve, item_text, text_of, read_native-moved, first_items-end, group_behind, first_group_end, taken_by, bytes_from, ReadsNext, ReadsNone, IsSpared, StaysOpen, HoldsRest, FindsNext, IsReady, told, IsOfItem, Gained, GainedFront, counts-none, counts-as, counts-refused, EndsByFaults, AreEnded, AreBefore, AreAll, WritesTillEnd, WritesByProblem}
 use Rattle.std.specs.Prelude.{Option, Some, None}
 use Rattle.std.specs.Option.{option_map}
 use Rattle.program_model.specs.Output.{IsFirstOutput}
@@ -177,43 +177,12 @@ module _ (o : SolveOptions) (native : o.polylib ≡ false) (bytes : List ℕ) wh
       err-written c e same long h =
           subst (λ x. WritesByProblem (Solve o) bytes (taken_by new) a x (Err e)) (sym (same (λ p. cc))) (not-answered e long h)
 
--- ---- where the source tells
-
-pub each : (o : SolveOptions) (input : Option (List ℕ)) (w : HeldBytes) (now a b : Option (List ℕ)) (P Q : List ℕ → Type 0) → IfSome input (λ bytes. Follows o bytes w now a b) → IfSome now P → ((bytes : List ℕ) (f : Follows o bytes w now a b) → P f.left_now → Q bytes) → IfSome input Q
-each o None w now a b P Q fs p k = tt
-each o (Some bytes) w now a b P Q fs p k = k bytes fs (if-some P now fs.left_now fs.told p)
-
-pub starts : (o : SolveOptions) (native : o.polylib ≡ false) (input : Option (List ℕ)) (w : HeldBytes) (a : Option (List ℕ)) → w ≡ record { held = []; base = 0; peak = 0 } → IfSome input (λ bytes. Follows o bytes w input a a)
-starts o native None w a e = tt
-starts o native (Some bytes) w a e = follows-start o native bytes w a e
-
--- how many were taken: those that the window tells
-pub taken-by : (input : Option (List ℕ)) (Q : List ℕ → ℕ → Type 0) (i j n : ℕ) → IfSome input (λ _. j ≡ i + n) → IfSome input (λ bytes. Q bytes n) → IfSome input (λ bytes. Q bytes (j - i))
-taken-by None Q i j n e h = tt
-taken-by (Some bytes) Q i j n e h = let same : n ≡ j - i = omega (arith, e) in subst (Q bytes) same h
-
--- what holds of the input and of what is left of it now
-pub told-on : (o : SolveOptions) (input : Option (List ℕ)) (w : HeldBytes) (now a b : Option (List ℕ)) (P Q R : Type 0) → IfSome input (λ bytes. Follows o bytes w now a b) → IfSome input (λ _. P) → IfSome now (λ _. Q) → (P → Q → R) → IfSome input (λ _. R)
-told-on o None w now a b P Q R fs p q k = tt
-told-on o (Some bytes) w now a b P Q R fs p q k = k p (if-some (λ _. Q) now fs.left_now fs.told q)
-
--- no more is taken than a byte past the limit
-pub taken-few : (input : Option (List ℕ)) (i j n : ℕ) → IfSome input (λ _. j ≡ i + n) → n ≤ most_input_bytes + 1 → TakesInputAtMost input i j
-taken-few None i j n e h = tt
-taken-few (Some bytes) i j n e h = omega (arith, e, h)
-
-pub if-told : (P : Type 0) (o : Option (List ℕ)) → P → IfSome o (λ _. P)
-if-told P None p = tt
-if-told P (Some x) p = p
-
 -- ---- refusals
 
 -- a refusal of a problem is neither of the words nor of a write, and a fault only where the source failed
 pub next-not : (e : NextRefusal) → (¬ (next_ending e ≡ ending.Usage)) × (¬ (next_ending e ≡ ending.WriteFault)) × (next_ending e ≡ ending.ReadFault → e ≡ next.Failed)
-next-not (next.Read e) = (λ h. cc, λ h. cc, λ h. absurd cc)
 next-not next.Failed = (λ h. cc, λ h. cc, λ h. refl)
-next-not next.InputBytes = (λ h. cc, λ h. cc, λ h. absurd cc)
-next-not next.WantOfMemory = (λ h. cc, λ h. cc, λ h. absurd cc)
+next-not e = (λ h. cc, λ h. cc, λ h. absurd cc)
 
 -- a refusal of an item is none of the outside
 pub own-not : (e : Refused) → IsOfItem e → (¬ (e ≡ ending.Usage)) × (¬ (e ≡ ending.ReadFault)) × (¬ (e ≡ ending.WriteFault)) × (¬ (e ≡ ending.InputTooLong))
@@ -285,49 +254,12 @@ pub unmade : (o : SolveOptions) (input a : Option (List ℕ)) (n : ℕ) → n �
 unmade o None a n zero = tt
 unmade o (Some bytes) a n zero = record { texts = []; are = record { place = 0; texts = refl; spared = λ q e. omega (arith, zero) }; gained = Appends-nil a }
 
-pub none-taken : (input : Option (List ℕ)) (i : ℕ) → TakesInputAtMost input i i
-none-taken input i = taken-few input i i 0 (if-told _ input (omega arith)) (omega arith)
-
--- ---- the ends of the loop
-
-module _ (o : SolveOptions) (native : o.polylib ≡ false) (input : Option (List ℕ)) (w : HeldBytes) (now a b : Option (List ℕ)) (i j : ℕ)
-    (fs : IfSome input (λ bytes. Follows o bytes w now a b)) (counted : IfSome input (λ _. j ≡ i + taken_by w))
-    (new : HeldBytes) (after : Option (List ℕ)) (k : ℕ) (more : IfSome now (λ _. k + taken_by w ≡ j + taken_by new)) where
-  pub counts : IfSome input (λ _. k ≡ i + taken_by new)
-  counts = told-on o input w now a b (j ≡ i + taken_by w) (k + taken_by w ≡ j + taken_by new) (k ≡ i + taken_by new) fs counted more (λ x y. omega (arith, x, y))
-
-  pub taken-at_most : taken_by new ≤ most_input_bytes + 1 → TakesInputAtMost input i k
-  taken-at_most h = taken-few input i k (taken_by new) counts h
-
-  -- what is written where so many were taken as the window tells
-  pub told-by : (c : Option (List ℕ)) (P : List ℕ → Type 0) (r : Result (Unit {0}) Refused) → IfSome now P → ((bytes : List ℕ) (f : Follows o bytes w now a b) → P f.left_now → WritesByProblem (Solve o) bytes (taken_by new) a c r) → IfSome input (λ bytes. WritesByProblem (Solve o) bytes (k - i) a c r)
-  told-by c P r p h =
-      taken-by input (λ bytes n. WritesByProblem (Solve o) bytes n a c r) i k (taken_by new) counts (each o input w now a b P (λ bytes. WritesByProblem (Solve o) bytes (taken_by new) a c r) fs p h)
-
-  -- the problem is not answered
-  pub err-output : (c : Option (List ℕ)) (e : Refused) → IsReady w → (¬ (e ≡ ending.WriteFault) → c ≡ b) → ((e ≡ ending.InputTooLong) ↔ (most_input_bytes < taken_by new)) → IfSome now (λ left. AnswersNext o w left new after b c (Err e)) → IfSome input (λ bytes. WritesByProblem (Solve o) bytes (k - i) a c (Err e))
-  err-output c e ready same long h =
-      told-by c (λ left. AnswersNext o w left new after b c (Err e)) (Err e) h (λ bytes f x. err-written o native bytes w now a b f new after ready c e same long x)
-
-  -- none is left
-  pub none-output : (c : Option (List ℕ)) → c ≡ b → taken_by new ≤ most_input_bytes → IfSome now (λ left. ReadsNone w left new after) → IfSome input (λ bytes. WritesByProblem (Solve o) bytes (k - i) a c (Ok tt))
-  none-output c same within h =
-      told-by c (λ left. ReadsNone w left new after) (Ok tt) h (λ bytes f x. subst (λ y. Gained (AreAll (Solve o) bytes (taken_by new) finished) a y) (sym same) (none-written o native bytes w now a b f (taken_by new) within new after x))
-
-  -- it is answered
-  pub answered-follows : (c : Option (List ℕ)) → IfSome now (λ left. Answers o w left new after (Appends b c)) → IfSome input (λ bytes. Follows o bytes new after a c)
-  answered-follows c h =
-      each o input w now a b (λ left. Answers o w left new after (Appends b c)) (λ bytes. Follows o bytes new after a c) fs h
-      (λ bytes f x. follows-more o native bytes w now a b f new after x.problem x.size x.reads c x.text x.made x.gained)
-
 -- ---- one problem
 
 module _ (o : SolveOptions) (w : HeldBytes) (new : HeldBytes) (after b c : Option (List ℕ)) where
   next-unread : (left : List ℕ) (e : NextRefusal) → FindsNext w left new after (Err e) → AnswersNext o w left new after b c (Err (next_ending e))
-  next-unread left (next.Read e) h = inl (record { refusal = next.Read e; is = refl; finds = h })
   next-unread left next.Failed h = inl (record { refusal = next.Failed; is = refl; finds = h })
-  next-unread left next.InputBytes h = inl (record { refusal = next.InputBytes; is = refl; finds = h })
-  next-unread left next.WantOfMemory h = inl (record { refusal = next.WantOfMemory; is = refl; finds = h })
+  next-unread left e h = inl (record { refusal = e; is = refl; finds = h })
 
   pub unread-told : (now : Option (List ℕ)) (e : NextRefusal) → IfSome now (λ left. FindsNext w left new after (Err e)) → IfSome now (λ left. AnswersNext o w left new after b c (Err (next_ending e)))
   unread-told None e h = tt
@@ -357,9 +289,8 @@ next-limit (next.Read e) n h = (λ p. absurd (problem-not e p), λ q. absurd (re
 
     read-not : {T : Type 0} (x : ReadRefusal) → IsErrOf {T = T} (Err (next.Read x)) next.InputBytes → ⊥
     read-not x p = cc
-next-limit next.Failed n h = (λ p. absurd cc, λ q. absurd (let p = h.1 q in cc))
 next-limit next.InputBytes n h = (λ p. h.0 refl, λ q. refl)
-next-limit next.WantOfMemory n h = (λ p. absurd cc, λ q. absurd (let p = h.1 q in cc))
+next-limit e n h = (λ p. absurd cc, λ q. absurd (let p = h.1 q in cc))
 
 -- any other end keeps within it
 pub own-limit : {U : Type 0} (r : Result U Refused) (n : ℕ) → ¬ IsErrOf r ending.InputTooLong → n ≤ most_input_bytes → IsErrOf r ending.InputTooLong ↔ (most_input_bytes < n)

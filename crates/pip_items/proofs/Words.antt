@@ -19,7 +19,7 @@ pub use Rattle.pip_outside.specs.Calls.{Takes, AsksOn, CallsWithin}
 pub use Rattle.pip_outside.proofs.Calls.{takes-none, takes-more, takes-then, asks-none, asks-then}
 pub use Rattle.pip_outside.specs.Windows.{HeldBytes}
 pub use Rattle.program_model.specs.Commands.{SolveOptions, Command, Solve, text_of, item_text, way, Trial}
-pub use Rattle.pip_stream.specs.Asked.{AsksUntil, AsksInTurns, AsksWhileOpen, CallsFor}
+pub use Rattle.pip_stream.specs.Asked.{AsksInTurns, AsksWhileOpen, CallsFor, is_found}
 pub use Rattle.pip_stream.specs.Windows.{taken_by, bytes_from}
 pub use Rattle.pip_stream.proofs.Dropping.{if-map, if-some}
 pub use Rattle.pip_model.specs.Problem.{Problem}

@@ -7,4 +7,3 @@ pub mod Values
 pub mod Needed
 pub mod Triples
 pub mod Pairs
-pub mod Trios

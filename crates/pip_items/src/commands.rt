@@ -1,11 +1,9 @@
 // One file a command: how it reads an item, and the text that it makes of it.
-mod answer;
 mod certified;
 pub(crate) mod check;
 mod eval;
 pub(crate) mod least;
 mod needed;
-mod pair;
 mod pieces;
 pub(crate) mod restrict;
 pub(crate) mod same;

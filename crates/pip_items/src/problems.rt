@@ -3,7 +3,7 @@ ghost use Rattle.std.specs.Io.KnownBytes.{IsAtEnd};
 ghost use Rattle.pip_model.specs.Limits.{most_input_bytes};
 ghost use Rattle.program_model.specs.Commands.{Solve};
 ghost use Rattle.pip_words.specs.Words.{options_of};
-ghost use Rattle.pip_stream.specs.Asked.{AsksWhileOpen, AsksUntil};
+ghost use Rattle.pip_stream.specs.Asked.{CallsFor, is_found};
 ghost use Rattle.pip_stream.specs.Windows.{taken_by};
 ghost use Rattle.pip_stream.specs.Next.{IsReady};
 ghost use Rattle.pip_items.specs.Answered.{AnswersNext};
@@ -47,12 +47,8 @@ pub fn answer_next<S: Source, K: Sink>(
     ensures limit { IsErrOf result Ending.InputTooLong ↔ (most_input_bytes < taken_by window.new) }
 
     // the source and the sink
-    ensures counted { IfSome (S.left source.old) (λ _.
-        S.taken source.new + taken_by window.old ≡ S.taken source.old + taken_by window.new) }
-    ensures asked { IfSome (S.left source.old)
-        (AsksWhileOpen S.calls S.taken source.old source.new window.old) }
-    ensures turns { IfSome (S.left source.old) (λ _.
-        AsksUntil S.calls S.taken source.old source.new result) }
+    ensures calls { IfSome (S.left source.old) (λ left.
+        CallsFor S.calls S.taken source.old source.new window.old window.new left (is_found result)) }
     ensures faults { EndsByFaults (S.faults source.old) (S.faults source.new) (K.faults sink.old) (K.faults sink.new)
         result }
 {

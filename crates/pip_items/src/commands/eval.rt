@@ -3,12 +3,11 @@ ghost use Rattle.program_model.specs.Commands.{Eval};
 ghost use Rattle.quast.specs.Answers.{IsOver};
 ghost use Rattle.quast_text.specs.Commented.{commented_of};
 
-use super::answer::answer_at;
 use super::value::value_of;
 use crate::items::Items;
 use pip_endings::Ending;
 use pip_words::ParameterVector;
-use quast_text::{Commented, print_answer};
+use quast_text::{Commented, print_answer, read_answer};
 use std::alloc::Global;
 
 impl Items for ParameterVector {
@@ -28,7 +27,7 @@ impl Items for ParameterVector {
         bytes: &[u8],
         at: usize,
     ) -> Result<Option<(Commented, usize)>, Ending> {
-        answer_at(alloc, bytes, at, self.as_slice().len())
+        Ok(read_answer(alloc, bytes, at, self.as_slice().len())?)
     }
 
     fn put(&self, alloc: Global, commented: Commented, text: &mut Vec<u8>) -> Result<(), Ending> {

@@ -1,6 +1,6 @@
 ghost use Rattle.std.specs.Prelude.{length};
 ghost use Rattle.program_model.specs.Commands.{Least as model_least};
-ghost use Rattle.pip_items.specs.Trios.{IsTrio, trio_of};
+ghost use Rattle.pip_items.specs.Pairs.{IsTrio, trio_of};
 
 use super::trio::{Trio, trio_at};
 use crate::items::Items;

@@ -3,12 +3,11 @@ ghost use Rattle.program_model.specs.Commands.{Pieces};
 ghost use Rattle.quast.specs.Answers.{IsOver};
 ghost use Rattle.quast_text.specs.Commented.{commented_of};
 
-use super::answer::answer_at;
 use crate::items::Items;
 use pip_endings::Ending;
 use pip_words::PiecesOptions;
 use quast_pieces::print_pieces;
-use quast_text::Commented;
+use quast_text::{Commented, read_answer};
 use std::alloc::Global;
 
 impl Items for PiecesOptions {
@@ -28,7 +27,7 @@ impl Items for PiecesOptions {
         bytes: &[u8],
         at: usize,
     ) -> Result<Option<(Commented, usize)>, Ending> {
-        answer_at(alloc, bytes, at, self.params)
+        Ok(read_answer(alloc, bytes, at, self.params)?)
     }
 
     #[tactic(auto, using(crate::proofs::Pieces::pieces_refused))]

@@ -2,13 +2,22 @@ ghost use Rattle.std.specs.Prelude.{length};
 ghost use Rattle.program_model.specs.Commands.{Restrict as model_restrict};
 ghost use Rattle.pip_items.specs.Pairs.{IsPair, pair_of};
 
-use super::pair::{Pair, pair_at};
+use super::needed::needed_answer;
 use crate::items::Items;
+use affine_forms::Forms;
 use pip_endings::Ending;
+use pip_reader::read_context;
 use pip_words::WalkOptions;
-use quast_text::print_answer;
+use quast_text::{Commented, print_answer};
 use quast_tools::restrict;
 use std::alloc::Global;
+
+/// A context and an answer over as many parameters.
+#[derive(Drop)]
+pub(crate) struct Pair {
+    rows: Forms,
+    first: Commented,
+}
 
 // Restricts answers to their contexts.
 #[derive(Drop)]
@@ -31,7 +40,13 @@ impl Items for Restrict<'_> {
         bytes: &[u8],
         at: usize,
     ) -> Result<Option<(Pair, usize)>, Ending> {
-        pair_at(alloc, bytes, at, self.0.params)
+        match read_context(alloc, bytes, at, self.0.params)? {
+            Some((rows, at)) => {
+                let (first, after) = needed_answer(alloc, bytes, at, self.0.params)?;
+                Ok(Some((Pair { rows, first }, after)))
+            }
+            None => Ok(None),
+        }
     }
 
     #[tactic(auto, using(crate::proofs::Walked::made_ok, crate::proofs::Walked::made_refused))]

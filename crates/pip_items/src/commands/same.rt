@@ -3,7 +3,7 @@ ghost use Rattle.program_model.specs.Commands.{Same as model_same};
 ghost use Rattle.program_model.specs.ItemTexts.{sameness_text};
 ghost use Rattle.quast_tools.specs.Samenesses.{sameness_of};
 ghost use Rattle.text_printing.specs.Printing.{Appends};
-ghost use Rattle.pip_items.specs.Trios.{IsTrio, trio_of};
+ghost use Rattle.pip_items.specs.Pairs.{IsTrio, trio_of};
 
 use super::trio::{Trio, trio_at};
 use crate::items::Items;

@@ -3,12 +3,11 @@ ghost use Rattle.program_model.specs.Commands.{Simplify};
 ghost use Rattle.quast.specs.Answers.{IsOver};
 ghost use Rattle.quast_text.specs.Commented.{commented_of};
 
-use super::answer::answer_at;
 use crate::items::Items;
 use pip_endings::Ending;
 use pip_words::SimplifyOptions;
 use quast_simplify::simplify_answer;
-use quast_text::{Commented, print_answer};
+use quast_text::{Commented, print_answer, read_answer};
 use std::alloc::Global;
 
 impl Items for SimplifyOptions {
@@ -28,7 +27,7 @@ impl Items for SimplifyOptions {
         bytes: &[u8],
         at: usize,
     ) -> Result<Option<(Commented, usize)>, Ending> {
-        answer_at(alloc, bytes, at, self.params)
+        Ok(read_answer(alloc, bytes, at, self.params)?)
     }
 
     fn put(&self, _alloc: Global, commented: Commented, text: &mut Vec<u8>) -> Result<(), Ending> {

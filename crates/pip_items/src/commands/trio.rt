@@ -2,7 +2,7 @@ ghost use Rattle.std.specs.Prelude.{◌≡◌, ◌≤◌, length, Some};
 ghost use Rattle.pip_model.specs.Limits.{most_params};
 ghost use Rattle.program_model.specs.ItemKinds as kinds;
 ghost use Rattle.pip_items.specs.Items.{Finds, FindsItem};
-ghost use Rattle.pip_items.specs.Trios.{IsTrio, trio_of};
+ghost use Rattle.pip_items.specs.Pairs.{IsTrio, trio_of};
 
 use super::needed::needed_answer;
 use affine_forms::Forms;

@@ -1,6 +1,6 @@
 use Rattle.pip_items.proofs.Words.{refl, ap, arith, true, false, err_from_is_err_and, Ok, Appends, AppendsFront, options_of}
 use Rattle.pip_items.proofs.ByProblem.{unread-told, unanswered-told, answers-told, next-limit, own-limit, own-not_long, next-words, own-words, err-not_ok, faults-none, faults-next, faults-own, faults-write}
-use Rattle.pip_items.proofs.Turns.{asks-told, calls-counted, calls-asked, calls-turns}
+use Rattle.pip_items.proofs.Turns.{calls-refused}
 use Rattle.pip_items.proofs.problems.answer_next.Goals as goal
 
 pub next_problem-requires : goal.next_problem-requires
@@ -23,9 +23,7 @@ returns-in_err-problem g c =
       dropped = λ h. err-not_ok _ _ true p.1 h;
       bound = c.next_problem.ensures.window.bound;
       limit = rw (p.1, p.2) (next-limit _ _ c.in_err-problem.ensures.window.limit);
-      counted = calls-counted g.S.Source.calls g.S.Source.taken c.args.source.now c.next_problem.new.source c.args.window.now c.next_problem.new.window _ (g.S.Source.left c.args.source.now) c.next_problem.ensures.calls;
-      asked = calls-asked g.S.Source.calls g.S.Source.taken c.args.source.now c.next_problem.new.source c.args.window.now c.next_problem.new.window _ (g.S.Source.left c.args.source.now) c.next_problem.ensures.calls;
-      turns = rw p.1 (calls-turns g.S.Source.calls g.S.Source.taken c.args.source.now c.next_problem.new.source c.args.window.now c.next_problem.new.window false (g.S.Source.left c.args.source.now) c.in_err-problem.ensures.calls);
+      calls = rw p.1 c.in_err-problem.ensures.calls;
       faults = rw (p.1, p.2) (faults-next _ _ _ _ _ 0 refl refl _ c.in_err-problem.ensures.faults);
     }
 
@@ -42,9 +40,7 @@ returns-in-None g c =
       dropped = λ h. absurd cc;
       bound = c.next_problem.ensures.window.bound;
       limit = own-limit (Ok false) _ (λ h. cc) c.in_ok-problem.ensures.window.ready.within;
-      counted = calls-counted g.S.Source.calls g.S.Source.taken c.args.source.now c.next_problem.new.source c.args.window.now c.next_problem.new.window _ (g.S.Source.left c.args.source.now) c.next_problem.ensures.calls;
-      asked = calls-asked g.S.Source.calls g.S.Source.taken c.args.source.now c.next_problem.new.source c.args.window.now c.next_problem.new.window _ (g.S.Source.left c.args.source.now) c.next_problem.ensures.calls;
-      turns = calls-turns g.S.Source.calls g.S.Source.taken c.args.source.now c.next_problem.new.source c.args.window.now c.next_problem.new.window false (g.S.Source.left c.args.source.now) (rw c.in-None.is at c.in_ok-problem.ensures.calls);
+      calls = rw c.in-None.is at c.in_ok-problem.ensures.calls;
       faults = faults-none _ _ 0 _ _ 0 (c.in_ok-problem.ensures.faults.quiet (λ e. cc)) refl false;
     }
 
@@ -62,9 +58,7 @@ returns-in_err-write_solution-in-Some g c =
       dropped = λ h. err-not_ok _ _ true p.1 h;
       bound = c.next_problem.ensures.window.bound;
       limit = rw (p.1, p.2) (own-limit _ _ (own-not_long _ c.in_err-write_solution-in-Some.ensures.own) c.in_ok-problem.ensures.window.ready.within);
-      counted = calls-counted g.S.Source.calls g.S.Source.taken c.args.source.now c.next_problem.new.source c.args.window.now c.next_problem.new.window _ (g.S.Source.left c.args.source.now) c.next_problem.ensures.calls;
-      asked = calls-asked g.S.Source.calls g.S.Source.taken c.args.source.now c.next_problem.new.source c.args.window.now c.next_problem.new.window _ (g.S.Source.left c.args.source.now) c.next_problem.ensures.calls;
-      turns = rw p.1 (asks-told g.S.Source.calls g.S.Source.taken c.args.source.now c.next_problem.new.source (g.S.Source.left c.args.source.now) (calls-turns g.S.Source.calls g.S.Source.taken c.args.source.now c.next_problem.new.source c.args.window.now c.next_problem.new.window true (g.S.Source.left c.args.source.now) (rw c.in-Some.is at c.in_ok-problem.ensures.calls)));
+      calls = rw p.1 (calls-refused g.S.Source.calls g.S.Source.taken c.args.source.now c.next_problem.new.source c.args.window.now c.next_problem.new.window (g.S.Source.left c.args.source.now) (rw c.in-Some.is at c.in_ok-problem.ensures.calls));
       faults = rw (p.1, p.2) (faults-own _ _ 0 _ _ 0 (c.in_ok-problem.ensures.faults.quiet (λ e. cc)) refl _ c.in_err-write_solution-in-Some.ensures.own);
     }
 
@@ -82,9 +76,7 @@ returns-in_err-write_all-in-Some g c =
       dropped = λ h. err-not_ok _ _ true p.1 h;
       bound = c.next_problem.ensures.window.bound;
       limit = rw (p.1, p.2) (own-limit _ _ (λ h. cc) c.in_ok-problem.ensures.window.ready.within);
-      counted = calls-counted g.S.Source.calls g.S.Source.taken c.args.source.now c.next_problem.new.source c.args.window.now c.next_problem.new.window _ (g.S.Source.left c.args.source.now) c.next_problem.ensures.calls;
-      asked = calls-asked g.S.Source.calls g.S.Source.taken c.args.source.now c.next_problem.new.source c.args.window.now c.next_problem.new.window _ (g.S.Source.left c.args.source.now) c.next_problem.ensures.calls;
-      turns = rw p.1 (asks-told g.S.Source.calls g.S.Source.taken c.args.source.now c.next_problem.new.source (g.S.Source.left c.args.source.now) (calls-turns g.S.Source.calls g.S.Source.taken c.args.source.now c.next_problem.new.source c.args.window.now c.next_problem.new.window true (g.S.Source.left c.args.source.now) (rw c.in-Some.is at c.in_ok-problem.ensures.calls)));
+      calls = rw p.1 (calls-refused g.S.Source.calls g.S.Source.taken c.args.source.now c.next_problem.new.source c.args.window.now c.next_problem.new.window (g.S.Source.left c.args.source.now) (rw c.in-Some.is at c.in_ok-problem.ensures.calls));
       faults = rw (p.1, p.2) (faults-write _ _ 0 _ _ _ (c.in_ok-problem.ensures.faults.quiet (λ e. cc)) refl c.in_err-write_all-in-Some.ensures.faults refl);
     }
 
@@ -101,8 +93,6 @@ returns-in_ok-write_all-in-Some g c =
       dropped = λ _. let d = rw c.in-Some.is at c.in_ok-problem.ensures.window.dropped in omega (arith, d.0, d.1);
       bound = c.next_problem.ensures.window.bound;
       limit = own-limit (Ok true) _ (λ h. cc) c.in_ok-problem.ensures.window.ready.within;
-      counted = calls-counted g.S.Source.calls g.S.Source.taken c.args.source.now c.next_problem.new.source c.args.window.now c.next_problem.new.window _ (g.S.Source.left c.args.source.now) c.next_problem.ensures.calls;
-      asked = calls-asked g.S.Source.calls g.S.Source.taken c.args.source.now c.next_problem.new.source c.args.window.now c.next_problem.new.window _ (g.S.Source.left c.args.source.now) c.next_problem.ensures.calls;
-      turns = calls-turns g.S.Source.calls g.S.Source.taken c.args.source.now c.next_problem.new.source c.args.window.now c.next_problem.new.window true (g.S.Source.left c.args.source.now) (rw c.in-Some.is at c.in_ok-problem.ensures.calls);
+      calls = rw c.in-Some.is at c.in_ok-problem.ensures.calls;
       faults = faults-none _ _ 0 _ _ 0 (c.in_ok-problem.ensures.faults.quiet (λ e. cc)) (c.in_ok-write_all-in-Some.ensures.faults.quiet (λ e. cc)) true;
     }

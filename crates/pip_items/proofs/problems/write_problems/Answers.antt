@@ -1,9 +1,9 @@
-use Rattle.pip_items.proofs.Words.{◌-◌, refl, ap, ◌∙◌, arith, rules, length, err_from_is_err_and, HeldBytes, Solve, options_of, taken_by}
+use Rattle.pip_items.proofs.Words.{◌-◌, refl, ap, ◌∙◌, arith, rules, length, true, err_from_is_err_and, HeldBytes, Solve, options_of, taken_by, is_found}
 use Rattle.std.proofs.Common.{Ok, Err}
-use Rattle.pip_items.proofs.ByProblem.{starts, if-told, none-taken, unmade, faults-own, err-same, err-limit, err-not_ok, counts, taken-at_most, err-output, none-output, answered-follows, faults-none, faults-ok, faults-after}
+use Rattle.pip_items.proofs.ByProblem.{unmade, faults-own, err-same, err-limit, err-not_ok, faults-none, faults-ok, faults-after}
 use Rattle.pip_endings.specs.declared.ending.Ending.TheVariants as ending
-use Rattle.pip_items.proofs.Asked.{stops-start, stops-next}
-use Rattle.pip_items.proofs.Turns.{takes-start, asks-start, asks-next, takes-next}
+use Rattle.pip_items.proofs.Asked.{stops-start, none-taken, starts, calls-by, err-output, none-output, reaches}
+use Rattle.pip_items.proofs.Turns.{asks-start}
 use Rattle.pip_items.proofs.problems.write_problems.Goals as goal
 
 -- ---- no window is made
@@ -28,10 +28,7 @@ loop-window-init g c =
     let is = c.in_ok-window.ensures in
     record {
       ready = record { few = omega (arith, ap (λ (x : HeldBytes). length x.held) is); within = omega (arith, ap (λ (x : HeldBytes). taken_by x) is) };
-      follows = starts (options_of c.args.options.now) c.requires (g.S.Source.left c.args.source.now) c.in_ok-window.window (g.K.Sink.written c.args.sink.now) is;
-      counted = if-told _ (g.S.Source.left c.args.source.now) (omega (arith, ap (λ (x : HeldBytes). taken_by x) is));
-      takes = takes-start g.S.Source.calls g.S.Source.taken c.args.source.now (g.S.Source.left c.args.source.now);
-      asked = stops-start g.S.Source.calls g.S.Source.taken c.args.source.now (Solve (options_of c.args.options.now)) (g.S.Source.left c.args.source.now);
+      reached = starts g.S.Source.calls g.S.Source.taken (options_of c.args.options.now) c.requires c.args.source.now (g.S.Source.left c.args.source.now) c.in_ok-window.window (g.K.Sink.written c.args.sink.now) is;
       read_quiet = refl;
       write_quiet = refl;
     }
@@ -45,14 +42,10 @@ pub returns-in_err-answer_next : goal.returns-in_err-answer_next
 returns-in_err-answer_next g c =
     let p = err_from_is_err_and c.from_residual-in_err-answer_next.result c.from_residual-in_err-answer_next.ensures.1 in
     record {
-      output = rw (p.1, p.2) (err-output (options_of c.args.options.now) c.requires (g.S.Source.left c.args.source.now) c.loop-window.window (g.S.Source.left c.loop-window.source) (g.K.Sink.written c.args.sink.now) (g.K.Sink.written c.loop-window.sink) (g.S.Source.taken c.args.source.now) (g.S.Source.taken c.loop-window.source) c.loop-window.invariant.follows c.loop-window.invariant.counted c.answer_next.new.window (g.S.Source.left c.answer_next.new.source) (g.S.Source.taken c.answer_next.new.source) c.answer_next.ensures.counted (g.K.Sink.written c.answer_next.new.sink) _ c.loop-window.invariant.ready (λ q. ap g.K.Sink.written (c.in_err-answer_next.ensures.kept (λ h. cc) (λ h. q (err-same _ _ h)))) (err-limit _ _ c.in_err-answer_next.ensures.limit) c.in_err-answer_next.ensures.answers);
+      output = rw (p.1, p.2) (err-output g.S.Source.calls g.S.Source.taken g.S.Source.left (options_of c.args.options.now) c.requires c.args.source.now c.loop-window.source c.answer_next.new.source c.loop-window.window c.answer_next.new.window (g.K.Sink.written c.args.sink.now) (g.K.Sink.written c.loop-window.sink) (is_found c.answer_next.result) c.loop-window.invariant.reached c.answer_next.ensures.calls (g.K.Sink.written c.answer_next.new.sink) _ c.loop-window.invariant.ready (λ q. ap g.K.Sink.written (c.in_err-answer_next.ensures.kept (λ h. cc) (λ h. q (err-same _ _ h)))) (err-limit _ _ c.in_err-answer_next.ensures.limit) c.in_err-answer_next.ensures.answers);
       words = rw (p.1, p.2) (λ h. c.in_err-answer_next.ensures.words (ap (λ x. Err x) (err-same _ _ h)));
       end = λ h. err-not_ok _ _ tt p.1 h;
-      calls = record {
-        asked = stops-next g.S.Source.calls g.S.Source.taken (options_of c.args.options.now) c.requires c.args.source.now c.loop-window.source c.answer_next.new.source c.loop-window.window (g.S.Source.left c.loop-window.source) (g.K.Sink.written c.args.sink.now) (g.K.Sink.written c.loop-window.sink) (g.S.Source.left c.args.source.now) c.loop-window.invariant.follows c.loop-window.invariant.counted c.loop-window.invariant.takes c.loop-window.invariant.asked c.answer_next.ensures.asked;
-        turns = asks-next g.S.Source.calls g.S.Source.taken (options_of c.args.options.now) (g.S.Source.left c.args.source.now) c.loop-window.window (g.S.Source.left c.loop-window.source) (g.K.Sink.written c.args.sink.now) (g.K.Sink.written c.loop-window.sink) c.loop-window.invariant.follows c.args.source.now c.loop-window.source c.answer_next.new.source c.loop-window.invariant.takes c.answer_next.result c.answer_next.ensures.turns;
-        taken = taken-at_most (options_of c.args.options.now) c.requires (g.S.Source.left c.args.source.now) c.loop-window.window (g.S.Source.left c.loop-window.source) (g.K.Sink.written c.args.sink.now) (g.K.Sink.written c.loop-window.sink) (g.S.Source.taken c.args.source.now) (g.S.Source.taken c.loop-window.source) c.loop-window.invariant.follows c.loop-window.invariant.counted c.answer_next.new.window (g.S.Source.left c.answer_next.new.source) (g.S.Source.taken c.answer_next.new.source) c.answer_next.ensures.counted c.answer_next.ensures.bound;
-      };
+      calls = calls-by g.S.Source.calls g.S.Source.taken g.S.Source.left (options_of c.args.options.now) c.requires c.args.source.now c.loop-window.source c.answer_next.new.source c.loop-window.window c.answer_next.new.window (g.K.Sink.written c.args.sink.now) (g.K.Sink.written c.loop-window.sink) (is_found c.answer_next.result) c.loop-window.invariant.reached c.answer_next.ensures.calls c.answer_next.ensures.bound;
       faults = rw (p.1, p.2) (faults-after _ _ _ _ _ _ c.loop-window.invariant.read_quiet c.loop-window.invariant.write_quiet _ c.in_err-answer_next.ensures.faults);
     }
 
@@ -72,10 +65,7 @@ loop-window-preserved g c =
     let done = faults-ok _ _ _ _ _ c.in_ok-answer_next.ensures.faults in
     record {
       ready = c.in_ok-answer_next.ensures.ready;
-      follows = answered-follows (options_of c.args.options.now) c.requires (g.S.Source.left c.args.source.now) c.loop-window.window (g.S.Source.left c.loop-window.source) (g.K.Sink.written c.args.sink.now) (g.K.Sink.written c.loop-window.sink) (g.S.Source.taken c.args.source.now) (g.S.Source.taken c.loop-window.source) c.loop-window.invariant.follows c.loop-window.invariant.counted c.answer_next.new.window (g.S.Source.left c.answer_next.new.source) (g.S.Source.taken c.answer_next.new.source) c.answer_next.ensures.counted (g.K.Sink.written c.answer_next.new.sink) (rw c.if-branch.true at c.in_ok-answer_next.ensures.answers);
-      counted = counts (options_of c.args.options.now) c.requires (g.S.Source.left c.args.source.now) c.loop-window.window (g.S.Source.left c.loop-window.source) (g.K.Sink.written c.args.sink.now) (g.K.Sink.written c.loop-window.sink) (g.S.Source.taken c.args.source.now) (g.S.Source.taken c.loop-window.source) c.loop-window.invariant.follows c.loop-window.invariant.counted c.answer_next.new.window (g.S.Source.left c.answer_next.new.source) (g.S.Source.taken c.answer_next.new.source) c.answer_next.ensures.counted;
-      takes = takes-next g.S.Source.calls g.S.Source.taken (options_of c.args.options.now) (g.S.Source.left c.args.source.now) c.loop-window.window (g.S.Source.left c.loop-window.source) (g.K.Sink.written c.args.sink.now) (g.K.Sink.written c.loop-window.sink) c.loop-window.invariant.follows c.args.source.now c.loop-window.source c.answer_next.new.source c.loop-window.invariant.takes (rw c.if-branch.true at c.in_ok-answer_next.ensures.turns);
-      asked = stops-next g.S.Source.calls g.S.Source.taken (options_of c.args.options.now) c.requires c.args.source.now c.loop-window.source c.answer_next.new.source c.loop-window.window (g.S.Source.left c.loop-window.source) (g.K.Sink.written c.args.sink.now) (g.K.Sink.written c.loop-window.sink) (g.S.Source.left c.args.source.now) c.loop-window.invariant.follows c.loop-window.invariant.counted c.loop-window.invariant.takes c.loop-window.invariant.asked c.answer_next.ensures.asked;
+      reached = reaches g.S.Source.calls g.S.Source.taken g.S.Source.left (options_of c.args.options.now) c.requires c.args.source.now c.loop-window.source c.answer_next.new.source c.loop-window.window c.answer_next.new.window (g.K.Sink.written c.args.sink.now) (g.K.Sink.written c.loop-window.sink) true c.loop-window.invariant.reached (rw c.if-branch.true at c.in_ok-answer_next.ensures.calls) refl (g.K.Sink.written c.answer_next.new.sink) (rw c.if-branch.true at c.in_ok-answer_next.ensures.answers);
       read_quiet = done.0 ∙ c.loop-window.invariant.read_quiet;
       write_quiet = done.1 ∙ c.loop-window.invariant.write_quiet;
     }
@@ -85,14 +75,10 @@ loop-window-preserved g c =
 pub returns : goal.returns
 returns g c =
     record {
-      output = none-output (options_of c.args.options.now) c.requires (g.S.Source.left c.args.source.now) c.loop-window.window (g.S.Source.left c.loop-window.source) (g.K.Sink.written c.args.sink.now) (g.K.Sink.written c.loop-window.sink) (g.S.Source.taken c.args.source.now) (g.S.Source.taken c.loop-window.source) c.loop-window.invariant.follows c.loop-window.invariant.counted c.answer_next.new.window (g.S.Source.left c.answer_next.new.source) (g.S.Source.taken c.answer_next.new.source) c.answer_next.ensures.counted (g.K.Sink.written c.answer_next.new.sink) (ap g.K.Sink.written (c.in_ok-answer_next.ensures.kept (λ h. absurd (let t = h in let f = c.if-branch.false in cc)) (λ h. cc))) c.in_ok-answer_next.ensures.ready.within (rw c.if-branch.false at c.in_ok-answer_next.ensures.answers);
+      output = none-output g.S.Source.calls g.S.Source.taken g.S.Source.left (options_of c.args.options.now) c.requires c.args.source.now c.loop-window.source c.answer_next.new.source c.loop-window.window c.answer_next.new.window (g.K.Sink.written c.args.sink.now) (g.K.Sink.written c.loop-window.sink) (is_found c.answer_next.result) c.loop-window.invariant.reached c.answer_next.ensures.calls (g.K.Sink.written c.answer_next.new.sink) (ap g.K.Sink.written (c.in_ok-answer_next.ensures.kept (λ h. absurd (let t = h in let f = c.if-branch.false in cc)) (λ h. cc))) c.in_ok-answer_next.ensures.ready.within (rw c.if-branch.false at c.in_ok-answer_next.ensures.answers);
       words = λ h. cc;
       end = λ h. c.in_ok-answer_next.ensures.end (ap (λ x. Ok x) c.if-branch.false);
-      calls = record {
-        asked = stops-next g.S.Source.calls g.S.Source.taken (options_of c.args.options.now) c.requires c.args.source.now c.loop-window.source c.answer_next.new.source c.loop-window.window (g.S.Source.left c.loop-window.source) (g.K.Sink.written c.args.sink.now) (g.K.Sink.written c.loop-window.sink) (g.S.Source.left c.args.source.now) c.loop-window.invariant.follows c.loop-window.invariant.counted c.loop-window.invariant.takes c.loop-window.invariant.asked c.answer_next.ensures.asked;
-        turns = asks-next g.S.Source.calls g.S.Source.taken (options_of c.args.options.now) (g.S.Source.left c.args.source.now) c.loop-window.window (g.S.Source.left c.loop-window.source) (g.K.Sink.written c.args.sink.now) (g.K.Sink.written c.loop-window.sink) c.loop-window.invariant.follows c.args.source.now c.loop-window.source c.answer_next.new.source c.loop-window.invariant.takes c.answer_next.result c.answer_next.ensures.turns;
-        taken = taken-at_most (options_of c.args.options.now) c.requires (g.S.Source.left c.args.source.now) c.loop-window.window (g.S.Source.left c.loop-window.source) (g.K.Sink.written c.args.sink.now) (g.K.Sink.written c.loop-window.sink) (g.S.Source.taken c.args.source.now) (g.S.Source.taken c.loop-window.source) c.loop-window.invariant.follows c.loop-window.invariant.counted c.answer_next.new.window (g.S.Source.left c.answer_next.new.source) (g.S.Source.taken c.answer_next.new.source) c.answer_next.ensures.counted c.answer_next.ensures.bound;
-      };
+      calls = calls-by g.S.Source.calls g.S.Source.taken g.S.Source.left (options_of c.args.options.now) c.requires c.args.source.now c.loop-window.source c.answer_next.new.source c.loop-window.window c.answer_next.new.window (g.K.Sink.written c.args.sink.now) (g.K.Sink.written c.loop-window.sink) (is_found c.answer_next.result) c.loop-window.invariant.reached c.answer_next.ensures.calls c.answer_next.ensures.bound;
       faults =
           let done = faults-ok _ _ _ _ _ c.in_ok-answer_next.ensures.faults in
           faults-none _ _ 0 _ _ 0 (done.0 ∙ c.loop-window.invariant.read_quiet) (done.1 ∙ c.loop-window.invariant.write_quiet) tt;
