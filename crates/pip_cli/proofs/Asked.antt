@@ -1,12 +1,12 @@
 -- A command that the words give may be asked for.
-use Rattle.pip_cli.proofs.Words.{◌≡◌, refl, arith, ℕ, ℤ, ◌-◌, ◌^◌, ◌≤◌, List, [], ◌∷◌, Option, Some, None, Bool, true, false, ◌&&◌, ◌==◌, not, nat_le, length, IfSome, MatchBool, if◌then◌else◌, codes, list_all, most_params, most_pivots, most_cuts, most_splits, most_nesting, Budget, IsBudget, standard_budget, Command, Eval, Simplify, Pieces, Restrict, Same, Least, MayBeAsked, IsWithin}
+use Rattle.pip_cli.proofs.Words.{◌≡◌, refl, arith, ℕ, ◌-◌, ◌^◌, ◌≤◌, List, [], ◌∷◌, Option, Some, None, Bool, true, false, ◌&&◌, ◌==◌, not, nat_le, length, IfSome, MatchBool, if◌then◌else◌, codes, list_all, most_params, most_pivots, most_cuts, most_splits, most_nesting, Budget, IsBudget, standard_budget, Command, Eval, Simplify, Pieces, Restrict, Same, Least, MayBeAsked, IsWithin}
 use Rattle.std.proofs.lemmas.Bool.{leb-true}
 use Rattle.std.specs.Str.{bytes_eq}
 use Rattle.std.specs.Option.{option_map}
 use Rattle.clap.specs.Words.{Row, Text, fault_of, subcommand_of, first_of, all_of}
 use Rattle.pip_model.specs.Tokens.{is_digit, natural_of}
 use Rattle.pip_words.specs.Numbers.{number_of, most_drawn}
-use Rattle.pip_words.specs.Words.{pip_app, Spelling, spellings, named_in, counted_of, walked_of, command_of, command_in, solve_of, solve_with, flag_of, budget_of, budget_by, walk_of, limit_of, number_or, needed_of, trial_of, is_accepted, parameters_of, texts_of, ◌>>=◌}
+use Rattle.pip_words.specs.Words.{pip_app, Spelling, spellings, named_in, counted_of, walked_of, command_of, command_in, solve_of, solve_with, eval_of, flag_of, budget_of, walk_of, limit_of, number_or, needed_of, trial_of, is_accepted, parameters_of, texts_of, ◌>>=◌}
 
 -- over each input within its limit
 abbrev pub IsAsked : Command → Type 0
@@ -16,10 +16,14 @@ chosen : (b : Bool) (x y : Option Command) → IfSome x IsAsked → IfSome y IsA
 chosen true x y h k = h
 chosen false x y h k = k
 
--- a step whose rest is asked for whatever it gives
-then_asked : {A : Type 0} (P : A → Type 0) (a : Option A) (f : A → Option Command) → IfSome a P → ((x : A) → P x → IfSome (f x) IsAsked) → IfSome (a >>= f) IsAsked
-then_asked P None f h k = tt
-then_asked P (Some x) f h k = k x h
+-- a step, and what follows of what it gives
+bound : {A B : Type 0} (P : A → Type 0) (Q : B → Type 0) (a : Option A) (f : A → Option B) → IfSome a P → ((x : A) → P x → IfSome (f x) Q) → IfSome (a >>= f) Q
+bound P Q None f h k = tt
+bound P Q (Some x) f h k = k x h
+
+mapped : {A B : Type 0} (P : A → Type 0) (Q : B → Type 0) (f : A → B) (a : Option A) → IfSome a P → ((x : A) → P x → Q (f x)) → IfSome (option_map f a) Q
+mapped P Q f None h k = tt
+mapped P Q f (Some x) h k = k x h
 
 any : {A : Type 0} (a : Option A) → IfSome a (λ x. Unit {0})
 any None = tt
@@ -39,23 +43,12 @@ limit_within most default None h = h
 limit_within most default (Some text) h = number_within most text
 
 budget_within : (rows : List Row) → IfSome (budget_of rows) IsBudget
-budget_within rows = go (limit_of (codes "pivots") most_pivots standard_budget.pivots rows)
-    (limit_of (codes "cuts") most_cuts standard_budget.cuts rows)
-    (limit_of (codes "splits") most_splits standard_budget.splits rows)
-    (limit_of (codes "nesting") most_nesting standard_budget.nesting rows)
-    (limit_within most_pivots standard_budget.pivots (first_of (codes "pivots") rows) (omega arith))
-    (limit_within most_cuts standard_budget.cuts (first_of (codes "cuts") rows) (omega arith))
-    (limit_within most_splits standard_budget.splits (first_of (codes "splits") rows) (omega arith))
-    (limit_within most_nesting standard_budget.nesting (first_of (codes "nesting") rows) (omega arith))
-  where
-    go : (pivots cuts splits nesting : Option ℕ) → IfSome pivots (λ n. n ≤ most_pivots) → IfSome cuts (λ n. n ≤ most_cuts)
-        → IfSome splits (λ n. n ≤ most_splits) → IfSome nesting (λ n. n ≤ most_nesting)
-        → IfSome (budget_by pivots cuts splits nesting) IsBudget
-    go None cuts splits nesting h k l o = tt
-    go (Some p) None splits nesting h k l o = tt
-    go (Some p) (Some c) None nesting h k l o = tt
-    go (Some p) (Some c) (Some s) None h k l o = tt
-    go (Some p) (Some c) (Some s) (Some n) h k l o = record { pivots = h; cuts = k; splits = l; nesting = o }
+budget_within rows =
+    bound (λ n. n ≤ most_pivots) IsBudget (limit_of (codes "pivots") most_pivots standard_budget.pivots rows) _ (limit_within most_pivots standard_budget.pivots (first_of (codes "pivots") rows) (omega arith)) (λ p h.
+    bound (λ n. n ≤ most_cuts) IsBudget (limit_of (codes "cuts") most_cuts standard_budget.cuts rows) _ (limit_within most_cuts standard_budget.cuts (first_of (codes "cuts") rows) (omega arith)) (λ c k.
+    bound (λ n. n ≤ most_splits) IsBudget (limit_of (codes "splits") most_splits standard_budget.splits rows) _ (limit_within most_splits standard_budget.splits (first_of (codes "splits") rows) (omega arith)) (λ s l.
+    bound (λ n. n ≤ most_nesting) IsBudget (limit_of (codes "nesting") most_nesting standard_budget.nesting rows) _ (limit_within most_nesting standard_budget.nesting (first_of (codes "nesting") rows) (omega arith)) (λ n o.
+    record { pivots = h; cuts = k; splits = l; nesting = o }))))
 
 -- a budget within its limits, with certificates or without
 solving_asked : (certificate : Bool) (b : Budget) → IsBudget b → MatchBool certificate (IsBudget b) (b.nesting ≤ most_nesting)
@@ -63,96 +56,64 @@ solving_asked true b h = h
 solving_asked false b h = h.nesting
 
 solve_asked : (rows : List Row) → IfSome (solve_of rows) IsAsked
-solve_asked rows = chosen (flag_of (codes "simplify") rows && flag_of (codes "certificate") rows) _ _ tt (go (budget_of rows) (budget_within rows))
-  where
-    go : (b : Option Budget) → IfSome b IsBudget → IfSome (option_map (solve_with rows) b) IsAsked
-    go None h = tt
-    go (Some b) h = λ bytes within. solving_asked (flag_of (codes "certificate") rows) b h
+solve_asked rows =
+    chosen (flag_of (codes "simplify") rows && flag_of (codes "certificate") rows) _ _ tt
+    (mapped IsBudget IsAsked (solve_with rows) (budget_of rows) (budget_within rows) (λ b h bytes within. solving_asked (flag_of (codes "certificate") rows) b h))
 
-eval_asked : (u : Option (List ℤ)) → IfSome (option_map Eval u) IsAsked
-eval_asked None = tt
-eval_asked (Some u) = λ bytes within. tt
+eval_asked : (rows : List Row) → IfSome (eval_of rows) IsAsked
+eval_asked rows =
+    let u = parameters_of (texts_of (all_of (codes "parameter") rows)) in
+    mapped (λ x. Unit {0}) IsAsked Eval u (any u) (λ x v bytes within. tt)
 
 needed_within : (most : ℕ) (text : Option Text) → IfSome (text >>= number_of most) (λ n. n ≤ most)
-needed_within most None = tt
-needed_within most (Some text) = number_within most text
+needed_within most text = bound (λ x. Unit {0}) (λ n. n ≤ most) text (number_of most) (any text) (λ x u. number_within most x)
 
 counted_asked : (command : ℕ → Command) → ((m : ℕ) → m ≤ most_params → IsAsked (command m)) → (rows : List Row) → IfSome (counted_of command rows) IsAsked
-counted_asked command f rows = go (needed_of (codes "parameters") most_params rows) (needed_within most_params (first_of (codes "parameters") rows))
-  where
-    go : (m : Option ℕ) → IfSome m (λ n. n ≤ most_params) → IfSome (option_map command m) IsAsked
-    go None h = tt
-    go (Some m) h = f m h
+counted_asked command f rows =
+    mapped (λ n. n ≤ most_params) IsAsked command (needed_of (codes "parameters") most_params rows) (needed_within most_params (first_of (codes "parameters") rows)) f
 
 trial_asked : (rows : List Row) → IfSome (trial_of rows) IsAsked
 trial_asked rows =
-    then_asked (λ x. Unit {0}) (needed_of (codes "seed") (2 ^ 64 - 1) rows) _ (any _) (λ seed u.
-    then_asked (λ x. Unit {0}) (needed_of (codes "count") most_drawn rows) _ (any _) (λ count v bytes within. tt))
+    bound (λ x. Unit {0}) IsAsked (needed_of (codes "seed") (2 ^ 64 - 1) rows) _ (any _) (λ seed u.
+    bound (λ x. Unit {0}) IsAsked (needed_of (codes "count") most_drawn rows) _ (any _) (λ count v bytes within. tt))
 
 -- a walk of few parameters, with a budget of nesting within its limit
 abbrev IsWalk : ℕ × Budget → Type 0
 IsWalk w = (w.0 ≤ most_params) × (w.1.nesting ≤ most_nesting)
 
 walk_within : (rows : List Row) → IfSome (walk_of rows) IsWalk
-walk_within rows = go (needed_of (codes "parameters") most_params rows) (budget_of rows)
-    (needed_within most_params (first_of (codes "parameters") rows)) (budget_within rows)
-  where
-    go : (m : Option ℕ) (b : Option Budget) → IfSome m (λ n. n ≤ most_params) → IfSome b IsBudget
-        → IfSome (m >>= λ n. b >>= λ x. Some (n, x)) IsWalk
-    go None b h k = tt
-    go (Some n) None h k = tt
-    go (Some n) (Some x) h k = (h, k.nesting)
+walk_within rows =
+    bound (λ n. n ≤ most_params) IsWalk (needed_of (codes "parameters") most_params rows) _ (needed_within most_params (first_of (codes "parameters") rows)) (λ n h.
+    bound IsBudget IsWalk (budget_of rows) _ (budget_within rows) (λ b k. (h, k.nesting)))
 
 walked_asked : (command : ℕ → Budget → Command) → ((m : ℕ) (b : Budget) → IsWalk (m, b) → IsAsked (command m b)) → (rows : List Row) → IfSome (walked_of command rows) IsAsked
-walked_asked command f rows = go (walk_of rows) (walk_within rows)
-  where
-    go : (w : Option (ℕ × Budget)) → IfSome w IsWalk → IfSome (option_map (λ x. command x.0 x.1) w) IsAsked
-    go None h = tt
-    go (Some w) h = f w.0 w.1 h
+walked_asked command f rows = mapped IsWalk IsAsked (λ x. command x.0 x.1) (walk_of rows) (walk_within rows) (λ w. f w.0 w.1)
 
 -- ---- of each command
 
 -- what such words give may be asked for
-abbrev AreAsked : List Spelling → Type 0
-AreAsked [] = Unit {0}
-AreAsked (s ∷ ss) = ((rows : List Row) → IfSome (s.given rows) IsAsked) × AreAsked ss
+infixr 5 ◌also◌
+data AreAsked : List Spelling → Type 0 where
+  none : AreAsked []
+  ◌also◌ : {s : Spelling} {ss : List Spelling} → ((rows : List Row) → IfSome (s.given rows) IsAsked) → AreAsked ss → AreAsked (s ∷ ss)
 
 spellings_asked : AreAsked spellings
-spellings_asked = (
-  solve_asked,
-  (
-    (λ rows. eval_asked (parameters_of (texts_of (all_of (codes "parameter") rows)))),
-    (
-      counted_asked Simplify (λ m h bytes within. h),
-      (
-        (λ rows bytes within. tt),
-        (
-          (λ rows bytes within. within tt),
-          (
-            trial_asked,
-            (
-              counted_asked Pieces (λ m h bytes within. h),
-              (
-                walked_asked Restrict (λ m b h bytes within. h.0),
-                (
-                  walked_asked Same (λ m b h bytes within. h.0),
-                  (
-                    walked_asked Least (λ m b h bytes within. h),
-                    tt,
-                  ),
-                ),
-              ),
-            ),
-          ),
-        ),
-      ),
-    ),
-  ),
-)
+spellings_asked =
+    solve_asked
+    also eval_asked
+    also counted_asked Simplify (λ m h bytes within. h)
+    also (λ rows bytes within. tt)
+    also (λ rows bytes within. within tt)
+    also trial_asked
+    also counted_asked Pieces (λ m h bytes within. h)
+    also walked_asked Restrict (λ m b h bytes within. h.0)
+    also walked_asked Same (λ m b h bytes within. h.0)
+    also walked_asked Least (λ m b h bytes within. h)
+    also none
 
 named_asked : (name : Text) (rows : List Row) (ss : List Spelling) → AreAsked ss → IfSome (named_in name rows ss) IsAsked
-named_asked name rows [] h = tt
-named_asked name rows (s ∷ ss) h = chosen (bytes_eq name s.name) _ _ (h.0 rows) (named_asked name rows ss h.1)
+named_asked name rows [] none = tt
+named_asked name rows (s ∷ ss) (asked also others) = chosen (bytes_eq name s.name) _ _ (asked rows) (named_asked name rows ss others)
 
 in_asked : (found : Option (Text × List Row)) → IfSome (command_in found) IsAsked
 in_asked None = tt

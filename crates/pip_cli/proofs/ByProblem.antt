@@ -1,18 +1,12 @@
 -- How a run of any command ends, also of the one that reads problem by problem, by its status.
-use Rattle.pip_cli.proofs.Words.{◌≡◌, ◌≢◌, ◌⊎◌, inl, inr, refl, sym, subst, ◌∙◌, ap, arith, ℕ, ◌<◌, List, [], Option, Some, None, Bool, true, false, not, length, Result, Ok, Err, IfSome, MatchBool, concat, Appends, most_input_bytes, Ending, finished, Command, SolveOptions, Solve, way, item_text, IsOutput, IsFirstOutput, MayBeAsked, output-right, first_output-right, output-unique, told, or_memory, Gained, GainedFront, IsRead, WritesOutput, bytes_read, AreEnded, AreBefore, AreAll, ReadsWhole, WritesTillEnd, WritesByProblem, WritesOf, AreFirst, AreFirstEnded, AreFirstBefore, EndsByProblem, HasEndedByProblem, EndsAs, AnswersRight, Completes, IsShort, IsAfterInput, IsWordsEnding, WhereTold}
+use Rattle.pip_cli.proofs.Words.{◌≡◌, ◌≢◌, ◌⊎◌, inl, inr, refl, sym, subst, ◌∙◌, arith, ℕ, ◌<◌, List, [], Option, Some, None, Bool, true, false, not, length, Result, Ok, Err, IfSome, MatchBool, most_input_bytes, Ending, finished, Command, SolveOptions, Solve, way, item_text, IsFirstOutput, MayBeAsked, output-right, first_output-right, told, or_memory, Gained, IsRead, IsWithin, WritesOutput, bytes_read, AreEnded, AreBefore, AreAll, ReadsWhole, WritesTillEnd, WritesByProblem, WritesOf, AreFirst, AreFirstEnded, AreFirstBefore, IsOfItems, EndsWith, EndsByProblem, StopsAtLimit, HasEndedByProblem, EndsAs, AnswersRight, Completes, IsShort, IsAfterInput, IsWordsEnding, WhereTold}
 use Rattle.program_model.specs.Items.{IsItself}
 use Rattle.headline.proofs.FirstItems.{first_items-first}
 use Rattle.pip_endings.specs.declared.ending.Ending.{Ending as Refused}
 use Rattle.pip_endings.specs.declared.ending.Ending.TheVariants as ending
 use Rattle.pip_items.proofs.Outputs.{all_read}
 use Rattle.pip_cli.proofs.Asked.{IsAsked}
-use Rattle.pip_cli.proofs.Ends.{IsItemEnd, item_end, ending_from, ends-by, answers-right, completes-by}
-
-gained-as : (Are Are' : List (List ℕ) → Type 0) (a b : Option (List ℕ)) → ((ts : List (List ℕ)) → Are ts → Are' ts) → Gained Are a b → Gained Are' a b
-gained-as Are Are' a b f h = record { texts = h.texts; are = f h.texts h.are; gained = h.gained }
-
-front-as : (Are Are' : List (List ℕ) → Type 0) (a b : Option (List ℕ)) → ((ts : List (List ℕ)) → Are ts → Are' ts) → GainedFront Are a b → GainedFront Are' a b
-front-as Are Are' a b f h = record { texts = h.texts; are = f h.texts h.are; gained = h.gained }
+use Rattle.pip_cli.proofs.Ends.{gained-as, front-as, IsItemEnd, item_end, ending_from, ends-by, right-by, completes-by}
 
 module _ (o : SolveOptions) (asked : IsAsked (Solve o)) (bytes : List ℕ) (n : ℕ) (a b : Option (List ℕ)) where
   -- what may be asked of problems is the same of each input
@@ -40,6 +34,10 @@ module _ (o : SolveOptions) (asked : IsAsked (Solve o)) (bytes : List ℕ) (n : 
       noted = w;
     }
 
+    -- the status is that of no fault and no want of memory
+    all_ended : IsOfItems s → EndsByProblem (Solve o) bytes n a b Noted s ⊎ StopsAtLimit (Solve o) bytes n a b Noted s → HasEndedByProblem (Solve o) bytes n a b Noted s
+    all_ended p end = record { end = λ _. end; read_fault = λ q. absurd (p.0 q); write_fault = λ q. absurd (p.1 q); want_of_memory = λ q. absurd (p.2 q) }
+
     item_ended : (e : Option Ending) → IsItemEnd e → s ≡ (or_memory e).status → Noted (or_memory e) → WritesTillEnd (Solve o) bytes n a b e → HasEndedByProblem (Solve o) bytes n a b Noted s
     item_ended None end k w h = record {
       end = λ p. absurd (p.2 k);
@@ -47,20 +45,11 @@ module _ (o : SolveOptions) (asked : IsAsked (Solve o)) (bytes : List ℕ) (n : 
       write_fault = λ p. absurd (omega arith);
       want_of_memory = λ p. gained-as _ _ a b right_before h;
     }
-    item_ended (Some e) end k w h = record {
-      end = λ p. inl (end_of e k w h);
-      read_fault = λ p. absurd (end.no_read_fault (sym k ∙ p));
-      write_fault = λ p. absurd (end.no_write_fault (sym k ∙ p));
-      want_of_memory = λ p. absurd (end.no_memory (sym k ∙ p));
-    }
+    item_ended (Some e) end k w h =
+        all_ended (λ p. end.no_read_fault (sym k ∙ p), λ p. end.no_write_fault (sym k ∙ p), λ p. end.no_memory (sym k ∙ p)) (inl (end_of e k w h))
 
     ended_by : (r : Result (Unit {0}) Refused) → s ≡ (ending_from r).status → Noted (ending_from r) → WritesByProblem (Solve o) bytes n a b r → HasEndedByProblem (Solve o) bytes n a b Noted s
-    ended_by (Ok u) k w h = record {
-      end = λ p. inl (end_of finished k w h);
-      read_fault = λ p. absurd (omega arith);
-      write_fault = λ p. absurd (omega arith);
-      want_of_memory = λ p. absurd (omega arith);
-    }
+    ended_by (Ok u) k w h = all_ended (omega arith, omega arith, omega arith) (inl (end_of finished k w h))
     ended_by (Err ending.Usage) k w h = absurd h
     ended_by (Err ending.ReadFault) k w h = record {
       end = λ p. absurd (p.0 k);
@@ -74,58 +63,9 @@ module _ (o : SolveOptions) (asked : IsAsked (Solve o)) (bytes : List ℕ) (n : 
       write_fault = λ p. front-as _ _ a b right_first h;
       want_of_memory = λ p. absurd (omega arith);
     }
-    ended_by (Err ending.InputTooLong) k w h = record {
-      end = λ p. inr (record { status_is = k; long = h.0; noted = w; written = gained-as _ _ a b (right_ended most_input_bytes) h.1 });
-      read_fault = λ p. absurd (omega arith);
-      write_fault = λ p. absurd (omega arith);
-      want_of_memory = λ p. absurd (omega arith);
-    }
+    ended_by (Err ending.InputTooLong) k w h =
+        all_ended (omega arith, omega arith, omega arith) (inr (record { status_is = k; long = h.0; noted = w; written = gained-as _ _ a b (right_ended most_input_bytes) h.1 }))
     ended_by (Err e) k w h = item_ended (told e) (item_end e tt) k w h
-
-  -- ---- each text is right
-
-  module _ (s : ℕ) where
-    right_end : (e : Ending) → s ≡ e.status → Gained (AreAll (Solve o) bytes n e) a b → AnswersRight (Solve o) bytes a b s
-    right_end e k h = λ within p. record {
-      texts = h.texts;
-      ending = e;
-      right = output-right (Solve o) bytes may_be h.texts e h.are.output;
-      written = h.gained;
-      status_is = k;
-    }
-
-    right_item : (e : Option Ending) → s ≡ (or_memory e).status → WritesTillEnd (Solve o) bytes n a b e → AnswersRight (Solve o) bytes a b s
-    right_item None k h = λ _ p. absurd (p.2 k)
-    right_item (Some e) k h = right_end e k h
-
-    right_by : (r : Result (Unit {0}) Refused) → s ≡ (ending_from r).status → WritesByProblem (Solve o) bytes n a b r → AnswersRight (Solve o) bytes a b s
-    right_by (Ok u) k h = right_end finished k h
-    right_by (Err ending.Usage) k h = absurd h
-    right_by (Err ending.ReadFault) k h = λ _ p. absurd (p.0 k)
-    right_by (Err ending.WriteFault) k h = λ _ p. absurd (p.1 k)
-    right_by (Err ending.InputTooLong) k h = λ within p. let short = within tt in absurd (omega (arith, short, h.0))
-    right_by (Err e) k h = right_item (told e) k h
-
-    -- ---- completeness
-
-    all_by : (e : Ending) → Gained (AreAll (Solve o) bytes n e) a b → (ts : List (List ℕ)) → IsOutput (Solve o) bytes ts finished → (e ≡ finished) × Appends a b (concat ts)
-    all_by e h ts l =
-        let same = output-unique (Solve o) bytes h.texts ts e finished h.are.output l in
-        (same.1, subst (λ ss. Appends a b (concat ss)) same.0 h.gained)
-
-    complete_item : (e : Option Ending) → IsItemEnd e → s ≡ (or_memory e).status → WritesTillEnd (Solve o) bytes n a b e → (ts : List (List ℕ)) → IsOutput (Solve o) bytes ts finished → ((s ≡ 0) × Appends a b (concat ts)) ⊎ (s ≡ 8)
-    complete_item None end k h ts l = inr k
-    complete_item (Some e) end k h ts l =
-        let same = ap (λ (f : Ending). f.status) (all_by e h ts l).0 in
-        let above = end.above_usage in absurd (omega arith)
-
-    complete_by : (r : Result (Unit {0}) Refused) → s ≡ (ending_from r).status → s ≢ 6 → s ≢ 7 → WritesByProblem (Solve o) bytes n a b r → Completes (Solve o) bytes a b s
-    complete_by (Ok u) k p q h within ts l = inl (k, (all_by finished h ts l).1)
-    complete_by (Err ending.Usage) k p q h within ts l = absurd h
-    complete_by (Err ending.ReadFault) k p q h within ts l = absurd (p k)
-    complete_by (Err ending.WriteFault) k p q h within ts l = absurd (q k)
-    complete_by (Err ending.InputTooLong) k p q h within ts l = let short = within tt in absurd (omega (arith, short, h.0))
-    complete_by (Err e) k p q h within ts l = complete_item (told e) (item_end e tt) k h ts l
 
 -- ---- of any command
 
@@ -137,20 +77,46 @@ each : (t : Bool) (X Y V W : Type 0) → (X → V) → (Y → W) → MatchBool t
 each true X Y V W f g h = f h
 each false X Y V W f g h = g h
 
-pub ends-of : (c : Command) → IsAsked c → (bytes : List ℕ) (n : ℕ) (a b : Option (List ℕ)) (Noted : Ending → Type 0) (s : ℕ) (r : Result (Unit {0}) Refused) → s ≡ (ending_from r).status → Noted (ending_from r) → WritesOf c bytes n a b r → EndsAs c bytes n a b Noted s
+ends-of : (c : Command) → IsAsked c → (bytes : List ℕ) (n : ℕ) (a b : Option (List ℕ)) (Noted : Ending → Type 0) (s : ℕ) (r : Result (Unit {0}) Refused) → s ≡ (ending_from r).status → Noted (ending_from r) → WritesOf c bytes n a b r → EndsAs c bytes n a b Noted s
 ends-of (Solve o) asked bytes n a b Noted s r k w h =
     each (not o.polylib) _ _ _ _ (ended_by o asked bytes n a b Noted s r k w) (ends-by (Solve o) asked bytes a b Noted s r k w) h
 ends-of c asked bytes n a b Noted s r k w h = ends-by c asked bytes a b Noted s r k w h
 
-pub right-of : (c : Command) → IsAsked c → (bytes : List ℕ) (n : ℕ) (a b : Option (List ℕ)) (s : ℕ) (r : Result (Unit {0}) Refused) → s ≡ (ending_from r).status → WritesOf c bytes n a b r → AnswersRight c bytes a b s
-right-of (Solve o) asked bytes n a b s r k h =
-    either (not o.polylib) _ _ _ (right_by o asked bytes n a b s r k) (answers-right (Solve o) asked bytes a b s r k) h
-right-of c asked bytes n a b s r k h = answers-right c asked bytes a b s r k h
+-- how a run of any command over an input within its limit ends by its items
+whole-of : (c : Command) (bytes : List ℕ) (n : ℕ) (a b : Option (List ℕ)) (Noted : Ending → Type 0) (s : ℕ) → EndsAs c bytes n a b Noted s → IsWithin c bytes → IsOfItems s → EndsWith c bytes a b Noted s
+whole-of (Solve o) bytes n a b Noted s h within p = either (not o.polylib) _ _ _ (λ x. by_problem (x.end p)) (λ x. x.whole within p) h
+  where
+    by_problem : EndsByProblem (Solve o) bytes n a b Noted s ⊎ StopsAtLimit (Solve o) bytes n a b Noted s → EndsWith (Solve o) bytes a b Noted s
+    by_problem (inl e) = record { texts = e.texts; ending = e.ending; output = e.all.output; written = e.written; status_is = e.status_is; noted = e.noted }
+    by_problem (inr e) = let short = within tt in absurd (omega (arith, short, e.long))
+whole-of c bytes n a b Noted s h within p = h.whole within p
 
-pub complete-of : (c : Command) → IsAsked c → (bytes : List ℕ) (n : ℕ) (a b : Option (List ℕ)) (s : ℕ) (r : Result (Unit {0}) Refused) → s ≡ (ending_from r).status → s ≢ 6 → s ≢ 7 → WritesOf c bytes n a b r → Completes c bytes a b s
-complete-of (Solve o) asked bytes n a b s r k p q h =
-    either (not o.polylib) _ _ _ (complete_by o asked bytes n a b s r k p q) (completes-by (Solve o) bytes a b s r k p q) h
-complete-of c asked bytes n a b s r k p q h = completes-by c bytes a b s r k p q h
+-- ---- where the command and the input are told
+
+where_bytes : (P Q : List ℕ → Type 0) (input : Option (List ℕ)) → ((bytes : List ℕ) → P bytes → Q bytes)
+    → IfSome input P → IfSome input Q
+where_bytes P Q None f h = tt
+where_bytes P Q (Some bytes) f h = f bytes h
+
+module _ (o : Option Command) (asked : IfSome o IsAsked) (left : Option (List ℕ)) (n : ℕ) (a b : Option (List ℕ)) (r : Result (Unit {0}) Refused) (s : ℕ) (k : s ≡ (ending_from r).status) (h : WhereTold o left (λ c bytes. WritesOf c bytes n a b r)) where
+  where_told : (Q : Command → List ℕ → Type 0) → ((c : Command) (bytes : List ℕ) → IsAsked c → WritesOf c bytes n a b r → Q c bytes) → WhereTold o left Q
+  where_told Q f = go o asked h
+    where
+      go : (o : Option Command) → IfSome o IsAsked → WhereTold o left (λ c bytes. WritesOf c bytes n a b r) → WhereTold o left Q
+      go None asked h = tt
+      go (Some c) asked h = where_bytes (λ bytes. WritesOf c bytes n a b r) (Q c) (bytes_read c left) (λ bytes. f c bytes asked) h
+
+  pub told-ends : (Noted : Ending → Type 0) → Noted (ending_from r) → WhereTold o left (λ c bytes. EndsAs c bytes n a b Noted s)
+  told-ends Noted w = where_told (λ c bytes. EndsAs c bytes n a b Noted s) (λ c bytes asked. ends-of c asked bytes n a b Noted s r k w)
+
+  whole-told : (c : Command) (bytes : List ℕ) → IsAsked c → WritesOf c bytes n a b r → IsWithin c bytes → IsOfItems s → EndsWith c bytes a b (λ _. Unit {0}) s
+  whole-told c bytes asked h = whole-of c bytes n a b (λ _. Unit {0}) s (ends-of c asked bytes n a b (λ _. Unit {0}) s r k tt h)
+
+  pub told-right : WhereTold o left (λ c bytes. AnswersRight c bytes a b s)
+  told-right = where_told (λ c bytes. AnswersRight c bytes a b s) (λ c bytes asked h. right-by c bytes a b (λ _. Unit {0}) s (whole-told c bytes asked h) asked)
+
+  pub told-complete : s ≢ 6 → s ≢ 7 → WhereTold o left (λ c bytes. Completes c bytes a b s)
+  told-complete p q = where_told (λ c bytes. Completes c bytes a b s) (λ c bytes asked h. completes-by c bytes a b (λ _. Unit {0}) s (whole-told c bytes asked h) p q)
 
 -- ---- whether the whole input was read
 

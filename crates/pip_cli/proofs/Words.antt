@@ -1,10 +1,10 @@
 -- The words of other modules that the proofs of this crate cite, passed on from one place. Declares nothing.
-pub use Rattle.std.proofs.Common.{◌≡◌, refl, arith, ℕ, ℤ, ◌-◌, ◌^◌, ◌≤◌, List, [], ◌∷◌, Option, Some, None, Bool, true, false, ◌&&◌, ◌==◌, not, nat_le, length, ◌≢◌, ◌⊎◌, inl, inr, sym, subst, ◌∙◌, ap, ◌<◌, map, string_bytes}
+pub use Rattle.std.proofs.Common.{◌≡◌, refl, arith, ℕ, ◌-◌, ◌^◌, ◌≤◌, List, [], ◌∷◌, Option, Some, None, Bool, true, false, ◌&&◌, ◌==◌, not, nat_le, length, ◌≢◌, ◌⊎◌, inl, inr, sym, subst, ◌∙◌, ap, ◌<◌, map, string_bytes}
 pub use Rattle.std.specs.Prelude.{IfSome, MatchBool, if◌then◌else◌, codes, option_map, Result, Ok, Err}
 pub use Rattle.std.specs.List.{list_all, concat}
 pub use Rattle.std.specs.Io.KnownBytes.{Appends, Keeps}
 pub use Rattle.pip_model.specs.Limits.{most_params, most_pivots, most_cuts, most_splits, most_nesting, most_input_bytes}
-pub use Rattle.pip_model.specs.Run.{Budget, IsBudget, standard_budget, Refusal, Overflow, Pivots, Cuts, Splits, Nesting}
+pub use Rattle.pip_model.specs.Run.{Budget, IsBudget, standard_budget, Refusal, Overflow}
 pub use Rattle.program_model.specs.Commands.{Command, Eval, Simplify, Pieces, Restrict, Same, Least, SolveOptions, Solve, way, item_text}
 pub use Rattle.program_model.specs.Output.{MayBeAsked, IsOutput, IsFirstOutput}
 pub use Rattle.pip_items.specs.Outputs.{IsWithin, IsRead, WritesOutput, bytes_read, IsTooLong}
@@ -14,5 +14,5 @@ pub use Rattle.headline.proofs.OutputUnique.{output-unique}
 pub use Rattle.pip_endings.specs.Endings.{told, or_memory, ending_of, IsOfItem}
 pub use Rattle.pip_items.specs.Items.{Gained, GainedFront, WritesTill}
 pub use Rattle.pip_items.specs.ByProblem.{AreEnded, AreBefore, AreAll, ReadsWhole, WritesTillEnd, WritesByProblem, WritesOf}
-pub use Rattle.pip_cli.specs.Ends.{AreFirst, AreFirstEnded, AreFirstBefore, EndsByProblem, HasEndedByProblem, EndsAs, AnswersRight, Completes, IsShort, IsAfterInput, ending_by, GainsLine, IsNoted, EndsWith, HasEnded}
+pub use Rattle.pip_cli.specs.Ends.{AreFirst, AreFirstEnded, AreFirstBefore, IsOfItems, EndsByProblem, StopsAtLimit, HasEndedByProblem, EndsAs, AnswersRight, Completes, IsShort, IsAfterInput, ending_by, GainsLine, IsNoted, EndsWith, EndsAtLimit, HasEnded}
 pub use Rattle.pip_cli.specs.Runs.{IsWordsEnding, WhereTold}
