@@ -31,9 +31,6 @@ module _ {S : Type 0} (Calls : S → S → Type 0) (taken : S → ℕ) (old new 
   AsksInTurns true = Takes Calls taken old new
   AsksInTurns false = AsksOn Calls taken old new
 
-  abbrev pub AsksUntil : {E : Type 0} → Result Bool E → Type 0
-  AsksUntil r = AsksInTurns (is_found r)
-
   -- The calls of a search that finds what is sought, or not: all bytes that come count as taken.
   pub record CallsFor (w v : HeldBytes) (left : List ℕ) (found : Bool) : Type 0 where
     pub counted : taken new + taken_by w ≡ taken old + taken_by v
