@@ -1,5 +1,5 @@
 -- The problem that is read of an item's bytes.
-use Rattle.pip_stream.proofs.Words.{◌≡◌, sym, ap, ◌∙◌, ℕ, zero, suc, ◌+◌, ◌<◌, ◌≤◌, inl, inr, arith, List, ◌∷◌, length, take, drop, take-length, Option, Some, None, IfOk, IfSome, Result, Ok, Err, HeldBytes, Problem, Ended, Fault, Syntax, Wide, next_open, read_native, read_fault, ReadRefusal, group_behind, first_group_end, next_open-closed, read_native-none, read_native-ends, IsItem, HoldsItem, IsRead}
+use Rattle.pip_stream.proofs.Words.{◌≡◌, sym, ap, ◌∙◌, ℕ, zero, suc, ◌+◌, ◌<◌, ◌≤◌, inl, inr, arith, List, ◌∷◌, length, take, drop, take-length, Option, Some, None, IfOk, IfSome, Result, Ok, Err, HeldBytes, Problem, Ended, Fault, next_open, read_native, read_fault, ReadRefusal, group_behind, first_group_end, next_open-closed, read_native-none, read_native-ends, IsItem, HoldsItem, IsRead}
 use Rattle.pip_problem.specs.declared.refusal.ReadRefusal.TheVariants as read
 use Rattle.pip_reader.proofs.FaultPlaces.{read_native-fault}
 use Rattle.pip_stream.specs.Refusals.{place_told}
