@@ -54,9 +54,10 @@ pub(crate) fn short_opposite(z: i128) -> i128
     -(narrow(z) as i128)
 }
 
-// `a*x - b*y` for short numbers, a and b being of 32 bits; whether it is known to be short.
-pub(crate) fn half_entry(a: i64, x: i128, b: i64, y: i128) -> (i128, bool)
-    requires factors { AreHalf a b }
+// `a*x - b*y` for short numbers, by 64 bits where they have 32, a and b as is known; whether it is known to be short.
+fn short_entry(half: bool, a: i64, x: i128, b: i64, y: i128) -> (i128, bool)
+    requires half { IsTrue half → AreHalf a b }
+    requires factors { AreShort a b }
     requires entries { AreShort x y }
     ensures value { result.0 ≡ a *ℤ x -ℤ b *ℤ y }
     ensures fits { Fits result.0 }
@@ -64,28 +65,12 @@ pub(crate) fn half_entry(a: i64, x: i128, b: i64, y: i128) -> (i128, bool)
 {
     let narrow_x = narrow(x);
     let narrow_y = narrow(y);
-    if is_half(narrow_x) && is_half(narrow_y) {
+    if half && is_half(narrow_x) && is_half(narrow_y) {
         let entry = half_difference(a, narrow_x, b, narrow_y);
         return (entry as i128, true);
     }
     let entry = short_difference(a as i128, x, b as i128, y);
     (entry, is_short(entry))
-}
-
-// Makes `a*r - b*s` of r, entry by entry, for short numbers; whether those are short too.
-#[tactic(auto, using(crate::proofs::ShortRows::fits_short))]
-fn combine_by_short(a: i128, r: &mut [i128], b: i128, s: &[i128]) -> bool
-    requires factors { AreShort a b }
-    requires lists { AreShortLists r.old s.now }
-    ensures { IsCombined a r.old b s.now result r.new }
-{
-    let mut short = true;
-    for i in 0..r.len() {
-        let entry = short_difference(a, r[i], b, s[i]);
-        short = with_entry(short, entry);
-        r[i] = entry;
-    }
-    short
 }
 
 // Whether `a*x - b*y` may be another number than x, where y is the entry.
@@ -96,17 +81,19 @@ fn changes(a: i64, entry: i64) -> bool
     a != 1 || entry != 0
 }
 
-// The same for an a and a b of 32 bits. Under an a of 1 the entries of r stay at which s is 0.
+// Makes `a*r - b*s` of r, entry by entry, for short numbers, a and b of 32 bits as is known; whether those are short
+// too. Under an a of 1 the entries of r stay at which s is 0.
 #[tactic(auto, using(crate::proofs::ShortRows::fits_short))]
-fn combine_by_half(a: i64, r: &mut [i128], b: i64, s: &[i128]) -> bool
-    requires factors { AreHalf a b }
+fn combine_by(half: bool, a: i64, r: &mut [i128], b: i64, s: &[i128]) -> bool
+    requires half { IsTrue half → AreHalf a b }
+    requires factors { AreShort a b }
     requires lists { AreShortLists r.old s.now }
     ensures { IsCombined a r.old b s.now result r.new }
 {
     let mut short = true;
     for i in 0..r.len() {
         if changes(a, narrow(s[i])) {
-            let (entry, entry_short) = half_entry(a, r[i], b, s[i]);
+            let (entry, entry_short) = short_entry(half, a, r[i], b, s[i]);
             short = both(short, entry_short);
             r[i] = entry;
         }
@@ -122,9 +109,6 @@ pub(crate) fn combine_short(a: i128, r: &mut [i128], b: i128, s: &[i128]) -> boo
 {
     let narrow_a = narrow(a);
     let narrow_b = narrow(b);
-    if is_half(narrow_a) && is_half(narrow_b) {
-        combine_by_half(narrow_a, r, narrow_b, s)
-    } else {
-        combine_by_short(a, r, b, s)
-    }
+    let half = both(is_half(narrow_a), is_half(narrow_b));
+    combine_by(half, narrow_a, r, narrow_b, s)
 }

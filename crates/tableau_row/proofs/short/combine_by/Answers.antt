@@ -1,21 +1,21 @@
 use Rattle.tableau_row.proofs.Words.{arith, rules, subst, IsTrue, All-set, Fits, IsShort}
 use Rattle.tableau_row.proofs.Combining.{combined_step, combined_all, kept_at, kept_step}
-use Rattle.tableau_row.proofs.short.combine_by_half.Goals as goal
-use Rattle.tableau_row.proofs.short.combine_by_half.Goals.{then-changes, else-changes}
+use Rattle.tableau_row.proofs.short.combine_by.Goals as goal
+use Rattle.tableau_row.proofs.short.combine_by.Goals.{then-changes, else-changes}
 
-pub half_entry-entry-requires-clause-entries : goal.half_entry-entry-requires-clause-entries
-half_entry-entry-requires-clause-entries c =
+pub short_entry-entry-requires-clause-entries : goal.short_entry-entry-requires-clause-entries
+short_entry-entry-requires-clause-entries c =
     let now = kept_at c.args.a c.args.b c.args.r.now c.args.s.now c.requires.lists.lengths c.loop-i.i (omega arith) IsShort c.loop-i.r (search rules) c.requires.lists.first in
     record { first = search (rules, now); second = search rules }
 
 pub loop-i-preserved : goal.loop-i-preserved
 loop-i-preserved c = elim c.if-changes.branch [
   | then-changes w ↦ record {
-    value = let made = combined_step c.args.a c.args.b c.args.r.now c.args.s.now c.requires.lists.lengths c.loop-i.i (omega arith) c.loop-i.r w.half_entry-entry.result.0 (search rules) (search rules) in search (rules, made);
-    fits = let made = All-set Fits c.loop-i.r c.loop-i.i w.half_entry-entry.result.0 w.half_entry-entry.ensures.fits c.loop-i.invariant.fits in search (rules, made);
+    value = let made = combined_step c.args.a c.args.b c.args.r.now c.args.s.now c.requires.lists.lengths c.loop-i.i (omega arith) c.loop-i.r w.short_entry-entry.result.0 (search rules) (search rules) in search (rules, made);
+    fits = let made = All-set Fits c.loop-i.r c.loop-i.i w.short_entry-entry.result.0 w.short_entry-entry.ensures.fits c.loop-i.invariant.fits in search (rules, made);
     short = λ all.
         let now = subst IsTrue w.short-is all in
-        let made = All-set IsShort c.loop-i.r c.loop-i.i w.half_entry-entry.result.0 (w.half_entry-entry.ensures.short (w.both-short.ensures.second now)) (c.loop-i.invariant.short (w.both-short.ensures.first now)) in
+        let made = All-set IsShort c.loop-i.r c.loop-i.i w.short_entry-entry.result.0 (w.short_entry-entry.ensures.short (w.both-short.ensures.second now)) (c.loop-i.invariant.short (w.both-short.ensures.first now)) in
         search (rules, made);
   }
   | else-changes w ↦ record {
