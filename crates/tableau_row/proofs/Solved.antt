@@ -95,7 +95,7 @@ solved_row n w c p h row short some =
 
 -- ---- the numbers that the elimination lists fit
 
-unit_short : (n w c : ℕ) → IsShortRow (unit_row n w c)
+pub unit_short : (n w c : ℕ) → IsShortRow (unit_row n w c)
 unit_short n w c = record {
   den = omega arith;
   coefs = All-set IsShort _ _ _ (omega arith) (All-replicate IsShort n (pos 0) (omega arith));

@@ -25,7 +25,7 @@ listed_parts p c r e =
     split true false d t e = absurd cc
     split false q d t e = absurd cc
 
-some_product : (a b : ℤ) → pos 1 ≤ℤ a → pos 1 ≤ℤ b → pos 1 ≤ℤ (a *ℤ b)
+pub some_product : (a b : ℤ) → pos 1 ≤ℤ a → pos 1 ≤ℤ b → pos 1 ≤ℤ (a *ℤ b)
 some_product (pos zero) b h k = absurd (omega (arith, ints))
 some_product (negsuc n) b h k = absurd (omega (arith, ints))
 some_product (pos (suc n)) (pos zero) h k = absurd (omega (arith, ints))

@@ -1,6 +1,7 @@
 -- A row whose entry in the pivot's column is 0, and whose numbers have no common divisor, stays as it is in a pivot. The pivot's listed
 -- numbers of the row are its own numbers times the pivot, and zeros.
 use Rattle.tableau_row.proofs.Words.{◌≡◌, ◌∙◌, refl, ap, sym, ℕ, zero, suc, ◌<◌, ℤ, pos, ◌-ℤ◌, ◌*ℤ◌, unsigned_abs, arith, List, [], ◌∷◌, ◌++◌, length, Bool, true, false, ◌&&◌, slice_set, IsTrue, All, list_all-append, list_all-from_AllPass, ints, unsigned_abs-mul, fits, floor_div, gcd, gcd_of, entry, combine, floor_divided, remove, scale, all_fit, combine_listed, Row, divided, substituted, eliminated, eliminated_listed, floor-unique, common-scaled, content}
+use Rattle.std.proofs.lemmas.List.{set-get_or}
 
 -- ---- the divisor of multiples is the multiple of the divisor
 
@@ -51,9 +52,7 @@ combine-none a (x ∷ r) [] e = absurd (omega arith)
 combine-none a (x ∷ r) (y ∷ s) e = rw (less_none a x y, combine-none a r s (omega arith)) refl
 
 pub set-same : (xs : List ℤ) (c : ℕ) (z : ℤ) → entry xs c ≡ z → slice_set xs c z ≡ xs
-set-same [] c z e = refl
-set-same (x ∷ xs) zero z e = rw (sym e) refl
-set-same (x ∷ xs) (suc c) z e = rw (set-same xs c z e) refl
+set-same xs c z e = rw (← e) (set-get_or xs c (pos 0))
 
 pub any_zero : (a : ℤ) → a *ℤ pos 0 ≡ pos 0
 any_zero a = omega (arith, ints)

@@ -1,6 +1,7 @@
 -- The rows of columns, as they are found.
 use Rattle.tableau_row.proofs.Words.{◌≡◌, refl, ap, sym, ◌∙◌, ℕ, zero, suc, ◌+◌, ◌-◌, ◌<◌, ◌≤◌, ℤ, pos, negsuc, true, false, ◌&&◌, List, [], ◌∷◌, ◌++◌, length, take, drop, replicate, arith, slice_set, IsTrue, list_all, drop-replicate, take-replicate, length-replicate, length-drop, take-append-drop, take_all, get_or-drop, take_more, replicate_more, eqb-true, is_zero, same_number, entry, unit_row, both, is_unit, is_unit_row}
 use Rattle.std.proofs.lemmas.List.{append-nil}
+use Rattle.pip_model.proofs.Tests.{is_zero_is, same_number_is}
 use Rattle.tableau_row.proofs.Places.{set_parts}
 
 -- zeros with a 1 at place c
@@ -12,9 +13,9 @@ unit_parts n c h =
 
 pub zeros_are : (zs : List ℤ) → IsTrue (list_all is_zero zs) → zs ≡ replicate (length zs) (pos 0)
 zeros_are [] h = refl
-zeros_are (pos zero ∷ zs) h = ap (λ (rest : List ℤ). pos 0 ∷ rest) (zeros_are zs h)
-zeros_are (pos (suc n) ∷ zs) h = absurd cc
-zeros_are (negsuc n ∷ zs) h = absurd cc
+zeros_are (z ∷ zs) h =
+    let parts = both (is_zero z) (list_all is_zero zs) h in
+    rw (is_zero_is z parts.0, ← zeros_are zs parts.1) refl
 
 pub all_zeros : (n : ℕ) → list_all is_zero (replicate n (pos 0)) ≡ true
 all_zeros zero = refl
@@ -33,17 +34,13 @@ unit_is n w c h =
 begun : (zs : List ℤ) (i : ℕ) → take i zs ≡ replicate i (pos 0) → zs ≡ replicate i (pos 0) ++ drop i zs
 begun zs i e = sym (take-append-drop i zs) ∙ ap (λ (ys : List ℤ). ys ++ drop i zs) e
 
-one_is : (z : ℤ) → IsTrue (same_number z (pos 1)) → z ≡ pos 1
-one_is (pos n) h = ap pos (eqb-true n 1 h)
-one_is (negsuc n) h = absurd cc
-
 -- a 1, and zeros behind it
 one_alone : (zs : List ℤ) → 0 < length zs → IsTrue (same_number (entry zs 0) (pos 1) && list_all is_zero (drop 1 zs)) → zs ≡ pos 1 ∷ replicate (length zs - 1) (pos 0)
 one_alone [] h e = absurd (omega arith)
 one_alone (z ∷ zs) h e =
     let parts = both (same_number z (pos 1)) (list_all is_zero zs) e in
     let long : suc (length zs) - 1 ≡ length zs = omega arith in
-    rw (long, one_is z parts.0, ← zeros_are zs parts.1) refl
+    rw (long, same_number_is z (pos 1) parts.0, ← zeros_are zs parts.1) refl
 
 pub found : (zs : List ℤ) (i : ℕ) → i < length zs → take i zs ≡ replicate i (pos 0)
     → IsTrue (same_number (entry (drop i zs) 0) (pos 1) && list_all is_zero (drop 1 (drop i zs))) → zs ≡ slice_set (replicate (length zs) (pos 0)) i (pos 1)
