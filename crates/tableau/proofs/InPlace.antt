@@ -1,5 +1,5 @@
 -- A pivot of rows whose numbers stand one after the other, in place.
-use Rattle.tableau.proofs.Words.{rules, tests, ◌≡◌, refl, ap, sym, ◌∙◌, subst, ℕ, zero, suc, ◌+◌, ◌-◌, ◌<◌, ◌≤◌, ◌≢◌, ℤ, pos, ◌≤ℤ◌, Bool, true, false, List, [], ◌∷◌, ◌++◌, length, map, take, drop, get_or, arith, length-append, append-nil, append_assoc, IsTrue, All, flat_map, slice_set, ◌==◌, if◌then◌else◌, All-head, All-tail, All-cons, All-append, All-take, All-drop, take_at, drop_at, length-drop, length-take, get_or-take, get_or-drop, take-append-drop, take_all, drop_all, entry, all_fit, gcd_of, Row, row_at, form_row, divided, unit_row, eliminated, eliminated_listed, pivot, pivot_listed, divided_one, numbers_of, row_of_numbers, is_unit_row, IsRow, IsReduced, IsShortRow, AreShortRows, IsElimination, IsMadeReduced, row_again, short_eliminated, elimination, eliminated_none, all_fit-append, KeptRows, IsFlat, IsRun, IsSolvable, kept_short, row_kept, row_length, rows_kept, with_more, with_rows, rows_along, IsMadeRow, AreAlong, AreMade, ArePair, IsSolvedPair, IsHere, flat_rows, is_ready, is_ready_middle, is_ready_front, pivoted, Kept, RowPlace}
+use Rattle.tableau.proofs.Words.{rules, tests, ◌≡◌, refl, ap, sym, ◌∙◌, subst, ℕ, zero, suc, ◌+◌, ◌-◌, ◌<◌, ◌≤◌, ◌≢◌, ℤ, pos, ◌≤ℤ◌, Bool, true, false, List, [], ◌∷◌, ◌++◌, length, map, take, drop, get_or, arith, length-append, append-nil, append_assoc, IsTrue, All, flat_map, slice_set, ◌==◌, if◌then◌else◌, All-head, All-tail, All-cons, All-append, All-take, All-drop, take_at, drop_at, length-drop, length-take, get_or-take, get_or-drop, take-append-drop, take_all, drop_all, entry, all_fit, gcd_of, Row, row_at, form_row, divided, unit_row, eliminated, eliminated_listed, pivot, pivot_listed, divided_one, numbers_of, row_of_numbers, is_unit_row, IsRow, IsReduced, IsShortRow, AreShortRows, IsElimination, IsMadeReduced, row_again, short_eliminated, elimination, eliminated_none, all_fit-append, KeptRows, IsFlat, IsPivot, IsRun, IsSolvable, kept_short, row_kept, row_length, rows_kept, with_more, with_rows, rows_along, IsMadeRow, AreAlong, AreMade, ArePair, IsSolvedPair, IsHere, flat_rows, is_ready, is_ready_middle, is_ready_front, pivoted, Kept, RowPlace}
 use Rattle.std.specs.List.{list_all}
 use Rattle.pip_model.proofs.Tests.{both, never_both}
 use Rattle.affine_forms.proofs.Divisors.{gcd_assoc}
@@ -9,14 +9,14 @@ use Rattle.tableau.proofs.Turning.{unit_turned}
 use Rattle.tableau.specs.declared.kept.Kept.TheVariants as kept
 
 -- the first kept row, and the others
-pub first_kept : (ks first rest : List Kept) (x d : Kept) → 0 < length ks → first ≡ take 1 ks → rest ≡ drop 1 ks → x ≡ get_or first 0 d → ks ≡ x ∷ rest
-first_kept [] first rest x d some e f g = absurd (omega arith)
-first_kept (k ∷ ks) first rest x d some e f g = rw (g, e, f) refl
+pub record IsFirst (ks first rest : List Kept) (x : Kept) : Type 0 where
+  pub whole : ks ≡ x ∷ rest
+  pub alone : first ≡ x ∷ []
 
-pub written : (first rest : List Kept) (x : Kept) → length first ≡ 1 → slice_set first 0 x ++ rest ≡ x ∷ rest
-written [] rest x e = absurd (omega arith)
-written (k ∷ []) rest x e = refl
-written (k ∷ j ∷ ks) rest x e = absurd (omega arith)
+pub is_first : (ks first rest : List Kept) (x d : Kept) → 0 < length ks → first ≡ take 1 ks → rest ≡ drop 1 ks → x ≡ get_or first 0 d → IsFirst ks first rest x
+is_first [] first rest x d some e f g = absurd (omega arith)
+is_first (k ∷ []) first rest x d some e f g = rw (g, e, f) (record { whole = refl; alone = refl })
+is_first (k ∷ j ∷ ks) first rest x d some e f g = rw (g, e, f) (record { whole = refl; alone = refl })
 
 -- a row behind the first is set
 set_behind : (x v : Row) (xs : List Row) (k : ℕ) → 0 < k → slice_set (x ∷ xs) k v ≡ x ∷ slice_set xs (k - 1) v
@@ -59,63 +59,31 @@ eq_self n = search (rules, tests)
 
 -- ---- the first of the rows
 
-module _ (ks first rest : List Kept) (x : Kept) (some : 0 < length ks) (is_first : first ≡ take 1 ks) (is_rest : rest ≡ drop 1 ks) (is : x ≡ get_or first 0 x) where
-  pub kept_parts : ks ≡ x ∷ rest
-  kept_parts = first_kept ks first rest x x some is_first is_rest is
-
-  alone : length first ≡ 1
-  alone = ap length is_first ∙ length-take 1 ks ∙ omega (arith, some)
-
-  pub same_first : (js : List Kept) → first ++ js ≡ x ∷ js
-  same_first js = ap (λ (ls : List Kept). ls ++ js) (is_first ∙ ap (take 1) kept_parts ∙ take_one x rest)
-    where
-      take_one : (y : Kept) (ls : List Kept) → take 1 (y ∷ ls) ≡ y ∷ []
-      take_one y [] = refl
-      take_one y (l ∷ ls) = refl
-
-  pub new_first : (y : Kept) (js : List Kept) → slice_set first 0 y ++ js ≡ y ∷ js
-  new_first y js = written first js y alone
-
-pub first_ready : (c : ℕ) (ks first rest : List Kept) (x : Kept) → 0 < length ks → first ≡ take 1 ks → rest ≡ drop 1 ks → x ≡ get_or first 0 x → IsTrue (list_all (is_ready c) ks) → IsTrue (is_ready c x)
-first_ready c ks first rest x some f g is ready =
-    let here = subst (λ (js : List Kept). IsTrue (list_all (is_ready c) js)) (kept_parts ks first rest x some f g is) ready in
-    (both (is_ready c x) (list_all (is_ready c) rest) here).0
+pub first_ready : (c : ℕ) (ks first rest : List Kept) (x : Kept) → IsFirst ks first rest x → IsTrue (list_all (is_ready c) ks) → IsTrue (is_ready c x)
+first_ready c ks first rest x h ready = (both (is_ready c x) (list_all (is_ready c) rest) (rw h.whole at ready)).0
 
 -- what the wanted rows are, the first of them made of the first row
 module _ (n w c to : ℕ) (b : Bool) (p : Row) (f g : List Row → List Row) (parts : (r : Row) (rs : List Row) → f (r ∷ rs) ≡ eliminated p c r ∷ g rs)
-    (zs now : List ℤ) (ks first rest rest_now : List Kept) (along : AreAlong n w true zs ks) (some : 0 < length ks) (is_first : first ≡ take 1 ks) (is_rest : rest ≡ drop 1 ks) where
-  pub part_unit : (k : ℕ) → IsSolvable n w p c → IsTrue (is_ready c (kept.Unit k)) → kept.Unit k ≡ get_or first 0 (kept.Unit k)
+    (zs now : List ℤ) (ks first rest rest_now : List Kept) (along : AreAlong n w true zs ks) where
+  pub part_unit : (k : ℕ) → IsFirst ks first rest (kept.Unit k) → IsSolvable n w p c → IsTrue (is_ready c (kept.Unit k))
       → AreMade n w (g (rows_along n w zs rest)) to b now rest_now → AreMade n w (f (rows_along n w zs ks)) to b now (first ++ rest_now)
-  part_unit k hp ready is made =
-      let x : Kept = kept.Unit k in
-      let e = kept_parts ks first rest x some is_first is_rest is in
-      let here = subst (AreAlong n w true zs) e along in
+  part_unit k h hp ready made =
+      let here = subst (AreAlong n w true zs) h.whole along in
       let other : c ≢ k = λ same. never_both (k == c) ready (subst (λ j. (k == j) ≡ true) (sym same) (eq_self k)) in
-      let turned = unit_turned n w k c p here.0 hp.column other hp.row hp.positive in
-      let whole : f (rows_along n w zs ks) ≡ eliminated p c (unit_row n w k) ∷ g (rows_along n w zs rest) = ap (λ (js : List Kept). f (rows_along n w zs js)) e ∙ parts (unit_row n w k) (rows_along n w zs rest) in
-      rw (whole, same_first ks first rest x some is_first is_rest is rest_now)
-      (made_unit n w k to b (eliminated p c (unit_row n w k)) (g (rows_along n w zs rest)) now rest_now here.0 turned made)
+      rw (h.whole, h.alone, parts (unit_row n w k) (rows_along n w zs rest))
+      (made_unit n w k to b (eliminated p c (unit_row n w k)) (g (rows_along n w zs rest)) now rest_now here.0 (unit_turned n w k c p here.0 hp.column other hp.row hp.positive) made)
 
-  pub part_at : (q : RowPlace) (s other : Bool) (row behind row_now : List ℤ) → kept.At q ≡ get_or first 0 (kept.At q) → row ≡ take (row_length n w) zs → behind ≡ drop (row_length n w) zs
+  pub part_at : (q : RowPlace) (s other : Bool) (row behind row_now : List ℤ) → IsFirst ks first rest (kept.At q) → row ≡ take (row_length n w) zs → behind ≡ drop (row_length n w) zs
       → row_of_numbers n row_now ≡ eliminated p c (row_of_numbers n row) → IsMadeRow n w s other row_now → (IsTrue b → IsTrue other) → AreMade n w (g (rows_along n w behind rest)) (to + row_length n w) b now rest_now
       → AreMade n w (f (rows_along n w zs ks)) to b (row_now ++ now) (slice_set first 0 (kept.At (record { first = to; short = s })) ++ rest_now)
-  part_at q s other row behind row_now is is_row is_behind value own so made =
-      let x : Kept = kept.At q in
-      let e = kept_parts ks first rest x some is_first is_rest is in
-      let whole : f (rows_along n w zs ks) ≡ eliminated p c (row_of_numbers n row) ∷ g (rows_along n w behind rest)
-      = ap (λ (js : List Kept). f (rows_along n w zs js)) e ∙ parts (row_of_numbers n (take (row_length n w) zs)) (rows_along n w (drop (row_length n w) zs) rest)
-      ∙ ap (λ (ys : List ℤ). eliminated p c (row_of_numbers n ys) ∷ g (rows_along n w (drop (row_length n w) zs) rest)) (sym is_row)
-      ∙ ap (λ (ys : List ℤ). eliminated p c (row_of_numbers n row) ∷ g (rows_along n w ys rest)) (sym is_behind) in
-      rw (whole, new_first ks first rest x some is_first is_rest is (kept.At (record { first = to; short = s })) rest_now)
+  part_at q s other row behind row_now h is_row is_behind value own so made =
+      rw (h.whole, h.alone, ← is_row, ← is_behind, parts (row_of_numbers n row) (rows_along n w behind rest))
       (made_at n w to s other b (eliminated p c (row_of_numbers n row)) (g (rows_along n w behind rest)) row_now now rest_now own value so made)
 
-  pub part_column : (solved : List ℤ) → kept.Unit c ≡ get_or first 0 (kept.Unit c) → IsMadeRow n w true true solved → row_of_numbers n solved ≡ eliminated p c (unit_row n w c)
+  pub part_column : (solved : List ℤ) → IsFirst ks first rest (kept.Unit c) → IsMadeRow n w true true solved → row_of_numbers n solved ≡ eliminated p c (unit_row n w c)
       → AreMade n w (g (rows_along n w zs rest)) (to + row_length n w) b now rest_now → AreMade n w (f (rows_along n w zs ks)) to b (solved ++ now) (slice_set first 0 (kept.At (record { first = to; short = true })) ++ rest_now)
-  part_column solved is own value made =
-      let x : Kept = kept.Unit c in
-      let e = kept_parts ks first rest x some is_first is_rest is in
-      let whole : f (rows_along n w zs ks) ≡ eliminated p c (unit_row n w c) ∷ g (rows_along n w zs rest) = ap (λ (js : List Kept). f (rows_along n w zs js)) e ∙ parts (unit_row n w c) (rows_along n w zs rest) in
-      rw (whole, new_first ks first rest x some is_first is_rest is (kept.At (record { first = to; short = true })) rest_now)
+  part_column solved h own value made =
+      rw (h.whole, h.alone, parts (unit_row n w c) (rows_along n w zs rest))
       (made_at n w to true true b (eliminated p c (unit_row n w c)) (g (rows_along n w zs rest)) solved now rest_now own value (λ s. refl) made)
 
 -- ---- the row that becomes that of the column
@@ -137,26 +105,16 @@ middle_long n w c (suc k) b zs (kept.At p ∷ ks) h e =
     let rest = middle_long n w c k b (drop (row_length n w) zs) ks h.1 (both (is_ready c (kept.At p)) (is_ready_middle c k ks) e).1 in
     omega (arith, rest, length-drop (row_length n w) zs)
 
-middle_rest : (c k : ℕ) (x : Kept) (ks : List Kept) → 0 < k → IsTrue (is_ready_middle c k (x ∷ ks)) → IsTrue (is_ready c x) × IsTrue (is_ready_middle c (k - 1) ks)
-middle_rest c zero x ks h e = absurd (omega arith)
-middle_rest c (suc k) x ks h e =
-    let parts = both (is_ready c x) (is_ready_middle c k ks) e in
-    let same : suc k - 1 ≡ k = omega arith in
-    (parts.0, subst (λ j. IsTrue (is_ready_middle c j ks)) (sym same) parts.1)
+pub ready_parts : (c k : ℕ) (ks first rest : List Kept) (x : Kept) → IsFirst ks first rest x → 0 < k → IsTrue (is_ready_middle c k ks) → IsTrue (is_ready c x) × IsTrue (is_ready_middle c (k - 1) rest)
+ready_parts c zero ks first rest x h some ready = absurd (omega arith)
+ready_parts c (suc k) ks first rest x h some ready =
+    let e : suc k - 1 ≡ k = omega arith in
+    rw e (both (is_ready c x) (is_ready_middle c k rest) (rw h.whole at ready))
 
-module _ (c k : ℕ) (ks first rest : List Kept) (x : Kept) (some : 0 < length ks) (f : first ≡ take 1 ks) (g : rest ≡ drop 1 ks) (is : x ≡ get_or first 0 x) (some_behind : 0 < k) (ready : IsTrue (is_ready_middle c k ks)) where
-  ready_parts : IsTrue (is_ready c x) × IsTrue (is_ready_middle c (k - 1) rest)
-  ready_parts = middle_rest c k x rest some_behind (subst (λ (js : List Kept). IsTrue (is_ready_middle c k js)) (kept_parts ks first rest x some f g is) ready)
-
-  pub middle_first : IsTrue (is_ready c x)
-  middle_first = ready_parts.0
-
-pub room_behind : (n w c k : ℕ) (zs behind : List ℤ) (ks first rest : List Kept) (q : RowPlace) → 0 < length ks → first ≡ take 1 ks → rest ≡ drop 1 ks → kept.At q ≡ get_or first 0 (kept.At q) → 0 < k → IsTrue (is_ready_middle c k ks)
+pub room_behind : (n w c k : ℕ) (zs behind : List ℤ) (ks first rest : List Kept) (q : RowPlace) → IsFirst ks first rest (kept.At q) → 0 < k → IsTrue (is_ready_middle c k ks)
     → AreAlong n w true zs ks → behind ≡ drop (row_length n w) zs → row_length n w ≤ length behind
-room_behind n w c k zs behind ks first rest q some f g is h ready along e =
-    let here = subst (AreAlong n w true zs) (kept_parts ks first rest (kept.At q) some f g is) along in
-    let parts = ready_parts c k ks first rest (kept.At q) some f g is h ready in
-    subst (λ (ys : List ℤ). row_length n w ≤ length ys) (sym e) (middle_long n w c (k - 1) true (drop (row_length n w) zs) rest here.1 parts.1)
+room_behind n w c k zs behind ks first rest q h some ready along e =
+    rw e (middle_long n w c (k - 1) true (drop (row_length n w) zs) rest (subst (AreAlong n w true zs) h.whole along).1 (ready_parts c k ks first rest (kept.At q) h some ready).1)
 
 pub front_some : (c k : ℕ) (ks : List Kept) → IsTrue (is_ready_front c k ks) → 0 < k
 front_some c k [] e = absurd cc
@@ -269,30 +227,9 @@ listed_rows n w c p (r ∷ rs) hp column short rows shorts =
 
 -- ---- the rows of a table
 
-pub pair_made : (n w most : ℕ) (zs : List ℤ) (a b : RowPlace) → IsFlat n w zs (kept.At a ∷ kept.At b ∷ []) → a.short ≡ true → b.short ≡ true
-    → ArePair (kept_rows n w most (rows_kept n w zs (kept.At a ∷ kept.At b ∷ []))) (take (row_length n w) zs) (drop (row_length n w) zs)
-pair_made n w most zs a b flat e f =
-    let l = row_length n w in
-    let h = flat_along n w zs (kept.At a ∷ kept.At b ∷ []) flat in
-    let all : take l (drop l zs) ≡ drop l zs =
-    ap (λ (ys : List ℤ). ys) (take_whole l (drop l zs) h.along.1.1) in
-    let first = subst (λ s. IsMadeRow n w s true (take l zs)) e h.along.0 in
-    let second = subst (IsMadeRow n w true true) all (subst (λ s. IsMadeRow n w s true (take l (drop l zs))) f h.along.1.0) in
-    record {
-      front = first;
-      back = second;
-      rows = sym h.rows ∙ ap (λ (ys : List ℤ). row_of_numbers n (take l zs) ∷ row_of_numbers n ys ∷ []) all;
-    }
-  where
-    take_whole : (l : ℕ) (ys : List ℤ) → drop l ys ≡ [] → take l ys ≡ ys
-    take_whole l ys e = sym (append-nil (take l ys)) ∙ ap (λ (xs : List ℤ). take l ys ++ xs) (sym e) ∙ take-append-drop l ys
-
 map_short : (f : Kept → Row) (ks : List Kept) → All (λ k. IsShortRow (f k)) ks → All IsShortRow (map f ks)
 map_short f [] h = λ i d lt. absurd (omega arith)
 map_short f (k ∷ ks) h = All-cons IsShortRow (f k) (map f ks) (All-head (λ j. IsShortRow (f j)) k ks h) (map_short f ks (All-tail (λ j. IsShortRow (f j)) k ks h))
-
-pub front_short : (n w c k : ℕ) (zs : List ℤ) (ks : List Kept) → IsFlat n w zs ks → IsTrue (is_ready_front c k ks) → All IsShortRow (rows_kept n w zs ks)
-front_short n w c k zs ks flat ready = map_short (row_kept n w zs) ks (λ i d h. flat.short i d h (front_flags c k ks ready i d h))
 
 -- ---- rows that are laid anew
 
@@ -326,11 +263,18 @@ pivot_is n w c r p rows e h =
     ap (λ (u : Row). slice_set (map (eliminated p c) rows) r u) (sym (unit_over n w c p h))
     ∙ ap (λ (q : Row). slice_set (map (eliminated q c) rows) r (unit_row (length q.coefs) (length q.constant - 1) c)) e
 
-pub listed_pivot : (n w c r : ℕ) (rows : List Row) → All (IsRow n w) rows → All IsShortRow rows → c < n → r < length rows → IsTrue (all_fit (pivot_listed rows r c))
-listed_pivot n w c r rows h short column lt =
-    listed_rows n w c (row_at rows r) (take r rows ++ drop (r + 1) rows) (h r (form_row 0 []) lt) column (short r (form_row 0 []) lt)
-    (All-append (IsRow n w) (take r rows) (drop (r + 1) rows) (All-take (IsRow n w) r rows h) (All-drop (IsRow n w) (r + 1) rows h))
-    (All-append IsShortRow (take r rows) (drop (r + 1) rows) (All-take IsShortRow r rows short) (All-drop IsShortRow (r + 1) rows short))
+-- rows that are ready are short, and the listed numbers of their pivot fit
+pub ready_rows : (n w most c r : ℕ) (zs : List ℤ) (ks : List Kept) (t : KeptRows) → kept_rows n w most (rows_kept n w zs ks) ≡ t → IsFlat n w zs ks → IsTrue (is_ready_front c r ks) → IsPivot t.unknowns t.rows r c
+    → IsShortRow (row_at t.rows r) × IsTrue (all_fit (pivot_listed t.rows r c))
+ready_rows n w most c r zs ks t e flat ready =
+    subst (λ (u : KeptRows). IsPivot u.unknowns u.rows r c → IsShortRow (row_at u.rows r) × IsTrue (all_fit (pivot_listed u.rows r c))) e (λ h.
+    let rows = rows_kept n w zs ks in
+    let short = map_short (row_kept n w zs) ks (λ i d lt. flat.short i d lt (front_flags c r ks ready i d lt)) in (
+      short r (form_row 0 []) h.row,
+      listed_rows n w c (row_at rows r) (take r rows ++ drop (r + 1) rows) (flat.rows r (form_row 0 []) h.row) h.column (short r (form_row 0 []) h.row)
+          (All-append (IsRow n w) (take r rows) (drop (r + 1) rows) (All-take (IsRow n w) r rows flat.rows) (All-drop (IsRow n w) (r + 1) rows flat.rows))
+          (All-append IsShortRow (take r rows) (drop (r + 1) rows) (All-take IsShortRow r rows short) (All-drop IsShortRow (r + 1) rows short)),
+    ))
 
 pub two_kept : (ks : List Kept) (x y d : Kept) → 2 ≤ length ks → length ks < 3 → x ≡ get_or ks 0 d → y ≡ get_or ks 1 d → ks ≡ x ∷ y ∷ []
 two_kept [] x y d some few e f = absurd (omega arith)
@@ -340,10 +284,18 @@ two_kept (a ∷ b ∷ k ∷ ks) x y d some few e f = absurd (omega arith)
 
 pub pair_view : (n w most : ℕ) (zs front back : List ℤ) (ks : List Kept) (a b : RowPlace) (t : KeptRows) → ks ≡ kept.At a ∷ kept.At b ∷ [] → IsFlat n w zs ks → a.short ≡ true → b.short ≡ true → kept_rows n w most (rows_kept n w zs ks) ≡ t
     → front ≡ take (row_length n w) zs → back ≡ drop (row_length n w) zs → ArePair t front back
-pair_view n w most zs front back ks a b t e flat f g view h k =
-    let pair = pair_made n w most zs a b (subst (IsFlat n w zs) e flat) f g in
-    let there : ArePair t (take (row_length n w) zs) (drop (row_length n w) zs) = subst (λ (u : KeptRows). ArePair u (take (row_length n w) zs) (drop (row_length n w) zs)) (ap (λ (js : List Kept). kept_rows n w most (rows_kept n w zs js)) (sym e) ∙ view) pair in
-    subst (λ (ys : List ℤ). ArePair t ys back) (sym h) (subst (λ (ys : List ℤ). ArePair t (take (row_length n w) zs) ys) (sym k) there)
+pair_view n w most zs front back ks a b t e flat f g view is_front is_back =
+    let l = row_length n w in
+    let h = flat_along n w zs (kept.At a ∷ kept.At b ∷ []) (subst (IsFlat n w zs) e flat) in
+    let all = take_whole l (drop l zs) h.along.1.1 in
+    subst (λ (u : KeptRows). ArePair u front back) (rw e at view) (rw (is_front, is_back) (record {
+      front = subst (λ s. IsMadeRow n w s true (take l zs)) f h.along.0;
+      back = subst (IsMadeRow n w true true) all (subst (λ s. IsMadeRow n w s true (take l (drop l zs))) g h.along.1.0);
+      rows = sym h.rows ∙ ap (λ (ys : List ℤ). row_of_numbers n (take l zs) ∷ row_of_numbers n ys ∷ []) all;
+    }))
+  where
+    take_whole : (l : ℕ) (ys : List ℤ) → drop l ys ≡ [] → take l ys ≡ ys
+    take_whole l ys e = sym (append-nil (take l ys)) ∙ ap (λ (xs : List ℤ). take l ys ++ xs) (sym e) ∙ take-append-drop l ys
 
 -- ---- flat rows, by the solved row and row r
 

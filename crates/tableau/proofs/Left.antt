@@ -1,38 +1,70 @@
 -- The kept rows on both sides of one, and what is left of them in a pivot.
-use Rattle.tableau.proofs.Words.{◌≡◌, refl, ap, sym, ◌∙◌, subst, ℕ, ◌+◌, ◌-◌, ◌<◌, ◌≤◌, ℤ, List, [], ◌∷◌, ◌++◌, length, get_or, map, take, drop, arith, IsTrue, length-drop, length-map, length_push, length-take-le, take-map, drop-map, all_fit, Row, row_at, eliminated, eliminated_listed, IsRow, KeptRows, IsOver, IsSolvable, IsSpare, AreLeft, AreLent, AreLentOf, AreSides, lent_row, lent_rows, row_kept, turned, turned_listed, with_more, with_rows, Lent, Kept}
-use Rattle.tableau.proofs.Runs.{kept_behind}
-use Rattle.tableau.proofs.Turning.{first_listed, first_rows, shape_same, shape_more, shape_with}
+use Rattle.tableau.proofs.Words.{◌≡◌, refl, ap, sym, ◌∙◌, subst, ℕ, ◌+◌, ◌-◌, ◌<◌, ◌≤◌, ℤ, pos, ◌≤ℤ◌, List, [], ◌∷◌, ◌++◌, length, get_or, map, take, drop, arith, IsTrue, append_assoc, length-append, length-drop, length-map, length_push, length-take-le, take-map, drop-map, all_fit, Row, row_at, eliminated, eliminated_listed, IsRow, IsReduced, entry, KeptRows, IsOver, IsSolvable, IsSpare, AreLeft, AreLent, AreLentOf, AreNext, AreSides, IsPivot, lent_row, lent_rows, row_kept, turned, turned_listed, with_more, with_rows, Lent, Kept}
+use Rattle.tableau.proofs.Runs.{kept_front, kept_behind}
+use Rattle.tableau.proofs.Turning.{first_listed, first_rows, row_is, shape_same, shape_more, shape_with, still_spare}
 
--- the rows of a table on both sides of one
-pub record AreRowSides (rows : List Row) (v : Lent) (r : ℕ) (fs : List Kept) (p : Row) (bs : List Kept) : Type 0 where
-  pub front : lent_rows v fs ≡ take r rows
-  pub row : p ≡ row_at rows r
-  pub back : lent_rows v bs ≡ drop (r + 1) rows
-  pub before : length fs ≡ r
-  pub behind : length bs ≡ length rows - (r + 1)
+-- ---- the next rows, made of the rows on both sides of one, and of one between them
 
-pub row_sides : (t : KeptRows) (v : Lent) (ks front back : List Kept) (p : Row) (r : ℕ) → AreLentOf t v ks → AreSides v ks r front p back → r < length t.rows → AreRowSides t.rows v r front p back
-row_sides t v ks front back p r h s lt =
-    let f = row_kept v.unknowns v.width v.numbers.now in
-    let many : length t.rows ≡ length ks = ap length (sym h.rows) ∙ length-map ks f in
+pub sides_made : (t next cleared : KeptRows) (units : List ℤ) (r : ℕ) (v : Lent) (ks fs bs : List Kept) (p : Row) (d : Kept) → IsSpare t next units → AreLentOf t v ks → r < length t.rows
+    → cleared ≡ record next { rows = [] } → fs ≡ take r ks → bs ≡ drop (r + 1) ks → p ≡ lent_row v (get_or ks r d) → AreSides t next units r cleared v fs p bs
+sides_made t next cleared units r v ks fs bs p d spare h lt e f g is =
+    let row = row_kept v.unknowns v.width v.numbers.now in
+    let within : r < length ks = omega (arith, h.count, lt) in
+    let begun = still_spare spare (shape_with cleared next [] e) in
     record {
-      front = ap (map f) s.front ∙ sym (take-map f r ks) ∙ ap (take r) h.rows;
-      row = s.row ∙ ap (λ (rows : List Row). row_at rows r) h.rows;
-      back = ap (map f) s.back ∙ sym (drop-map f (r + 1) ks) ∙ ap (drop (r + 1)) h.rows;
-      before = ap length s.front ∙ length-take-le r ks (omega (arith, many, lt));
-      behind = ap length s.back ∙ length-drop (r + 1) ks ∙ ap (λ k. k - (r + 1)) (sym many);
+      begun = record {
+        is = e;
+        count = omega (arith, ap (λ (s : KeptRows). length s.rows) e);
+        over = record { unknowns = begun.unknowns ∙ h.over.unknowns; width = begun.width ∙ h.over.width; units = h.over.units };
+        spare = begun;
+      };
+      over = h.over;
+      few = h.few;
+      front = ap (map row) f ∙ sym (take-map row r ks) ∙ ap (take r) h.rows;
+      row = is ∙ row_is row ks r d within ∙ ap (λ (rows : List Row). row_at rows r) h.rows;
+      back = ap (map row) g ∙ sym (drop-map row (r + 1) ks) ∙ ap (drop (r + 1)) h.rows;
+      count = omega (arith, ap length f ∙ length-take-le r ks (omega (arith, within)), ap length g ∙ length-drop (r + 1) ks, h.count, within);
+      front_lent = subst (AreLent v) (sym f) (kept_front v.unknowns v.width v.numbers.now ks r h.lent);
+      back_lent = subst (AreLent v) (sym g) (kept_behind v.unknowns v.width v.numbers.now ks (r + 1) h.lent);
+      formed = subst (IsRow v.unknowns v.width) (sym is) (h.lent.rows r d within);
+      reduced = subst IsReduced (sym is) (h.lent.reduced r d within);
     }
 
--- the next rows, made from none
-pub begun_rows : (next cleared first : KeptRows) (rows : List Row) → cleared ≡ record next { rows = [] } → first ≡ with_rows cleared rows → first ≡ record next { rows = rows }
-begun_rows next cleared first rows e f = f ∙ ap (λ (t : KeptRows). with_rows t rows) e
+-- more of them
+next_more : {t next s : KeptRows} {units : List ℤ} {v : Lent} {rows : List Row} {k : ℕ} (u : KeptRows) (more : List Row) (j : ℕ) → AreNext t next units v rows k s → u ≡ with_rows s more → length more + j ≡ k
+    → AreNext t next units v (rows ++ more) j u
+next_more {t} {next} {s} u more j h e few =
+    let shape = shape_with u s (s.rows ++ more) e in
+    record {
+      is = e ∙ ap (λ (x : KeptRows). with_rows x more) h.is;
+      count = omega (arith, ap (λ (x : KeptRows). length x.rows) e, length-append s.rows more, h.count, few);
+      over = record { unknowns = shape.unknowns ∙ h.over.unknowns; width = shape.width ∙ h.over.width; units = h.over.units };
+      spare = still_spare h.spare shape;
+    }
 
-pub over_next : (t next s : KeptRows) (v : Lent) (units : List ℤ) (rows : List Row) → IsSpare t next units → IsOver t v → s ≡ record next { rows = rows } → IsOver s v
-over_next t next s v units rows h o e = record {
-  unknowns = ap (λ (u : KeptRows). u.unknowns) e ∙ h.unknowns ∙ o.unknowns;
-  width = ap (λ (u : KeptRows). u.width) e ∙ h.width ∙ o.width;
-  units = o.units;
+module _ {t next cleared : KeptRows} {units : List ℤ} {r : ℕ} {v : Lent} {fs bs : List Kept} {p : Row} (f : Kept → Row) (h : AreSides t next units r cleared v fs p bs) where
+  pub first_made : (s : KeptRows) → s ≡ with_rows cleared (map f fs) → AreNext t next units v (map f fs) (1 + length bs) s
+  first_made s e = next_more s (map f fs) (1 + length bs) h.begun e (omega (arith, h.count, length-map fs f))
+
+  pub second_made : (s u : KeptRows) (one : Row) → s ≡ with_rows cleared (map f fs) → u ≡ with_more s one → AreNext t next units v (map f fs ++ one ∷ []) (length bs) u
+  second_made s u one e g = next_more u (one ∷ []) (length bs) (first_made s e) g (omega arith)
+
+  pub all_made : (s u last : KeptRows) (one : Row) → s ≡ with_rows cleared (map f fs) → u ≡ with_more s one → last ≡ with_rows u (map f bs) → AreNext t next units v (map f fs ++ one ∷ map f bs) 0 last
+  all_made s u last one e g k =
+      subst (λ (rs : List Row). AreNext t next units v rs 0 last) (append_assoc (map f fs) (one ∷ []) (map f bs))
+      (next_more last (map f bs) 0 (second_made s u one e g) k (omega (arith, length-map bs f)))
+
+-- they change places with the rows
+pub next_swapped : {t next s : KeptRows} {units : List ℤ} {v : Lent} {rows : List Row} → AreNext t next units v rows 0 s → length t.rows ≤ t.most → IsSpare s t units
+next_swapped h few = record {
+  unknowns = sym h.spare.unknowns;
+  width = sym h.spare.width;
+  room = omega (arith, h.count, few);
+  begun = λ some. h.spare.begun (omega (arith, h.count));
+  run = λ some. rw (h.spare.unknowns, h.spare.width) (h.spare.run some);
 }
+
+-- ---- the pivot's row
 
 pub formed_next : (s : KeptRows) (v : Lent) (p : Row) → IsOver s v → IsRow v.unknowns v.width p → IsRow s.unknowns s.width p
 formed_next s v p o h = subst (λ i. IsRow i s.width p) (sym o.unknowns) (subst (λ i. IsRow v.unknowns i p) (sym o.width) h)
@@ -45,8 +77,15 @@ solvable_over t v p c o h = record {
   positive = h.positive;
 }
 
-pub room_next : (next s : KeptRows) (rows : List Row) (k : ℕ) → s ≡ record next { rows = rows } → length rows + k ≤ next.most → length s.rows + k ≤ s.most
-room_next next s rows k e h = subst (λ (t : KeptRows). length t.rows + k ≤ t.most) (sym e) h
+pub sides_solvable : {t next cleared : KeptRows} {units : List ℤ} {r : ℕ} {v : Lent} {fs bs : List Kept} {p : Row} (c : ℕ) → AreSides t next units r cleared v fs p bs → IsPivot t.unknowns t.rows r c → IsSolvable v.unknowns v.width p c
+sides_solvable c h pivot = record {
+  row = h.formed;
+  reduced = h.reduced;
+  column = subst (λ i. c < i) h.over.unknowns pivot.column;
+  positive = subst (λ (q : Row). pos 1 ≤ℤ entry q.coefs c) (sym h.row) pivot.positive;
+}
+
+-- ---- what is left of kept rows in a pivot
 
 pub left_all : (p : Row) (c : ℕ) (v : Lent) (s : KeptRows) (ks : List Kept) → AreLent v ks → AreLeft p c v s ks s ks
 left_all p c v s ks h = record { lent = h; listed = refl; rows = refl; fewer = omega arith; count = refl; shape = shape_same s }

@@ -3,7 +3,7 @@ use Rattle.tableau.proofs.Words.{◌≡◌, refl, ap, sym, ◌∙◌, subst, ℕ
 use Rattle.std.proofs.Math.Seq.{take-add}
 use Rattle.tableau.specs.declared.kept.Kept.TheVariants as kept
 use Rattle.tableau.proofs.Flat.{with_plain, with_unit, rows_more, rows_unit}
-use Rattle.tableau.proofs.Turning.{all_kept, row_is}
+use Rattle.tableau.proofs.Turning.{all_kept}
 
 -- ---- the rows in front and behind
 
@@ -32,19 +32,6 @@ kept_flat n w zs ks h = record {
   reduced = all_kept IsReduced (row_kept n w zs) ks h.reduced;
   short = h.short;
   plain = h.plain;
-}
-
--- the kept rows of a table on both sides of one
-pub kept_sides : (v : Lent) (ks front back : List Kept) (p : Row) (r : ℕ) (d : Kept) → AreLent v ks → r < length ks → front ≡ take r ks → back ≡ drop (r + 1) ks → p ≡ lent_row v (get_or ks r d)
-    → AreSides v ks r front p back
-kept_sides v ks front back p r d h lt e g is = record {
-  front = e;
-  row = is ∙ row_is (row_kept v.unknowns v.width v.numbers.now) ks r d lt;
-  back = g;
-  front_lent = subst (AreLent v) (sym e) (kept_front v.unknowns v.width v.numbers.now ks r h);
-  back_lent = subst (AreLent v) (sym g) (kept_behind v.unknowns v.width v.numbers.now ks (r + 1) h);
-  formed = subst (IsRow v.unknowns v.width) (sym is) (h.rows r d lt);
-  reduced = subst IsReduced (sym is) (h.reduced r d lt);
 }
 
 -- ---- the places of a run

@@ -3,6 +3,7 @@ use Rattle.tableau.proofs.Words.{◌≡◌, refl, ap, sym, ◌∙◌, subst, ℕ
 use Rattle.std.proofs.Common.{flat_map}
 use Rattle.tableau.proofs.Flat.{unit_fits}
 use Rattle.tableau_row.proofs.Places.{set_parts}
+use Rattle.tableau_row.proofs.Unchanged.{once}
 
 -- ---- the row of another column
 
@@ -20,15 +21,12 @@ unit_entries_fit a n k h e =
 other_entry : (n w k c : ℕ) → c < n → c ≢ k → entry (unit_row n w k).coefs c ≡ pos 0
 other_entry n w k c h other = get_or-set_other (replicate n (pos 0)) k c (pos 1) (pos 0) other ∙ get_or-replicate n c (pos 0) (pos 0) h
 
-one_times : (a : ℤ) → pos 1 *ℤ a ≡ a
-one_times a = omega (arith, ints)
-
 pub unit_listed : (n w k c : ℕ) (p : Row) → k < n → c < n → c ≢ k → IsRow n w p → IsTrue (all_fit (eliminated_listed p c (unit_row n w k)))
 unit_listed n w k c p h column other hp =
     let u = unit_fits n w k h in
     let at : fits (entry p.coefs c) ≡ true = hp.coefs_fit c (pos 0) (omega (arith, hp.coefs)) in
     eliminated_listed-none p c (unit_row n w k) (other_entry n w k c column other) (u.coefs ∙ sym hp.coefs) (u.constant ∙ sym hp.constant)
-    ∙ rw (one_times (entry p.coefs c), at, unit_entries_fit (entry p.coefs c) n k h at, zeros_fit (entry p.coefs c) (w + 1)) refl
+    ∙ rw (once (entry p.coefs c), at, unit_entries_fit (entry p.coefs c) n k h at, zeros_fit (entry p.coefs c) (w + 1)) refl
 
 pub unit_turned : (n w k c : ℕ) (p : Row) → k < n → c < n → c ≢ k → IsRow n w p → pos 1 ≤ℤ entry p.coefs c → unit_row n w k ≡ eliminated p c (unit_row n w k)
 unit_turned n w k c p h column other hp positive =
@@ -137,11 +135,6 @@ row_is f xs r d h = sym (get_or-map f xs r d (form_row 0 []) h)
 pub replaced_row : (rows front back : List Row) (r : ℕ) (made : Row) → r < length rows → front ≡ take r rows → back ≡ drop (r + 1) rows → front ++ made ∷ back ≡ slice_set rows r made
 replaced_row rows front back r made h e g = rw (e, g) (sym (set_parts rows r made h))
 
-pub length_pivot : (rows : List Row) (r c : ℕ) → length (pivot rows r c) ≡ length rows
-length_pivot rows r c =
-    let p = row_at rows r in
-    length-set (map (eliminated p c) rows) r (unit_row (length p.coefs) (width p.constant) c) ∙ length-map rows (eliminated p c)
-
 pub shape_same : (t : KeptRows) → SameShape t t
 shape_same t = record { unknowns = refl; width = refl; most = refl }
 
@@ -155,25 +148,11 @@ shape_with s t rows e = record {
   most = ap (λ (u : KeptRows). u.most) e;
 }
 
-pub still_spare : (rows next made : KeptRows) (units : List ℤ) → IsSpare rows next units → SameShape made next → IsSpare rows made units
-still_spare rows next made units h same = record {
+pub still_spare : {rows next made : KeptRows} {units : List ℤ} → IsSpare rows next units → SameShape made next → IsSpare rows made units
+still_spare h same = record {
   unknowns = same.unknowns ∙ h.unknowns;
   width = same.width ∙ h.width;
   room = rw same.most h.room;
   begun = h.begun;
   run = h.run;
 }
-
--- rows that were made in the next ones change places with them
-pub swapped : (rows next made : KeptRows) (units : List ℤ) → IsSpare rows next units → SameShape made next → length made.rows ≡ length rows.rows → length rows.rows ≤ rows.most
-    → IsSpare made rows units
-swapped rows next made units h same long few =
-    let n : made.unknowns ≡ rows.unknowns = same.unknowns ∙ h.unknowns in
-    let w : made.width ≡ rows.width = same.width ∙ h.width in
-    record {
-      unknowns = sym n;
-      width = sym w;
-      room = omega arith;
-      begun = λ some. h.begun (omega arith);
-      run = λ some. rw (n, w) (h.run some);
-    }

@@ -1,13 +1,6 @@
 -- The run from which the rows of columns are lent.
-use Rattle.tableau.proofs.Words.{◌≡◌, refl, ap, sym, ◌∙◌, ℕ, zero, suc, ◌+◌, ◌-◌, ◌<◌, ◌≤◌, ℤ, pos, List, [], ◌∷◌, ◌++◌, length, take, drop, replicate, arith, max, length-append, slice_set, drop-append-le, drop-replicate, take-replicate, length-replicate, drop_at, length_push, unit_row, unit_run, unit_parts}
-
-take_add : {X : Type 0} (xs ys : List X) (a b : ℕ) → length xs ≡ a → take (a + b) (xs ++ ys) ≡ xs ++ take b ys
-take_add [] ys zero b e = let g : zero + b ≡ b = omega arith in rw g refl
-take_add [] ys (suc a) b e = absurd (omega arith)
-take_add (x ∷ xs) ys zero b e = absurd (omega arith)
-take_add (x ∷ xs) ys (suc a) b e =
-    let g : suc a + b ≡ suc (a + b) = omega arith in
-    rw (g, take_add xs ys a b (omega arith)) refl
+use Rattle.std.proofs.Math.Seq.{take-add}
+use Rattle.tableau.proofs.Words.{◌≡◌, refl, ap, sym, ◌∙◌, ℕ, zero, suc, ◌+◌, ◌-◌, ◌<◌, ◌≤◌, ℤ, pos, List, [], ◌∷◌, ◌++◌, length, take, drop, replicate, arith, max, append_assoc, length-append, slice_set, drop-append-le, drop-replicate, take-replicate, length-replicate, drop_at, take_at, length_push, unit_row, unit_run, unit_parts}
 
 -- from n - c on the run has the coefficients of column c
 pub lent_coefs : (n w c : ℕ) → c < n → take n (drop (n - c) (unit_run n w)) ≡ slice_set (replicate n (pos 0)) c (pos 1)
@@ -21,7 +14,8 @@ lent_coefs n w c h =
     let tail : take (n - (c + 1)) zs ≡ replicate (n - (c + 1)) (pos 0) = take-replicate (n - (c + 1)) (max n (w + 1)) (pos 0) (omega arith) in
     ap (take n) begun
     ∙ ap (λ k. take k (replicate c (pos 0) ++ pos 1 ∷ zs)) whole
-    ∙ take_add (replicate c (pos 0)) (pos 1 ∷ zs) c (suc (n - (c + 1))) (length-replicate c (pos 0))
+    ∙ take-add c (suc (n - (c + 1))) (replicate c (pos 0) ++ pos 1 ∷ zs)
+    ∙ rw (take_at (replicate c (pos 0)) (pos 1 ∷ zs) c (length-replicate c (pos 0)), drop_at (replicate c (pos 0)) (pos 1 ∷ zs) c (length-replicate c (pos 0))) refl
     ∙ ap (λ (xs : List ℤ). replicate c (pos 0) ++ pos 1 ∷ xs) tail
     ∙ sym (unit_parts n c h)
 
@@ -30,15 +24,11 @@ pub lent_constant : (n w : ℕ) → take (w + 1) (drop (n + 1) (unit_run n w)) �
 lent_constant n w =
     let zs = replicate (max n (w + 1)) (pos 0) in
     let long : length (replicate n (pos 0) ++ pos 1 ∷ []) ≡ n + 1 = length_push (replicate n (pos 0)) (pos 1) ∙ ap (λ k. k + 1) (length-replicate n (pos 0)) in
-    ap (take (w + 1)) (ap (drop (n + 1)) (sym (append_one (replicate n (pos 0)) (pos 1) zs)) ∙ drop_at (replicate n (pos 0) ++ pos 1 ∷ []) zs (n + 1) long)
+    ap (take (w + 1)) (ap (drop (n + 1)) (sym (append_assoc (replicate n (pos 0)) (pos 1 ∷ []) zs)) ∙ drop_at (replicate n (pos 0) ++ pos 1 ∷ []) zs (n + 1) long)
     ∙ take-replicate (w + 1) (max n (w + 1)) (pos 0) (omega arith)
-  where
-    append_one : (xs : List ℤ) (x : ℤ) (ys : List ℤ) → (xs ++ x ∷ []) ++ ys ≡ xs ++ x ∷ ys
-    append_one [] x ys = refl
-    append_one (z ∷ xs) x ys = ap (λ (rest : List ℤ). z ∷ rest) (append_one xs x ys)
 
-pub length_run : (n w : ℕ) → length (unit_run n w) ≡ n + suc (max n (w + 1))
-length_run n w = simp (length-append, length-replicate) refl
+pub length_run : (n w : ℕ) (zs : List ℤ) → zs ≡ unit_run n w → length zs ≡ n + suc (max n (w + 1))
+length_run n w zs e = ap length e ∙ simp (length-append, length-replicate) refl
 
 pub lent_unit : (n w c : ℕ) (coefs constant : List ℤ) → c < n → coefs ≡ take n (drop (n - c) (unit_run n w)) → constant ≡ take (w + 1) (drop (n + 1) (unit_run n w))
     → record { den = pos 1; coefs = coefs; constant = constant } ≡ unit_row n w c

@@ -26,7 +26,7 @@ pub use Rattle.tableau_row.proofs.Stepping.{elimination, pivot_row}
 pub use Rattle.tableau_row.specs.Views.{row_of}
 pub use Rattle.pip_model.proofs.Forms.{length-count}
 pub use Rattle.pip_model.specs.Cuts.{rounded, rounded_listed}
-pub use Rattle.tableau.specs.KeptRows.{KeptRows, IsOver, IsSolvable, IsSpare, AreLeft, AreLent, AreLentOf, AreSides, lent_row, lent_rows, row_kept, turned, turned_listed, with_more, with_rows, IsPlace, IsKnown, IsPlain, IsPlainRow, IsFlat, AreKept, IsRun, IsMovable, moved_kept, row_length, rows_kept, unit_run, flat_numbers, IsUnsealed, IsSteady, row_from_place, SameShape, kept_short, AreSteady}
+pub use Rattle.tableau.specs.KeptRows.{KeptRows, IsOver, IsSolvable, IsSpare, AreLeft, AreLent, AreLentOf, AreNext, AreSides, IsPivot, lent_row, lent_rows, row_kept, turned, turned_listed, with_more, with_rows, IsPlace, IsKnown, IsPlain, IsPlainRow, IsFlat, AreKept, IsRun, IsMovable, moved_kept, row_length, rows_kept, unit_run, flat_numbers, IsUnsealed, IsSteady, row_from_place, SameShape, kept_short, AreSteady}
 pub use Rattle.tableau.specs.declared.kept.Lent.{Lent}
 pub use Rattle.tableau.specs.declared.kept.Kept.{Kept}
 pub use Rattle.tableau.specs.declared.kept.RowPlace.{RowPlace}

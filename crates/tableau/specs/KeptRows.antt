@@ -152,16 +152,6 @@ pub record AreLentOf (t : KeptRows) (v : Lent) (ks : List Kept) : Type 0 where
   pub count : length ks ≡ length t.rows
   pub few : length t.rows ≤ t.most
 
--- the kept rows in front of row r, the row, and the kept rows behind it
-pub record AreSides (v : Lent) (ks : List Kept) (r : ℕ) (before : List Kept) (p : Row) (behind : List Kept) : Type 0 where
-  pub front : before ≡ take r ks
-  pub row : p ≡ row_at (lent_rows v ks) r
-  pub back : behind ≡ drop (r + 1) ks
-  pub front_lent : AreLent v before
-  pub back_lent : AreLent v behind
-  pub formed : IsRow v.unknowns v.width p
-  pub reduced : IsReduced p
-
 -- a row without a common divisor that can be solved for the quantity of column c
 pub record IsSolvable (n w : ℕ) (p : Row) (c : ℕ) : Type 0 where
   pub row : IsRow n w p
@@ -240,3 +230,24 @@ pub record IsSpare (rows next : KeptRows) (units : List ℤ) : Type 0 where
   pub room : length rows.rows ≤ next.most
   pub begun : 0 < length rows.rows → 0 < length units
   pub run : 0 < length units → units ≡ unit_run rows.unknowns rows.width
+
+-- these are made of the next rows, over the rows that are lent, and so many are left to make
+pub record AreNext (t next : KeptRows) (units : List ℤ) (v : Lent) (rows : List Row) (left : ℕ) (s : KeptRows) : Type 0 where
+  pub is : s ≡ record next { rows = rows }
+  pub count : length s.rows + left ≡ length t.rows
+  pub over : IsOver s v
+  pub spare : IsSpare t s units
+
+-- the kept rows in front of row r, the row, and the kept rows behind it, as they are lent; none of the next rows is made
+pub record AreSides (t next : KeptRows) (units : List ℤ) (r : ℕ) (cleared : KeptRows) (v : Lent) (before : List Kept) (p : Row) (behind : List Kept) : Type 0 where
+  pub begun : AreNext t next units v [] (length t.rows) cleared
+  pub over : IsOver t v
+  pub few : length t.rows ≤ t.most
+  pub front : lent_rows v before ≡ take r t.rows
+  pub row : p ≡ row_at t.rows r
+  pub back : lent_rows v behind ≡ drop (r + 1) t.rows
+  pub count : length before + 1 + length behind ≡ length t.rows
+  pub front_lent : AreLent v before
+  pub back_lent : AreLent v behind
+  pub formed : IsRow v.unknowns v.width p
+  pub reduced : IsReduced p

@@ -199,10 +199,7 @@ impl FlatRows {
         ensures spare { IsSpare self.now next.new units.now }
         ensures swapped { OnOk result (IsSpare next.new self.now units.now) }
     {
-        let (lent, kept) = self.lent(units);
-        let (front, p, back) = lent.sides(kept, r);
-        let end = lent.behind(kept[r], 0);
-        next.clear();
+        let (lent, front, p, back, end) = self.sides(units, r, next);
         turn_rows(next, &p, c, &lent, front, 0)?;
         next.push_unit(c);
         turn_rows(next, &p, c, &lent, back, end)?;

@@ -1,6 +1,6 @@
 ghost use Rattle.std.specs.Prelude.{◌≡◌, ◌*◌, ◌^◌, ◌<◌, ◌≤◌, false, [], length, IfOk, IfSome, IfNone, OnOk};
 ghost use Rattle.pip_model.specs.Rows as model;
-ghost use Rattle.tableau.specs.KeptRows.{AreLentOf, SameRows, flat_numbers, row_length, unit_run};
+ghost use Rattle.tableau.specs.KeptRows.{AreLentOf, AreSides, IsSpare, SameRows, flat_numbers, row_length, unit_run};
 ghost use Rattle.tableau_row.specs.Flat.{is_unit_row};
 ghost use Rattle.tableau_row.specs.Rows.{IsRow};
 ghost use Rattle.tableau_row.specs.Views.{row_of};
@@ -110,6 +110,26 @@ impl FlatRows {
             units,
         };
         (lent, self.kept.as_slice())
+    }
+
+    // What the rows are lent from, the kept rows in front of row r, the row, the kept rows behind it, and the place
+    // behind the row's numbers. The next rows are dropped, and can be made of these.
+    pub(crate) fn sides<'t>(
+        &'t self,
+        units: &'t [i128],
+        r: usize,
+        next: &mut FlatRows,
+    ) -> (Lent<'t>, &'t [Kept], RowView<'t>, &'t [Kept], usize)
+        requires spare { IsSpare self.now next.old units.now }
+        requires row { r < length self.now.rows }
+        ensures { AreSides self.now next.old units.now r next.new
+            result.0 result.1.now (row_of result.2) result.3.now }
+    {
+        let (lent, kept) = self.lent(units);
+        let (front, _) = kept.split_at(r);
+        let (_, back) = kept.split_at(r + 1);
+        next.clear();
+        (lent, front, lent.row(kept[r]), back, lent.behind(kept[r], 0))
     }
 
     // Row i, lent from the run of the columns' rows.

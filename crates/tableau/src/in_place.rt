@@ -5,7 +5,7 @@ ghost use Rattle.pip_model.specs.Rows as model;
 ghost use Rattle.tableau.specs.Along as along;
 ghost use Rattle.tableau.specs.Along.{AreAlong, AreMade, IsMadeRow, rows_along, pivoted};
 ghost use Rattle.tableau.specs.KeptRows.{IsFlat, IsPivot, IsSolvable, IsSpare, SameRows, SameShape, row_length, with_rows};
-ghost use Rattle.tableau_row.specs.Flat.{row_of_numbers};
+ghost use Rattle.tableau_row.specs.Flat.{is_unit_row, row_of_numbers};
 ghost use Rattle.tableau_row.specs.Short.{IsShortRow};
 ghost use Rattle.tableau_row.specs.Views.{row_of};
 
@@ -100,6 +100,17 @@ struct Made {
     plain: bool,
 }
 
+// Whether the row is not that of a column.
+fn is_plain(row: &RowView<'_>) -> bool
+    requires { 0 < length row.now.constant.now }
+    ensures { IsTrue result → is_unit_row (row_of row.now) ≡ false }
+{
+    match unit_column(row) {
+        Some(_) => false,
+        None => true,
+    }
+}
+
 // Makes of the numbers of a short row those after the pivot on row p and column c.
 fn turn_row(row: &mut [i128], unknowns: usize, width: usize, p: &RowView<'_>, c: usize) -> Made
     requires row { IsMadeRow unknowns width true true row.old }
@@ -116,13 +127,8 @@ fn turn_row(row: &mut [i128], unknowns: usize, width: usize, p: &RowView<'_>, c:
         };
     }
     let short = eliminate(row, p, c, true);
-    match unit_column(&view_of(row, unknowns, short)) {
-        Some(_) => Made {
-            short,
-            plain: false,
-        },
-        None => Made { short, plain: true },
-    }
+    let plain = is_plain(&view_of(row, unknowns, short));
+    Made { short, plain }
 }
 
 // Makes of rows, which are ready, those after the pivot on row p and column c, whose numbers begin at a place; whether

@@ -1,7 +1,7 @@
 ghost use Rattle.std.specs.Prelude.{◌≡◌, ◌+◌, ◌<◌, ◌≤◌, length, take, drop, IsTrue, IfSome};
 ghost use Rattle.pip_model.specs.Rows.{unit_row};
 ghost use Rattle.tableau_row.specs.Flat.{numbers_of};
-ghost use Rattle.tableau.specs.KeptRows.{AreLent, AreSides, IsLent, IsPlace, lent_row, place_behind, row_length, row_from_place, unit_run};
+ghost use Rattle.tableau.specs.KeptRows.{IsLent, IsPlace, lent_row, place_behind, row_length, row_from_place, unit_run};
 ghost use Rattle.tableau_row.specs.Short.{IsShortRow};
 ghost use Rattle.tableau_row.specs.Views.{row_of};
 
@@ -32,7 +32,7 @@ pub(crate) struct Lent<'t> {
 
 impl<'t> Lent<'t> {
     // The row of column c.
-    #[tactic(auto, using(crate::proofs::UnitRun::lent_unit))]
+    #[tactic(auto, using(crate::proofs::UnitRun::length_run, crate::proofs::UnitRun::lent_unit))]
     fn unit(&self, c: usize) -> RowView<'t>
         requires column { c < self.now.unknowns }
         requires units { self.now.units.now ≡ unit_run self.now.unknowns self.now.width }
@@ -100,21 +100,5 @@ impl<'t> Lent<'t> {
             Kept::Unit(c) => self.unit(c),
             Kept::At(at) => self.plain(at),
         }
-    }
-
-    // The kept rows in front of row r, the row, and the kept rows behind it.
-    pub(crate) fn sides<'k>(
-        &self,
-        kept: &'k [Kept],
-        r: usize,
-    ) -> (&'k [Kept], RowView<'t>, &'k [Kept])
-        requires row { r < length kept.now }
-        requires lent { AreLent self.now kept.now }
-        requires units { self.now.units.now ≡ unit_run self.now.unknowns self.now.width }
-        ensures { AreSides self.now kept.now r result.0.now (row_of result.1) result.2.now }
-    {
-        let (front, _) = kept.split_at(r);
-        let (_, back) = kept.split_at(r + 1);
-        (front, self.row(kept[r]), back)
     }
 }

@@ -40,9 +40,7 @@ impl FlatRows {
         ensures spare { IsSpare self.now next.new units.now }
         ensures swapped { OnOk result (IsSpare next.new self.now units.now) }
     {
-        let (lent, kept) = self.lent(units);
-        let (front, row, back) = lent.sides(kept, r);
-        next.clear();
+        let (lent, front, row, back, _) = self.sides(units, r, next);
         copy_rows(next, &lent, front);
         next.push_rounded(&row, q)?;
         copy_rows(next, &lent, back);

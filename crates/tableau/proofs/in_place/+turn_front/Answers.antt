@@ -1,6 +1,6 @@
 use Rattle.tableau.proofs.Words.{rules, tests, arith, subst, true, drop, List, ◌≡◌, ◌++◌, ◌-◌, get_or, ℤ, IsTrue, slice_set, AreAlong, AreMade, rows_along, pivoted, is_ready, is_ready_middle, row_length, row_of}
 use Rattle.tableau.specs.declared.kept.Kept.TheVariants as kept
-use Rattle.tableau.proofs.InPlace.{part_unit, part_at, part_column, front_some, middle_long, copied_front, pivoted_behind}
+use Rattle.tableau.proofs.InPlace.{is_first, part_unit, part_at, part_column, front_some, middle_long, copied_front, pivoted_behind}
 use Rattle.tableau.proofs.in_place.+turn_front.Goals as goal
 
 pub returns-then-j-c-clause-made : goal.returns-then-j-c-clause-made
@@ -8,12 +8,12 @@ returns-then-j-c-clause-made t c =
     let p = row_of c.args.p.now in
     let n = c.args.unknowns in
     let w = c.args.width in
-    let is : kept.Unit c.in-Unit.j ≡ get_or c.split_at_mut-first.result.0.now 0 (kept.Unit c.in-Unit.j) = search rules in
+    let h = is_first c.args.kept.now c.split_at_mut-first.result.0.now c.split_at_mut-first.result.1.now (kept.Unit c.in-Unit.j) (kept.Unit c.in-Unit.j) (search rules) (search rules) (search rules) (search rules) in
     let some = front_some c.args.c c.args.k c.args.kept.now c.requires.ready in
     let ready : IsTrue (is_ready c.args.c (kept.Unit c.in-Unit.j)) = search (rules, tests) in
     part_unit n w c.args.c c.args.to c.turn_front.result p (pivoted n w p c.args.c c.args.k) (pivoted n w p c.args.c (c.args.k - 1)) (λ r rs. pivoted_behind n w c.args.c c.args.k p r rs some) c.args.numbers.now c.turn_front.new.numbers
-    c.args.kept.now c.split_at_mut-first.result.0.now c.split_at_mut-first.result.1.now c.turn_front.new.kept c.requires.along (search rules) (search rules) (search rules)
-    c.in-Unit.j c.requires.p ready is c.turn_front.ensures.made
+    c.args.kept.now c.split_at_mut-first.result.0.now c.split_at_mut-first.result.1.now c.turn_front.new.kept c.requires.along
+    c.in-Unit.j h c.requires.p ready c.turn_front.ensures.made
 
 pub split_at_mut-room-requires : goal.split_at_mut-room-requires
 split_at_mut-room-requires t c =
@@ -26,11 +26,11 @@ returns-else-j-c-clause-made t c =
     let p = row_of c.args.p.now in
     let n = c.args.unknowns in
     let w = c.args.width in
-    let is : kept.Unit c.args.c ≡ get_or c.split_at_mut-first.result.0.now 0 (kept.Unit c.args.c) = search rules in
+    let h = is_first c.args.kept.now c.split_at_mut-first.result.0.now c.split_at_mut-first.result.1.now (kept.Unit c.args.c) (kept.Unit c.args.c) (search rules) (search rules) (search rules) (search rules) in
     let some = front_some c.args.c c.args.k c.args.kept.now c.requires.ready in
     let made = part_column n w c.args.c c.args.to c.turn_middle-plain.result p (pivoted n w p c.args.c c.args.k) (pivoted n w p c.args.c (c.args.k - 1)) (λ r rs. pivoted_behind n w c.args.c c.args.k p r rs some) c.args.numbers.now (drop (row_length n w) c.turn_middle-plain.new.numbers)
-    c.args.kept.now c.split_at_mut-first.result.0.now c.split_at_mut-first.result.1.now c.turn_middle-plain.new.kept c.requires.along (search rules) (search rules) (search rules)
-    c.args.solved.now is c.requires.solved c.requires.solved_row c.turn_middle-plain.ensures.made in
+    c.args.kept.now c.split_at_mut-first.result.0.now c.split_at_mut-first.result.1.now c.turn_middle-plain.new.kept c.requires.along
+    c.args.solved.now h c.requires.solved c.requires.solved_row c.turn_middle-plain.ensures.made in
     subst (λ (ys : List ℤ). AreMade n w (pivoted n w p c.args.c c.args.k (rows_along n w c.args.numbers.now c.args.kept.now)) c.args.to c.turn_middle-plain.result ys
     (slice_set c.split_at_mut-first.result.0.now 0 (kept.At (record { first = c.args.to; short = true })) ++ c.turn_middle-plain.new.kept))
     (copied_front (row_length n w) c.args.solved.now c.copy_from_slice.new.self c.split_at_mut-room.result.1.now c.turn_middle-plain.new.numbers (search rules) (search rules)) made
@@ -40,10 +40,10 @@ returns-in-At-clause-made t c =
     let p = row_of c.args.p.now in
     let n = c.args.unknowns in
     let w = c.args.width in
-    let is : kept.At c.in-At.field-0 ≡ get_or c.split_at_mut-first.result.0.now 0 (kept.At c.in-At.field-0) = search rules in
+    let h = is_first c.args.kept.now c.split_at_mut-first.result.0.now c.split_at_mut-first.result.1.now (kept.At c.in-At.field-0) (kept.At c.in-At.field-0) (search rules) (search rules) (search rules) (search rules) in
     let some = front_some c.args.c c.args.k c.args.kept.now c.requires.ready in
     let so : IsTrue c.turn_front-in-At.result → IsTrue c.turn_row-made.result.plain = λ s. c.both-plain.ensures.second (c.turn_front-in-At.ensures.plain s) in
     part_at n w c.args.c c.args.to c.turn_front-in-At.result p (pivoted n w p c.args.c c.args.k) (pivoted n w p c.args.c (c.args.k - 1)) (λ r rs. pivoted_behind n w c.args.c c.args.k p r rs some) c.args.numbers.now c.turn_front-in-At.new.numbers
-    c.args.kept.now c.split_at_mut-first.result.0.now c.split_at_mut-first.result.1.now c.turn_front-in-At.new.kept c.requires.along (search rules) (search rules) (search rules)
-    c.in-At.field-0 c.turn_row-made.result.short c.turn_row-made.result.plain c.split_at_mut-row.result.0.now c.split_at_mut-row.result.1.now c.turn_row-made.new.row is (search rules) (search rules)
+    c.args.kept.now c.split_at_mut-first.result.0.now c.split_at_mut-first.result.1.now c.turn_front-in-At.new.kept c.requires.along
+    c.in-At.field-0 c.turn_row-made.result.short c.turn_row-made.result.plain c.split_at_mut-row.result.0.now c.split_at_mut-row.result.1.now c.turn_row-made.new.row h (search rules) (search rules)
     c.turn_row-made.ensures.value c.turn_row-made.ensures.made so c.turn_front-in-At.ensures.made

@@ -1,212 +1,77 @@
-use Rattle.tableau.proofs.Words.{rules, refl, arith, ◌≡◌, ◌∙◌, ◌+◌, ◌<◌, ap, sym, subst, length, pos, ◌≤ℤ◌, List, [], ◌∷◌, ◌++◌, append_assoc, common_steps, length-map, length_push, entry, Row, unit_row, eliminated, pivot, KeptRows, lent_row, turned, with_more, with_rows, row_of}
-use Rattle.tableau.proofs.Left.{begun_rows, formed_next, over_next, room_next, row_sides}
-use Rattle.tableau.proofs.Turning.{length_pivot, shape_more, shape_with, still_spare, swapped, turned_pivot, turned_sides}
+use Rattle.tableau.proofs.Words.{rules, arith, ◌∙◌, ap, List, ◌∷◌, common_steps, Row, unit_row, eliminated, lent_row, row_of, Kept}
+use Rattle.tableau.proofs.Left.{all_made, first_made, formed_next, next_swapped, second_made, sides_solvable}
+use Rattle.tableau.proofs.Turning.{still_spare, turned_pivot, turned_sides}
 use Rattle.tableau.proofs.flat_rows.FlatRows.turn.Goals as goal
 
-pub lent-requires : goal.lent-requires
-lent-requires c =
-    c.requires.spare.run (c.requires.spare.begun (omega (arith, c.requires.pivot.row)))
-
-pub turn_rows-requires-clause-room : goal.turn_rows-requires-clause-room
-turn_rows-requires-clause-room c =
-    let t = c.args.self.now in
-    let next = c.args.next.now in
-    let l = c.lent.result.0 in
-    let p = row_of c.sides.result.1 in
-    let sides = row_sides t l c.lent.result.1.now c.sides.result.0.now c.sides.result.2.now p c.args.r c.lent.ensures c.sides.ensures c.requires.pivot.row in
-    room_next next c.clear.new.self [] (length c.sides.result.0.now) c.clear.ensures (omega (arith, sides.before, c.requires.spare.room, c.requires.pivot.row))
-
-pub turn_rows-requires-clause-over : goal.turn_rows-requires-clause-over
-turn_rows-requires-clause-over c =
-    let t = c.args.self.now in
-    let next = c.args.next.now in
-    let l = c.lent.result.0 in
-    over_next t next c.clear.new.self l c.args.units.now [] c.requires.spare c.lent.ensures.over c.clear.ensures
-
-pub turn_rows-requires-clause-p : goal.turn_rows-requires-clause-p
-turn_rows-requires-clause-p c =
-    let t = c.args.self.now in
-    let next = c.args.next.now in
-    let l = c.lent.result.0 in
-    let p = row_of c.sides.result.1 in
-    let sides = row_sides t l c.lent.result.1.now c.sides.result.0.now c.sides.result.2.now p c.args.r c.lent.ensures c.sides.ensures c.requires.pivot.row in
+pub turn_rows-requires : goal.turn_rows-requires
+turn_rows-requires c =
+    let s = c.sides-end.ensures in
     record {
-      row = c.sides.ensures.formed;
-      reduced = c.sides.ensures.reduced;
-      column = subst (λ n. c.args.c < n) c.lent.ensures.over.unknowns c.requires.pivot.column;
-      positive = subst (λ (q : Row). pos 1 ≤ℤ entry q.coefs c.args.c) (sym sides.row) c.requires.pivot.positive;
+      room = omega (arith, s.begun.count, s.begun.spare.room, s.count);
+      over = s.begun.over;
+      lent = s.front_lent;
+      p = sides_solvable c.args.c s c.requires.pivot;
     }
 
-pub push_unit-requires-clause-room : goal.push_unit-requires-clause-room
-push_unit-requires-clause-room c =
-    let t = c.args.self.now in
-    let next = c.args.next.now in
-    let l = c.lent.result.0 in
-    let p = row_of c.sides.result.1 in
-    let sides = row_sides t l c.lent.result.1.now c.sides.result.0.now c.sides.result.2.now p c.args.r c.lent.ensures c.sides.ensures c.requires.pivot.row in
-    let front = turned p c.args.c l c.sides.result.0.now in
-    let first : c.turn_rows.new.next ≡ record next { rows = front } = begun_rows next c.clear.new.self c.turn_rows.new.next front c.clear.ensures c.in_ok-turn_rows.ensures.ok in
-    let long : length front ≡ length c.sides.result.0.now = length-map c.sides.result.0.now (λ k. eliminated p c.args.c (lent_row l k)) in
-    let room = room_next next c.turn_rows.new.next front 1 first (omega (arith, long, sides.before, c.requires.spare.room, c.requires.pivot.row)) in
-    omega (arith, room)
-
-pub push_unit-requires-clause-column : goal.push_unit-requires-clause-column
-push_unit-requires-clause-column c =
-    let t = c.args.self.now in
-    let next = c.args.next.now in
-    let l = c.lent.result.0 in
-    let p = row_of c.sides.result.1 in
-    let sides = row_sides t l c.lent.result.1.now c.sides.result.0.now c.sides.result.2.now p c.args.r c.lent.ensures c.sides.ensures c.requires.pivot.row in
-    let front = turned p c.args.c l c.sides.result.0.now in
-    let first : c.turn_rows.new.next ≡ record next { rows = front } = begun_rows next c.clear.new.self c.turn_rows.new.next front c.clear.ensures c.in_ok-turn_rows.ensures.ok in
-    let long : length front ≡ length c.sides.result.0.now = length-map c.sides.result.0.now (λ k. eliminated p c.args.c (lent_row l k)) in
-    subst (λ n. c.args.c < n) (sym (ap (λ (u : KeptRows). u.unknowns) first ∙ c.requires.spare.unknowns)) c.requires.pivot.column
-
-pub turn_rows-requires-2-clause-room : goal.turn_rows-requires-2-clause-room
-turn_rows-requires-2-clause-room c =
-    let t = c.args.self.now in
-    let next = c.args.next.now in
-    let l = c.lent.result.0 in
-    let p = row_of c.sides.result.1 in
-    let sides = row_sides t l c.lent.result.1.now c.sides.result.0.now c.sides.result.2.now p c.args.r c.lent.ensures c.sides.ensures c.requires.pivot.row in
-    let front = turned p c.args.c l c.sides.result.0.now in
-    let first : c.turn_rows.new.next ≡ record next { rows = front } = begun_rows next c.clear.new.self c.turn_rows.new.next front c.clear.ensures c.in_ok-turn_rows.ensures.ok in
-    let long : length front ≡ length c.sides.result.0.now = length-map c.sides.result.0.now (λ k. eliminated p c.args.c (lent_row l k)) in
-    let unit = unit_row next.unknowns next.width c.args.c in
-    let second : c.push_unit.new.self ≡ record next { rows = front ++ unit ∷ [] } = c.push_unit.ensures ∙ ap (λ (u : KeptRows). with_more u (unit_row u.unknowns u.width c.args.c)) first in
-    let more : length (front ++ unit ∷ []) ≡ length front + 1 = length_push front unit in
-    room_next next c.push_unit.new.self (front ++ unit ∷ []) (length c.sides.result.2.now) second (omega (arith, more, long, sides.before, sides.behind, c.requires.spare.room, c.requires.pivot.row))
-
-pub turn_rows-requires-2-clause-over : goal.turn_rows-requires-2-clause-over
-turn_rows-requires-2-clause-over c =
-    let t = c.args.self.now in
-    let next = c.args.next.now in
-    let l = c.lent.result.0 in
-    let p = row_of c.sides.result.1 in
-    let sides = row_sides t l c.lent.result.1.now c.sides.result.0.now c.sides.result.2.now p c.args.r c.lent.ensures c.sides.ensures c.requires.pivot.row in
-    let front = turned p c.args.c l c.sides.result.0.now in
-    let first : c.turn_rows.new.next ≡ record next { rows = front } = begun_rows next c.clear.new.self c.turn_rows.new.next front c.clear.ensures c.in_ok-turn_rows.ensures.ok in
-    let long : length front ≡ length c.sides.result.0.now = length-map c.sides.result.0.now (λ k. eliminated p c.args.c (lent_row l k)) in
-    let unit = unit_row next.unknowns next.width c.args.c in
-    let second : c.push_unit.new.self ≡ record next { rows = front ++ unit ∷ [] } = c.push_unit.ensures ∙ ap (λ (u : KeptRows). with_more u (unit_row u.unknowns u.width c.args.c)) first in
-    over_next t next c.push_unit.new.self l c.args.units.now (front ++ unit ∷ []) c.requires.spare c.lent.ensures.over second
-
-pub turn_rows-requires-2-clause-p : goal.turn_rows-requires-2-clause-p
-turn_rows-requires-2-clause-p c =
-    let t = c.args.self.now in
-    let next = c.args.next.now in
-    let l = c.lent.result.0 in
-    let p = row_of c.sides.result.1 in
-    let sides = row_sides t l c.lent.result.1.now c.sides.result.0.now c.sides.result.2.now p c.args.r c.lent.ensures c.sides.ensures c.requires.pivot.row in
+pub push_unit-requires : goal.push_unit-requires
+push_unit-requires c =
+    let turn = λ (k : Kept). eliminated (row_of c.sides-end.result.2) c.args.c (lent_row c.sides-end.result.0 k) in
+    let first = first_made turn c.sides-end.ensures c.turn_rows.new.next c.in_ok-turn_rows.ensures.ok in
     record {
-      row = c.sides.ensures.formed;
-      reduced = c.sides.ensures.reduced;
-      column = subst (λ n. c.args.c < n) c.lent.ensures.over.unknowns c.requires.pivot.column;
-      positive = subst (λ (q : Row). pos 1 ≤ℤ entry q.coefs c.args.c) (sym sides.row) c.requires.pivot.positive;
+      room = omega (arith, first.count, first.spare.room);
+      column = omega (arith, first.spare.unknowns, c.requires.pivot.column);
+    }
+
+pub turn_rows-requires-2 : goal.turn_rows-requires-2
+turn_rows-requires-2 c =
+    let s = c.sides-end.ensures in
+    let turn = λ (k : Kept). eliminated (row_of c.sides-end.result.2) c.args.c (lent_row c.sides-end.result.0 k) in
+    let second = second_made turn s c.turn_rows.new.next c.push_unit.new.self _ c.in_ok-turn_rows.ensures.ok c.push_unit.ensures in
+    record {
+      room = omega (arith, second.count, second.spare.room);
+      over = second.over;
+      lent = s.back_lent;
+      p = sides_solvable c.args.c s c.requires.pivot;
     }
 
 pub returns-in_err-turn_rows-clause-listed : goal.returns-in_err-turn_rows-clause-listed
 returns-in_err-turn_rows-clause-listed c =
-    let t = c.args.self.now in
-    let next = c.args.next.now in
-    let l = c.lent.result.0 in
-    let p = row_of c.sides.result.1 in
-    let sides = row_sides t l c.lent.result.1.now c.sides.result.0.now c.sides.result.2.now p c.args.r c.lent.ensures c.sides.ensures c.requires.pivot.row in
-    let both = turned_sides (lent_row l) t.rows c.sides.result.0.now c.sides.result.2.now p c.args.r c.args.c sides.front sides.back sides.row in
+    let s = c.sides-end.ensures in
+    let both = turned_sides (lent_row c.sides-end.result.0) c.args.self.now.rows c.sides-end.result.1.now c.sides-end.result.3.now (row_of c.sides-end.result.2) c.args.r c.args.c s.front s.back s.row in
     grind (arith, common_steps, both)
 
 pub returns-in_err-turn_rows-clause-spare : goal.returns-in_err-turn_rows-clause-spare
-returns-in_err-turn_rows-clause-spare c =
-    still_spare c.args.self.now c.args.next.now c.turn_rows.new.next c.args.units.now c.requires.spare (shape_more _ _ _ c.turn_rows.ensures.shape (shape_with _ c.args.next.now [] c.clear.ensures))
+returns-in_err-turn_rows-clause-spare c = still_spare c.sides-end.ensures.begun.spare c.turn_rows.ensures.shape
 
 pub returns-in_err-turn_rows-2-clause-listed : goal.returns-in_err-turn_rows-2-clause-listed
 returns-in_err-turn_rows-2-clause-listed c =
-    let t = c.args.self.now in
-    let next = c.args.next.now in
-    let l = c.lent.result.0 in
-    let p = row_of c.sides.result.1 in
-    let sides = row_sides t l c.lent.result.1.now c.sides.result.0.now c.sides.result.2.now p c.args.r c.lent.ensures c.sides.ensures c.requires.pivot.row in
-    let both = turned_sides (lent_row l) t.rows c.sides.result.0.now c.sides.result.2.now p c.args.r c.args.c sides.front sides.back sides.row in
+    let s = c.sides-end.ensures in
+    let both = turned_sides (lent_row c.sides-end.result.0) c.args.self.now.rows c.sides-end.result.1.now c.sides-end.result.3.now (row_of c.sides-end.result.2) c.args.r c.args.c s.front s.back s.row in
     grind (arith, common_steps, both)
 
 pub returns-in_err-turn_rows-2-clause-spare : goal.returns-in_err-turn_rows-2-clause-spare
 returns-in_err-turn_rows-2-clause-spare c =
-    let t = c.args.self.now in
-    let next = c.args.next.now in
-    let l = c.lent.result.0 in
-    let p = row_of c.sides.result.1 in
-    let sides = row_sides t l c.lent.result.1.now c.sides.result.0.now c.sides.result.2.now p c.args.r c.lent.ensures c.sides.ensures c.requires.pivot.row in
-    let front = turned p c.args.c l c.sides.result.0.now in
-    let first : c.turn_rows.new.next ≡ record next { rows = front } = begun_rows next c.clear.new.self c.turn_rows.new.next front c.clear.ensures c.in_ok-turn_rows.ensures.ok in
-    let long : length front ≡ length c.sides.result.0.now = length-map c.sides.result.0.now (λ k. eliminated p c.args.c (lent_row l k)) in
-    let unit = unit_row next.unknowns next.width c.args.c in
-    let second : c.push_unit.new.self ≡ record next { rows = front ++ unit ∷ [] } = c.push_unit.ensures ∙ ap (λ (u : KeptRows). with_more u (unit_row u.unknowns u.width c.args.c)) first in
-    still_spare t next c.turn_rows-2.new.next c.args.units.now c.requires.spare (shape_more _ _ _ c.turn_rows-2.ensures.shape (shape_with _ next (front ++ unit ∷ []) second))
+    let turn = λ (k : Kept). eliminated (row_of c.sides-end.result.2) c.args.c (lent_row c.sides-end.result.0 k) in
+    let second = second_made turn c.sides-end.ensures c.turn_rows.new.next c.push_unit.new.self _ c.in_ok-turn_rows.ensures.ok c.push_unit.ensures in
+    still_spare second.spare c.turn_rows-2.ensures.shape
 
-pub returns-clause-listed : goal.returns-clause-listed
-returns-clause-listed c =
-    let t = c.args.self.now in
-    let next = c.args.next.now in
-    let l = c.lent.result.0 in
-    let p = row_of c.sides.result.1 in
-    let sides = row_sides t l c.lent.result.1.now c.sides.result.0.now c.sides.result.2.now p c.args.r c.lent.ensures c.sides.ensures c.requires.pivot.row in
-    let both = turned_sides (lent_row l) t.rows c.sides.result.0.now c.sides.result.2.now p c.args.r c.args.c sides.front sides.back sides.row in
-    both ∙ search rules
-
-pub returns-clause-ok : goal.returns-clause-ok
-returns-clause-ok c =
-    let t = c.args.self.now in
-    let next = c.args.next.now in
-    let l = c.lent.result.0 in
-    let p = row_of c.sides.result.1 in
-    let sides = row_sides t l c.lent.result.1.now c.sides.result.0.now c.sides.result.2.now p c.args.r c.lent.ensures c.sides.ensures c.requires.pivot.row in
-    let front = turned p c.args.c l c.sides.result.0.now in
-    let first : c.turn_rows.new.next ≡ record next { rows = front } = begun_rows next c.clear.new.self c.turn_rows.new.next front c.clear.ensures c.in_ok-turn_rows.ensures.ok in
-    let long : length front ≡ length c.sides.result.0.now = length-map c.sides.result.0.now (λ k. eliminated p c.args.c (lent_row l k)) in
-    let unit = unit_row next.unknowns next.width c.args.c in
-    let second : c.push_unit.new.self ≡ record next { rows = front ++ unit ∷ [] } = c.push_unit.ensures ∙ ap (λ (u : KeptRows). with_more u (unit_row u.unknowns u.width c.args.c)) first in
-    let back = turned p c.args.c l c.sides.result.2.now in
-    let over = over_next t next next l c.args.units.now next.rows c.requires.spare c.lent.ensures.over refl in
-    let whole = turned_pivot (lent_row l) t.rows c.sides.result.0.now c.sides.result.2.now p c.args.r c.args.c next.unknowns next.width c.requires.pivot.row sides.front sides.back sides.row (formed_next next l p over c.sides.ensures.formed) in
-    let made : c.turn_rows-2.new.next ≡ record next { rows = pivot t.rows c.args.r c.args.c } = c.in_ok-turn_rows-2.ensures.ok ∙ ap (λ (u : KeptRows). with_rows u back) second
-    ∙ ap (λ (rows : List Row). record next { rows = rows }) (append_assoc front (unit ∷ []) back ∙ whole) in
-    made
-
-pub returns-clause-spare : goal.returns-clause-spare
-returns-clause-spare c =
-    let t = c.args.self.now in
-    let next = c.args.next.now in
-    let l = c.lent.result.0 in
-    let p = row_of c.sides.result.1 in
-    let sides = row_sides t l c.lent.result.1.now c.sides.result.0.now c.sides.result.2.now p c.args.r c.lent.ensures c.sides.ensures c.requires.pivot.row in
-    let front = turned p c.args.c l c.sides.result.0.now in
-    let first : c.turn_rows.new.next ≡ record next { rows = front } = begun_rows next c.clear.new.self c.turn_rows.new.next front c.clear.ensures c.in_ok-turn_rows.ensures.ok in
-    let long : length front ≡ length c.sides.result.0.now = length-map c.sides.result.0.now (λ k. eliminated p c.args.c (lent_row l k)) in
-    let unit = unit_row next.unknowns next.width c.args.c in
-    let second : c.push_unit.new.self ≡ record next { rows = front ++ unit ∷ [] } = c.push_unit.ensures ∙ ap (λ (u : KeptRows). with_more u (unit_row u.unknowns u.width c.args.c)) first in
-    let back = turned p c.args.c l c.sides.result.2.now in
-    let over = over_next t next next l c.args.units.now next.rows c.requires.spare c.lent.ensures.over refl in
-    let whole = turned_pivot (lent_row l) t.rows c.sides.result.0.now c.sides.result.2.now p c.args.r c.args.c next.unknowns next.width c.requires.pivot.row sides.front sides.back sides.row (formed_next next l p over c.sides.ensures.formed) in
-    let made : c.turn_rows-2.new.next ≡ record next { rows = pivot t.rows c.args.r c.args.c } = c.in_ok-turn_rows-2.ensures.ok ∙ ap (λ (u : KeptRows). with_rows u back) second
-    ∙ ap (λ (rows : List Row). record next { rows = rows }) (append_assoc front (unit ∷ []) back ∙ whole) in
-    still_spare t next c.turn_rows-2.new.next c.args.units.now c.requires.spare (shape_with _ next (pivot t.rows c.args.r c.args.c) made)
-
-pub returns-clause-swapped : goal.returns-clause-swapped
-returns-clause-swapped c =
-    let t = c.args.self.now in
-    let next = c.args.next.now in
-    let l = c.lent.result.0 in
-    let p = row_of c.sides.result.1 in
-    let sides = row_sides t l c.lent.result.1.now c.sides.result.0.now c.sides.result.2.now p c.args.r c.lent.ensures c.sides.ensures c.requires.pivot.row in
-    let front = turned p c.args.c l c.sides.result.0.now in
-    let first : c.turn_rows.new.next ≡ record next { rows = front } = begun_rows next c.clear.new.self c.turn_rows.new.next front c.clear.ensures c.in_ok-turn_rows.ensures.ok in
-    let long : length front ≡ length c.sides.result.0.now = length-map c.sides.result.0.now (λ k. eliminated p c.args.c (lent_row l k)) in
-    let unit = unit_row next.unknowns next.width c.args.c in
-    let second : c.push_unit.new.self ≡ record next { rows = front ++ unit ∷ [] } = c.push_unit.ensures ∙ ap (λ (u : KeptRows). with_more u (unit_row u.unknowns u.width c.args.c)) first in
-    let back = turned p c.args.c l c.sides.result.2.now in
-    let over = over_next t next next l c.args.units.now next.rows c.requires.spare c.lent.ensures.over refl in
-    let whole = turned_pivot (lent_row l) t.rows c.sides.result.0.now c.sides.result.2.now p c.args.r c.args.c next.unknowns next.width c.requires.pivot.row sides.front sides.back sides.row (formed_next next l p over c.sides.ensures.formed) in
-    let made : c.turn_rows-2.new.next ≡ record next { rows = pivot t.rows c.args.r c.args.c } = c.in_ok-turn_rows-2.ensures.ok ∙ ap (λ (u : KeptRows). with_rows u back) second
-    ∙ ap (λ (rows : List Row). record next { rows = rows }) (append_assoc front (unit ∷ []) back ∙ whole) in
-    let same : length c.turn_rows-2.new.next.rows ≡ length t.rows = ap (λ (u : KeptRows). length u.rows) made ∙ length_pivot t.rows c.args.r c.args.c in
-    swapped t next c.turn_rows-2.new.next c.args.units.now c.requires.spare (shape_with _ next (pivot t.rows c.args.r c.args.c) made) same c.lent.ensures.few
+pub returns : goal.returns
+returns c =
+    let s = c.sides-end.ensures in
+    let l = c.sides-end.result.0 in
+    let p = row_of c.sides-end.result.2 in
+    let rows = c.args.self.now.rows in
+    let fs = c.sides-end.result.1.now in
+    let bs = c.sides-end.result.3.now in
+    let turn = λ (k : Kept). eliminated p c.args.c (lent_row l k) in
+    let made = c.turn_rows.new.next in
+    let first = first_made turn s made c.in_ok-turn_rows.ensures.ok in
+    let last = all_made turn s made c.push_unit.new.self c.turn_rows-2.new.next (unit_row made.unknowns made.width c.args.c) c.in_ok-turn_rows.ensures.ok c.push_unit.ensures c.in_ok-turn_rows-2.ensures.ok in
+    record {
+      listed = turned_sides (lent_row l) rows fs bs p c.args.r c.args.c s.front s.back s.row ∙ search rules;
+      ok = last.is
+          ∙ ap (λ (rs : List Row). record c.args.next.now { rows = rs })
+          (turned_pivot (lent_row l) rows fs bs p c.args.r c.args.c made.unknowns made.width c.requires.pivot.row s.front s.back s.row (formed_next made l p first.over s.formed));
+      spare = last.spare;
+      swapped = next_swapped last s.few;
+    }
