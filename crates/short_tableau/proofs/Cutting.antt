@@ -1,6 +1,7 @@
 -- The cut by a short row.
-use Rattle.short_tableau.proofs.Words.{◌≡◌, refl, ap, sym, ◌∙◌, subst, ℕ, ◌+◌, ◌-◌, ◌*◌, ◌<◌, ◌≤◌, ℤ, neg_ℤ, List, [], ◌∷◌, length, map, take, drop, arith, append-nil, slice_range, take_all, drop_all, take-append-drop, length-map, constant_cut, fractional_parts, residue_of, negate, residue, floor_mod, Row, row_at, mapped, row_of_numbers, numbers_of, IsShortRow, row_from, content-divided, row_size, rows_in, IsShortReduced, IsDense}
+use Rattle.short_tableau.proofs.Words.{◌≡◌, refl, ap, sym, ◌∙◌, subst, ℕ, ◌+◌, ◌-◌, ◌*◌, ◌<◌, ◌≤◌, ℤ, neg_ℤ, List, length, map, take, drop, arith, append-nil, slice_range, take_all, drop_all, length-map, constant_cut, fractional_parts, residue_of, negate, residue, floor_mod, Row, row_at, mapped, row_of_numbers, numbers_of, IsShortRow, row_from, content-divided, row_size, rows_in, IsShortReduced, IsDense}
 use Rattle.std.proofs.lemmas.Simd.{map-map}
+use Rattle.tableau.proofs.Flat.{numbers_again}
 use Rattle.short_tableau.proofs.Places.{IsSplit, split_twice, split_read, split_row}
 use Rattle.short_tableau.proofs.ShortParts.{short_row, divided_positive}
 
@@ -18,10 +19,6 @@ cut_row n r made h e short =
       reduced = content-divided before h.row.positive;
       short = subst IsShortRow e short;
     })
-
-numbers_again : (n : ℕ) (zs : List ℤ) → length zs ≡ row_size n → numbers_of (row_of_numbers n zs) ≡ zs
-numbers_again n [] e = absurd (omega arith)
-numbers_again n (z ∷ zs) e = ap (λ (rest : List ℤ). z ∷ rest) (take-append-drop n zs)
 
 module _ (n k i : ℕ) (zs : List ℤ) (dense : IsDense n k zs) (h : i < k) (place : ℕ) (at : place ≡ i * row_size n) (within : place + row_size n ≤ length zs) where
   mid : List ℤ
@@ -52,4 +49,4 @@ module _ (n k i : ℕ) (zs : List ℤ) (dense : IsDense n k zs) (h : i < k) (pla
       made_row = cut ∙ ap constant_cut copied_row
 
       pub made_numbers : now ≡ numbers_of (constant_cut (row_at (rows_in n k zs) i))
-      made_numbers = sym (numbers_again n now (size ∙ copied_size)) ∙ ap numbers_of made_row
+      made_numbers = sym (numbers_again n now (omega (arith, size ∙ copied_size))) ∙ ap numbers_of made_row

@@ -5,7 +5,6 @@ use Rattle.tableau_row.proofs.Places.{take_combine, drop_combine}
 use Rattle.short_numbers.proofs.Quotients.{quotient_short}
 use Rattle.tableau_row.proofs.RowLaws.{divided_row}
 use Rattle.short_tableau.specs.declared.begun.Begun.{Begun}
-use Rattle.short_tableau.specs.declared.begun.Ends.{Ends}
 
 -- ---- the entries of a*r - b*s
 
@@ -37,7 +36,7 @@ module _ (a b : ℤ) (r s : List ℤ) (k : ℕ) where
       simp (length-append, length-take, made, length-drop) (omega arith)
 
 -- the row that is begun is the row itself where all entries are made
-pub begun_all : (w : Begun) (p : Row) (coefs constant : List ℤ) (x : Ends) → AreEnds w (length coefs) (length constant) x → (d e : ℤ) → d ≡ x.den → e ≡ x.entry
+pub begun_all : (w : Begun) (p : Row) (coefs constant : List ℤ) (x : ℤ × ℤ) → AreEnds w (length coefs) (length constant) x → (d e : ℤ) → d ≡ x.0 → e ≡ x.1
     → row_from d (slice_set coefs w.column e) constant ≡ begun_row w p coefs constant
 begun_all w p coefs constant x h d e f g =
     rw (f ∙ h.den, g ∙ h.entry, finished_all w.by.of_row w.by.of_pivot coefs p.coefs w.coefs h.coefs_made, finished_all w.by.of_row w.by.of_pivot constant p.constant w.constant h.constant_made) refl
@@ -54,9 +53,6 @@ pub divided_parts : (d : ℤ) (xs ys front rest : List ℤ) → front ≡ floor_
 divided_parts d xs ys front rest e f = rw (e, f) (sym (map-append (λ x. floor_div x d) xs ys))
 
 -- ---- lists of which not all pass
-
-pub behind_false : {X : Type 0} (q : X → Bool) (xs ys : List X) → list_all q ys ≡ false → list_all q (xs ++ ys) ≡ false
-behind_false q xs ys e = list_all-append q xs ys ∙ rw e (and-false (list_all q xs))
 
 passing : (p t : Bool) → p ≡ true → (p && t) ≡ false → t ≡ false
 passing true t e h = h
@@ -77,69 +73,57 @@ list_all_set q (x ∷ xs) (suc c) z d h e f = either (q x) (list_all q xs) (list
 zero_short : (g : ℤ) → pos 1 ≤ℤ g → is_short (floor_div (pos 0) g) ≡ true
 zero_short g h = lt-ltb _ _ (quotient_short (pos 0) g h (omega arith))
 
-module _ (den e g : ℤ) (F G : List ℤ) (c : ℕ) (is : g ≡ gcd (gcd (gcd den e) (gcd_of F)) (gcd_of G)) (h : c < length F) (none : entry F c ≡ pos 0) where
-  set_divisor : gcd_of (slice_set F c e) ≡ gcd e (gcd_of F)
-  set_divisor = sym (gcd_zero (slice_set F c e)) ∙ ap (λ z. gcd z (gcd_of (slice_set F c e))) (sym none) ∙ gcd_exchanged e F c h
-
-  divisor_is : g ≡ gcd (gcd den (gcd_of (slice_set F c e))) (gcd_of G)
-  divisor_is = is ∙ ap (λ z. gcd z (gcd_of G)) (gcd_assoc den e (gcd_of F) ∙ ap (gcd den) (sym set_divisor))
-
-  pub made_row : (d : ℤ) (coefs constant : List ℤ) → d ≡ floor_div den g → coefs ≡ slice_set (floor_divided g F) c (floor_div e g) → constant ≡ floor_divided g G
-      → row_from d coefs constant ≡ divided (row_from den (slice_set F c e) G)
-  made_row d coefs constant p q r =
-      divided_row den (slice_set F c e) G g d coefs constant divisor_is p (q ∙ sym (map-set (λ x. floor_div x g) F c e)) r
-
-  parts : divided (row_from den (slice_set F c e) G) ≡ row_from (floor_div den g) (slice_set (floor_divided g F) c (floor_div e g)) (floor_divided g G)
-  parts = sym (made_row _ _ _ refl refl refl)
-
-  at_column : c < length (floor_divided g F)
-  at_column = simp length-map h
-
-  pub long_den : is_short (floor_div den g) ≡ false → is_short_row (divided (row_from den (slice_set F c e) G)) ≡ false
-  long_den long = ap is_short_row parts ∙ rw long refl
-
-  long_list : list_all is_short (slice_set (floor_divided g F) c (floor_div e g)) ≡ false → is_short_row (divided (row_from den (slice_set F c e) G)) ≡ false
-  long_list long = ap is_short_row parts ∙ rw long (and-false (is_short (floor_div den g)))
-
-  pub long_entry : is_short (floor_div e g) ≡ false → is_short_row (divided (row_from den (slice_set F c e) G)) ≡ false
-  long_entry long =
-      long_list (list_all_at is_short (slice_set (floor_divided g F) c (floor_div e g)) c (pos 0) (simp (length-set, length-map) h) (ap is_short (get_or-set_same (floor_divided g F) c (floor_div e g) (pos 0) at_column) ∙ long))
-
-  pub long_coefs : pos 1 ≤ℤ g → list_all is_short (floor_divided g F) ≡ false → is_short_row (divided (row_from den (slice_set F c e) G)) ≡ false
-  long_coefs some long =
-      let here : get_or (floor_divided g F) c (pos 0) ≡ floor_div (pos 0) g = get_or-map (λ x. floor_div x g) F c (pos 0) (pos 0) h ∙ ap (λ z. floor_div z g) none in
-      long_list (list_all_set is_short (floor_divided g F) c (floor_div e g) (pos 0) at_column (ap is_short here ∙ zero_short g some) long)
-
-  pub long_constant : list_all is_short (floor_divided g G) ≡ false → is_short_row (divided (row_from den (slice_set F c e) G)) ≡ false
-  long_constant long =
-      ap is_short_row parts ∙ rw (long, and-false (list_all is_short (slice_set (floor_divided g F) c (floor_div e g)))) (and-false (is_short (floor_div den g)))
-
--- ---- the row that is begun, once it is divided
-
 pub no_denominator : (r : Row) (coefs constant : List ℤ) → is_short_row r ≡ false → IsDenominatorOf r coefs constant None
 no_denominator r coefs constant long = record { value = search rules; short = search rules; long = long }
 
 module _ (w : Begun) (p : Row) (coefs constant : List ℤ) (h : IsBegun w p coefs constant) (g : ℤ) (is : g ≡ begun_divisor w p coefs constant) where
-  here : w.column < length (begun_coefs w p coefs)
-  here = let size = finished_length w.by.of_row w.by.of_pivot coefs p.coefs w.coefs h.coefs_terms.lengths h.coefs_made in omega (arith, size, h.column)
+  abbrev front : List ℤ
+  front = begun_coefs w p coefs
 
-  pub begun_divided : (d e : ℤ) (coefs_now constant_now : List ℤ) → d ≡ floor_div w.den g → e ≡ floor_div w.entry g → coefs_now ≡ floor_divided g (begun_coefs w p coefs) → constant_now ≡ floor_divided g (begun_constant w p constant)
+  abbrev back : List ℤ
+  back = begun_constant w p constant
+
+  abbrev set_front : List ℤ
+  set_front = slice_set (floor_divided g front) w.column (floor_div w.entry g)
+
+  within : w.column < length front
+  within = let size = finished_length w.by.of_row w.by.of_pivot coefs p.coefs w.coefs h.coefs_terms.lengths h.coefs_made in omega (arith, size, h.column)
+
+  at_column : w.column < length (floor_divided g front)
+  at_column = simp length-map within
+
+  set_divisor : gcd_of (slice_set front w.column w.entry) ≡ gcd w.entry (gcd_of front)
+  set_divisor = sym (gcd_zero (slice_set front w.column w.entry)) ∙ ap (λ z. gcd z (gcd_of (slice_set front w.column w.entry))) (sym h.zero) ∙ gcd_exchanged w.entry front w.column within
+
+  divisor_is : g ≡ gcd (gcd w.den (gcd_of (slice_set front w.column w.entry))) (gcd_of back)
+  divisor_is = is ∙ ap (λ z. gcd z (gcd_of back)) (gcd_assoc w.den w.entry (gcd_of front) ∙ ap (gcd w.den) (sym set_divisor))
+
+  pub begun_divided : (d e : ℤ) (coefs_now constant_now : List ℤ) → d ≡ floor_div w.den g → e ≡ floor_div w.entry g → coefs_now ≡ floor_divided g front → constant_now ≡ floor_divided g back
       → row_from d (slice_set coefs_now w.column e) constant_now ≡ divided (begun_row w p coefs constant)
   begun_divided d e coefs_now constant_now a b q r =
-      made_row w.den w.entry g (begun_coefs w p coefs) (begun_constant w p constant) w.column is here h.zero d (slice_set coefs_now w.column e) constant_now a
-      (ap (λ xs. slice_set xs w.column e) q ∙ ap (slice_set (floor_divided g (begun_coefs w p coefs)) w.column) b) r
+      divided_row w.den (slice_set front w.column w.entry) back g d (slice_set coefs_now w.column e) constant_now divisor_is a
+      (rw (q, b) (sym (map-set (λ x. floor_div x g) front w.column w.entry))) r
+
+  parts : divided (begun_row w p coefs constant) ≡ row_from (floor_div w.den g) set_front (floor_divided g back)
+  parts = sym (begun_divided _ _ _ _ refl refl refl refl)
 
   pub no_den : is_short (floor_div w.den g) ≡ false → is_short_row (divided (begun_row w p coefs constant)) ≡ false
-  no_den = long_den w.den w.entry g (begun_coefs w p coefs) (begun_constant w p constant) w.column is here h.zero
+  no_den long = ap is_short_row parts ∙ rw long refl
+
+  no_list : list_all is_short set_front ≡ false → is_short_row (divided (begun_row w p coefs constant)) ≡ false
+  no_list long = ap is_short_row parts ∙ rw long (and-false (is_short (floor_div w.den g)))
 
   pub no_entry : is_short (floor_div w.entry g) ≡ false → is_short_row (divided (begun_row w p coefs constant)) ≡ false
-  no_entry = long_entry w.den w.entry g (begun_coefs w p coefs) (begun_constant w p constant) w.column is here h.zero
+  no_entry long =
+      no_list (list_all_at is_short set_front w.column (pos 0) (simp (length-set, length-map) within) (ap is_short (get_or-set_same (floor_divided g front) w.column (floor_div w.entry g) (pos 0) at_column) ∙ long))
 
-  pub no_coefs : pos 1 ≤ℤ g → list_all is_short (floor_divided g (begun_coefs w p coefs)) ≡ false → is_short_row (divided (begun_row w p coefs constant)) ≡ false
-  no_coefs = long_coefs w.den w.entry g (begun_coefs w p coefs) (begun_constant w p constant) w.column is here h.zero
+  pub no_coefs : pos 1 ≤ℤ g → list_all is_short (floor_divided g front) ≡ false → is_short_row (divided (begun_row w p coefs constant)) ≡ false
+  no_coefs some long =
+      let here : get_or (floor_divided g front) w.column (pos 0) ≡ floor_div (pos 0) g = get_or-map (λ x. floor_div x g) front w.column (pos 0) (pos 0) within ∙ ap (λ z. floor_div z g) h.zero in
+      no_list (list_all_set is_short (floor_divided g front) w.column (floor_div w.entry g) (pos 0) at_column (ap is_short here ∙ zero_short g some) long)
 
-  pub no_constant : list_all is_short (floor_divided g (begun_constant w p constant)) ≡ false → is_short_row (divided (begun_row w p coefs constant)) ≡ false
-  no_constant = long_constant w.den w.entry g (begun_coefs w p coefs) (begun_constant w p constant) w.column is here h.zero
+  pub no_constant : list_all is_short (floor_divided g back) ≡ false → is_short_row (divided (begun_row w p coefs constant)) ≡ false
+  no_constant long = ap is_short_row parts ∙ rw (long, and-false (list_all is_short set_front)) (and-false (is_short (floor_div w.den g)))
 
 -- ---- divisors, entry by entry
 
@@ -191,4 +175,4 @@ module _ (a b : ℤ) (r s : List ℤ) (same : length r ≡ length s) (d : ℤ) w
 
 pub long_parts : (d : ℤ) (xs ys : List ℤ) → list_all is_short (floor_divided d ys) ≡ false → list_all is_short (floor_divided d (xs ++ ys)) ≡ false
 long_parts d xs ys long =
-    ap (list_all is_short) (map-append (λ x. floor_div x d) xs ys) ∙ behind_false is_short (floor_divided d xs) (floor_divided d ys) long
+    ap (list_all is_short) (map-append (λ x. floor_div x d) xs ys) ∙ list_all-append is_short (floor_divided d xs) (floor_divided d ys) ∙ rw long (and-false (list_all is_short (floor_divided d xs)))

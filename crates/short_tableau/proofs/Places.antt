@@ -33,8 +33,6 @@ rows_parts n k i front mid back h =
     ∙ rows_append n i (suc (k - (i + 1))) front (mid ++ back) h.front_size
     ∙ ap (λ (rs : List Row). rows_in n i front ++ rs) (rw (take_at mid back (row_size n) h.mid_size, drop_at mid back (row_size n) h.mid_size) refl)
 
--- ---- the numbers of a row
-
 -- ---- short rows
 
 pub dense_row : (n k i : ℕ) (zs : List ℤ) → IsDense n k zs → i < k → IsShortReduced n (row_at (rows_in n k zs) i)
@@ -46,11 +44,11 @@ back_of [] B r (suc i) e = absurd (omega arith)
 back_of (a ∷ A) B r zero e = absurd (omega arith)
 back_of (a ∷ A) B r (suc i) e = let g : suc i + 1 ≡ suc (i + 1) = omega arith in rw g (back_of A B r i (omega arith))
 
-back_size : (l f m b i k : ℕ) → f + (m + b) ≡ k * l → f ≡ i * l → m ≡ l → i < k → b ≡ (k - (i + 1)) * l
-back_size l f m b i k all e g h =
+-- the numbers in front of row i, of it and behind it
+three_sizes : (l i k : ℕ) → i < k → k * l ≡ i * l + (l + (k - (i + 1)) * l)
+three_sizes l i k h =
     let whole : k ≡ suc i + (k - (i + 1)) = omega (arith, h) in
-    let parts : k * l ≡ suc i * l + (k - (i + 1)) * l = ap (λ j. j * l) whole ∙ add-mul (suc i) (k - (i + 1)) l in
-    omega (arith, all, e, g, parts, one_more i l)
+    ap (λ j. j * l) whole ∙ add-mul (suc i) (k - (i + 1)) l ∙ omega (arith, one_more i l)
 
 -- ---- rows in three parts
 
@@ -97,7 +95,7 @@ module _ (n k i : ℕ) (zs front mid back : List ℤ) (s : IsSplit n k i zs fron
 
   pub split_back : IsDense n (k - (i + 1)) back
   split_back = record {
-    size = back_size (row_size n) (length front) (length mid) (length back) i k (lengths ∙ s.dense.size) s.parts.front_size s.parts.mid_size s.parts.within;
+    size = omega (arith, lengths, s.dense.size, s.parts.front_size, s.parts.mid_size, three_sizes (row_size n) i k s.parts.within);
     rows = All-same (IsShortReduced n) _ _
         (sym (ap (drop (i + 1)) rows_split ∙ back_of (rows_in n i front) (rows_in n (k - (i + 1)) back) (row_of_numbers n mid) i (length_rows n i front)))
         (All-drop (IsShortReduced n) (i + 1) (rows_in n k zs) s.dense.rows);
@@ -139,15 +137,9 @@ pivot_sides A B p r c n e f g =
     rw (at, map-append (eliminated p c) A (p ∷ B), none, f)
     (set_at (map (eliminated p c) A) (eliminated p c p) (map (eliminated p c) B) (unit_row n 0 c) r (simp length-map e))
 
-made_size : (l f m b i k : ℕ) → f ≡ i * l → m ≡ l → b ≡ (k - (i + 1)) * l → i < k → f + (m + b) ≡ k * l
-made_size l f m b i k e g h lt =
-    let whole : k ≡ suc i + (k - (i + 1)) = omega (arith, lt) in
-    let parts : k * l ≡ suc i * l + (k - (i + 1)) * l = ap (λ j. j * l) whole ∙ add-mul (suc i) (k - (i + 1)) l in
-    omega (arith, e, g, h, parts, one_more i l)
-
 pub dense_made : (n k i : ℕ) (front mid back : List ℤ) → AreParts n k i front mid back → IsDense n i front → IsShortReduced n (row_of_numbers n mid) → IsDense n (k - (i + 1)) back → IsDense n k (front ++ (mid ++ back))
 dense_made n k i front mid back h one row two = record {
-  size = length-append front (mid ++ back) ∙ ap (λ j. length front + j) (length-append mid back) ∙ made_size (row_size n) (length front) (length mid) (length back) i k h.front_size h.mid_size two.size h.within;
+  size = length-append front (mid ++ back) ∙ ap (λ j. length front + j) (length-append mid back) ∙ omega (arith, h.front_size, h.mid_size, two.size, three_sizes (row_size n) i k h.within);
   rows = All-same (IsShortReduced n) _ _ (rows_parts n k i front mid back h)
       (All-append (IsShortReduced n) (rows_in n i front) (row_of_numbers n mid ∷ rows_in n (k - (i + 1)) back) one.rows (All-cons (IsShortReduced n) (row_of_numbers n mid) (rows_in n (k - (i + 1)) back) row two.rows));
 }

@@ -1,10 +1,9 @@
 -- A short row with another put in.
-use Rattle.short_tableau.proofs.Words.{◌≡◌, true, false, refl, ap, sym, ◌∙◌, subst, ℕ, zero, suc, ◌+◌, ◌<◌, ◌^◌, ℤ, pos, ◌≤ℤ◌, List, [], ◌∷◌, ◌++◌, length, replicate, unsigned_abs, arith, length-set, ◌*ℤ◌, negsuc, ints, slice_set, slice_index_or, Some, None, lt-ltb, take_at, drop_at, length-map, All-set, All-replicate, length-combine, gcd, gcd_of, gcd_between, quotient_positive, entry, combine, Row, divided, substituted, eliminated, unit_row, row_of_numbers, IsShort, IsShortRow, IsRow, row_from, fits_short, content-one, eliminated_none, eliminated_reduced, IsShortReduced, IsPivot, is_short_row, IsDenominatorOf, IsTurned}
-use Rattle.affine_forms.specs.Checks.{Fits}
+use Rattle.short_tableau.proofs.Words.{◌≡◌, true, false, refl, ap, sym, ◌∙◌, subst, ℕ, ◌+◌, ◌<◌, ℤ, pos, ◌≤ℤ◌, List, [], ◌∷◌, ◌++◌, length, arith, length-set, slice_set, slice_index_or, Some, None, take_at, drop_at, length-map, length-combine, gcd, gcd_of, gcd_between, quotient_positive, entry, combine, Row, divided, substituted, eliminated, unit_row, row_of_numbers, IsShortRow, IsRow, row_from, fits_short, content-one, eliminated_reduced, IsShortReduced, IsPivot, is_short_row, IsDenominatorOf, IsTurned}
+use Rattle.tableau_row.proofs.ShortRows.{short_fit}
+use Rattle.tableau_row.proofs.Solved.{unit_short}
+use Rattle.tableau_row.proofs.Substituting.{some_product}
 use Rattle.tableau.proofs.Flat.{unit_fits}
-
-short_fit : (z : ℤ) → IsShort z → Fits z
-short_fit z h = lt-ltb (unsigned_abs z) (2 ^ 127) (omega (arith, h))
 
 -- a row of these lengths, whose numbers are short
 pub short_row : (n w : ℕ) (r : Row) → pos 1 ≤ℤ r.den → length r.coefs ≡ n → length r.constant ≡ w + 1 → IsShortRow r → IsRow n w r
@@ -31,13 +30,6 @@ row_join n (x ∷ y ∷ front) coefs constant z one long = absurd (omega arith)
 
 -- ---- what a short row is after a pivot
 
-pub product_positive : (a b : ℤ) → pos 1 ≤ℤ a → pos 1 ≤ℤ b → pos 1 ≤ℤ (a *ℤ b)
-product_positive (pos zero) b h k = absurd (omega (arith, ints))
-product_positive (negsuc n) b h k = absurd (omega (arith, ints))
-product_positive (pos (suc n)) (pos zero) h k = absurd (omega (arith, ints))
-product_positive (pos (suc n)) (negsuc m) h k = absurd (omega (arith, ints))
-product_positive (pos (suc n)) (pos (suc m)) h k = omega (arith, ints)
-
 pub divided_positive : (r : Row) → pos 1 ≤ℤ r.den → pos 1 ≤ℤ (divided r).den
 divided_positive r h =
     let between = gcd_between r.den (gcd (gcd_of r.coefs) (gcd_of r.constant)) h in
@@ -55,22 +47,12 @@ eliminated_constant w c p r hp hr =
 
 turned_row : (n c : ℕ) (p r made : Row) → IsPivot n p c → IsShortReduced n r → made ≡ eliminated p c r → IsShortRow made → IsShortReduced n made
 turned_row n c p r made hp hr e short =
-    let positive = divided_positive (substituted p c r) (product_positive r.den (entry p.coefs c) hr.row.positive hp.candidate.positive) in
+    let positive = divided_positive (substituted p c r) (some_product r.den (entry p.coefs c) hr.row.positive hp.candidate.positive) in
     subst (IsShortReduced n) (sym e) (record {
       row = short_row n 0 (eliminated p c r) positive (eliminated_coefs n c p r hp.row.row.coefs hr.row.coefs) (eliminated_constant 1 c p r hp.row.row.constant hr.row.constant) (subst IsShortRow e short);
       reduced = eliminated_reduced n 0 c p r hr.row hp.candidate.positive;
       short = subst IsShortRow e short;
     })
-
--- a row whose parts are made one by one
-pub substituted_made : (p : Row) (c : ℕ) (r : Row) (den z : ℤ) (coefs constant : List ℤ) → den ≡ r.den *ℤ entry p.coefs c → z ≡ entry r.coefs c *ℤ p.den
-    → coefs ≡ combine (entry p.coefs c) r.coefs (entry r.coefs c) p.coefs → constant ≡ combine (entry p.coefs c) r.constant (entry r.coefs c) p.constant
-    → row_from den (slice_set coefs c z) constant ≡ substituted p c r
-substituted_made p c r den z coefs constant e f g h = rw (e, f, g, h) refl
-
--- a row that is 0 in the column stays
-pub stays : (n c : ℕ) (p r : Row) → IsPivot n p c → IsShortReduced n r → entry r.coefs c ≡ pos 0 → r ≡ eliminated p c r
-stays n c p r hp hr zero_at = eliminated_none n 0 p c r hp.row.row hr.row hp.candidate.positive zero_at hr.reduced
 
 -- a row by its denominator, coefficients and constant form
 module _ (n c : ℕ) (p : Row) (old front rest coefs constant : List ℤ) (hp : IsPivot n p c) (hr : IsShortReduced n (row_of_numbers n old))
@@ -83,15 +65,6 @@ module _ (n c : ℕ) (p : Row) (old front rest coefs constant : List ℤ) (hp : 
 
   pub parts_pivot : IsPivot (length coefs) p c
   parts_pivot = subst (λ (k : ℕ). IsPivot k p c) (sym long) hp
-
-  pub parts_stay : entry coefs c ≡ pos 0 → IsTurned n (eliminated p c (row_of_numbers n old)) true (front ++ (coefs ++ constant))
-  parts_stay zero_at =
-      let same : front ++ (coefs ++ constant) ≡ old = sym (e ∙ ap (λ (zs : List ℤ). front ++ zs) f) in
-      record {
-        value = λ all. ap (row_of_numbers n) same ∙ stays n c p (row_of_numbers n old) hp hr (ap (λ (r : Row). entry r.coefs c) split ∙ zero_at);
-        row = λ all. subst (λ (zs : List ℤ). IsShortReduced n (row_of_numbers n zs)) (sym same) hr;
-        long = λ none. cc;
-      }
 
   pub parts_turned : (d : ℤ) (coefs_now constant_now : List ℤ) → length coefs_now ≡ length coefs
       → IsDenominatorOf (eliminated p c (row_from (slice_index_or front 0 (pos 0)) coefs constant)) coefs_now constant_now (Some d)
@@ -115,13 +88,9 @@ module _ (n c : ℕ) (p : Row) (old front rest coefs constant : List ℤ) (hp : 
 
 -- ---- the row of a column
 
-pub unit_short : (n c : ℕ) → c < n → IsShortReduced n (unit_row n 0 c)
-unit_short n c h = record {
+pub unit_reduced : (n c : ℕ) → c < n → IsShortReduced n (unit_row n 0 c)
+unit_reduced n c h = record {
   row = unit_fits n 0 c h;
   reduced = content-one (unit_row n 0 c) refl;
-  short = record {
-    den = omega arith;
-    coefs = All-set IsShort (replicate n (pos 0)) c (pos 1) (omega arith) (All-replicate IsShort n (pos 0) (omega arith));
-    constant = All-replicate IsShort 1 (pos 0) (omega arith);
-  };
+  short = unit_short n 0 c;
 }

@@ -1,5 +1,6 @@
 -- The numbers of the row of a column, and of a form's row.
-use Rattle.short_tableau.proofs.Words.{◌≡◌, refl, ap, sym, ◌∙◌, subst, ℕ, zero, suc, ◌+◌, ◌-◌, ◌<◌, ◌≤◌, ℤ, pos, List, [], ◌∷◌, ◌++◌, length, map, take, drop, replicate, get_or, arith, append-nil, append_assoc, length-append, length-drop, length-set, All, slice_set, take_at, drop_at, take_all, drop_all, take_more, take-append-drop, length-replicate, set-append_left, set_at, length-take-le, drop_more, length_push, drop-replicate, take-replicate, ints, All-push, All-append, All-take, All-drop, All-replicate, width, coefficients, constant, widen_to, form_row, unit_row, mapped, row_of_numbers, numbers_of, IsShort, IsShortRow, content-one, IsShortReduced}
+use Rattle.short_tableau.proofs.Words.{◌≡◌, refl, ap, sym, ◌∙◌, subst, ℕ, suc, ◌+◌, ◌-◌, ◌<◌, ◌≤◌, ℤ, pos, List, [], ◌∷◌, ◌++◌, length, map, take, drop, replicate, get_or, arith, append-nil, append_assoc, length-append, length-drop, length-set, All, slice_set, take_at, drop_at, take_all, drop_all, take_more, take-append-drop, length-replicate, set-append_left, set_at, length-take-le, drop_more, length_push, drop-replicate, take-replicate, ints, All-push, All-append, All-take, All-drop, All-replicate, width, coefficients, constant, widen_to, form_row, unit_row, mapped, row_of_numbers, numbers_of, IsShort, IsShortRow, content-one, IsShortReduced}
+use Rattle.std.proofs.lemmas.List.{replicate_more}
 use Rattle.short_tableau.proofs.ShortParts.{short_row}
 
 const_map : (xs : List ℤ) → map (λ x. pos 0) xs ≡ replicate (length xs) (pos 0)
@@ -9,10 +10,6 @@ const_map (x ∷ xs) = ap (λ (rest : List ℤ). pos 0 ∷ rest) (const_map xs)
 pub cleared : (xs : List ℤ) (i : ℕ) → length xs ≤ i → mapped (λ x. pos 0) i xs ≡ replicate (length xs) (pos 0)
 cleared xs i h = rw (take_all i xs h, drop_all i xs h) (append-nil (map (λ x. pos 0) xs) ∙ const_map xs)
 
-zeros_more : (n : ℕ) → replicate (n + 1) (pos 0) ≡ replicate n (pos 0) ++ pos 0 ∷ []
-zeros_more zero = refl
-zeros_more (suc n) = let g : suc n + 1 ≡ suc (n + 1) = omega arith in rw g (ap (λ (rest : List ℤ). pos 0 ∷ rest) (zeros_more n))
-
 pub unit_numbers : (n c : ℕ) (zs : List ℤ) → zs ≡ replicate (n + 2) (pos 0) → c < n → row_of_numbers n (slice_set (slice_set zs 0 (pos 1)) (c + 1) (pos 1)) ≡ unit_row n 0 c
 unit_numbers n c zs e h =
     let g : n + 2 ≡ suc (n + 1) = omega arith in
@@ -20,7 +17,7 @@ unit_numbers n c zs e h =
     let column = slice_set (replicate n (pos 0)) c (pos 1) in
     let long : length column ≡ n = length-set (replicate n (pos 0)) c (pos 1) ∙ length-replicate n (pos 0) in
     let made : slice_set (replicate n (pos 0) ++ pos 0 ∷ []) c (pos 1) ≡ column ++ pos 0 ∷ [] = set-append_left (replicate n (pos 0)) (pos 0 ∷ []) c (pos 1) (simp length-replicate h) in
-    rw (e, g, k, zeros_more n, made, take_at column (pos 0 ∷ []) n long, drop_at column (pos 0 ∷ []) n long) refl
+    rw (e, g, k, ← replicate_more n (pos 0), made, take_at column (pos 0 ∷ []) n long, drop_at column (pos 0 ∷ []) n long) refl
 
 -- ---- one number more
 

@@ -8,7 +8,6 @@ use Rattle.tableau.specs.Short.{IsShort}
 use Rattle.tableau.specs.Tableaus.{row_from}
 use Rattle.short_tableau.specs.Terms.{AreTerms, IsDivisor}
 use Rattle.short_tableau.specs.declared.begun.Begun.{Begun}
-use Rattle.short_tableau.specs.declared.begun.Ends.{Ends}
 
 -- the entries of a*r - b*s, of which those in front of place k stand in r already
 abbrev pub finished : ℤ → List ℤ → ℤ → List ℤ → ℕ → List ℤ
@@ -41,10 +40,10 @@ pub record IsBegun (w : Begun) (p : Row) (coefs constant : List ℤ) : Type 0 wh
   pub zero : entry (begun_coefs w p coefs) w.column ≡ pos 0
 
 -- the denominator and the entry in the column of a row whose numbers, so many, are all made
-pub record AreEnds (w : Begun) (coefs constant : ℕ) (ends : Ends) : Type 0 where
-  pub den : ends.den ≡ w.den
-  pub entry : ends.entry ≡ w.entry
-  pub den_short : IsShort ends.den
-  pub entry_short : IsShort ends.entry
+pub record AreEnds (w : Begun) (coefs constant : ℕ) (ends : ℤ × ℤ) : Type 0 where
+  pub den : ends.0 ≡ w.den
+  pub entry : ends.1 ≡ w.entry
+  pub den_short : IsShort ends.0
+  pub entry_short : IsShort ends.1
   pub coefs_made : coefs ≤ w.coefs
   pub constant_made : constant ≤ w.constant

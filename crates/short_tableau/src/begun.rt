@@ -52,24 +52,14 @@ pub(crate) fn begin(
     }
 }
 
-// The denominator of a row, and its entry in a column.
-#[derive(Clone, Copy)]
-pub(crate) struct Ends {
-    pub den: i64,
-    pub entry: i64,
-}
-
 // The denominator and the entry in the column, where they are short and all other numbers are made.
-pub(crate) fn short_ends(begun: &Begun, coefs: usize, constant: usize) -> Option<Ends>
+pub(crate) fn short_ends(begun: &Begun, coefs: usize, constant: usize) -> Option<(i64, i64)>
     ensures { IfSome result (AreEnds begun.now coefs constant) }
 {
     if begun.coefs < coefs || begun.constant < constant {
         return None;
     }
-    Some(Ends {
-        den: narrow(begun.den)?,
-        entry: narrow(begun.entry)?,
-    })
+    Some((narrow(begun.den)?, narrow(begun.entry)?))
 }
 
 // The greatest common divisor of all numbers of the row.

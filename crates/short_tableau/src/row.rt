@@ -69,15 +69,14 @@ fn eliminate_parts(
     let begun = begin(p, c, den, coefs, constant);
     match short_ends(&begun, coefs.len(), constant.len()) {
         Some(ends) => {
-            coefs[begun.column] = ends.entry;
-            Some(divide_parts(ends.den, coefs, constant))
+            coefs[begun.column] = ends.1;
+            Some(divide_parts(ends.0, coefs, constant))
         }
         None => finish(p, &begun, coefs, constant),
     }
 }
 
-// Makes of the numbers of a row those after the pivot on row p and column c; whether they are short. A row that is 0 in
-// the column stays.
+// Makes of the numbers of a row those after the pivot on row p and column c; whether they are short.
 pub(crate) fn eliminate(row: &mut [i64], unknowns: usize, p: &ShortRow<'_>, c: usize) -> bool
     requires size { length row.old ≡ row_size unknowns }
     requires row { IsShortReduced unknowns (row_of_numbers unknowns row.old) }
@@ -86,9 +85,6 @@ pub(crate) fn eliminate(row: &mut [i64], unknowns: usize, p: &ShortRow<'_>, c: u
 {
     let (den, rest) = row.split_at_mut(1);
     let (coefs, constant) = rest.split_at_mut(unknowns);
-    if coefs[c] == 0 {
-        return true;
-    }
     match eliminate_parts(p, c, den[0], coefs, constant) {
         Some(now) => {
             den[0] = now;

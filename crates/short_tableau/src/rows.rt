@@ -76,7 +76,8 @@ pub(crate) fn coef_at(numbers: &[i64], unknowns: usize, rows: usize, i: usize, k
     numbers[place_of(unknowns, rows, i, numbers) + (1 + k)]
 }
 
-// Makes of row i of so many what it is after the pivot on row p and column c; whether its numbers are short.
+// Makes of row i of so many what it is after the pivot on row p and column c; whether its numbers are short. A row that
+// is 0 in the column stays.
 fn turn_at(
     numbers: &mut [i64],
     unknowns: usize,

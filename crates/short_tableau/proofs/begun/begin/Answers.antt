@@ -1,11 +1,11 @@
-use Rattle.short_tableau.proofs.Words.{rules, ◌≡◌, ◌∙◌, ap, sym, subst, pos, ◌*ℤ◌, ◌≤ℤ◌, to_z, of_z, w64, w128, entry, combine, row_from, finished, row_of}
+use Rattle.short_tableau.proofs.Words.{rules, refl, ◌≡◌, ◌∙◌, ap, sym, subst, pos, ◌*ℤ◌, ◌≤ℤ◌, to_z, of_z, w64, w128, entry, combine, row_from, finished, row_of}
 use Rattle.short_tableau.proofs.Finished.{combine_zero}
-use Rattle.short_tableau.proofs.ShortParts.{product_positive, substituted_made}
+use Rattle.tableau_row.proofs.Substituting.{some_product, substituted_is}
 use Rattle.short_tableau.proofs.begun.begin.Goals as goal
 
 pub returns-clause-value : goal.returns-clause-value
 returns-clause-value c =
-    substituted_made (row_of c.args.p.now) c.args.c (row_from c.args.den c.args.coefs.now c.args.constant.now) _ _ _ _ (search rules) (search rules) (search rules) (search rules)
+    substituted_is c.args.c (row_of c.args.p.now) (row_from c.args.den c.args.coefs.now c.args.constant.now) (entry c.args.p.now.coefs.now c.args.c) (entry c.args.coefs.now c.args.c) _ _ _ _ refl refl (search rules) (search rules) (search rules) (search rules)
 
 pub returns-clause-begun : goal.returns-clause-begun
 returns-clause-begun c =
@@ -16,7 +16,7 @@ returns-clause-begun c =
     let same : to_z w128 (of_z w128 c.product.result) ≡ c.args.den *ℤ entry c.args.p.now.coefs.now c.args.c = search rules in
     record {
       den = record {
-        positive = subst (λ z. pos 1 ≤ℤ z) (sym same) (product_positive c.args.den (entry c.args.p.now.coefs.now c.args.c) c.requires.row.row.positive c.requires.pivot.candidate.positive);
+        positive = subst (λ z. pos 1 ≤ℤ z) (sym same) (some_product c.args.den (entry c.args.p.now.coefs.now c.args.c) c.requires.row.row.positive c.requires.pivot.candidate.positive);
         fits = search rules;
       };
       entry_fits = search rules;

@@ -1,5 +1,5 @@
 use Rattle.short_tableau.proofs.Words.{rules, ◌≡◌, subst, length, pos, to_z, of_z, slice_index_or, Some, None, w64, eliminated, row_from, IsShortReduced, row_of, IsDenominatorOf}
-use Rattle.short_tableau.proofs.ShortParts.{parts_row, parts_pivot, parts_stay, parts_turned, parts_long}
+use Rattle.short_tableau.proofs.ShortParts.{parts_row, parts_pivot, parts_turned, parts_long}
 use Rattle.short_tableau.proofs.row.eliminate.Goals as goal
 
 pub eliminate_parts-requires-clause-pivot : goal.eliminate_parts-requires-clause-pivot
@@ -13,11 +13,6 @@ eliminate_parts-requires-clause-row c =
     subst (λ z. IsShortReduced (length c.split_at_mut-coefs.result.0.now) (row_from z c.split_at_mut-coefs.result.0.now c.split_at_mut-coefs.result.1.now)) den
     (parts_row c.args.unknowns c.args.c (row_of c.args.p.now) c.args.row.now c.split_at_mut-den.result.0.now c.split_at_mut-den.result.1.now c.split_at_mut-coefs.result.0.now c.split_at_mut-coefs.result.1.now
     c.requires.pivot c.requires.row (search rules) (search rules) (search rules) (search rules))
-
-pub returns-then-coefs-c-eq0 : goal.returns-then-coefs-c-eq0
-returns-then-coefs-c-eq0 c =
-    parts_stay c.args.unknowns c.args.c (row_of c.args.p.now) c.args.row.now c.split_at_mut-den.result.0.now c.split_at_mut-den.result.1.now c.split_at_mut-coefs.result.0.now c.split_at_mut-coefs.result.1.now
-    c.requires.pivot c.requires.row (search rules) (search rules) (search rules) (search rules) (search rules)
 
 pub returns-in-Some : goal.returns-in-Some
 returns-in-Some c =

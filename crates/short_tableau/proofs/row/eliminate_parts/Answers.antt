@@ -17,7 +17,7 @@ returns-in-Some c = record {
       ≡ substituted (row_of c.args.p.now) c.args.c (row_from c.args.den c.args.coefs.now c.args.constant.now) = search rules in
       ap (λ z. row_from z c.divide_parts.new.coefs c.divide_parts.new.constant) same
       ∙ c.divide_parts.ensures.value
-      ∙ ap divided (begun_all c.begin-begun.result (row_of c.args.p.now) c.begin-begun.new.coefs c.begin-begun.new.constant c.in-Some.ends (search rules) (to_z w64 (of_z w64 c.in-Some.ends.den)) (to_z w64 (of_z w64 c.in-Some.ends.entry)) (search rules) (search rules) ∙ begun);
+      ∙ ap divided (begun_all c.begin-begun.result (row_of c.args.p.now) c.begin-begun.new.coefs c.begin-begun.new.constant c.in-Some.ends (search rules) (to_z w64 (of_z w64 c.in-Some.ends.0)) (to_z w64 (of_z w64 c.in-Some.ends.1)) (search rules) (search rules) ∙ begun);
   short = search rules;
   long = search rules;
 }

@@ -1,31 +1,19 @@
 use Rattle.short_tableau.proofs.Words.{rules}
 use Rattle.short_tableau.proofs.Places.{split_twice, split_front, split_back, split_pivot, pivot_made, long_before, long_behind}
-use Rattle.short_tableau.proofs.ShortParts.{unit_short}
+use Rattle.short_tableau.proofs.ShortParts.{unit_reduced}
 use Rattle.short_tableau.proofs.rows.pivot_rows.Goals as goal
 
-pub turn_by-requires-clause-dense : goal.turn_by-requires-clause-dense
-turn_by-requires-clause-dense c =
+pub turn_by-requires : goal.turn_by-requires
+turn_by-requires c =
     let split = split_twice c.args.unknowns c.args.rows c.args.r c.place_of-place.result c.args.numbers.now c.split_at_mut-front.result.0.now c.split_at_mut-front.result.1.now c.split_at_mut-row.result.0.now c.split_at_mut-row.result.1.now
     c.requires.dense c.requires.row (search rules) (search rules) c.split_at_mut-front.ensures.front c.split_at_mut-front.ensures.back c.split_at_mut-row.ensures.front c.split_at_mut-row.ensures.back in
-    split_front _ _ _ _ _ _ _ split
+    record { dense = split_front _ _ _ _ _ _ _ split; size = split.parts.mid_size; pivot = split_pivot _ _ _ c.args.c _ _ _ _ split c.requires.candidate }
 
-pub turn_by-requires-clause-pivot : goal.turn_by-requires-clause-pivot
-turn_by-requires-clause-pivot c =
+pub turn_by-requires-2 : goal.turn_by-requires-2
+turn_by-requires-2 c =
     let split = split_twice c.args.unknowns c.args.rows c.args.r c.place_of-place.result c.args.numbers.now c.split_at_mut-front.result.0.now c.split_at_mut-front.result.1.now c.split_at_mut-row.result.0.now c.split_at_mut-row.result.1.now
     c.requires.dense c.requires.row (search rules) (search rules) c.split_at_mut-front.ensures.front c.split_at_mut-front.ensures.back c.split_at_mut-row.ensures.front c.split_at_mut-row.ensures.back in
-    split_pivot _ _ _ c.args.c _ _ _ _ split c.requires.candidate
-
-pub turn_by-requires-2-clause-dense : goal.turn_by-requires-2-clause-dense
-turn_by-requires-2-clause-dense c =
-    let split = split_twice c.args.unknowns c.args.rows c.args.r c.place_of-place.result c.args.numbers.now c.split_at_mut-front.result.0.now c.split_at_mut-front.result.1.now c.split_at_mut-row.result.0.now c.split_at_mut-row.result.1.now
-    c.requires.dense c.requires.row (search rules) (search rules) c.split_at_mut-front.ensures.front c.split_at_mut-front.ensures.back c.split_at_mut-row.ensures.front c.split_at_mut-row.ensures.back in
-    split_back _ _ _ _ _ _ _ split
-
-pub turn_by-requires-2-clause-pivot : goal.turn_by-requires-2-clause-pivot
-turn_by-requires-2-clause-pivot c =
-    let split = split_twice c.args.unknowns c.args.rows c.args.r c.place_of-place.result c.args.numbers.now c.split_at_mut-front.result.0.now c.split_at_mut-front.result.1.now c.split_at_mut-row.result.0.now c.split_at_mut-row.result.1.now
-    c.requires.dense c.requires.row (search rules) (search rules) c.split_at_mut-front.ensures.front c.split_at_mut-front.ensures.back c.split_at_mut-row.ensures.front c.split_at_mut-row.ensures.back in
-    split_pivot _ _ _ c.args.c _ _ _ _ split c.requires.candidate
+    record { dense = split_back _ _ _ _ _ _ _ split; size = split.parts.mid_size; pivot = split_pivot _ _ _ c.args.c _ _ _ _ split c.requires.candidate }
 
 pub returns-then-not-turn_by : goal.returns-then-not-turn_by
 returns-then-not-turn_by c =
@@ -43,5 +31,5 @@ pub returns : goal.returns
 returns c =
     let split = split_twice c.args.unknowns c.args.rows c.args.r c.place_of-place.result c.args.numbers.now c.split_at_mut-front.result.0.now c.split_at_mut-front.result.1.now c.split_at_mut-row.result.0.now c.split_at_mut-row.result.1.now
     c.requires.dense c.requires.row (search rules) (search rules) c.split_at_mut-front.ensures.front c.split_at_mut-front.ensures.back c.split_at_mut-row.ensures.front c.split_at_mut-row.ensures.back in
-    pivot_made _ _ _ _ _ _ _ _ split c.turn_by.new.numbers c.make_unit.new.row c.turn_by-2.new.numbers _ _ c.make_unit.auto.row (unit_short c.args.unknowns c.args.c c.requires.candidate.column) c.make_unit.ensures
+    pivot_made _ _ _ _ _ _ _ _ split c.turn_by.new.numbers c.make_unit.new.row c.turn_by-2.new.numbers _ _ c.make_unit.auto.row (unit_reduced c.args.unknowns c.args.c c.requires.candidate.column) c.make_unit.ensures
     c.turn_by.ensures (search rules) c.turn_by-2.ensures (search rules)
