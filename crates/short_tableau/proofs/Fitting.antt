@@ -1,21 +1,16 @@
 -- Short numbers make numbers that fit.
-use Rattle.short_tableau.proofs.Words.{refl, sym, ◌∙◌, ℕ, zero, suc, ◌+◌, ◌<◌, ℤ, Bool, true, false, ◌&&◌, List, [], ◌∷◌, length, take, drop, arith, All, IsTrue, flat_map, if◌then◌else◌, list_all-append, All-head, All-tail, All-take, All-drop, All-append, fits, same_number, entry, all_fit, Row, row_at, form_row, other_rows, eliminated_listed, pivot_listed, cross_products, up_to_difference, is_better, best_listed, entering_of_listed, entering_listed, candidates, IsShort, IsShortRow, short_eliminated, IsShortReduced}
+use Rattle.short_tableau.proofs.Words.{refl, ◌∙◌, ℕ, zero, suc, ◌<◌, ℤ, Bool, true, false, List, [], ◌∷◌, length, take, arith, All, IsTrue, flat_map, if◌then◌else◌, list_all-append, All-head, All-tail, All-take, fits, same_number, entry, all_fit, Row, row_at, form_row, eliminated_listed, pivot_listed, cross_products, up_to_difference, is_better, best_listed, entering_of_listed, entering_listed, candidates, IsShort, IsShortRow, IsShortReduced}
 use Rattle.affine_forms.proofs.Short.{short_fits}
+use Rattle.pip_model.proofs.Tests.{both}
+use Rattle.tableau.proofs.Turning.{short_listed, short_pivot}
 
 -- ---- a pivot's
 
 pub flat_fit : (n : ℕ) (p : Row) (c : ℕ) (rows : List Row) → IsShortReduced n p → c < n → All (IsShortReduced n) rows → IsTrue (all_fit (flat_map (eliminated_listed p c) rows))
-flat_fit n p c [] hp h all = refl
-flat_fit n p c (r ∷ rows) hp h all =
-    let hr = All-head (IsShortReduced n) r rows all in
-    let one = short_eliminated p c r hp.short hr.short (omega (arith, h, hp.row.coefs)) (hr.row.coefs ∙ sym hp.row.coefs) in
-    let rest = flat_fit n p c rows hp h (All-tail (IsShortReduced n) r rows all) in
-    list_all-append fits (eliminated_listed p c r) (flat_map (eliminated_listed p c) rows) ∙ rw (one, rest) refl
+flat_fit n p c rows hp h all = short_listed n 0 c p rows hp.row h hp.short (λ k d lt. (all k d lt).row) (λ k d lt. (all k d lt).short)
 
 pub pivot_fits : (n r c : ℕ) (rows : List Row) → All (IsShortReduced n) rows → r < length rows → c < n → IsTrue (all_fit (pivot_listed rows r c))
-pivot_fits n r c rows all h k =
-    flat_fit n (row_at rows r) c (other_rows rows r) (all r (form_row 0 []) h) k
-    (All-append (IsShortReduced n) (take r rows) (drop (r + 1) rows) (All-take (IsShortReduced n) r rows all) (All-drop (IsShortReduced n) (r + 1) rows all))
+pivot_fits n r c rows all h k = short_pivot n 0 c r rows (λ i d lt. (all i d lt).row) (λ i d lt. (all i d lt).short) k h
 
 -- ---- the comparisons'
 
@@ -27,10 +22,6 @@ up_to_fit (x ∷ xs) (y ∷ ys) h k =
     let b = both (fits y) (all_fit ys) k in
     rw (a.0, b.0) (by (same_number x y) (up_to_fit xs ys a.1 b.1))
   where
-    both : (s t : Bool) → IsTrue (s && t) → IsTrue s × IsTrue t
-    both true t e = (refl, e)
-    both false t e = absurd cc
-
     by : (t : Bool) → IsTrue (all_fit (up_to_difference xs ys)) → IsTrue (all_fit (if t then up_to_difference xs ys else []))
     by true e = e
     by false e = refl

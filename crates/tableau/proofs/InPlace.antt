@@ -1,11 +1,13 @@
 -- A pivot of rows whose numbers stand one after the other, in place.
 use Rattle.tableau.proofs.Words.{rules, tests, ◌≡◌, refl, ap, sym, ◌∙◌, subst, ℕ, zero, suc, ◌+◌, ◌-◌, ◌<◌, ◌≤◌, ◌≢◌, ℤ, pos, ◌≤ℤ◌, Bool, true, false, List, [], ◌∷◌, ◌++◌, length, map, take, drop, get_or, arith, length-append, append-nil, append_assoc, IsTrue, All, flat_map, slice_set, ◌==◌, if◌then◌else◌, All-head, All-tail, All-cons, All-append, All-take, All-drop, take_at, drop_at, length-drop, length-take, get_or-take, get_or-drop, take-append-drop, take_all, drop_all, entry, all_fit, gcd_of, Row, row_at, form_row, divided, unit_row, eliminated, eliminated_listed, pivot, pivot_listed, divided_one, numbers_of, row_of_numbers, is_unit_row, IsRow, IsReduced, IsShortRow, AreShortRows, IsElimination, IsMadeReduced, row_again, short_eliminated, elimination, eliminated_none, all_fit-append, KeptRows, IsFlat, IsPivot, IsRun, IsSolvable, kept_short, row_kept, row_length, rows_kept, with_more, with_rows, rows_along, IsMadeRow, AreAlong, AreMade, ArePair, IsSolvedPair, IsHere, flat_rows, is_ready, is_ready_middle, is_ready_front, pivoted, Kept, RowPlace}
 use Rattle.std.specs.List.{list_all}
-use Rattle.pip_model.proofs.Tests.{both, never_both}
+use Rattle.std.proofs.lemmas.List.Elements.{All-map}
+use Rattle.std.proofs.lemmas.List.Sums.{AllPass-from_list_all}
+use Rattle.pip_model.proofs.Tests.{both, both_true, never_both}
 use Rattle.affine_forms.proofs.Divisors.{gcd_assoc}
 use Rattle.tableau.proofs.Along.{flat_along, along_flat, along_rows}
 use Rattle.tableau.proofs.Flat.{kept_rows, unit_over}
-use Rattle.tableau.proofs.Turning.{unit_turned}
+use Rattle.tableau.proofs.Turning.{short_pivot, unit_turned}
 use Rattle.tableau.specs.declared.kept.Kept.TheVariants as kept
 
 -- the first kept row, and the others
@@ -180,56 +182,34 @@ module _ (n w c : ℕ) (p : Row) (hp : IsSolvable n w p c) (short : IsShortRow p
 
 -- ---- rows that are ready are short
 
-all_flags : (c : ℕ) (ks : List Kept) → IsTrue (list_all (is_ready c) ks) → All (λ k. IsTrue (kept_short k)) ks
-all_flags c [] e = λ i d h. absurd (omega arith)
-all_flags c (kept.Unit j ∷ ks) e =
-    All-cons (λ k. IsTrue (kept_short k)) (kept.Unit j) ks refl (all_flags c ks (both (is_ready c (kept.Unit j)) (list_all (is_ready c) ks) e).1)
+all_flags : (c : ℕ) (ks : List Kept) → IsTrue (list_all (is_ready c) ks) → IsTrue (list_all kept_short ks)
+all_flags c [] e = refl
+all_flags c (kept.Unit j ∷ ks) e = all_flags c ks (both (is_ready c (kept.Unit j)) (list_all (is_ready c) ks) e).1
 all_flags c (kept.At p ∷ ks) e =
     let parts = both p.short (list_all (is_ready c) ks) e in
-    All-cons (λ k. IsTrue (kept_short k)) (kept.At p) ks parts.0 (all_flags c ks parts.1)
+    both_true p.short (list_all kept_short ks) parts.0 (all_flags c ks parts.1)
 
-middle_flags : (c k : ℕ) (ks : List Kept) → IsTrue (is_ready_middle c k ks) → All (λ j. IsTrue (kept_short j)) ks
-middle_flags c k [] e = λ i d h. absurd (omega arith)
+middle_flags : (c k : ℕ) (ks : List Kept) → IsTrue (is_ready_middle c k ks) → IsTrue (list_all kept_short ks)
+middle_flags c k [] e = refl
 middle_flags c zero (kept.Unit j ∷ ks) e = absurd cc
-middle_flags c zero (kept.At p ∷ ks) e =
-    let parts = both p.short (list_all (is_ready c) ks) e in
-    All-cons (λ k. IsTrue (kept_short k)) (kept.At p) ks parts.0 (all_flags c ks parts.1)
-middle_flags c (suc k) (kept.Unit j ∷ ks) e =
-    All-cons (λ i. IsTrue (kept_short i)) (kept.Unit j) ks refl (middle_flags c k ks (both (is_ready c (kept.Unit j)) (is_ready_middle c k ks) e).1)
+middle_flags c zero (kept.At p ∷ ks) e = all_flags c (kept.At p ∷ ks) e
+middle_flags c (suc k) (kept.Unit j ∷ ks) e = middle_flags c k ks (both (is_ready c (kept.Unit j)) (is_ready_middle c k ks) e).1
 middle_flags c (suc k) (kept.At p ∷ ks) e =
     let parts = both p.short (is_ready_middle c k ks) e in
-    All-cons (λ i. IsTrue (kept_short i)) (kept.At p) ks parts.0 (middle_flags c k ks parts.1)
+    both_true p.short (list_all kept_short ks) parts.0 (middle_flags c k ks parts.1)
 
-either_flags : (b : Bool) (c k : ℕ) (ks : List Kept) → IsTrue (if b then is_ready_middle c k ks else is_ready_front c k ks) → (IsTrue (is_ready_front c k ks) → All (λ i. IsTrue (kept_short i)) ks)
-    → All (λ i. IsTrue (kept_short i)) ks
+either_flags : (b : Bool) (c k : ℕ) (ks : List Kept) → IsTrue (if b then is_ready_middle c k ks else is_ready_front c k ks) → (IsTrue (is_ready_front c k ks) → IsTrue (list_all kept_short ks))
+    → IsTrue (list_all kept_short ks)
 either_flags true c k ks e f = middle_flags c k ks e
 either_flags false c k ks e f = f e
 
-pub front_flags : (c k : ℕ) (ks : List Kept) → IsTrue (is_ready_front c k ks) → All (λ j. IsTrue (kept_short j)) ks
-front_flags c k [] e = λ i d h. absurd (omega arith)
+front_flags : (c k : ℕ) (ks : List Kept) → IsTrue (is_ready_front c k ks) → IsTrue (list_all kept_short ks)
+front_flags c k [] e = refl
 front_flags c zero (x ∷ ks) e = absurd cc
-front_flags c (suc k) (kept.Unit j ∷ ks) e =
-    All-cons (λ i. IsTrue (kept_short i)) (kept.Unit j) ks refl (either_flags (j == c) c k ks e (front_flags c k ks))
+front_flags c (suc k) (kept.Unit j ∷ ks) e = either_flags (j == c) c k ks e (front_flags c k ks)
 front_flags c (suc k) (kept.At p ∷ ks) e =
     let parts = both p.short (is_ready_front c k ks) e in
-    All-cons (λ i. IsTrue (kept_short i)) (kept.At p) ks parts.0 (front_flags c k ks parts.1)
-
--- the listed numbers of short rows fit
-pub listed_rows : (n w c : ℕ) (p : Row) (rs : List Row) → IsRow n w p → c < n → IsShortRow p → All (IsRow n w) rs → All IsShortRow rs → IsTrue (all_fit (flat_map (eliminated_listed p c) rs))
-listed_rows n w c p [] hp column short rows shorts = refl
-listed_rows n w c p (r ∷ rs) hp column short rows shorts =
-    let row = All-head (IsRow n w) r rs rows in
-    all_fit-append (eliminated_listed p c r) (flat_map (eliminated_listed p c) rs)
-    ∙ rw (
-      short_eliminated p c r short (All-head IsShortRow r rs shorts) (omega (arith, column, hp.coefs)) (row.coefs ∙ sym hp.coefs),
-      listed_rows n w c p rs hp column short (All-tail (IsRow n w) r rs rows) (All-tail IsShortRow r rs shorts),
-    ) refl
-
--- ---- the rows of a table
-
-map_short : (f : Kept → Row) (ks : List Kept) → All (λ k. IsShortRow (f k)) ks → All IsShortRow (map f ks)
-map_short f [] h = λ i d lt. absurd (omega arith)
-map_short f (k ∷ ks) h = All-cons IsShortRow (f k) (map f ks) (All-head (λ j. IsShortRow (f j)) k ks h) (map_short f ks (All-tail (λ j. IsShortRow (f j)) k ks h))
+    both_true p.short (list_all kept_short ks) parts.0 (front_flags c k ks parts.1)
 
 -- ---- rows that are laid anew
 
@@ -269,11 +249,9 @@ pub ready_rows : (n w most c r : ℕ) (zs : List ℤ) (ks : List Kept) (t : Kept
 ready_rows n w most c r zs ks t e flat ready =
     subst (λ (u : KeptRows). IsPivot u.unknowns u.rows r c → IsShortRow (row_at u.rows r) × IsTrue (all_fit (pivot_listed u.rows r c))) e (λ h.
     let rows = rows_kept n w zs ks in
-    let short = map_short (row_kept n w zs) ks (λ i d lt. flat.short i d lt (front_flags c r ks ready i d lt)) in (
+    let short = All-map IsShortRow (row_kept n w zs) ks (λ i d lt. flat.short i d lt (AllPass-from_list_all kept_short ks (front_flags c r ks ready) i d lt)) in (
       short r (form_row 0 []) h.row,
-      listed_rows n w c (row_at rows r) (take r rows ++ drop (r + 1) rows) (flat.rows r (form_row 0 []) h.row) h.column (short r (form_row 0 []) h.row)
-          (All-append (IsRow n w) (take r rows) (drop (r + 1) rows) (All-take (IsRow n w) r rows flat.rows) (All-drop (IsRow n w) (r + 1) rows flat.rows))
-          (All-append IsShortRow (take r rows) (drop (r + 1) rows) (All-take IsShortRow r rows short) (All-drop IsShortRow (r + 1) rows short)),
+      short_pivot n w c r rows flat.rows short h.column h.row,
     ))
 
 pub two_kept : (ks : List Kept) (x y d : Kept) → 2 ≤ length ks → length ks < 3 → x ≡ get_or ks 0 d → y ≡ get_or ks 1 d → ks ≡ x ∷ y ∷ []

@@ -1,6 +1,8 @@
 -- The rows of a tableau in a pivot, as they are kept.
-use Rattle.tableau.proofs.Words.{◌≡◌, refl, ap, sym, ◌∙◌, subst, ℕ, zero, suc, ◌+◌, ◌-◌, ◌<◌, ◌≤◌, ◌≢◌, ℤ, pos, ◌≤ℤ◌, ◌*ℤ◌, true, ◌&&◌, List, [], ◌∷◌, ◌++◌, length, map, take, drop, replicate, arith, append_assoc, get_or, get_or-set_other, IsTrue, All, slice_set, take-append-drop, get_or-take, get_or-drop, map-append, get_or-replicate, length-set, length-map, take-map, drop-map, get_or-map, All-head, All-tail, ints, fits, entry, scale, width, all_fit, Row, row_at, form_row, unit_row, eliminated, eliminated_listed, pivot, pivot_listed, IsSteady, row_length, row_from_place, KeptRows, IsSpare, SameShape, with_more, with_rows, IsRow, IsReduced, IsShortRow, short_eliminated, flat_map-append, content-one, eliminated_none, checked_sides, eliminated_listed-none, all_fit-append, any_zero, by_one, unit_parts}
+use Rattle.tableau.proofs.Words.{◌≡◌, refl, ap, sym, ◌∙◌, subst, ℕ, zero, suc, ◌+◌, ◌-◌, ◌<◌, ◌≤◌, ◌≢◌, ℤ, pos, ◌≤ℤ◌, ◌*ℤ◌, true, ◌&&◌, List, [], ◌∷◌, ◌++◌, length, map, take, drop, replicate, arith, append_assoc, get_or, get_or-set_other, IsTrue, All, slice_set, take-append-drop, get_or-take, get_or-drop, map-append, get_or-replicate, length-set, length-map, take-map, drop-map, get_or-map, All-head, All-tail, All-append, All-take, All-drop, ints, fits, entry, scale, width, all_fit, Row, row_at, form_row, unit_row, eliminated, eliminated_listed, pivot, pivot_listed, IsSteady, row_length, row_from_place, KeptRows, IsSpare, SameShape, with_more, with_rows, IsRow, IsReduced, IsShortRow, short_eliminated, flat_map-append, content-one, eliminated_none, checked_sides, eliminated_listed-none, all_fit-append, any_zero, by_one, unit_parts}
 use Rattle.std.proofs.Common.{flat_map}
+use Rattle.std.proofs.lemmas.List.Folds.{flat_map-map}
+use Rattle.std.proofs.lemmas.Simd.{map-map}
 use Rattle.tableau.proofs.Flat.{unit_fits}
 use Rattle.tableau_row.proofs.Places.{set_parts}
 use Rattle.tableau_row.proofs.Unchanged.{once}
@@ -55,12 +57,12 @@ place_entry n w c first zs h within =
 
 -- ---- rows that stay, and the rows behind them
 
-pub steady_listed : {X : Type 0} (f : X → Row) (p : Row) (c : ℕ) (xs : List X) → All (λ x. IsSteady p c (f x)) xs → IsTrue (all_fit (flat_map (λ x. eliminated_listed p c (f x)) xs))
-steady_listed f p c [] h = refl
-steady_listed {X} f p c (x ∷ xs) h =
-    let S : X → Type 0 = λ x. IsSteady p c (f x) in
-    all_fit-append (eliminated_listed p c (f x)) (flat_map (λ x. eliminated_listed p c (f x)) xs)
-    ∙ rw ((All-head S x xs h).listed, steady_listed f p c xs (All-tail S x xs h)) refl
+pub flat_fit : {X : Type 0} (g : X → List ℤ) (xs : List X) → All (λ x. IsTrue (all_fit (g x))) xs → IsTrue (all_fit (flat_map g xs))
+flat_fit g [] h = refl
+flat_fit {X} g (x ∷ xs) h =
+    let F : X → Type 0 = λ y. IsTrue (all_fit (g y)) in
+    let first : IsTrue (all_fit (g x)) = All-head F x xs h in
+    all_fit-append (g x) (flat_map g xs) ∙ rw (first, flat_fit g xs (All-tail F x xs h)) refl
 
 pub steady_rows : {X : Type 0} (f : X → Row) (p : Row) (c : ℕ) (xs : List X) → All (λ x. IsSteady p c (f x)) xs → map f xs ≡ map (λ x. eliminated p c (f x)) xs
 steady_rows f p c [] h = refl
@@ -73,7 +75,7 @@ pub listed_behind : {X : Type 0} (f : X → Row) (p : Row) (c i : ℕ) (xs : Lis
 listed_behind {X} f p c i xs h =
     let g : X → List ℤ = λ x. eliminated_listed p c (f x) in
     let both : flat_map g xs ≡ flat_map g (take i xs) ++ flat_map g (drop i xs) = ap (flat_map g) (sym (take-append-drop i xs)) ∙ flat_map-append g (take i xs) (drop i xs) in
-    sym (ap all_fit both ∙ all_fit-append (flat_map g (take i xs)) (flat_map g (drop i xs)) ∙ rw (steady_listed f p c (take i xs) h) refl)
+    sym (ap all_fit both ∙ all_fit-append (flat_map g (take i xs)) (flat_map g (drop i xs)) ∙ rw (flat_fit g (take i xs) (λ k d lt. (h k d lt).listed)) refl)
 
 pub rows_behind : {X : Type 0} (f : X → Row) (p : Row) (c i : ℕ) (xs : List X) → All (λ x. IsSteady p c (f x)) (take i xs)
     → map f (take i xs) ++ map (λ x. eliminated p c (f x)) (drop i xs) ≡ map (λ x. eliminated p c (f x)) xs
@@ -81,6 +83,19 @@ rows_behind {X} f p c i xs h =
     let g : X → Row = λ x. eliminated p c (f x) in
     ap (λ (rs : List Row). rs ++ map g (drop i xs)) (steady_rows f p c (take i xs) h)
     ∙ sym (map-append g (take i xs) (drop i xs)) ∙ ap (map g) (take-append-drop i xs)
+
+-- ---- short rows
+
+pub short_listed : (n w c : ℕ) (p : Row) (rows : List Row) → IsRow n w p → c < n → IsShortRow p → All (IsRow n w) rows → All IsShortRow rows → IsTrue (all_fit (flat_map (eliminated_listed p c) rows))
+short_listed n w c p rows hp column short formed shorts =
+    flat_fit (eliminated_listed p c) rows
+    (λ k d lt. short_eliminated p c (get_or rows k d) short (shorts k d lt) (omega (arith, column, hp.coefs)) ((formed k d lt).coefs ∙ sym hp.coefs))
+
+pub short_pivot : (n w c r : ℕ) (rows : List Row) → All (IsRow n w) rows → All IsShortRow rows → c < n → r < length rows → IsTrue (all_fit (pivot_listed rows r c))
+short_pivot n w c r rows h short column lt =
+    short_listed n w c (row_at rows r) (take r rows ++ drop (r + 1) rows) (h r (form_row 0 []) lt) column (short r (form_row 0 []) lt)
+    (All-append (IsRow n w) (take r rows) (drop (r + 1) rows) (All-take (IsRow n w) r rows h) (All-drop (IsRow n w) (r + 1) rows h))
+    (All-append IsShortRow (take r rows) (drop (r + 1) rows) (All-take IsShortRow r rows short) (All-drop IsShortRow (r + 1) rows short))
 
 -- ---- the first row, and the rows behind it
 
@@ -96,14 +111,6 @@ first_rows f p c (x ∷ xs) d t some = ap (λ (rs : List Row). record t { rows =
 
 -- ---- the rows in front and behind
 
-pub flat_map-map : {X Y A : Type 0} (g : Y → List A) (f : X → Y) (xs : List X) → flat_map g (map f xs) ≡ flat_map (λ x. g (f x)) xs
-flat_map-map g f [] = refl
-flat_map-map g f (x ∷ xs) = ap (λ ys. g (f x) ++ ys) (flat_map-map g f xs)
-
-pub map_twice : {X Y Z : Type 0} (g : Y → Z) (f : X → Y) (xs : List X) → map g (map f xs) ≡ map (λ x. g (f x)) xs
-map_twice g f [] = refl
-map_twice g f (x ∷ xs) = ap (λ ys. g (f x) ∷ ys) (map_twice g f xs)
-
 pub turned_sides : {X : Type 0} (f : X → Row) (rows : List Row) (front back : List X) (p : Row) (r c : ℕ) → map f front ≡ take r rows → map f back ≡ drop (r + 1) rows → p ≡ row_at rows r
     → all_fit (pivot_listed rows r c) ≡ (all_fit (flat_map (λ x. eliminated_listed p c (f x)) front) && all_fit (flat_map (λ x. eliminated_listed p c (f x)) back))
 turned_sides f rows front back p r c e g same =
@@ -118,7 +125,7 @@ turned_pivot f rows front back p r c n w h e g same hp =
     = ap_two (λ i j. unit_row i j c) (sym hp.coefs) (omega (arith, hp.constant)) ∙ ap (λ (s : Row). unit_row (length s.coefs) (width s.constant) c) same in
     let k : r < length (map (eliminated q c) rows) = simp length-map h in
     ap (λ (s : Row). map (λ x. eliminated s c (f x)) front ++ unit_row n w c ∷ map (λ x. eliminated s c (f x)) back) same
-    ∙ rw (unit, ← map_twice (eliminated q c) f front, ← map_twice (eliminated q c) f back, e, g, ← take-map (eliminated q c) r rows, ← drop-map (eliminated q c) (r + 1) rows)
+    ∙ rw (unit, ← map-map (eliminated q c) f front, ← map-map (eliminated q c) f back, e, g, ← take-map (eliminated q c) r rows, ← drop-map (eliminated q c) (r + 1) rows)
     (sym (set_parts (map (eliminated q c) rows) r (unit_row (length q.coefs) (width q.constant) c) k))
   where
     ap_two : (f : ℕ → ℕ → Row) {x y u v : ℕ} → x ≡ y → u ≡ v → f x u ≡ f y v

@@ -129,7 +129,13 @@ impl FlatRows {
         let (front, _) = kept.split_at(r);
         let (_, back) = kept.split_at(r + 1);
         next.clear();
-        (lent, front, lent.row(kept[r]), back, lent.behind(kept[r], 0))
+        (
+            lent,
+            front,
+            lent.row(kept[r]),
+            back,
+            lent.behind(kept[r], 0),
+        )
     }
 
     // Row i, lent from the run of the columns' rows.

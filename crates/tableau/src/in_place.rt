@@ -93,13 +93,6 @@ fn is_ready_front(kept: &[Kept], k: usize, c: usize) -> bool
     }
 }
 
-// What became of a row's numbers: whether they are known to be short, and whether the row is not that of a column.
-#[derive(Clone, Copy)]
-struct Made {
-    short: bool,
-    plain: bool,
-}
-
 // Whether the row is not that of a column.
 fn is_plain(row: &RowView<'_>) -> bool
     requires { 0 < length row.now.constant.now }
@@ -111,24 +104,28 @@ fn is_plain(row: &RowView<'_>) -> bool
     }
 }
 
-// Makes of the numbers of a short row those after the pivot on row p and column c.
-fn turn_row(row: &mut [i128], unknowns: usize, width: usize, p: &RowView<'_>, c: usize) -> Made
+// Makes of the numbers of a short row those after the pivot on row p and column c; whether they are known to be short,
+// and whether the row is not that of a column.
+fn turn_row(
+    row: &mut [i128],
+    unknowns: usize,
+    width: usize,
+    p: &RowView<'_>,
+    c: usize,
+) -> (bool, bool)
     requires row { IsMadeRow unknowns width true true row.old }
     requires p { IsSolvable unknowns width (row_of p.now) c }
     requires short { IsShortRow (row_of p.now) }
     ensures value { row_of_numbers unknowns row.new
         ≡ model.eliminated (row_of p.now) c (row_of_numbers unknowns row.old) }
-    ensures made { IsMadeRow unknowns width result.short result.plain row.new }
+    ensures made { IsMadeRow unknowns width result.0 result.1 row.new }
 {
     if row[1 + c] == 0 {
-        return Made {
-            short: true,
-            plain: true,
-        };
+        return (true, true);
     }
     let short = eliminate(row, p, c, true);
     let plain = is_plain(&view_of(row, unknowns, short));
-    Made { short, plain }
+    (short, plain)
 }
 
 // Makes of rows, which are ready, those after the pivot on row p and column c, whose numbers begin at a place; whether
@@ -165,9 +162,9 @@ fn turn_part(
             let made = turn_row(row, unknowns, width, p, c);
             first[0] = Kept::At(RowPlace {
                 first: to,
-                short: made.short,
+                short: made.0,
             });
-            let plain = both(plain, made.plain);
+            let plain = both(plain, made.1);
             turn_part(behind, rest, unknowns, width, to + size, p, c, plain)
         }
     }
@@ -210,9 +207,9 @@ fn turn_middle(
             let made = turn_row(row, unknowns, width, p, c);
             first[0] = Kept::At(RowPlace {
                 first: to,
-                short: made.short,
+                short: made.0,
             });
-            let plain = both(plain, made.plain);
+            let plain = both(plain, made.1);
             let plain = turn_middle(behind, rest, k - 1, unknowns, width, to + size, p, c, plain);
             let (room, _) = behind.split_at_mut(size);
             room.copy_from_slice(row);
@@ -290,9 +287,9 @@ fn turn_front(
             let made = turn_row(row, unknowns, width, p, c);
             first[0] = Kept::At(RowPlace {
                 first: to,
-                short: made.short,
+                short: made.0,
             });
-            let plain = both(plain, made.plain);
+            let plain = both(plain, made.1);
             turn_front(
                 behind,
                 rest,

@@ -42,8 +42,8 @@ returns-in-At-clause-made t c =
     let w = c.args.width in
     let h = is_first c.args.kept.now c.split_at_mut-first.result.0.now c.split_at_mut-first.result.1.now (kept.At c.in-At.field-0) (kept.At c.in-At.field-0) (search rules) (search rules) (search rules) (search rules) in
     let some = front_some c.args.c c.args.k c.args.kept.now c.requires.ready in
-    let so : IsTrue c.turn_front-in-At.result → IsTrue c.turn_row-made.result.plain = λ s. c.both-plain.ensures.second (c.turn_front-in-At.ensures.plain s) in
+    let so : IsTrue c.turn_front-in-At.result → IsTrue c.turn_row-made.result.1 = λ s. c.both-plain.ensures.second (c.turn_front-in-At.ensures.plain s) in
     part_at n w c.args.c c.args.to c.turn_front-in-At.result p (pivoted n w p c.args.c c.args.k) (pivoted n w p c.args.c (c.args.k - 1)) (λ r rs. pivoted_behind n w c.args.c c.args.k p r rs some) c.args.numbers.now c.turn_front-in-At.new.numbers
     c.args.kept.now c.split_at_mut-first.result.0.now c.split_at_mut-first.result.1.now c.turn_front-in-At.new.kept c.requires.along
-    c.in-At.field-0 c.turn_row-made.result.short c.turn_row-made.result.plain c.split_at_mut-row.result.0.now c.split_at_mut-row.result.1.now c.turn_row-made.new.row h (search rules) (search rules)
+    c.in-At.field-0 c.turn_row-made.result.0 c.turn_row-made.result.1 c.split_at_mut-row.result.0.now c.split_at_mut-row.result.1.now c.turn_row-made.new.row h (search rules) (search rules)
     c.turn_row-made.ensures.value c.turn_row-made.ensures.made so c.turn_front-in-At.ensures.made

@@ -30,12 +30,12 @@ returns-in-At-clause-made t c =
     let w = c.args.width in
     let h = is_first c.args.kept.now c.split_at_mut-first.result.0.now c.split_at_mut-first.result.1.now (kept.At c.in-At.field-0) (kept.At c.in-At.field-0) (search rules) (search rules) (search rules) (search rules) in
     let some : 0 < c.args.k = omega (arith, c.if-k-eq0.false) in
-    let so : IsTrue c.turn_middle-plain.result → IsTrue c.turn_row-made.result.plain = λ s. c.both-plain.ensures.second (c.turn_middle-plain.ensures.plain s) in
+    let so : IsTrue c.turn_middle-plain.result → IsTrue c.turn_row-made.result.1 = λ s. c.both-plain.ensures.second (c.turn_middle-plain.ensures.plain s) in
     let row = c.turn_row-made.new.row in
     let moved = moved_up (row_length n w) row c.copy_from_slice.new.self c.split_at_mut-room.result.1.now c.turn_middle-plain.new.numbers c.turn_row-made.ensures.made.length (search rules) (search rules) in
     let made = part_at n w c.args.c c.args.to c.turn_middle-plain.result p (pivoted n w p c.args.c c.args.k) (pivoted n w p c.args.c (c.args.k - 1)) (λ r rs. pivoted_behind n w c.args.c c.args.k p r rs some) c.args.numbers.now (drop (row_length n w) c.turn_middle-plain.new.numbers)
     c.args.kept.now c.split_at_mut-first.result.0.now c.split_at_mut-first.result.1.now c.turn_middle-plain.new.kept c.requires.along
-    c.in-At.field-0 c.turn_row-made.result.short c.turn_row-made.result.plain c.split_at_mut-row.result.0.now c.split_at_mut-row.result.1.now row h (search rules) (search rules)
+    c.in-At.field-0 c.turn_row-made.result.0 c.turn_row-made.result.1 c.split_at_mut-row.result.0.now c.split_at_mut-row.result.1.now row h (search rules) (search rules)
     c.turn_row-made.ensures.value c.turn_row-made.ensures.made so c.turn_middle-plain.ensures.made in
     subst (λ (ys : List ℤ). AreMade n w (pivoted n w p c.args.c c.args.k (rows_along n w c.args.numbers.now c.args.kept.now)) c.args.to c.turn_middle-plain.result ys
-    (slice_set c.split_at_mut-first.result.0.now 0 (kept.At (record { first = c.args.to; short = c.turn_row-made.result.short })) ++ c.turn_middle-plain.new.kept)) (sym moved) made
+    (slice_set c.split_at_mut-first.result.0.now 0 (kept.At (record { first = c.args.to; short = c.turn_row-made.result.0 })) ++ c.turn_middle-plain.new.kept)) (sym moved) made
