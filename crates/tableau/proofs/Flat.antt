@@ -1,5 +1,5 @@
 -- Rows that are kept by their numbers, with one row more.
-use Rattle.tableau.proofs.Words.{◌≡◌, refl, ap, sym, ◌∙◌, subst, ℕ, ◌+◌, ◌-◌, ◌*◌, ◌<◌, ◌≤◌, ℤ, pos, true, false, not, List, [], ◌∷◌, ◌++◌, length, take, drop, replicate, arith, length-append, append-nil, IsTrue, All, filter, flat_map, take_at, drop_at, take_all, take-append-le, drop-append-le, take-append-drop, length-drop, length-replicate, map-append, length_push, length-take-le, length-set, All-head, All-tail, All-push, All-weaker, All-set, All-replicate, All-same, filter-append, flat_map-append, add-mul, ints, Fits, Row, unit_row, IsRow, IsReduced, numbers_of, row_of_numbers, is_unit_row, flat_numbers, IsShort, IsShortRow, KeptRows, IsPlace, IsKnown, IsPlain, IsFlat, IsPlainRow, IsUnsealed, row_length, row_kept, rows_kept, with_more, Kept, RowPlace, content-one, row_again, unit_is}
+use Rattle.tableau.proofs.Words.{◌≡◌, refl, ap, sym, ◌∙◌, subst, ℕ, ◌+◌, ◌-◌, ◌*◌, ◌<◌, ◌≤◌, ℤ, pos, true, false, not, List, [], ◌∷◌, ◌++◌, length, take, drop, replicate, arith, length-append, append-nil, IsTrue, All, filter, flat_map, take_at, drop_at, take_all, take-append-le, drop-append-le, take-append-drop, length-drop, length-replicate, map-append, length_push, length-take-le, length-set, All-head, All-tail, All-push, All-weaker, All-set, All-replicate, All-same, filter-append, flat_map-append, add-mul, ints, Fits, Row, unit_row, IsRow, IsReduced, numbers_of, row_of_numbers, is_unit_row, flat_numbers, IsShortRow, KeptRows, IsPlace, IsKnown, IsPlain, IsFlat, IsPlainRow, IsUnsealed, row_length, row_kept, rows_kept, with_more, Kept, RowPlace, content-one, row_again, unit_is}
 use Rattle.tableau_row.proofs.Solved.{unit_short}
 use Rattle.tableau.specs.declared.kept.Kept.TheVariants as kept
 

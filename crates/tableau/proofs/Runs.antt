@@ -1,5 +1,5 @@
 -- Kept rows whose numbers follow one another, which are copied as one run.
-use Rattle.tableau.proofs.Words.{◌≡◌, refl, ap, sym, ◌∙◌, subst, ℕ, suc, ◌+◌, ◌-◌, ◌*◌, ◌^◌, ◌<◌, ◌≤◌, get_or, ℤ, List, [], ◌∷◌, ◌++◌, length, map, take, drop, arith, append_assoc, append-nil, length-append, All, drop-drop, length-drop, length-take-le, All-head, All-tail, All-cons, All-take, All-drop, add-mul, mul-le-mul_right, Row, unit_row, IsRow, IsReduced, row_of_numbers, is_unit_row, IsShortRow, IsPlace, IsKnown, IsPlain, IsPlainRow, IsFlat, AreKept, AreLent, AreSides, IsRun, lent_row, IsMovable, moved_kept, row_length, row_kept, rows_kept, Lent, Kept, RowPlace}
+use Rattle.tableau.proofs.Words.{◌≡◌, refl, ap, sym, ◌∙◌, subst, ℕ, suc, ◌+◌, ◌-◌, ◌*◌, ◌^◌, ◌<◌, ◌≤◌, ℤ, List, [], ◌∷◌, ◌++◌, length, map, take, drop, arith, append_assoc, append-nil, length-append, All, drop-drop, length-drop, length-take-le, All-head, All-tail, All-cons, All-take, All-drop, add-mul, mul-le-mul_right, Row, unit_row, IsRow, IsReduced, row_of_numbers, is_unit_row, IsShortRow, IsPlace, IsKnown, IsPlain, IsPlainRow, IsFlat, AreKept, IsRun, IsMovable, moved_kept, row_length, row_kept, rows_kept, Kept, RowPlace}
 use Rattle.std.proofs.Math.Seq.{take-add}
 use Rattle.tableau.specs.declared.kept.Kept.TheVariants as kept
 use Rattle.tableau.proofs.Flat.{with_plain, with_unit, rows_more, rows_unit}

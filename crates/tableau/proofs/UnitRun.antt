@@ -1,6 +1,6 @@
 -- The run from which the rows of columns are lent.
 use Rattle.std.proofs.Math.Seq.{take-add}
-use Rattle.tableau.proofs.Words.{◌≡◌, refl, ap, sym, ◌∙◌, ℕ, zero, suc, ◌+◌, ◌-◌, ◌<◌, ◌≤◌, ℤ, pos, List, [], ◌∷◌, ◌++◌, length, take, drop, replicate, arith, max, append_assoc, length-append, slice_set, drop-append-le, drop-replicate, take-replicate, length-replicate, drop_at, take_at, length_push, unit_row, unit_run, unit_parts}
+use Rattle.tableau.proofs.Words.{◌≡◌, refl, ap, sym, ◌∙◌, ℕ, suc, ◌+◌, ◌-◌, ◌<◌, ◌≤◌, ℤ, pos, List, [], ◌∷◌, ◌++◌, length, take, drop, replicate, arith, max, append_assoc, length-append, slice_set, drop-append-le, drop-replicate, take-replicate, length-replicate, drop_at, take_at, length_push, unit_row, unit_run, unit_parts}
 
 -- from n - c on the run has the coefficients of column c
 pub lent_coefs : (n w c : ℕ) → c < n → take n (drop (n - c) (unit_run n w)) ≡ slice_set (replicate n (pos 0)) c (pos 1)

@@ -1,4 +1,4 @@
-use Rattle.tableau.proofs.Words.{rules, tests, arith, subst, true, drop, List, ◌≡◌, ◌++◌, ◌-◌, get_or, ℤ, IsTrue, slice_set, AreAlong, AreMade, rows_along, pivoted, is_ready, is_ready_middle, row_length, row_of}
+use Rattle.tableau.proofs.Words.{rules, tests, arith, subst, true, drop, List, ◌++◌, ◌-◌, ℤ, IsTrue, slice_set, AreAlong, AreMade, rows_along, pivoted, is_ready, is_ready_middle, row_length, row_of}
 use Rattle.tableau.specs.declared.kept.Kept.TheVariants as kept
 use Rattle.tableau.proofs.InPlace.{is_first, part_unit, part_at, part_column, front_some, middle_long, copied_front, pivoted_behind}
 use Rattle.tableau.proofs.in_place.+turn_front.Goals as goal
