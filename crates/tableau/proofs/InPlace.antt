@@ -1,5 +1,5 @@
 -- A pivot of rows whose numbers stand one after the other, in place.
-use Rattle.tableau.proofs.Words.{rules, tests, ◌≡◌, refl, ap, sym, ◌∙◌, subst, ℕ, zero, suc, ◌+◌, ◌-◌, ◌<◌, ◌≤◌, ◌≢◌, ℤ, pos, ◌≤ℤ◌, Bool, true, false, List, [], ◌∷◌, ◌++◌, length, map, take, drop, get_or, arith, length-append, append-nil, append_assoc, IsTrue, slice_set, ◌==◌, if◌then◌else◌, take_at, drop_at, length-drop, length-take, get_or-take, get_or-drop, take-append-drop, take_all, drop_all, entry, all_fit, gcd_of, Row, row_at, form_row, divided, unit_row, eliminated, eliminated_listed, pivot, pivot_listed, divided_one, numbers_of, row_of_numbers, is_unit_row, IsRow, IsReduced, IsShortRow, AreShortRows, IsElimination, IsMadeReduced, row_again, short_eliminated, elimination, eliminated_none, KeptRows, IsFlat, IsPivot, IsRun, IsSolvable, kept_short, row_kept, row_length, rows_kept, with_more, with_rows, rows_along, IsMadeRow, AreAlong, AreMade, ArePair, IsSolvedPair, IsHere, flat_rows, is_ready, is_ready_middle, is_ready_front, pivoted, Kept, RowPlace}
+use Rattle.tableau.proofs.Words.{rules, tests, ◌≡◌, refl, ap, sym, ◌∙◌, subst, ℕ, zero, suc, ◌+◌, ◌-◌, ◌<◌, ◌≤◌, ◌≢◌, ℤ, pos, ◌≤ℤ◌, Bool, true, false, ◌&&◌, List, [], ◌∷◌, ◌++◌, length, map, take, drop, get_or, arith, length-append, append-nil, append_assoc, IsTrue, All, flat_map, slice_set, ◌==◌, if◌then◌else◌, All-head, All-tail, All-cons, All-append, All-take, All-drop, take_at, drop_at, length-drop, length-take, get_or-take, get_or-drop, take-append-drop, take_all, drop_all, entry, all_fit, gcd_of, Row, row_at, form_row, divided, unit_row, eliminated, eliminated_listed, pivot, pivot_listed, divided_one, numbers_of, row_of_numbers, is_unit_row, IsRow, IsReduced, IsShortRow, AreShortRows, IsElimination, IsMadeReduced, row_again, short_eliminated, elimination, eliminated_none, all_fit-append, KeptRows, IsFlat, IsPivot, IsRun, IsSolvable, kept_short, row_kept, row_length, rows_kept, with_more, with_rows, rows_along, IsMadeRow, AreAlong, AreMade, ArePair, IsSolvedPair, IsHere, flat_rows, is_ready, is_ready_middle, is_ready_front, pivoted, Kept, RowPlace}
 use Rattle.std.specs.List.{list_all}
 use Rattle.std.proofs.lemmas.List.Elements.{All-map}
 use Rattle.std.proofs.lemmas.List.Sums.{AllPass-from_list_all}
@@ -37,18 +37,30 @@ made_unit n w k to b r rs zs ks h e m = record {
   places = m.places;
 }
 
+-- less is known of which are not those of columns
+less_row : (n w : ℕ) (short plain b : Bool) (row : List ℤ) → (IsTrue b → IsTrue plain) → IsMadeRow n w short plain row → IsMadeRow n w short b row
+less_row n w short plain b row so h = record { length = h.length; row = h.row; reduced = h.reduced; short = h.short; plain = λ s. h.plain (so s) }
+
+less_along : (n w : ℕ) (plain b : Bool) (zs : List ℤ) (ks : List Kept) → (IsTrue b → IsTrue plain) → AreAlong n w plain zs ks → AreAlong n w b zs ks
+less_along n w plain b zs [] so h = h
+less_along n w plain b zs (kept.Unit c ∷ ks) so h = (h.0, less_along n w plain b zs ks so h.1)
+less_along n w plain b zs (kept.At p ∷ ks) so h = (less_row n w p.short plain b (take (row_length n w) zs) so h.0, less_along n w plain b (drop (row_length n w) zs) ks so h.1)
+
 -- a row's numbers are made
-pub made_at : (n w to : ℕ) (short plain b : Bool) (r : Row) (rs : List Row) (row zs : List ℤ) (ks : List Kept) → IsMadeRow n w short plain row → row_of_numbers n row ≡ r → (IsTrue b → IsTrue plain)
-    → AreMade n w rs (to + row_length n w) b zs ks → AreMade n w (r ∷ rs) to b (row ++ zs) (kept.At (record { first = to; short = short }) ∷ ks)
-made_at n w to short plain b r rs row zs ks h e so m =
+pub made_at : (n w to : ℕ) (short plain rest : Bool) (r : Row) (rs : List Row) (row zs : List ℤ) (ks : List Kept) → IsMadeRow n w short plain row → row_of_numbers n row ≡ r
+    → AreMade n w rs (to + row_length n w) rest zs ks → AreMade n w (r ∷ rs) to (plain && rest) (row ++ zs) (kept.At (record { first = to; short = short }) ∷ ks)
+made_at n w to short plain rest r rs row zs ks h e m =
     let l = row_length n w in
     let front : take l (row ++ zs) ≡ row = take_at row zs l h.length in
     let behind : drop l (row ++ zs) ≡ zs = drop_at row zs l h.length in
     let long : length (row ++ zs) ≡ l + length zs = length-append row zs ∙ ap (λ k. k + length zs) h.length in
     let end : (to + l) + length zs ≡ to + length (row ++ zs) = omega (arith, long) in
-    let kept : IsMadeRow n w short b row = record { length = h.length; row = h.row; reduced = h.reduced; short = h.short; plain = λ s. h.plain (so s) } in
+    let b = plain && rest in
     record {
-      along = (subst (IsMadeRow n w short b) (sym front) kept, subst (λ (ys : List ℤ). AreAlong n w b ys ks) (sym behind) m.along);
+      along = (
+        subst (IsMadeRow n w short b) (sym front) (less_row n w short plain b row (λ s. (both plain rest s).0) h),
+        subst (λ (ys : List ℤ). AreAlong n w b ys ks) (sym behind) (less_along n w rest b zs ks (λ s. (both plain rest s).1) m.along),
+      );
       rows = ap (λ (ys : List ℤ). row_of_numbers n ys ∷ rows_along n w (drop l (row ++ zs)) ks) front
           ∙ ap (λ (ys : List ℤ). row_of_numbers n row ∷ rows_along n w ys ks) behind
           ∙ ap (λ (s : Row). s ∷ rows_along n w zs ks) e
@@ -76,17 +88,17 @@ module _ (n w c to : ℕ) (b : Bool) (p : Row) (f g : List Row → List Row) (pa
       (made_unit n w k to b (eliminated p c (unit_row n w k)) (g (rows_along n w zs rest)) now rest_now here.0 (unit_turned n w k c p here.0 hp.column other hp.row hp.positive) made)
 
   pub part_at : (q : RowPlace) (s other : Bool) (row behind row_now : List ℤ) → IsFirst ks first rest (kept.At q) → row ≡ take (row_length n w) zs → behind ≡ drop (row_length n w) zs
-      → row_of_numbers n row_now ≡ eliminated p c (row_of_numbers n row) → IsMadeRow n w s other row_now → (IsTrue b → IsTrue other) → AreMade n w (g (rows_along n w behind rest)) (to + row_length n w) b now rest_now
-      → AreMade n w (f (rows_along n w zs ks)) to b (row_now ++ now) (slice_set first 0 (kept.At (record { first = to; short = s })) ++ rest_now)
-  part_at q s other row behind row_now h is_row is_behind value own so made =
+      → row_of_numbers n row_now ≡ eliminated p c (row_of_numbers n row) → IsMadeRow n w s other row_now → AreMade n w (g (rows_along n w behind rest)) (to + row_length n w) b now rest_now
+      → AreMade n w (f (rows_along n w zs ks)) to (other && b) (row_now ++ now) (slice_set first 0 (kept.At (record { first = to; short = s })) ++ rest_now)
+  part_at q s other row behind row_now h is_row is_behind value own made =
       rw (h.whole, h.alone, ← is_row, ← is_behind, parts (row_of_numbers n row) (rows_along n w behind rest))
-      (made_at n w to s other b (eliminated p c (row_of_numbers n row)) (g (rows_along n w behind rest)) row_now now rest_now own value so made)
+      (made_at n w to s other b (eliminated p c (row_of_numbers n row)) (g (rows_along n w behind rest)) row_now now rest_now own value made)
 
   pub part_column : (solved : List ℤ) → IsFirst ks first rest (kept.Unit c) → IsMadeRow n w true true solved → row_of_numbers n solved ≡ eliminated p c (unit_row n w c)
       → AreMade n w (g (rows_along n w zs rest)) (to + row_length n w) b now rest_now → AreMade n w (f (rows_along n w zs ks)) to b (solved ++ now) (slice_set first 0 (kept.At (record { first = to; short = true })) ++ rest_now)
   part_column solved h own value made =
       rw (h.whole, h.alone, parts (unit_row n w c) (rows_along n w zs rest))
-      (made_at n w to true true b (eliminated p c (unit_row n w c)) (g (rows_along n w zs rest)) solved now rest_now own value (λ s. refl) made)
+      (made_at n w to true true b (eliminated p c (unit_row n w c)) (g (rows_along n w zs rest)) solved now rest_now own value made)
 
 -- ---- the row that becomes that of the column
 

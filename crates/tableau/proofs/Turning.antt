@@ -1,5 +1,5 @@
 -- The rows of a tableau in a pivot, as they are kept.
-use Rattle.tableau.proofs.Words.{◌≡◌, refl, ap, sym, ◌∙◌, subst, ℕ, zero, suc, ◌+◌, ◌-◌, ◌<◌, ◌≤◌, ◌≢◌, ℤ, pos, ◌≤ℤ◌, ◌*ℤ◌, true, ◌&&◌, List, [], ◌∷◌, ◌++◌, length, map, take, drop, replicate, arith, append_assoc, get_or, get_or-set_other, IsTrue, All, slice_set, take-append-drop, get_or-take, get_or-drop, map-append, get_or-replicate, length-map, take-map, drop-map, get_or-map, All-head, All-tail, All-append, All-take, All-drop, fits, entry, scale, width, all_fit, Row, row_at, form_row, unit_row, eliminated, eliminated_listed, pivot, pivot_listed, IsSteady, row_length, row_from_place, KeptRows, IsSpare, SameShape, with_more, with_rows, IsRow, IsReduced, IsShortRow, short_eliminated, flat_map-append, content-one, eliminated_none, checked_sides, eliminated_listed-none, all_fit-append, any_zero, by_one, unit_parts}
+use Rattle.tableau.proofs.Words.{◌≡◌, refl, ap, sym, ◌∙◌, subst, ℕ, zero, suc, ◌+◌, ◌-◌, ◌<◌, ◌≤◌, ◌≢◌, ℤ, pos, ◌≤ℤ◌, ◌*ℤ◌, true, ◌&&◌, List, [], ◌∷◌, ◌++◌, length, map, take, drop, replicate, arith, append_assoc, get_or, get_or-set_other, IsTrue, All, slice_set, take-append-drop, get_or-take, get_or-drop, map-append, get_or-replicate, length-map, take-map, drop-map, get_or-map, All-head, All-tail, fits, entry, scale, width, all_fit, Row, row_at, form_row, unit_row, eliminated, eliminated_listed, pivot, pivot_listed, IsSteady, row_length, row_from_place, KeptRows, IsSpare, SameShape, with_more, with_rows, IsRow, IsReduced, IsShortRow, short_eliminated, flat_map-append, content-one, eliminated_none, checked_sides, eliminated_listed-none, all_fit-append, any_zero, by_one, unit_parts, All-append, All-take, All-drop}
 use Rattle.std.proofs.Common.{flat_map}
 use Rattle.std.proofs.lemmas.List.Folds.{flat_map-map}
 use Rattle.std.proofs.lemmas.Simd.{map-map}

@@ -29,79 +29,74 @@ fn check_row(p: &RowView<'_>, c: usize, row: &RowView<'_>) -> Result<(), Overflo
     check_eliminated(p, c, row)
 }
 
-// Adds what a kept row is after the pivot on row p and column c. A row that is 0 in the column stays, since its numbers
-// have no common divisor.
-fn turn_row(
-    next: &mut FlatRows,
-    p: &RowView<'_>,
+// A pivot on row p and column c of rows as they are lent.
+#[derive(Drop)]
+struct LentPivot<'t> {
+    lent: Lent<'t>,
+    p: RowView<'t>,
     c: usize,
-    lent: &Lent<'_>,
-    one: Kept,
-) -> Result<(), Overflow>
+    ghost solvable: { IsSolvable lent.unknowns lent.width (row_of p) c },
+}
+
+// Adds what a kept row is after the pivot. A row that is 0 in the column stays, since its numbers have no common
+// divisor.
+fn turn_row(next: &mut FlatRows, pivot: &LentPivot<'_>, one: Kept) -> Result<(), Overflow>
     requires room { length next.old.rows < next.old.most }
-    requires over { IsOver next.old lent.now }
-    requires one { IsLent lent.now one }
-    requires p { IsSolvable lent.now.unknowns lent.now.width (row_of p.now) c }
-    ensures listed { IsChecked is_overflow (model.eliminated_listed (row_of p.now) c (lent_row lent.now one)) result }
-    ensures ok { OnOk result
-        (next.new ≡ with_more next.old (model.eliminated (row_of p.now) c (lent_row lent.now one))) }
+    requires over { IsOver next.old pivot.now.lent }
+    requires one { IsLent pivot.now.lent one }
+    ensures listed { IsChecked is_overflow
+        (model.eliminated_listed (row_of pivot.now.p) pivot.now.c (lent_row pivot.now.lent one)) result }
+    ensures ok { OnOk result (next.new
+        ≡ with_more next.old (model.eliminated (row_of pivot.now.p) pivot.now.c (lent_row pivot.now.lent one))) }
     ensures err { OnErr result (next.new ≡ next.old) }
 {
-    let row = lent.row(one);
-    check_row(p, c, &row)?;
-    if row.coefs[c] == 0 {
-        copy_kept(next, lent, one);
+    let row = pivot.lent.row(one);
+    check_row(&pivot.p, pivot.c, &row)?;
+    if row.coefs[pivot.c] == 0 {
+        copy_kept(next, &pivot.lent, one);
     } else {
-        next.push_eliminated(p, c, &row, lent.run(one));
+        next.push_eliminated(&pivot.p, pivot.c, &row, pivot.lent.run(one));
     }
     Ok(())
 }
 
-// The same, where the row of column c itself is p solved for the column, if p is short.
-fn turn_kept(
-    next: &mut FlatRows,
-    p: &RowView<'_>,
-    c: usize,
-    lent: &Lent<'_>,
-    one: Kept,
-) -> Result<(), Overflow>
+// The same, where the row of the column itself is p solved for it, if p is short.
+fn turn_kept(next: &mut FlatRows, pivot: &LentPivot<'_>, one: Kept) -> Result<(), Overflow>
     requires room { length next.old.rows < next.old.most }
-    requires over { IsOver next.old lent.now }
-    requires one { IsLent lent.now one }
-    requires p { IsSolvable lent.now.unknowns lent.now.width (row_of p.now) c }
-    ensures listed { IsChecked is_overflow (model.eliminated_listed (row_of p.now) c (lent_row lent.now one)) result }
-    ensures ok { OnOk result
-        (next.new ≡ with_more next.old (model.eliminated (row_of p.now) c (lent_row lent.now one))) }
+    requires over { IsOver next.old pivot.now.lent }
+    requires one { IsLent pivot.now.lent one }
+    ensures listed { IsChecked is_overflow
+        (model.eliminated_listed (row_of pivot.now.p) pivot.now.c (lent_row pivot.now.lent one)) result }
+    ensures ok { OnOk result (next.new
+        ≡ with_more next.old (model.eliminated (row_of pivot.now.p) pivot.now.c (lent_row pivot.now.lent one))) }
     ensures err { OnErr result (next.new ≡ next.old) }
 {
     if let Kept::Unit(k) = one {
-        if k == c && p.is_known_short() {
-            next.push_solved(p, c);
+        if k == pivot.c && pivot.p.is_known_short() {
+            next.push_solved(&pivot.p, pivot.c);
             return Ok(());
         }
     }
-    turn_row(next, p, c, lent, one)
+    turn_row(next, pivot, one)
 }
 
 // The place behind the row's numbers, which stand at the place if it has any, where the row is known to stay as it is
-// in the pivot on row p and column c: the row of another column, or a short one under a short p that is 0 in the
-// column.
-fn steady_end(p: &RowView<'_>, c: usize, lent: &Lent<'_>, one: Kept, at: usize) -> Option<usize>
-    requires one { IsLent lent.now one }
-    requires p { IsSolvable lent.now.unknowns lent.now.width (row_of p.now) c }
+// in the pivot: the row of another column, or a short one under a short p that is 0 in the column.
+fn steady_end(pivot: &LentPivot<'_>, one: Kept, at: usize) -> Option<usize>
+    requires one { IsLent pivot.now.lent one }
     ensures run { IfSome result (λ end.
-        IsRun (row_length lent.now.unknowns lent.now.width) at end (one ∷ [])) }
-    ensures steady { OnSome result (IsSteady (row_of p.now) c (lent_row lent.now one)) }
+        IsRun (row_length pivot.now.lent.unknowns pivot.now.lent.width) at end (one ∷ [])) }
+    ensures steady { OnSome result (IsSteady (row_of pivot.now.p) pivot.now.c (lent_row pivot.now.lent one)) }
 {
     match one {
-        Kept::Unit(k) => { if k != c { Some(at) } else { None } }
+        Kept::Unit(k) => { if k != pivot.c { Some(at) } else { None } }
         Kept::At(place) => {
             if place.first == at
                 && place.short
-                && p.is_known_short()
-                && lent.numbers[at + 1 + c] == 0
+                && pivot.p.is_known_short()
+                && pivot.lent.numbers[at + 1 + pivot.c] == 0
             {
-                Some(lent.behind(one, at))
+                Some(pivot.lent.behind(one, at))
             } else {
                 None
             }
@@ -109,18 +104,18 @@ fn steady_end(p: &RowView<'_>, c: usize, lent: &Lent<'_>, one: Kept, at: usize) 
     }
 }
 
-// How many kept rows in front are known to stay as they are in the pivot on row p and column c, with numbers that
-// follow one another from the place on, and the place behind them.
-fn steady(p: &RowView<'_>, c: usize, lent: &Lent<'_>, kept: &[Kept], first: usize) -> (usize, usize)
-    requires lent { AreLent lent.now kept.now }
-    requires p { IsSolvable lent.now.unknowns lent.now.width (row_of p.now) c }
+// How many kept rows in front are known to stay as they are in the pivot, with numbers that follow one another from the
+// place on, and the place behind them.
+fn steady(pivot: &LentPivot<'_>, kept: &[Kept], first: usize) -> (usize, usize)
+    requires lent { AreLent pivot.now.lent kept.now }
     ensures count { result.0 ≤ length kept.now }
-    ensures run { IsRun (row_length lent.now.unknowns lent.now.width) first result.1 (take result.0 kept.now) }
-    ensures steady { AreSteady (row_of p.now) c lent.now (take result.0 kept.now) }
+    ensures run { IsRun (row_length pivot.now.lent.unknowns pivot.now.lent.width) first result.1
+        (take result.0 kept.now) }
+    ensures steady { AreSteady (row_of pivot.now.p) pivot.now.c pivot.now.lent (take result.0 kept.now) }
 {
     let mut at = first;
     for i in 0..kept.len() {
-        match steady_end(p, c, lent, kept[i], at) {
+        match steady_end(pivot, kept[i], at) {
             Some(end) => at = end,
             None => return (i, at),
         }
@@ -128,56 +123,52 @@ fn steady(p: &RowView<'_>, c: usize, lent: &Lent<'_>, kept: &[Kept], first: usiz
     (kept.len(), at)
 }
 
-// Adds the kept rows in front that are known to stay as they are in the pivot on row p and column c, as one run from
-// the place on; the rows behind them, and the place there.
+// Adds the kept rows in front that are known to stay as they are in the pivot, as one run from the place on; the rows
+// behind them, and the place there.
 fn push_steady<'k>(
     next: &mut FlatRows,
-    p: &RowView<'_>,
-    c: usize,
-    lent: &Lent<'_>,
+    pivot: &LentPivot<'_>,
     kept: &'k [Kept],
     first: usize,
 ) -> (&'k [Kept], usize)
     requires room { length next.old.rows + length kept.now ≤ next.old.most }
-    requires over { IsOver next.old lent.now }
-    requires lent { AreLent lent.now kept.now }
-    requires p { IsSolvable lent.now.unknowns lent.now.width (row_of p.now) c }
-    ensures { AreLeft (row_of p.now) c lent.now next.old kept.now next.new result.0.now }
+    requires over { IsOver next.old pivot.now.lent }
+    requires lent { AreLent pivot.now.lent kept.now }
+    ensures { AreLeft (row_of pivot.now.p) pivot.now.c pivot.now.lent next.old kept.now next.new result.0.now }
 {
-    let (count, end) = steady(p, c, lent, kept, first);
+    let (count, end) = steady(pivot, kept, first);
     let (run, rest) = kept.split_at(count);
-    next.push_run(lent, run, first, end);
+    next.push_run(&pivot.lent, run, first, end);
     (rest, end)
 }
 
-// Adds what the kept rows are after the pivot on row p and column c. Rows that stay are copied as one run where their
-// numbers follow one another, at first from the place on.
+// Adds what the kept rows are after the pivot. Rows that stay are copied as one run where their numbers follow one
+// another, at first from the place on.
 fn turn_rows(
     next: &mut FlatRows,
-    p: &RowView<'_>,
-    c: usize,
-    lent: &Lent<'_>,
+    pivot: &LentPivot<'_>,
     kept: &[Kept],
     first: usize,
 ) -> Result<(), Overflow>
     requires room { length next.old.rows + length kept.now ≤ next.old.most }
-    requires over { IsOver next.old lent.now }
-    requires lent { AreLent lent.now kept.now }
-    requires p { IsSolvable lent.now.unknowns lent.now.width (row_of p.now) c }
-    ensures listed { IsChecked is_overflow (turned_listed (row_of p.now) c lent.now kept.now) result }
-    ensures ok { OnOk result (next.new ≡ with_rows next.old (turned (row_of p.now) c lent.now kept.now)) }
+    requires over { IsOver next.old pivot.now.lent }
+    requires lent { AreLent pivot.now.lent kept.now }
+    ensures listed { IsChecked is_overflow
+        (turned_listed (row_of pivot.now.p) pivot.now.c pivot.now.lent kept.now) result }
+    ensures ok { OnOk result
+        (next.new ≡ with_rows next.old (turned (row_of pivot.now.p) pivot.now.c pivot.now.lent kept.now)) }
     ensures shape { SameShape next.new next.old }
 {
     let mut rest = kept;
     let mut at = first;
     loop {
-        let (behind, end) = push_steady(next, p, c, lent, rest, at);
+        let (behind, end) = push_steady(next, pivot, rest, at);
         match behind {
             [] => return Ok(()),
             [one, tail @ ..] => {
-                turn_kept(next, p, c, lent, *one)?;
+                turn_kept(next, pivot, *one)?;
                 rest = tail;
-                at = lent.behind(*one, end);
+                at = pivot.lent.behind(*one, end);
             }
         }
     }
@@ -200,9 +191,10 @@ impl FlatRows {
         ensures swapped { OnOk result (IsSpare next.new self.now units.now) }
     {
         let (lent, front, p, back, end) = self.sides(units, r, next);
-        turn_rows(next, &p, c, &lent, front, 0)?;
+        let pivot = LentPivot { lent, p, c };
+        turn_rows(next, &pivot, front, 0)?;
         next.push_unit(c);
-        turn_rows(next, &p, c, &lent, back, end)?;
+        turn_rows(next, &pivot, back, end)?;
         Ok(())
     }
 }

@@ -26,14 +26,6 @@ fn is_worth_while(unknowns: usize, rows: usize) -> bool {
     MANY <= unknowns && rows <= MOST
 }
 
-// Whether both hold.
-fn both(first: bool, second: bool) -> bool
-    ensures first { IsTrue result → IsTrue first }
-    ensures second { IsTrue result → IsTrue second }
-{
-    first && second
-}
-
 // Whether the row is that of another column, or known to be short.
 fn is_ready(one: Kept, c: usize) -> bool
     ensures { result ≡ along.is_ready c one }
@@ -104,68 +96,64 @@ fn is_plain(row: &RowView<'_>) -> bool
     }
 }
 
-// Makes of the numbers of a short row those after the pivot on row p and column c; whether they are known to be short,
-// and whether the row is not that of a column.
-fn turn_row(
-    row: &mut [i128],
+// A pivot on a short row p and column c of rows over so many columns and places, and the numbers of p solved for the
+// column.
+#[derive(Drop)]
+struct Pivot<'t> {
     unknowns: usize,
     width: usize,
-    p: &RowView<'_>,
+    p: RowView<'t>,
     c: usize,
-) -> (bool, bool)
-    requires row { IsMadeRow unknowns width true true row.old }
-    requires p { IsSolvable unknowns width (row_of p.now) c }
-    requires short { IsShortRow (row_of p.now) }
-    ensures value { row_of_numbers unknowns row.new
-        ≡ model.eliminated (row_of p.now) c (row_of_numbers unknowns row.old) }
-    ensures made { IsMadeRow unknowns width result.0 result.1 row.new }
+    solved: &'t [i128],
+    ghost solvable: { IsSolvable unknowns width (row_of p) c },
+    ghost short: { IsShortRow (row_of p) },
+    ghost solved_numbers: { IsMadeRow unknowns width true true solved.now },
+    ghost solved_row: { row_of_numbers unknowns solved.now
+        ≡ model.eliminated (row_of p) c (model.unit_row unknowns width c) },
+}
+
+// Makes of the numbers of a short row those after the pivot; whether they are known to be short, and whether the row is
+// not that of a column.
+fn turn_row(row: &mut [i128], pivot: &Pivot<'_>) -> (bool, bool)
+    requires { IsMadeRow pivot.now.unknowns pivot.now.width true true row.old }
+    ensures value { row_of_numbers pivot.now.unknowns row.new
+        ≡ model.eliminated (row_of pivot.now.p) pivot.now.c (row_of_numbers pivot.now.unknowns row.old) }
+    ensures made { IsMadeRow pivot.now.unknowns pivot.now.width result.0 result.1 row.new }
 {
-    if row[1 + c] == 0 {
+    if row[1 + pivot.c] == 0 {
         return (true, true);
     }
-    let short = eliminate(row, p, c, true);
-    let plain = is_plain(&view_of(row, unknowns, short));
+    let short = eliminate(row, &pivot.p, pivot.c, true);
+    let plain = is_plain(&view_of(row, pivot.unknowns, short));
     (short, plain)
 }
 
-// Makes of rows, which are ready, those after the pivot on row p and column c, whose numbers begin at a place; whether
-// none of them is that of a column, and none was so far.
-fn turn_part(
-    numbers: &mut [i128],
-    kept: &mut [Kept],
-    unknowns: usize,
-    width: usize,
-    to: usize,
-    p: &RowView<'_>,
-    c: usize,
-    plain: bool,
-) -> bool
-    requires along { AreAlong unknowns width true numbers.old kept.old }
-    requires ready { IsTrue (list_all (along.is_ready c) kept.old) }
-    requires p { IsSolvable unknowns width (row_of p.now) c }
-    requires short { IsShortRow (row_of p.now) }
+// Makes of rows, which are ready, those after the pivot, whose numbers begin at a place; whether none of them that has
+// numbers is that of a column.
+fn turn_part(numbers: &mut [i128], kept: &mut [Kept], pivot: &Pivot<'_>, to: usize) -> bool
+    requires along { AreAlong pivot.now.unknowns pivot.now.width true numbers.old kept.old }
+    requires ready { IsTrue (list_all (along.is_ready pivot.now.c) kept.old) }
     requires places { to + length numbers.old < 2 ^ 64 }
-    ensures made { AreMade unknowns width
-        (map (model.eliminated (row_of p.now) c) (rows_along unknowns width numbers.old kept.old))
+    ensures { AreMade pivot.now.unknowns pivot.now.width
+        (map (model.eliminated (row_of pivot.now.p) pivot.now.c)
+        (rows_along pivot.now.unknowns pivot.now.width numbers.old kept.old))
         to result numbers.new kept.new }
-    ensures plain { IsTrue result → IsTrue plain }
 {
     if kept.len() == 0 {
-        return plain;
+        return true;
     }
     let (first, rest) = kept.split_at_mut(1);
     match first[0] {
-        Kept::Unit(_) => turn_part(numbers, rest, unknowns, width, to, p, c, plain),
+        Kept::Unit(_) => turn_part(numbers, rest, pivot, to),
         Kept::At(_) => {
-            let size = unknowns + width + 2;
+            let size = pivot.unknowns + pivot.width + 2;
             let (row, behind) = numbers.split_at_mut(size);
-            let made = turn_row(row, unknowns, width, p, c);
+            let made = turn_row(row, pivot);
             first[0] = Kept::At(RowPlace {
                 first: to,
                 short: made.0,
             });
-            let plain = both(plain, made.1);
-            turn_part(behind, rest, unknowns, width, to + size, p, c, plain)
+            made.1 & turn_part(behind, rest, pivot, to + size)
         }
     }
 }
@@ -176,106 +164,68 @@ fn turn_middle(
     numbers: &mut [i128],
     kept: &mut [Kept],
     k: usize,
-    unknowns: usize,
-    width: usize,
+    pivot: &Pivot<'_>,
     to: usize,
-    p: &RowView<'_>,
-    c: usize,
-    plain: bool,
 ) -> bool
-    requires along { AreAlong unknowns width true numbers.old kept.old }
-    requires ready { IsTrue (along.is_ready_middle c k kept.old) }
-    requires p { IsSolvable unknowns width (row_of p.now) c }
-    requires short { IsShortRow (row_of p.now) }
+    requires along { AreAlong pivot.now.unknowns pivot.now.width true numbers.old kept.old }
+    requires ready { IsTrue (along.is_ready_middle pivot.now.c k kept.old) }
     requires places { to + length numbers.old < 2 ^ 64 }
-    ensures made { AreMade unknowns width
-        (pivoted unknowns width (row_of p.now) c k (rows_along unknowns width numbers.old kept.old))
-        to result (drop (row_length unknowns width) numbers.new) kept.new }
-    ensures plain { IsTrue result → IsTrue plain }
+    ensures { AreMade pivot.now.unknowns pivot.now.width
+        (pivoted pivot.now.unknowns pivot.now.width (row_of pivot.now.p) pivot.now.c k
+        (rows_along pivot.now.unknowns pivot.now.width numbers.old kept.old))
+        to result (drop (row_length pivot.now.unknowns pivot.now.width) numbers.new) kept.new }
 {
-    let size = unknowns + width + 2;
+    let size = pivot.unknowns + pivot.width + 2;
     let (first, rest) = kept.split_at_mut(1);
     if k == 0 {
         let (_, behind) = numbers.split_at_mut(size);
-        first[0] = Kept::Unit(c);
-        return turn_part(behind, rest, unknowns, width, to, p, c, plain);
+        first[0] = Kept::Unit(pivot.c);
+        return turn_part(behind, rest, pivot, to);
     }
     match first[0] {
-        Kept::Unit(_) => turn_middle(numbers, rest, k - 1, unknowns, width, to, p, c, plain),
+        Kept::Unit(_) => turn_middle(numbers, rest, k - 1, pivot, to),
         Kept::At(_) => {
             let (row, behind) = numbers.split_at_mut(size);
-            let made = turn_row(row, unknowns, width, p, c);
+            let made = turn_row(row, pivot);
             first[0] = Kept::At(RowPlace {
                 first: to,
                 short: made.0,
             });
-            let plain = both(plain, made.1);
-            let plain = turn_middle(behind, rest, k - 1, unknowns, width, to + size, p, c, plain);
+            let plain = turn_middle(behind, rest, k - 1, pivot, to + size);
             let (room, _) = behind.split_at_mut(size);
             room.copy_from_slice(row);
-            plain
+            made.1 & plain
         }
     }
 }
 
-// Makes of rows those after the pivot on row p and column c, but that row k becomes that of the column; the row of the
-// column in front of it gets the numbers of p solved for it.
+// Makes of rows those after the pivot, but that row k becomes that of the column; the row of the column in front of it
+// gets the numbers of p solved for it.
 fn turn_front(
     numbers: &mut [i128],
     kept: &mut [Kept],
     k: usize,
-    unknowns: usize,
-    width: usize,
+    pivot: &Pivot<'_>,
     to: usize,
-    p: &RowView<'_>,
-    c: usize,
-    solved: &[i128],
-    plain: bool,
 ) -> bool
-    requires along { AreAlong unknowns width true numbers.old kept.old }
-    requires ready { IsTrue (along.is_ready_front c k kept.old) }
-    requires p { IsSolvable unknowns width (row_of p.now) c }
-    requires short { IsShortRow (row_of p.now) }
-    requires places { to + row_length unknowns width + length numbers.old < 2 ^ 64 }
-    requires solved { IsMadeRow unknowns width true true solved.now }
-    requires solved_row { row_of_numbers unknowns solved.now
-        ≡ model.eliminated (row_of p.now) c (model.unit_row unknowns width c) }
-    ensures made { AreMade unknowns width
-        (pivoted unknowns width (row_of p.now) c k (rows_along unknowns width numbers.old kept.old))
+    requires along { AreAlong pivot.now.unknowns pivot.now.width true numbers.old kept.old }
+    requires ready { IsTrue (along.is_ready_front pivot.now.c k kept.old) }
+    requires places { to + row_length pivot.now.unknowns pivot.now.width + length numbers.old < 2 ^ 64 }
+    ensures { AreMade pivot.now.unknowns pivot.now.width
+        (pivoted pivot.now.unknowns pivot.now.width (row_of pivot.now.p) pivot.now.c k
+        (rows_along pivot.now.unknowns pivot.now.width numbers.old kept.old))
         to result numbers.new kept.new }
-    ensures plain { IsTrue result → IsTrue plain }
 {
-    let size = unknowns + width + 2;
+    let size = pivot.unknowns + pivot.width + 2;
     let (first, rest) = kept.split_at_mut(1);
     match first[0] {
         Kept::Unit(j) => {
-            if j != c {
-                return turn_front(
-                    numbers,
-                    rest,
-                    k - 1,
-                    unknowns,
-                    width,
-                    to,
-                    p,
-                    c,
-                    solved,
-                    plain,
-                );
+            if j != pivot.c {
+                return turn_front(numbers, rest, k - 1, pivot, to);
             }
-            let plain = turn_middle(
-                numbers,
-                rest,
-                k - 1,
-                unknowns,
-                width,
-                to + size,
-                p,
-                c,
-                plain,
-            );
+            let plain = turn_middle(numbers, rest, k - 1, pivot, to + size);
             let (room, _) = numbers.split_at_mut(size);
-            room.copy_from_slice(solved);
+            room.copy_from_slice(pivot.solved);
             first[0] = Kept::At(RowPlace {
                 first: to,
                 short: true,
@@ -284,24 +234,12 @@ fn turn_front(
         }
         Kept::At(_) => {
             let (row, behind) = numbers.split_at_mut(size);
-            let made = turn_row(row, unknowns, width, p, c);
+            let made = turn_row(row, pivot);
             first[0] = Kept::At(RowPlace {
                 first: to,
                 short: made.0,
             });
-            let plain = both(plain, made.1);
-            turn_front(
-                behind,
-                rest,
-                k - 1,
-                unknowns,
-                width,
-                to + size,
-                p,
-                c,
-                solved,
-                plain,
-            )
+            made.1 & turn_front(behind, rest, k - 1, pivot, to + size)
         }
     }
 }
@@ -373,19 +311,14 @@ fn turn_flat(
     let unknowns = next.unknowns();
     let width = next.width();
     let (solved, row) = next.pair()?;
-    let p = view_of(row, unknowns, true);
-    let plain = turn_front(
-        numbers.as_mut_slice(),
-        kept.as_mut_slice(),
-        r,
+    let pivot = Pivot {
         unknowns,
         width,
-        0,
-        &p,
+        p: view_of(row, unknowns, true),
         c,
         solved,
-        true,
-    );
+    };
+    let plain = turn_front(numbers.as_mut_slice(), kept.as_mut_slice(), r, &pivot, 0);
     if !plain {
         lay_again(next, numbers, kept);
     }

@@ -3,4 +3,4 @@ use Rattle.tableau.proofs.Left.{solvable_over}
 use Rattle.tableau.proofs.exchange.turn_kept.Goals as goal
 
 pub push_solved-requires-clause-p : goal.push_solved-requires-clause-p
-push_solved-requires-clause-p c = solvable_over c.args.next.now c.args.lent.now (row_of c.args.p.now) c.args.c c.requires.over c.requires.p
+push_solved-requires-clause-p c = solvable_over c.args.next.now c.args.pivot.now.lent (row_of c.args.pivot.now.p) c.args.pivot.now.c c.requires.over c.args.pivot.now.solvable

@@ -3,6 +3,9 @@ use Rattle.tableau.proofs.Left.{all_made, first_made, formed_next, next_swapped,
 use Rattle.tableau.proofs.Turning.{still_spare, turned_pivot, turned_sides}
 use Rattle.tableau.proofs.flat_rows.FlatRows.turn.Goals as goal
 
+pub invariant_of-pivot : goal.invariant_of-pivot
+invariant_of-pivot c = record { solvable = sides_solvable c.args.c c.sides-end.ensures c.requires.pivot }
+
 pub turn_rows-requires : goal.turn_rows-requires
 turn_rows-requires c =
     let s = c.sides-end.ensures in
@@ -10,7 +13,6 @@ turn_rows-requires c =
       room = omega (arith, s.begun.count, s.begun.spare.room, s.count);
       over = s.begun.over;
       lent = s.front_lent;
-      p = sides_solvable c.args.c s c.requires.pivot;
     }
 
 pub push_unit-requires : goal.push_unit-requires
@@ -31,7 +33,6 @@ turn_rows-requires-2 c =
       room = omega (arith, second.count, second.spare.room);
       over = second.over;
       lent = s.back_lent;
-      p = sides_solvable c.args.c s c.requires.pivot;
     }
 
 pub returns-in_err-turn_rows-clause-listed : goal.returns-in_err-turn_rows-clause-listed
