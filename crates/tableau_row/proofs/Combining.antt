@@ -1,5 +1,5 @@
 -- A row with another put in, in place.
-use Rattle.tableau_row.proofs.Words.{◌≡◌, refl, ap, sym, subst, ◌∙◌, ℕ, ◌+◌, ◌^◌, ◌<◌, ◌≤◌, ℤ, pos, ◌-ℤ◌, ◌*ℤ◌, ◌&&◌, Bool, true, false, List, [], ◌∷◌, ◌++◌, length, take, drop, get_or, set, append_assoc, arith, unsigned_abs, IsTrue, All, slice_set, list_all, ltb-true, lt-ltb, drop_more, take_more, set_at, get_or_at, length-take, take_all, drop_all, append-nil, length-combine, both, fits, combine, remove, all_fit, combine_listed, product_fits, short_fits, Fits, listed_at, is_short, ints}
+use Rattle.tableau_row.proofs.Words.{◌≡◌, refl, ap, sym, subst, ◌∙◌, ℕ, ◌+◌, ◌^◌, ◌<◌, ◌≤◌, ℤ, pos, ◌-ℤ◌, ◌*ℤ◌, ◌&&◌, Bool, true, false, List, [], ◌∷◌, ◌++◌, length, take, drop, get_or, set, append_assoc, arith, unsigned_abs, IsTrue, All, slice_set, list_all, ltb-true, lt-ltb, drop_more, take_more, set_at, get_or_at, length-take, take_all, drop_all, append-nil, length-combine, both, fits, combine, remove, all_fit, combine_listed, product_fits, short_fits, Fits, listed_at, is_short, ints, All-push}
 use Rattle.tableau_row.proofs.Places.{listed_but, remove_parts, set_combine}
 use Rattle.tableau_row.proofs.Unchanged.{set-same}
 
@@ -61,6 +61,16 @@ module _ (a b : ℤ) (r s : List ℤ) (same : length r ≡ length s) (i : ℕ) (
       rw (take_more r i (pos 0) h, take_more s i (pos 0) (omega arith))
       (combine_append a b (take i r) (take i s) (get_or r i (pos 0) ∷ []) (get_or s i (pos 0) ∷ []) front_lengths)
 
+  -- one more of them
+  pub made_taken : (P : ℤ → Type 0) (z : ℤ) → z ≡ a *ℤ get_or r i (pos 0) -ℤ b *ℤ get_or s i (pos 0) → P z → All P (combine a (take i r) b (take i s))
+      → All P (combine a (take (i + 1) r) b (take (i + 1) s))
+  made_taken P z e one all = subst (All P) (sym combine_more) (All-push P _ _ all (subst P e one))
+
+  pub made_step : (old now made : List ℤ) (z : ℤ) → z ≡ a *ℤ get_or r i (pos 0) -ℤ b *ℤ get_or s i (pos 0) → now ≡ old ++ combine a (take i r) b (take i s)
+      → made ≡ now ++ z ∷ [] → made ≡ old ++ combine a (take (i + 1) r) b (take (i + 1) s)
+  made_step old now made z e f g =
+      rw (g, f, e, combine_more) (append_assoc old (combine a (take i r) b (take i s)) ((a *ℤ get_or r i (pos 0) -ℤ b *ℤ get_or s i (pos 0)) ∷ []))
+
   pub combined_step : (now : List ℤ) (z : ℤ) → now ≡ combined a r b s i → z ≡ a *ℤ get_or now i (pos 0) -ℤ b *ℤ get_or s i (pos 0)
       → set now i z ≡ combined a r b s (i + 1)
   combined_step now z e g =
@@ -105,6 +115,16 @@ module _ (a b : ℤ) (r s : List ℤ) (same : length r ≡ length s) (i : ℕ) (
 
 pub combined_all : (a b : ℤ) (r s : List ℤ) (i : ℕ) → length r ≡ length s → length r ≤ i → combined a r b s i ≡ combine a r b s
 combined_all a b r s i same h = rw (take_all i r h, take_all i s (omega arith), drop_all i r h) (append-nil (combine a r b s))
+
+pub combine_taken : (a b : ℤ) (r s : List ℤ) (i : ℕ) → length r ≡ length s → length r ≤ i → combine a (take i r) b (take i s) ≡ combine a r b s
+combine_taken a b r s i same h = rw (take_all i r h, take_all i s (omega arith)) refl
+
+-- a fact of all entries, whose factors x and y are a and b
+pub combine_whole : (P : List ℤ → Type 0) (a b x y : ℤ) (r s : List ℤ) (i : ℕ) → length r ≡ length s → length r ≤ i → x ≡ a → y ≡ b
+    → P (combine x (take i r) y (take i s)) → P (combine a r b s)
+combine_whole P a b x y r s i same h e f all =
+    subst P (combine_taken a b r s i same h)
+    (subst (λ z. P (combine z (take i r) b (take i s))) e (subst (λ z. P (combine x (take i r) z (take i s))) f all))
 
 -- the numbers in front of a place and behind it
 pub listed_sides : (a b : ℤ) (r s : List ℤ) (c : ℕ) → length r ≡ length s → IsTrue (all_fit (combine_listed a (remove c r) b (remove c s)))

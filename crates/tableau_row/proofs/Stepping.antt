@@ -58,3 +58,11 @@ made_twice f r a half b made one two h k e g =
 
 pub reduced_by : (c : ℕ) (p r : Row) → IsElimination p c r → IsReduced (eliminated p c r)
 reduced_by c p r h = eliminated_reduced _ _ c p r h.row h.pivot.positive
+
+-- a row is made of one that is made of row r
+pub made_further : (r half wanted : Row) (one two : Bool) → MakesRow r half one half → IsMadeReduced half two wanted → IsMadeReduced r two wanted
+made_further r half wanted one two h k = record {
+  row = λ n w given. k.row n w (row_over n w r half half r.coefs r.constant refl refl refl h.row given);
+  reduced = k.reduced;
+  short = k.short;
+}

@@ -1,5 +1,5 @@
 -- A row with another put in: its listed numbers and its parts.
-use Rattle.tableau_row.proofs.Words.{◌≡◌, ◌-◌, flat_map, take, drop, refl, ap, sym, ◌∙◌, ℕ, zero, suc, ◌+◌, ℤ, pos, negsuc, ◌*ℤ◌, ◌≤ℤ◌, Bool, true, false, ◌&&◌, List, length-set, arith, subst, IsTrue, All, slice_set, flat_map-append, ints, list_all-append, length-combine, fits, combine, entry, remove, all_fit, combine_listed, Row, substituted, eliminated, eliminated_listed, pivot_listed, row_at, Fits, IsRow, IsReduced, row_from}
+use Rattle.tableau_row.proofs.Words.{length, [], ◌∷◌, ◌++◌, ◌+◌, append_assoc, length-append, numbers_of, ◌≡◌, ◌-◌, flat_map, take, drop, refl, ap, sym, ◌∙◌, ℕ, zero, suc, ℤ, pos, negsuc, ◌*ℤ◌, ◌≤ℤ◌, Bool, true, false, ◌&&◌, List, length-set, arith, subst, IsTrue, All, slice_set, flat_map-append, ints, list_all-append, length-combine, fits, combine, entry, remove, all_fit, combine_listed, Row, substituted, eliminated, eliminated_listed, pivot_listed, row_at, Fits, IsRow, IsReduced, row_from, set-append_right}
 use Rattle.tableau_row.proofs.Contents.{content-divided}
 use Rattle.tableau_row.proofs.Unchanged.{eliminated-none, all_fit-append}
 
@@ -53,6 +53,23 @@ pub substituted_is : (c : ℕ) (p r : Row) (a b den e : ℤ) (coefs constant : L
     → den ≡ r.den *ℤ entry p.coefs c → e ≡ entry r.coefs c *ℤ p.den → coefs ≡ combine a r.coefs b p.coefs → constant ≡ combine a r.constant b p.constant
     → row_from den (slice_set coefs c e) constant ≡ substituted p c r
 substituted_is c p r a b den e coefs constant ea eb f g h k = rw (h, k, f, g, ea, eb) refl
+
+-- its numbers, made part by part
+pub substituted_numbers : (out one two three four coefs constant : List ℤ) (den e : ℤ) (c place : ℕ) → place ≡ length out + 1 + c
+    → one ≡ out ++ den ∷ []
+    → two ≡ one ++ coefs
+    → three ≡ slice_set two place e
+    → four ≡ three ++ constant
+    → four ≡ out ++ numbers_of (row_from den (slice_set coefs c e) constant)
+substituted_numbers out one two three four coefs constant den e c place at f g h k =
+    let front : length (out ++ den ∷ []) ≡ length out + 1 = length-append out (den ∷ []) in
+    let there : place - (length out + 1) ≡ c = omega (arith, at) in
+    let changed : slice_set ((out ++ den ∷ []) ++ coefs) place e ≡ (out ++ den ∷ []) ++ slice_set coefs c e
+    = set-append_right (out ++ den ∷ []) coefs (length out + 1) place e front (omega (arith, at)) ∙ ap (λ i. (out ++ den ∷ []) ++ slice_set coefs i e) there in
+    rw (k, h, g, f, changed) (together out (slice_set coefs c e) constant den)
+  where
+    together : (out coefs constant : List ℤ) (den : ℤ) → ((out ++ den ∷ []) ++ coefs) ++ constant ≡ out ++ den ∷ (coefs ++ constant)
+    together out coefs constant den = simp append_assoc refl
 
 -- a row that is 0 in the column stays
 pub eliminated_none : (n w : ℕ) (p : Row) (c : ℕ) (i : Row) → IsRow n w p → IsRow n w i → pos 1 ≤ℤ entry p.coefs c → entry i.coefs c ≡ pos 0 → IsReduced i → i ≡ eliminated p c i

@@ -1,7 +1,6 @@
 -- The rows of columns, as they are found.
-use Rattle.tableau_row.proofs.Words.{◌≡◌, refl, ap, sym, ◌∙◌, ℕ, zero, suc, ◌+◌, ◌-◌, ◌<◌, ◌≤◌, ℤ, pos, true, false, ◌&&◌, List, [], ◌∷◌, ◌++◌, length, take, drop, replicate, arith, slice_set, IsTrue, list_all, drop-replicate, take-replicate, length-replicate, length-drop, take-append-drop, take_all, get_or-drop, take_more, replicate_more, is_zero, same_number, entry, unit_row, both, is_unit, is_unit_row}
+use Rattle.tableau_row.proofs.Words.{◌≡◌, refl, ap, sym, ◌∙◌, ℕ, zero, suc, ◌+◌, ◌-◌, ◌<◌, ◌≤◌, ℤ, pos, true, false, ◌&&◌, List, [], ◌∷◌, ◌++◌, length, take, drop, replicate, arith, slice_set, IsTrue, list_all, drop-replicate, take-replicate, length-replicate, length-drop, take-append-drop, take_all, get_or-drop, take_more, replicate_more, is_zero, same_number, entry, unit_row, both, is_unit, is_unit_row, is_zero_is, same_number_is}
 use Rattle.std.proofs.lemmas.List.{append-nil}
-use Rattle.pip_model.proofs.Tests.{is_zero_is, same_number_is}
 use Rattle.tableau_row.proofs.Places.{set_parts}
 
 -- zeros with a 1 at place c

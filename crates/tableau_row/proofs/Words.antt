@@ -4,10 +4,10 @@ pub use Rattle.std.specs.Prelude.{IsTrue, All, slice_set, Vec}
 pub use Rattle.std.specs.List.{list_all}
 pub use Rattle.std.proofs.lemmas.Bool.{ltb-true, lt-ltb, eqb-true}
 pub use Rattle.std.proofs.lemmas.List.Sums.{AllPass-from_list_all, list_all-from_AllPass}
-pub use Rattle.std.proofs.lemmas.List.Elements.{All-append, All-take, All-drop, All-replicate, All-cons, All-nil, All-get_or, All-map, All-set}
-pub use Rattle.std.specs.Int.{w128}
+pub use Rattle.std.proofs.lemmas.List.Elements.{All-append, All-take, All-drop, All-replicate, All-cons, All-nil, All-get_or, All-map, All-set, All-push}
+pub use Rattle.std.specs.Int.{w128, w64}
 pub use Rattle.std.proofs.lemmas.Int.{to_z-of_z, fits_signed_from_abs, ints, unsigned_abs-mul}
-pub use Rattle.std.proofs.lemmas.List.{take_at, drop_at, drop-replicate, take-replicate, length-replicate, length-drop, take-append-drop, take_all, get_or-drop, take_more, replicate_more, length-take, map-append, drop_more, set_at, get_or_at, drop_all, length-map, get_or-map, take-map, drop-map}
+pub use Rattle.std.proofs.lemmas.List.{take_at, drop_at, drop-replicate, take-replicate, length-replicate, length-drop, take-append-drop, take_all, get_or-drop, take_more, replicate_more, length-take, map-append, drop_more, set_at, get_or_at, drop_all, length-map, get_or-map, take-map, drop-map, set-append_right, set-get_or}
 pub use Rattle.std.proofs.lemmas.Grind.{flat_map-append, common_steps}
 pub use Rattle.std.proofs.lemmas.List.Folds.{list_all-append}
 pub use Rattle.pip_model.specs.Forms.{entry, width, coefficients, constant, combine, remove, floor_divided, negate, residue, unit_form, add, scale}
@@ -17,7 +17,7 @@ pub use Rattle.affine_forms.specs.Checks.{Fits}
 pub use Rattle.affine_forms.proofs.Short.{short_fits, product_fits}
 pub use Rattle.pip_model.proofs.Forms.{length-combine, entry-negate}
 pub use Rattle.pip_model.specs.Numbers.{fits, is_zero, same_number, gcd, gcd_of, floor_div, euclid}
-pub use Rattle.pip_model.proofs.Tests.{both}
+pub use Rattle.pip_model.proofs.Tests.{both, is_zero_is, same_number_is}
 pub use Rattle.affine_forms.proofs.Divisors.{gcd_assoc, floor_divided_one, gcd_step}
 pub use Rattle.affine_forms.proofs.Combined.{listed_at, listed_step, listed_refused, listed_end}
 pub use Rattle.pip_model.specs.Cuts.{residue_of, rounding, rounded_listed, rounded}

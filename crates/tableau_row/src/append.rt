@@ -1,20 +1,21 @@
 ghost use Rattle.std.specs.Prelude.{◌≡◌, ◌+◌, ◌-◌, ◌<◌, ◌≤◌, [], ◌∷◌, length, All, IsTrue, IfOk, IfSome, OnErr, OnOk, true, vec_len, vec_capacity};
-ghost use Rattle.pip_model.specs.Forms.{negate};
+ghost use Rattle.pip_model.specs.Forms.{combine, negate};
 ghost use Rattle.pip_model.specs.Listed.{all_fit};
 ghost use Rattle.pip_model.specs.Rows as model;
 ghost use Rattle.pip_model.specs.Cuts.{rounded, rounded_listed};
 ghost use Rattle.pip_model.specs.Agreement.{IsChecked};
-ghost use Rattle.affine_forms.specs.Checks.{is_overflow};
+ghost use Rattle.affine_forms.specs.Checks.{Fits, is_overflow};
 ghost use Rattle.tableau_row.specs.Flat.{numbers_of};
-ghost use Rattle.tableau_row.specs.Short.{IsShort, IsShortRow};
+ghost use Rattle.tableau_row.specs.Short.{IsShort, IsShortRow, AreShort, AreShortLists, AreShortRows};
 ghost use Rattle.tableau_row.specs.Rows.{IsOwnRow, IsReduced};
-ghost use Rattle.tableau_row.specs.Steps.{IsPivotRow, IsElimination, IsMadeReduced, Appends, Leaves, column_row};
+ghost use Rattle.tableau_row.specs.Steps.{IsPivotRow, IsElimination, IsMadeReduced, MakesRow, Appends, Leaves, column_row};
 ghost use Rattle.tableau_row.specs.Views.{row_of};
 
 use crate::row::{divide, eliminate, round};
-use crate::short::{both, short_opposite};
+use crate::short::{both, short_entry, short_opposite, with_entry};
 use crate::view::RowView;
 use affine_forms::Overflow;
+use short_numbers::{is_half, narrow, short_product};
 
 /// Appends the entries, for which there is room. It takes no memory, like all that append here.
 pub fn append_entries(numbers: &mut Vec<i128>, entries: &[i128])
@@ -70,9 +71,71 @@ pub fn append_divided(numbers: &mut Vec<i128>, row: &RowView<'_>) -> bool
     divide(last, row.coefs.len(), row.short)
 }
 
-/// Appends the numbers of what the row is after the pivot on row p and column c, which are known to fit; whether they
-/// are known to be short. The run, if any, has the numbers of the row.
-pub fn append_eliminated(
+// Appends `a*r - b*s`, entry by entry, for short numbers; whether those are short too.
+fn append_combined(numbers: &mut Vec<i128>, a: i64, r: &[i128], b: i64, s: &[i128]) -> bool
+    requires room { vec_len numbers.old + length r.now ≤ vec_capacity numbers.old }
+    requires factors { AreShort a b }
+    requires lists { AreShortLists r.now s.now }
+    ensures appended { Appends numbers.old numbers.new (combine a r.now b s.now) }
+    ensures length { vec_len numbers.new ≡ vec_len numbers.old + length r.now }
+    ensures fits { All Fits (combine a r.now b s.now) }
+    ensures short { IsTrue result → All IsShort (combine a r.now b s.now) }
+{
+    let half = both(is_half(a), is_half(b));
+    let mut short = true;
+    for i in 0..r.len() {
+        let (entry, entry_short) = short_entry(half, a, r[i], b, s[i]);
+        short = both(short, entry_short);
+        append_one(numbers, entry);
+    }
+    short
+}
+
+// Appends the numbers of the row with row p, solved for column c, put in; whether they are short. The numbers of both
+// rows are short.
+fn append_substituted(numbers: &mut Vec<i128>, p: &RowView<'_>, c: usize, row: &RowView<'_>) -> bool
+    requires room { vec_len numbers.old + length (numbers_of (row_of row.now)) ≤ vec_capacity numbers.old }
+    requires step { IsElimination (row_of p.now) c (row_of row.now) }
+    requires short { AreShortRows (row_of p.now) (row_of row.now) }
+    ensures appended { Appends numbers.old numbers.new
+        (numbers_of (model.substituted (row_of p.now) c (row_of row.now))) }
+    ensures made { let made = model.substituted (row_of p.now) c (row_of row.now) in
+        MakesRow (row_of row.now) made result made }
+{
+    let a = narrow(p.coefs[c]);
+    let b = narrow(row.coefs[c]);
+    let den = short_product(row.den, p.coefs[c]);
+    let entry = short_product(row.coefs[c], p.den);
+    let place = numbers.len() + 1 + c;
+    append_one(numbers, den);
+    let coefs_short = append_combined(numbers, a, row.coefs, b, p.coefs);
+    numbers[place] = entry;
+    let constant_short = append_combined(numbers, a, row.constant, b, p.constant);
+    both(
+        with_entry(coefs_short, entry),
+        with_entry(constant_short, den),
+    )
+}
+
+// Appends the numbers of what the row is after the pivot on row p and column c, without a copy of the row before;
+// whether they are short. The numbers of both rows are short.
+fn append_made(numbers: &mut Vec<i128>, p: &RowView<'_>, c: usize, row: &RowView<'_>) -> bool
+    requires room { vec_len numbers.old + length (numbers_of (row_of row.now)) ≤ vec_capacity numbers.old }
+    requires step { IsElimination (row_of p.now) c (row_of row.now) }
+    requires short { AreShortRows (row_of p.now) (row_of row.now) }
+    ensures appended { Appends numbers.old numbers.new
+        (numbers_of (model.eliminated (row_of p.now) c (row_of row.now))) }
+    ensures made { IsMadeReduced (row_of row.now) result (model.eliminated (row_of p.now) c (row_of row.now)) }
+{
+    let start = numbers.len();
+    let short = append_substituted(numbers, p, c, row);
+    let (_, last) = numbers.split_at_mut(start);
+    divide(last, row.coefs.len(), short)
+}
+
+// Appends the numbers of what the row is after the pivot on row p and column c, by a copy of the row that is changed in
+// place; whether they are known to be short. The run, if any, has the numbers of the row.
+fn append_in_place(
     numbers: &mut Vec<i128>,
     p: &RowView<'_>,
     c: usize,
@@ -91,6 +154,29 @@ pub fn append_eliminated(
     append_run(numbers, row, run);
     let (_, last) = numbers.split_at_mut(start);
     eliminate(last, p, c, both(p.short, row.short))
+}
+
+/// Appends the numbers of what the row is after the pivot on row p and column c, which are known to fit; whether they
+/// are known to be short. The run, if any, has the numbers of the row.
+pub fn append_eliminated(
+    numbers: &mut Vec<i128>,
+    p: &RowView<'_>,
+    c: usize,
+    row: &RowView<'_>,
+    run: Option<&[i128]>,
+) -> bool
+    requires room { vec_len numbers.old + length (numbers_of (row_of row.now)) ≤ vec_capacity numbers.old }
+    requires step { IsElimination (row_of p.now) c (row_of row.now) }
+    requires run { IfSome run (λ s. s.now ≡ numbers_of (row_of row.now)) }
+    requires listed { IsTrue (all_fit (model.eliminated_listed (row_of p.now) c (row_of row.now))) }
+    ensures appended { Appends numbers.old numbers.new
+        (numbers_of (model.eliminated (row_of p.now) c (row_of row.now))) }
+    ensures made { IsMadeReduced (row_of row.now) result (model.eliminated (row_of p.now) c (row_of row.now)) }
+{
+    if both(p.short, row.short) && p.coefs[c] != 1 {
+        return append_made(numbers, p, c, row);
+    }
+    append_in_place(numbers, p, c, row, run)
 }
 
 // Appends the opposites of short entries, for which there is room.
