@@ -249,6 +249,7 @@ impl Context {
     }
 
     // Makes the run of all forms alone, where that was not tried before, and keeps that of the first of them.
+    #[inline(always)]
     fn prepare(&mut self)
         ensures kept { IsKeptContext self.old self.new }
     {

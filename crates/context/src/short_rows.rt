@@ -10,6 +10,7 @@ use affine_forms::{Form, WantOfMemory};
 use short_tableau::ShortTableau;
 
 // Adds the row of one form, whose numbers have to be short.
+#[inline(always)]
 pub(crate) fn push_short(rows: &mut ShortTableau, form: &Form) -> Result<(), Stop>
     requires narrow { length form.now ≤ rows.old.unknowns + 1 }
     ensures ok { OnOk result (rows.new ≡ record rows.old {

@@ -65,6 +65,7 @@ fn last_turn(rows: &mut ShortTableau, work: &mut Work) -> Result<PointTurn, Stop
 
 // One turn over short rows: a pivot at a row below 0, else a cut at a fraction.
 #[tactic(auto, using(crate::proofs::Turning::turn_is))]
+#[inline(always)]
 pub(crate) fn take_turn(rows: &mut ShortTableau, work: &mut Work) -> Result<PointTurn, Stop>
     requires { rows.old.unknowns ≤ length rows.old.rows }
     ensures gives { IsCountedRun (made rows.old.unknowns rows.new.rows) stop_fault result work.old work.new

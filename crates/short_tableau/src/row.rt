@@ -34,6 +34,7 @@ pub(crate) fn view_of(row: &[i64], unknowns: usize) -> ShortRow<'_>
 }
 
 // Divides a row by the greatest common divisor of its numbers; the new denominator.
+#[inline(always)]
 pub(crate) fn divide_parts(den: i64, coefs: &mut [i64], constant: &mut [i64]) -> i64
     requires positive { pos 1 ≤ℤ den }
     requires short { IsShortRow (row_from den coefs.old constant.old) }

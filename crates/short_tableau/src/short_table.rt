@@ -174,6 +174,7 @@ impl ShortTableau {
     }
 
     /// Adds row i of a tableau over the same columns. A refusal leaves all as it was.
+    #[inline(always)]
     pub fn push_copy(&mut self, t: &ShortTableau, i: usize) -> Result<(), WantOfMemory>
         requires unknowns { t.now.unknowns ≡ self.old.unknowns }
         requires row { i < length t.now.rows }
@@ -224,6 +225,7 @@ impl ShortTableau {
     /// The pivot on row r and column c: the row, solved for the column's quantity, is put into each other row, and
     /// row r becomes the row of the column. Whether all numbers of the rows that are made are short; where one is not,
     /// no row is left. All listed numbers fit. It takes no memory.
+    #[inline(always)]
     pub fn pivot(&mut self, r: usize, c: usize) -> bool
         requires row { r < length self.old.rows }
         requires candidate { IsCandidate self.old.unknowns (model.row_at self.old.rows r) c }

@@ -53,6 +53,7 @@ fn append_form(numbers: &mut Vec<i128>, form: &Form) -> bool
 }
 
 // Keeps the row whose numbers stand last, from the place on: the row of a column as the column.
+#[inline(always)]
 fn seal(
     kept: &mut Vec<Kept>,
     numbers: &mut Vec<i128>,

@@ -18,6 +18,7 @@ use affine_forms::Overflow;
 use short_numbers::{is_half, narrow, short_product};
 
 /// Appends the entries, for which there is room. It takes no memory, like all that append here.
+#[inline(always)]
 pub fn append_entries(numbers: &mut Vec<i128>, entries: &[i128])
     requires room { vec_len numbers.old + length entries.now ≤ vec_capacity numbers.old }
     ensures { Appends numbers.old numbers.new entries.now }

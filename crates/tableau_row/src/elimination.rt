@@ -129,6 +129,7 @@ fn combine_but(a: i128, r: &mut [i128], b: i128, s: &[i128], c: usize, entry: i1
 
 // Divides a row of short numbers by their greatest common divisor; the new denominator.
 #[tactic(auto, using(crate::proofs::ShortRows::fits_short, crate::proofs::ShortRows::short_fit))]
+#[inline(always)]
 fn divide_short_parts(den: i128, coefs: &mut [i128], constant: &mut [i128]) -> i128
     requires row { IsOwnRow (row_from den coefs.old constant.old) }
     requires short { IsShortRow (row_from den coefs.old constant.old) }
@@ -163,6 +164,7 @@ fn divide_long_parts(den: i128, coefs: &mut [i128], constant: &mut [i128]) -> (i
 
 // Divides a row by the greatest common divisor of its numbers; the new denominator, and whether the numbers are known
 // to be short, as before where nothing is divided.
+#[inline(always)]
 pub(crate) fn divide_parts(
     den: i128,
     coefs: &mut [i128],

@@ -57,6 +57,7 @@ fn put_parts(out: &mut Vec<u8>, entry: i128) -> Result<(), AllocError>
 
 /// Appends a blank and a number.
 #[tactic(auto, using(crate::proofs::Spellings::entry_digit, crate::proofs::Spellings::entry_opposite))]
+#[inline(always)]
 pub fn put_entry(out: &mut Vec<u8>, entry: i128) -> Result<(), AllocError>
     ensures ok { Appends (spell_entry entry) out.old.items out.new.items result }
     ensures kept { Begins out.old.items out.new.items }
@@ -79,6 +80,7 @@ pub fn put_number(out: &mut Vec<u8>, number: i128) -> Result<(), AllocError>
 }
 
 /// Appends the bytes.
+#[inline(always)]
 pub fn put(out: &mut Vec<u8>, bytes: &[u8]) -> Result<(), AllocError>
     ensures ok { Appends bytes.now out.old.items out.new.items result }
     ensures kept { Begins out.old.items out.new.items }
