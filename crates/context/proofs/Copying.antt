@@ -1,5 +1,5 @@
 -- A copied run is that from which it was copied.
-use Rattle.context.proofs.Words.{◌≡◌, refl, ap, sym, subst, ℕ, ◌+◌, ◌≤◌, ℤ, Bool, true, false, arith, List, [], ◌∷◌, ◌++◌, length, take, length-append, IsTrue, take-take, take-append-le, length-take-le, IsContext, Row, TableauRows, Remembered, IsFormed, IsReplay, IsSameReplay, IsRemembered, IsKnown, first_rows}
+use Rattle.context.proofs.Words.{◌≡◌, refl, ap, sym, subst, ℕ, ◌+◌, ◌≤◌, ℤ, Bool, true, false, arith, List, [], ◌∷◌, ◌++◌, length, take, length-append, IsTrue, take-take, take-append-le, length-take-le, IsContext, refute_from, Row, TableauRows, Remembered, IsFormed, IsReplay, IsSameReplay, IsRemembered, IsKnown, first_rows}
 use Rattle.context.proofs.Retracing.{retraces-made}
 use Rattle.context.specs.declared.remembered.Replay.{Replay}
 
@@ -19,7 +19,7 @@ replay_same first m copy same is = record {
   within = rw (same.rows, same.columns) is.within;
   number = rw same.end is.number;
   run = rw (same.pivots, same.columns, same.end) is.run;
-  traced = retraces-made m.end.unknowns copy.end.unknowns first m.pivots.rows copy.pivots.rows m.rows.items copy.rows.items m.columns.items copy.columns.items m.end.rows copy.end.rows is.traced
+  traced = retraces-made refute_from m.end.unknowns copy.end.unknowns first m.pivots.rows copy.pivots.rows m.rows.items copy.rows.items m.columns.items copy.columns.items m.end.rows copy.end.rows is.traced
       (ap (λ (t : TableauRows). t.unknowns) same.end) (ap (λ (t : TableauRows). t.rows) same.pivots) same.rows same.columns (ap (λ (t : TableauRows). t.rows) same.end);
 }
 
@@ -40,7 +40,7 @@ over_columns n K m is = subst (λ (w : ℕ). IsRemembered w K m) (sym is.unknown
 length_longer : (K : List (List ℤ)) (c : List ℤ) → length (K ++ c ∷ []) ≡ length K + 1
 length_longer K c = length-append K (c ∷ [])
 
-context_longer : (n : ℕ) (K : List (List ℤ)) (c : List ℤ) → 1 ≤ length c → length c ≤ n + 1 → IsContext n K → IsContext n (K ++ c ∷ [])
+pub context_longer : (n : ℕ) (K : List (List ℤ)) (c : List ℤ) → 1 ≤ length c → length c ≤ n + 1 → IsContext n K → IsContext n (K ++ c ∷ [])
 context_longer n [] c some narrow all = (record { some = some; most = narrow }, tt)
 context_longer n (x ∷ K) c some narrow all = (all.0, context_longer n K c some narrow all.1)
 

@@ -41,27 +41,11 @@ only [] h = absurd (omega arith)
 only (r ∷ []) h = refl
 only (r ∷ s ∷ rows) h = absurd (omega arith)
 
--- at a row from 0 on the point stays
-alone : (rows : List Row) → length rows ≡ 1 → is_nonneg (constant (row_at rows 0).constant) ≡ true → negative_from 0 rows ≡ None
-alone [] h e = absurd (omega arith)
-alone (r ∷ []) h e = by (is_nonneg (constant r.constant)) e
-  where
-    by : (t : Bool) → t ≡ true → (if t then negative_from 1 [] else Some 0) ≡ None
-    by true e = refl
-    by false e = absurd cc
-alone (r ∷ s ∷ rows) h e = absurd (omega arith)
-
-pub ends_point : (now : List Row) → length now ≡ 1 → is_nonneg (constant (row_at now 0).constant) ≡ true → EndsWith now true
-ends_point now one above n E v h e =
+-- behind rows from 0 on the point stays
+pub ends_above : (now : List Row) → negative_from 0 now ≡ None → EndsWith now true
+ends_above now none n E v h e =
     let parts = both (is_none (negative_from 0 E)) (is_none (first_fraction n E)) e in
-    finds_here n E now v h (none_of (negative_from 0 E) parts.0) (alone now one above) (none_of (first_fraction n E) parts.1)
-
--- with no row behind it stays too
-pub ends_alone : (now : List Row) → length now ≡ 0 → EndsWith now true
-ends_alone [] none n E v h e =
-    let parts = both (is_none (negative_from 0 E)) (is_none (first_fraction n E)) e in
-    finds_here n E [] v h (none_of (negative_from 0 E) parts.0) refl (none_of (first_fraction n E) parts.1)
-ends_alone (r ∷ now) none n E v h e = absurd (omega arith)
+    finds_here n E now v h (none_of (negative_from 0 E) parts.0) none (none_of (first_fraction n E) parts.1)
 
 -- at a row below 0 in which no column is positive, there is none
 neither : (a b : Bool) → (a || b) ≡ false → (a ≡ false) × (b ≡ false)
@@ -80,19 +64,6 @@ filter-none f (k ∷ ks) all = rw (all k) (filter-none f ks all)
 pub no_candidates : (p : Row) → list_any is_positive p.coefs ≡ false → candidates p ≡ []
 no_candidates p e = filter-none (λ k. is_positive (entry p.coefs k)) (count_from 0 (length p.coefs)) (λ k. no_entry p.coefs k e)
 
-negative-last : (E : List Row) (r : Row) (i : ℕ) → negative_from i E ≡ None → is_nonneg (constant r.constant) ≡ false → negative_from i (E ++ r ∷ []) ≡ Some (i + length E)
-negative-last [] r i e f = by (is_nonneg (constant r.constant)) f
-  where
-    by : (t : Bool) → t ≡ false → (if t then negative_from (i + 1) [] else Some i) ≡ Some (i + 0)
-    by true e = absurd cc
-    by false e = let g : i ≡ i + 0 = omega arith in ap Some g
-negative-last (x ∷ E) r i e f = by (is_nonneg (constant x.constant)) e (λ h. negative-last E r (i + 1) h f)
-  where
-    by : (t : Bool) → (if t then negative_from (i + 1) E else Some i) ≡ None → (negative_from (i + 1) E ≡ None → negative_from (i + 1) (E ++ r ∷ []) ≡ Some (i + 1 + length E))
-        → (if t then negative_from (i + 1) (E ++ r ∷ []) else Some i) ≡ Some (i + suc (length E))
-    by true e later = let g : i + 1 + length E ≡ i + suc (length E) = omega arith in later e ∙ ap Some g
-    by false e later = absurd cc
-
 -- so the run ends there without a point
 module _ (n : ℕ) (rows : List Row) (r : ℕ) (below : negative_from 0 rows ≡ Some r) (free : candidates (row_at rows r) ≡ []) where
   abbrev p : Row
@@ -109,19 +80,6 @@ module _ (n : ℕ) (rows : List Row) (r : ℕ) (below : negative_from 0 rows ≡
 
   pub finds_none : (v : Work) → finds_point n rows v ≡ Done false v
   finds_none v = ap (λ o. go_on o (λ t. give (is_some (numbers_of t)))) (closed_run_from (point_setting n) falls-constant_class (node_of rows) v v Bottom (closes v))
-
-none_here : (n : ℕ) (E : List Row) (r : Row) (v : Work) → negative_from 0 E ≡ None → is_nonneg (constant r.constant) ≡ false → candidates r ≡ [] → finds_point n (E ++ r ∷ []) v ≡ Done false v
-none_here n E r v e below free =
-    let at : row_at (E ++ r ∷ []) (length E) ≡ r = get_or_at E r [] (form_row 0 []) (length E) refl in
-    let none : 0 + length E ≡ length E = omega arith in
-    let first : negative_from 0 (E ++ r ∷ []) ≡ Some (length E) = negative-last E r 0 e below ∙ ap Some none in
-    finds_none n (E ++ r ∷ []) (length E) first (ap candidates at ∙ free) v
-
-pub ends_none : (now : List Row) → length now ≡ 1 → is_nonneg (constant (row_at now 0).constant) ≡ false → list_any is_positive (row_at now 0).coefs ≡ false → EndsWith now false
-ends_none now one below none n E v h e =
-    let parts = both (is_none (negative_from 0 E)) (is_none (first_fraction n E)) e in
-    ap (λ (rows : List Row). finds_point n (E ++ rows) v) (sym (only now one))
-    ∙ none_here n E (row_at now 0) v (none_of (negative_from 0 E) parts.0) below (no_candidates (row_at now 0) none)
 
 -- so no copy of the last rows is needed
 pub asked_end : (m : Remembered) (rows now : List Row) (w v : Work) (found : Bool) → IsStopped m → m.at_end ≡ true → replayed m.run.pivots.rows m.run.columns.items rows w ≡ Done now v → EndsWith now found

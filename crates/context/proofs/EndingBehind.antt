@@ -1,7 +1,7 @@
 -- Where a run shows a point, the first row behind its own that is below 0 ends it where no column enters there.
-use Rattle.context.proofs.Words.{◌≡◌, ◌∙◌, refl, ap, sym, ℕ, suc, ◌+◌, ◌-◌, arith, Bool, true, false, Option, Some, None, is_none, List, [], ◌∷◌, ◌++◌, length, if◌then◌else◌, get_or-append_right, is_nonneg, constant, entry, Row, row_at, form_row, candidates, first_fraction, Work, Done, Trace, refute_from, with_step, last_step, both, negative_from, node_of, is_end, IsClosing, steps_if}
-use Rattle.context.proofs.Ending.{none_of, no_candidates, no_column, closes}
-use Rattle.context.proofs.Tracing.{next-bottom, refutes-bottom}
+use Rattle.context.proofs.Words.{◌≡◌, ◌∙◌, refl, ap, sym, ℕ, suc, ◌+◌, ◌-◌, arith, Bool, true, false, Option, Some, None, is_none, List, [], ◌∷◌, ◌++◌, length, if◌then◌else◌, get_or-append_right, is_nonneg, constant, entry, Row, row_at, form_row, candidates, first_fraction, Bottom, Work, Done, Trace, refute_from, with_step, last_step, refute-closed, both, negative_from, node_of, is_end, finds_point, EndsWith, IsClosing}
+use Rattle.context.proofs.Ending.{none_of, no_candidates, no_column, closes, finds_none}
+use Rattle.context.proofs.Tracing.{next-bottom}
 
 -- so many places later
 abbrev later : ℕ → Option ℕ → Option ℕ
@@ -51,9 +51,13 @@ module _ (n : ℕ) (E S : List Row) (r : ℕ) (is : IsClosing S r) (end : is_end
   free_here : candidates (row_at (E ++ S) (length E + r)) ≡ []
   free_here = ap candidates row_here ∙ no_candidates (row_at S r) is.none
 
-  pub refuted-behind : (T U : Trace) (v : Work) → U ≡ with_step T (last_step (row_at S r) (entry T.rows (length E + r)) T.columns) → refute_from n T (node_of (E ++ S)) v ≡ Done (steps_if true U) v
-  refuted-behind T U v made =
-      refutes-bottom n (refute_from n T (node_of rows) v) rows T v refl U v
+  pub refuted-behind : (T : Trace) (v : Work)
+      → refute_from n T (node_of (E ++ S)) v ≡ Done (Some (with_step T (last_step (row_at S r) (entry T.rows (length E + r)) T.columns)).steps) v
+  refuted-behind T v =
+      refute-closed n T (node_of rows) Bottom v v (closes n rows k below_here free_here v)
+      ∙ ap (λ (X : Trace). Done (Some X.steps) v)
       (next-bottom n rows T k below_here (no_column n rows k below_here free_here)
-      ∙ ap (λ (R : Row). with_step T (last_step R (entry T.rows (length E + r)) T.columns)) row_here ∙ sym made)
-      (closes n rows k below_here free_here v)
+      ∙ ap (λ (R : Row). with_step T (last_step R (entry T.rows (length E + r)) T.columns)) row_here)
+
+pub ends_below : (now : List Row) (r : ℕ) → IsClosing now r → EndsWith now false
+ends_below now r is n E v h e = finds_none n (E ++ now) (length E + r) (below_here n E now r is e) (free_here n E now r is e) v

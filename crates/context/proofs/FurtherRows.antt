@@ -1,12 +1,7 @@
 -- Rows behind all others: while another is below 0 they are not chosen, so the pivots are the same with them and without them.
-use Rattle.context.proofs.Words.{◌≡◌, ◌∙◌, refl, ap, sym, ℕ, zero, suc, ◌+◌, ◌-◌, ◌<◌, ◌≤◌, ℤ, arith, List, [], ◌∷◌, ◌++◌, length, map, take, drop, Bool, true, false, ◌&&◌, Some, flat_map, if◌then◌else◌, nat_lt, map-append, take-append-le, drop-append-le, flat_map-append, fits, is_nonneg, constant, all_fit, Row, row_at, other_rows, pivot, pivot_listed, entering, entering_listed, eliminated, eliminated_listed, Setting, Node, Again, MinusAt, Work, Outcome, Done, Refused, Pivots, Overflow, go_on, give, listed, left, turn, turn_by, run, run_from, count_pivot, point_setting, negative_from, node_of, turned}
+use Rattle.context.proofs.Words.{◌≡◌, ◌∙◌, refl, ap, sym, ℕ, zero, suc, ◌+◌, ◌-◌, ◌<◌, ◌≤◌, ℤ, arith, List, [], ◌∷◌, ◌++◌, length, map, take, drop, Bool, true, false, ◌&&◌, Some, flat_map, if◌then◌else◌, nat_lt, map-append, append_assoc, take-append-le, drop-append-le, flat_map-append, fits, is_nonneg, constant, all_fit, Row, row_at, other_rows, pivot, pivot_listed, entering, entering_listed, eliminated, eliminated_listed, Setting, Node, Again, MinusAt, Work, Outcome, Done, Refused, Pivots, Overflow, go_on, give, listed, left, turn, turn_by, run, run_from, count_pivot, point_setting, negative_from, node_of, turned}
 use Rattle.std.specs.Prelude.{slice_set}
-use Rattle.std.proofs.lemmas.Bool.{ltb-true}
 use Rattle.context.proofs.Turning.{signs_of, turn_is}
-
-pub append-assoc : {A : Type 0} (xs ys zs : List A) → (xs ++ ys) ++ zs ≡ xs ++ (ys ++ zs)
-append-assoc [] ys zs = refl
-append-assoc (x ∷ xs) ys zs = ap (λ l. x ∷ l) (append-assoc xs ys zs)
 
 row_at-front : (R S : List Row) (r : ℕ) → r < length R → row_at (R ++ S) r ≡ row_at R r
 row_at-front [] S r h = absurd (omega arith)
@@ -38,7 +33,7 @@ module _ (R S : List Row) (r : ℕ) (h : r < length R) where
 
   others : other_rows (R ++ S) r ≡ other_rows R r ++ S
   others =
-      rw (take-append-le r R S (omega arith), drop-append-le (r + 1) R S (omega arith)) (sym (append-assoc (take r R) (drop (r + 1) R) S))
+      rw (take-append-le r R S (omega arith), drop-append-le (r + 1) R S (omega arith)) (sym (append_assoc (take r R) (drop (r + 1) R) S))
 
   pivot_listed-front : (c : ℕ) → pivot_listed (R ++ S) r c ≡ pivot_listed R r c ++ flat_map (eliminated_listed (row_at R r) c) S
   pivot_listed-front c = rw (row_at-front R S r h, others) (flat_map-append (eliminated_listed (row_at R r) c) (other_rows R r) S)
@@ -83,12 +78,6 @@ pub record IsStep (R : List Row) (r c : ℕ) : Type 0 where
   pub compared : all_fit (entering_listed R r) ≡ true
   pub fits : all_fit (pivot_listed R r c) ≡ true
 
-abbrev counted_on : Work → Outcome (Unit {0})
-counted_on w = Done tt w
-
-less : (b p c d : ℕ) → p < b → (b - p) + c + d ≡ suc ((b - (p + 1)) + c + d)
-less b p c d h = omega arith
-
 -- with further rows behind, it turns them
 pub turn-behind : (n : ℕ) (R F : List Row) (r c : ℕ) (w : Work) → IsStep R r c
     → turn (point_setting n) (node_of (R ++ F)) w
@@ -98,34 +87,3 @@ turn-behind n R F r c w is =
     turn_is n (R ++ F) w
     ∙ ap (λ o. turn_by (point_setting n) (node_of (R ++ F)) (signs_of o) w) (negative-front R F 0 r is.below)
     ∙ turn-front (point_setting n) (node_of []) R F r c w is.within is.columns is.enters is.compared is.fits
-
--- and the run goes on
-pub step-front : (n : ℕ) (R F : List Row) (r c : ℕ) (w : Work) → IsStep R r c
-    → run_from (point_setting n) (node_of (R ++ F)) w
-    ≡ go_on (turned (row_at R r) c F w) (λ now. run_from (point_setting n) (node_of (pivot R r c ++ now)))
-step-front n R F r c w is =
-    ap (λ o. go_on o (λ first. run (point_setting n) (left w) first)) (turn-behind n R F r c w is)
-    ∙ counted (nat_lt w.pivots w.budget.pivots) refl
-  where
-    G : List Row
-    G = map (eliminated (row_at R r) c) F
-
-    N : Node
-    N = node_of (pivot R r c ++ G)
-
-    zs : List ℤ
-    zs = flat_map (eliminated_listed (row_at R r) c) F
-
-    checked_run : (t : Bool) (v : Work) → left w ≡ suc (left v)
-        → go_on (go_on (if t then counted_on v else Refused Overflow v) (λ checked. give (Again N))) (λ first. run (point_setting n) (left w) first)
-        ≡ go_on (go_on (if t then counted_on v else Refused Overflow v) (λ checked. give G)) (λ now. run_from (point_setting n) (node_of (pivot R r c ++ now)))
-    checked_run true v e = rw e refl
-    checked_run false v e = refl
-
-    counted : (t : Bool) → nat_lt w.pivots w.budget.pivots ≡ t
-        → go_on (go_on (if t then counted_on (record w { pivots = w.pivots + 1 }) else Refused (Pivots w.budget.pivots) w) (λ counted v. go_on (listed zs v) (λ checked. give (Again N)))) (λ first. run (point_setting n) (left w) first)
-        ≡ go_on (go_on (if t then counted_on (record w { pivots = w.pivots + 1 }) else Refused (Pivots w.budget.pivots) w) (λ counted v. go_on (listed zs v) (λ checked. give G))) (λ now. run_from (point_setting n) (node_of (pivot R r c ++ now)))
-    counted true e =
-        checked_run (all_fit zs) (record w { pivots = w.pivots + 1 })
-        (less w.budget.pivots w.pivots (w.budget.cuts - w.cuts) (w.budget.splits - w.splits) (ltb-true w.pivots w.budget.pivots e))
-    counted false e = refl

@@ -1,8 +1,7 @@
 -- A run remembered goes on with further rows behind its first ones: they are turned by its pivots, and stand behind its last rows.
-use Rattle.context.proofs.Words.{◌≡◌, ◌∙◌, refl, ap, sym, subst, ℕ, ◌+◌, ◌-◌, ◌<◌, ℤ, arith, List, [], ◌∷◌, ◌++◌, length, map, take, get_or, drop, Bool, true, false, flat_map, if◌then◌else◌, IsTrue, Result, Ok, Err, OnOk, is_ok, map-append, drop_more, take_all, take_rest, take-append-drop, flat_map-append, IsContext, all_fit, Row, row_at, form_row, eliminated, eliminated_listed, Work, Outcome, Done, Refused, Overflow, ◌>>◌, go_on, give, listed, count_pivot, run_from, point_setting, refute_from, node_of, turned, replayed, RetracesTo, IsTurned, IsRemembered, IsKnown, exchanges, Remembered}
+use Rattle.context.proofs.Words.{◌≡◌, ◌∙◌, refl, ap, sym, subst, ℕ, ◌+◌, ◌-◌, ◌<◌, ℤ, arith, List, [], ◌∷◌, ◌++◌, length, map, take, get_or, drop, Bool, true, false, flat_map, if◌then◌else◌, IsTrue, Result, Ok, Err, OnOk, is_ok, map-append, drop_more, take_all, take_rest, take-append-drop, append_assoc, flat_map-append, IsContext, all_fit, Row, row_at, form_row, eliminated, eliminated_listed, Work, Outcome, Done, Refused, Overflow, ◌>>◌, go_on, give, listed, count_pivot, Counted, Node, Trace, node_of, turned, replayed, RetracesTo, IsTurned, IsRemembered, IsKnown, exchanges, Remembered}
 use Rattle.std.specs.Prelude.{◌&&◌}
-use Rattle.context.proofs.FurtherRows.{append-assoc, all_fit-append}
-use Rattle.context.proofs.Replaying.{Reaches}
+use Rattle.context.proofs.FurtherRows.{all_fit-append}
 
 abbrev counted_on : Work → Outcome (Unit {0})
 counted_on v = Done tt v
@@ -58,30 +57,17 @@ turned_at ps cs i R now e h fit is =
     (turns_more (row_at ps i) (get_or cs i 0) (drop (i + 1) ps) (drop (i + 1) cs) R now fit is)
 
 -- the further rows stand behind the first ones, and what the pivots made of them behind the last ones
-pub reaches_further : (n : ℕ) (first : List Row) (ps : List Row) (cs : List ℕ) (E R now : List Row) → Reaches n first ps cs E → IsTurned ps cs R now → Reaches n (first ++ R) ps cs (E ++ now)
-reaches_further n first ps cs E R now run is F w =
-    ap (λ (rows : List Row). run_from (point_setting n) (node_of rows) w) (append-assoc first R F)
-    ∙ run (R ++ F) w
-    ∙ ap (λ o. go_on o (λ rows. run_from (point_setting n) (node_of (E ++ rows)))) (is.turns F w)
+pub retraces_further : {Y : Type 0} (run : Trace → Node → Counted Y) (first : List Row) (ps : List Row) (rs cs : List ℕ) (E R now : List Row) → RetracesTo run first ps rs cs E → IsTurned ps cs R now
+    → RetracesTo run (first ++ R) ps rs cs (E ++ now)
+retraces_further run first ps rs cs E R now before is T F w =
+    ap (λ (rows : List Row). run T (node_of rows) w) (append_assoc first R F)
+    ∙ before T (R ++ F) w
+    ∙ ap (λ o. go_on o (λ rows. run (exchanges rs cs T) (node_of (E ++ rows)))) (is.turns F w)
     ∙ each (replayed ps cs F w)
   where
-    each : (o : Outcome (List Row)) → go_on (go_on o (λ more. give (now ++ more))) (λ rows. run_from (point_setting n) (node_of (E ++ rows)))
-        ≡ go_on o (λ rows. run_from (point_setting n) (node_of ((E ++ now) ++ rows)))
-    each (Done more v) = ap (λ (rows : List Row). run_from (point_setting n) (node_of rows) v) (sym (append-assoc E now more))
-    each (Refused f v) = refl
-
--- the same of a run with a trace
-pub retraces_further : (n : ℕ) (first : List Row) (ps : List Row) (rs cs : List ℕ) (E R now : List Row) → RetracesTo n first ps rs cs E → IsTurned ps cs R now
-    → RetracesTo n (first ++ R) ps rs cs (E ++ now)
-retraces_further n first ps rs cs E R now run is T F w =
-    ap (λ (rows : List Row). refute_from n T (node_of rows) w) (append-assoc first R F)
-    ∙ run T (R ++ F) w
-    ∙ ap (λ o. go_on o (λ rows. refute_from n (exchanges rs cs T) (node_of (E ++ rows)))) (is.turns F w)
-    ∙ each (replayed ps cs F w)
-  where
-    each : (o : Outcome (List Row)) → go_on (go_on o (λ more. give (now ++ more))) (λ rows. refute_from n (exchanges rs cs T) (node_of (E ++ rows)))
-        ≡ go_on o (λ rows. refute_from n (exchanges rs cs T) (node_of ((E ++ now) ++ rows)))
-    each (Done more v) = ap (λ (rows : List Row). refute_from n (exchanges rs cs T) (node_of rows) v) (sym (append-assoc E now more))
+    each : (o : Outcome (List Row)) → go_on (go_on o (λ more. give (now ++ more))) (λ rows. run (exchanges rs cs T) (node_of (E ++ rows)))
+        ≡ go_on o (λ rows. run (exchanges rs cs T) (node_of ((E ++ now) ++ rows)))
+    each (Done more v) = ap (λ (rows : List Row). run (exchanges rs cs T) (node_of rows) v) (sym (append_assoc E now more))
     each (Refused f v) = refl
 
 -- ---- a context's run, known of its first forms and then of all

@@ -1,5 +1,5 @@
--- The rows and the context that parts of a run leave together.
-use Rattle.context.proofs.Words.{refl, ◌∙◌, arith, TableauRows, ScopedForms, IsKeptContext, HasSameScope}
+-- What parts of a run leave together, and what a part tells of another that gives the same.
+use Rattle.context.proofs.Words.{◌≡◌, refl, ◌∙◌, ap, arith, subst, Option, Some, None, IfSome, Result, Work, Outcome, Refused, Refusal, Counted, go_on, AgreesCounted, IsCountedRun, TableauRows, ScopedForms, IsKeptContext, HasSameScope}
 
 pub scope_none : (t : TableauRows) → HasSameScope t t
 scope_none t = record { unknowns = refl; width = refl; rows = λ h. h }
@@ -17,3 +17,16 @@ kept_on k between now a b = record {
   forms = b.forms ∙ a.forms;
   spare = omega (arith, a.spare, b.spare);
 }
+
+pub run_same : {X Y E : Type 0} {view : X → Y} {fault : E → Option Refusal} {r : Result X E} {before now : Work} {a b : Counted Y}
+    → IsCountedRun view fault r before now a → a before ≡ b before → IsCountedRun view fault r before now b
+run_same {Y = Y} {view = view} {fault = fault} {r = r} {now = now} told same = record {
+  agrees = subst (λ (o : Outcome Y). AgreesCounted view fault r now o) same told.agrees;
+  counted = told.counted;
+}
+
+-- a part that goes on from another is refused where that is
+pub passes_refusal : {X Y : Type 0} (o : Outcome X) (k : X → Counted Y) (whole : Outcome Y) → whole ≡ go_on o k → (f : Option Refusal) (w : Work)
+    → IfSome f (λ e. o ≡ Refused e w) → IfSome f (λ e. whole ≡ Refused e w)
+passes_refusal o k whole is None w h = h
+passes_refusal o k whole is (Some e) w h = is ∙ ap (λ p. go_on p k) h

@@ -1,6 +1,6 @@
 -- The run without parameters, from one turn to the next, and what it answers.
-use Rattle.context.proofs.Words.{◌≡◌, refl, ap, sym, ◌∙◌, ℕ, zero, suc, ◌<◌, ◌≤◌, ℤ, Bool, true, false, Option, Some, None, List, [], ◌∷◌, length, map, take, is_some, arith, length-append, IfSome, Result, Ok, Err, length-map, constant, Tree, Component, Row, start, Work, Outcome, Done, Refused, Refusal, Turn, Again, Closed, go_on, give, left, leaf, turn, run_from, numbers_of, point, point_run, point_setting, row_component, AgreesCounted, length-count, again_less, again_run, closed_run_from, refused_run_from, falls-constant_class, run_fault, node_of, first_rows, finds_point, ended}
-use Rattle.pip_problem.specs.declared.refusal.Refusal as code
+use Rattle.context.proofs.Words.{◌≡◌, refl, ap, sym, ◌∙◌, ℕ, zero, suc, ◌<◌, ◌≤◌, ℤ, Bool, Option, Some, None, List, [], ◌∷◌, length, arith, length-append, IfSome, Ok, Err, length-map, Tree, Row, start, Work, Outcome, Done, Refused, Refusal, Counted, Turn, Again, Closed, left, turn, run_from, point, point_run, point_setting, length-count, again_less, again_run, closed_run_from, refused_run_from, falls-constant_class, TableauRows, IsCountedRun, HasCounted, counted_none, counted_on, node_of, HasSameScope, ended}
+use Rattle.context.proofs.Leaving.{scope_none, scope_on}
 
 -- ---- the run from its first rows
 
@@ -13,36 +13,49 @@ point_by_run (suc n) (c ∷ forms) w some = refl
 pub length_start : (n w : ℕ) (forms : List (List ℤ)) → n ≤ length (start n w forms)
 length_start n w forms = simp (length-append, length-map, length-count 0 n) (omega arith)
 
-module _ (n : ℕ) (first : List Row) (before : Work) (rows : List Row) (w : Work) (same : run_from (point_setting n) (node_of rows) w ≡ run_from (point_setting n) (node_of first) before) where
+-- ---- turn by turn
+
+-- a run from these rows and counts that goes on from others
+pub record IsOneRun (first now : TableauRows) (before w : Work) : Type 0 where
+  pub scope : HasSameScope first now
+  pub rows : now.unknowns ≤ length now.rows
+  pub counted : HasCounted before w
+  pub same : run_from (point_setting now.unknowns) (node_of now.rows) w ≡ run_from (point_setting first.unknowns) (node_of first.rows) before
+
+pub starts_run : (first : TableauRows) (before : Work) → first.unknowns ≤ length first.rows → IsOneRun first first before before
+starts_run first before h = record { scope = scope_none first; rows = h; counted = counted_none before; same = refl }
+
+module _ (first rows : TableauRows) (before w v : Work) (is : IsOneRun first rows before w) (counted : HasCounted w v) where
   abbrev pub one_turn : Outcome Turn
-  one_turn = turn (point_setting n) (node_of rows) w
+  one_turn = turn (point_setting rows.unknowns) (node_of rows.rows) w
 
-  pub run_goes_on : (next : List Row) (v : Work) → one_turn ≡ Done (Again (node_of next)) v → run_from (point_setting n) (node_of next) v ≡ run_from (point_setting n) (node_of first) before
-  run_goes_on next v e = sym (again_run (point_setting n) falls-constant_class (node_of rows) (node_of next) w v e) ∙ same
+  abbrev pub whole : Counted Tree
+  whole = run_from (point_setting first.unknowns) (node_of first.rows)
 
-  pub run_less : (next : List Row) (v : Work) → one_turn ≡ Done (Again (node_of next)) v → left v < left w
-  run_less next v e = again_less (point_setting n) falls-constant_class (node_of rows) (node_of next) w v e
+  pub run_goes_on : (next : TableauRows) → HasSameScope rows next → one_turn ≡ Done (Again (node_of next.rows)) v → IsOneRun first next before v
+  run_goes_on next scope e = record {
+    scope = scope_on first rows next is.scope scope;
+    rows = omega (arith, scope.unknowns, scope.rows is.rows);
+    counted = counted_on before w v is.counted counted;
+    same = ap (λ k. run_from (point_setting k) (node_of next.rows) v) scope.unknowns
+        ∙ sym (again_run (point_setting rows.unknowns) falls-constant_class (node_of rows.rows) (node_of next.rows) w v e) ∙ is.same;
+  }
 
-  pub run_closed : (tree : Tree) (v : Work) → one_turn ≡ Done (Closed tree) v → run_from (point_setting n) (node_of first) before ≡ Done tree v
-  run_closed tree v e = sym same ∙ closed_run_from (point_setting n) falls-constant_class (node_of rows) w v tree e
+  pub run_less : (next : List Row) → one_turn ≡ Done (Again (node_of next)) v → left v < left w
+  run_less next e = again_less (point_setting rows.unknowns) falls-constant_class (node_of rows.rows) (node_of next) w v e
 
-  pub run_refused : (o : Option Refusal) (v : Work) → IfSome o (λ f. one_turn ≡ Refused f v) → IfSome o (λ f. run_from (point_setting n) (node_of first) before ≡ Refused f v)
-  run_refused None v e = e
-  run_refused (Some f) v e = sym same ∙ refused_run_from (point_setting n) falls-constant_class (node_of rows) w v f e
+  pub run_closed : {E : Type 0} (fault : E → Option Refusal) (next : List Row) (found : Bool) → one_turn ≡ Done (Closed (ended rows.unknowns next found)) v
+      → IsCountedRun (ended first.unknowns next) fault (Ok found) before v whole
+  run_closed fault next found e = record {
+    agrees = sym is.same ∙ closed_run_from (point_setting rows.unknowns) falls-constant_class (node_of rows.rows) w v (ended rows.unknowns next found) e
+        ∙ ap (λ k. Done (ended k next found) v) is.scope.unknowns;
+    counted = counted_on before w v is.counted counted;
+  }
 
--- ---- what it answers
-
-module _ (n : ℕ) (forms : List (List ℤ)) (before v : Work) where
-  pub point_some : (now : List Row) → run_from (point_setting n) (node_of (first_rows n forms)) before ≡ Done (leaf (point_setting n) (node_of now)) v
-      → point_run n forms before ≡ Done (Some (map (λ (c : Component). constant c.form) (map row_component (take n now)))) v
-  point_some now e = ap (λ o. go_on o (λ t. give (numbers_of t))) e
-
-module _ (n : ℕ) (rows now : List Row) (before v : Work) where
-  refused : (o : Option Refusal) → IfSome o (λ f. run_from (point_setting n) (node_of rows) before ≡ Refused f v) → IfSome o (λ f. finds_point n rows before ≡ Refused f v)
+  refused : (o : Option Refusal) → IfSome o (λ f. one_turn ≡ Refused f v) → IfSome o (λ f. whole before ≡ Refused f v)
   refused None e = e
-  refused (Some f) e = ap (λ o. go_on o (λ t. give (is_some (numbers_of t)))) e
+  refused (Some f) e = sym is.same ∙ refused_run_from (point_setting rows.unknowns) falls-constant_class (node_of rows.rows) w v f e
 
-  pub found : (r : Result Bool code.Refusal) → AgreesCounted (ended n now) run_fault r v (run_from (point_setting n) (node_of rows) before) → AgreesCounted (λ b. b) run_fault r v (finds_point n rows before)
-  found (Ok true) e = ap (λ o. go_on o (λ t. give (is_some (numbers_of t)))) e
-  found (Ok false) e = ap (λ o. go_on o (λ t. give (is_some (numbers_of t)))) e
-  found (Err e) h = refused (run_fault e) h
+  pub run_refused : {E : Type 0} (fault : E → Option Refusal) (next : List Row) (f : E) → IfSome (fault f) (λ e. one_turn ≡ Refused e v)
+      → IsCountedRun (ended first.unknowns next) fault (Err f) before v whole
+  run_refused fault next f e = record { agrees = refused (fault f) e; counted = counted_on before w v is.counted counted }

@@ -1,5 +1,5 @@
 -- Indices with positive multipliers, one by one; indices from 0 on.
-use Rattle.context.proofs.Words.{◌≡◌, refl, ap, ◌∙◌, ℕ, zero, suc, ◌+◌, ◌<◌, ◌≤◌, ℤ, pos, true, false, List, [], ◌∷◌, ◌++◌, length, length-append, take, drop, map, arith, sym, drop_more, take-append-le, is_positive, entry, count_from, positive_terms, indices}
+use Rattle.context.proofs.Words.{◌≡◌, refl, ap, ◌∙◌, ℕ, zero, suc, ◌+◌, ◌<◌, ◌≤◌, ℤ, pos, true, false, List, [], ◌∷◌, ◌++◌, length, length-append, take, drop, arith, sym, drop_more, take-append-le, is_positive, entry, positive_terms, indices}
 use Rattle.std.proofs.Math.Seq.{append_snoc}
 
 module _ (is ms : List ℤ) (i : ℕ) (h : i < length is) (k : length ms ≡ length is) where
@@ -31,12 +31,10 @@ kept-here S T U x made kept long = rw (made, take-append-le (length S) T (x ∷ 
 pub longer-here : (S T U : List (ℤ × ℤ)) (x : ℤ × ℤ) → U ≡ T ++ x ∷ [] → length S ≤ length T → length S ≤ length U
 longer-here S T U x made long = rw made (omega (arith, length-append T (x ∷ [])))
 
-counts-more : (i n : ℕ) → map pos (count_from i (suc n)) ≡ map pos (count_from i n) ++ pos (i + n) ∷ []
-counts-more i zero = ap (λ k. pos k ∷ []) (omega arith)
-counts-more i (suc n) = ap (λ (V : List ℤ). pos i ∷ V) (counts-more (i + 1) n) ∙ ap (λ k. pos i ∷ (map pos (count_from (i + 1) n) ++ pos k ∷ [])) (omega arith)
-
-pub indices-more : (n : ℕ) → indices 0 (n + 1) ≡ indices 0 n ++ pos n ∷ []
-indices-more n =
-    let s : n + 1 ≡ suc n = omega arith in
-    let z : 0 + n ≡ n = omega arith in
-    ap (indices 0) s ∙ counts-more 0 n ∙ ap (λ k. map pos (count_from 0 n) ++ pos k ∷ []) z
+-- one index more
+pub indices-last : (i n k : ℕ) → i + n ≡ k → indices i (n + 1) ≡ indices i n ++ pos k ∷ []
+indices-last i n k e = let s : n + 1 ≡ suc n = omega arith in ap (indices i) s ∙ more i n ∙ ap (λ j. indices i n ++ pos j ∷ []) e
+  where
+    more : (i n : ℕ) → indices i (suc n) ≡ indices i n ++ pos (i + n) ∷ []
+    more i zero = ap (λ (k : ℕ). pos k ∷ []) (let e : i ≡ i + 0 = omega arith in e)
+    more i (suc n) = ap (λ (xs : List ℤ). pos i ∷ xs) (more (i + 1) n) ∙ ap (λ (k : ℕ). pos i ∷ (indices (i + 1) n ++ pos k ∷ [])) (let e : i + 1 + n ≡ i + suc n = omega arith in e)

@@ -1,6 +1,5 @@
 -- A run remembered: from one pivot to the next.
 use Rattle.context.proofs.Words.{◌≡◌, ◌∙◌, refl, ap, sym, ℕ, ◌+◌, ◌<◌, arith, List, [], ◌∷◌, ◌++◌, length, map, get_or, drop, Bool, true, false, flat_map, if◌then◌else◌, drop_more, all_fit, Row, row_at, form_row, pivot, eliminated, eliminated_listed, Work, Outcome, Done, Refused, Overflow, Counted, ◌>>◌, go_on, give, listed, count_pivot, run_from, point_setting, TableauRows, node_of, turned, replayed}
-use Rattle.context.proofs.FurtherRows.{IsStep, step-front}
 
 -- the two parts of a replay
 pub replayed-append : (ps qs : List Row) (cs ds : List ℕ) (F : List Row) (w : Work) → length ps ≡ length cs
@@ -18,23 +17,6 @@ replayed-append (p ∷ ps) qs (c ∷ cs) ds F w e = each (turned p c F w) (λ x 
 pub given : {B : Type 0} (o : Outcome (List Row)) (k : List Row → Counted B) → go_on (go_on o (λ now. give now)) k ≡ go_on o k
 given (Done x v) k = refl
 given (Refused f v) k = refl
-
--- the rows E are reached from the first ones by these pivots, whatever stands behind them
-abbrev pub Reaches : ℕ → List Row → List Row → List ℕ → List Row → Type 0
-Reaches n first ps cs E = (rows : List Row) (w : Work) → run_from (point_setting n) (node_of (first ++ rows)) w
-    ≡ go_on (replayed ps cs rows w) (λ now. run_from (point_setting n) (node_of (E ++ now)))
-
-pub reaches_more : (n : ℕ) (first : List Row) (ps : List Row) (cs : List ℕ) (E : List Row) (r c : ℕ) → length ps ≡ length cs → Reaches n first ps cs E → IsStep E r c
-    → Reaches n first (ps ++ row_at E r ∷ []) (cs ++ c ∷ []) (pivot E r c)
-reaches_more n first ps cs E r c e run is rows w =
-    run rows w
-    ∙ each (replayed ps cs rows w)
-    ∙ ap (λ o. go_on o (λ now. run_from (point_setting n) (node_of (pivot E r c ++ now)))) (sym (replayed-append ps (row_at E r ∷ []) cs (c ∷ []) rows w e))
-  where
-    each : (o : Outcome (List Row)) → go_on o (λ now. run_from (point_setting n) (node_of (E ++ now)))
-        ≡ go_on (go_on o (λ now. replayed (row_at E r ∷ []) (c ∷ []) now)) (λ now. run_from (point_setting n) (node_of (pivot E r c ++ now)))
-    each (Done F v) = step-front n E F r c v is ∙ sym (given (turned (row_at E r) c F v) (λ now. run_from (point_setting n) (node_of (pivot E r c ++ now))))
-    each (Refused f v) = refl
 
 abbrev counted_on : Work → Outcome (Unit {0})
 counted_on v = Done tt v

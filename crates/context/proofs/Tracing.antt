@@ -1,6 +1,9 @@
 -- The trace of the run without parameters, from one turn to the next, and what it gives.
-use Rattle.context.proofs.Words.{◌≡◌, refl, ap, sym, ◌∙◌, ℕ, zero, suc, ◌+◌, ◌<◌, ℤ, Bool, true, false, Option, Some, None, List, [], ◌∷◌, ◌++◌, length, slice_set, length-append, if◌then◌else◌, get_or_append_left, length-map, is_nonneg, constant, entry, widen_to, Bottom, Row, row_at, form_row, entering, first_fraction, start, constant_cut, Refutation, Work, Outcome, Done, Turn, Again, Closed, MinusAt, left, turn, point_setting, Trace, traced, pivot_trace, cut_trace, with_step, last_step, refute_from, refute_by, refute, first_trace, indices, length-count, again_less, falls-constant_class, length_slice_set, signs_from, next_trace, refute-again, refute-closed, TableauRows, negative_from, node_of, with_cut, steps_if, IsTraced}
+use Rattle.context.proofs.Words.{◌≡◌, refl, ap, sym, ◌∙◌, ℕ, zero, suc, ◌+◌, ◌<◌, ◌≤◌, ℤ, Bool, true, false, Option, Some, None, List, [], ◌∷◌, ◌++◌, length, slice_set, length-append, arith, if◌then◌else◌, get_or_append_left, length-map, Ok, is_nonneg, constant, entry, widen_to, Bottom, Row, row_at, form_row, entering, first_fraction, start, constant_cut, Refutation, Work, Outcome, Done, Refusal, Counted, Turn, Again, Closed, MinusAt, left, turn, point_setting, Trace, traced, pivot_trace, cut_trace, with_step, last_step, refute_from, refute_by, refute, first_trace, indices, length-count, again_less, falls-constant_class, length_slice_set, signs_from, next_trace, refute-again, refute-closed, TableauRows, IsCountedRun, HasCounted, counted_none, counted_on, negative_from, node_of, HasSameScope, exchanged, with_cut, IsTraced}
 use Rattle.std.specs.Prelude.{map}
+use Rattle.context.specs.Traces.{IsTurnAt}
+use Rattle.context.specs.declared.point_turn.PointTurn.TheVariants as code
+use Rattle.context.proofs.Leaving.{scope_none, scope_on}
 use Rattle.context.proofs.Turning.{signs_of}
 
 -- ---- the next trace, by the turn
@@ -27,50 +30,62 @@ module _ (n : ℕ) (rows : List Row) (T : Trace) where
   pub next-cut : (i : ℕ) → negative_from 0 rows ≡ None → first_fraction n rows ≡ Some i → next_trace n (node_of rows) T ≡ with_cut T (row_at rows i)
   next-cut i e f = next-by None e ∙ ap (cut_trace T rows) f
 
-  pub bottom-made : (U : Trace) (R : Row) (r : ℕ) (now : List Row) → negative_from 0 rows ≡ Some r → entering rows r ≡ None → now ≡ rows → R ≡ row_at now r
-      → U ≡ with_step T (last_step R (entry T.rows r) T.columns) → next_trace n (node_of rows) T ≡ U
-  bottom-made U R r now e f kept row is =
-      let here : R ≡ row_at rows r = row ∙ ap (λ X. row_at X r) kept in
-      next-bottom r e f ∙ sym (is ∙ ap (λ X. with_step T (last_step X (entry T.rows r) T.columns)) here)
-
-  pub pivot-made : (U : Trace) (r c : ℕ) → negative_from 0 rows ≡ Some r → entering rows r ≡ Some c → U ≡ record T { columns = slice_set T.columns c (entry T.rows r) } → next_trace n (node_of rows) T ≡ U
-  pivot-made U r c e f is = next-pivot r c e f ∙ sym is
-
-  pub cut-made : (U : Trace) (R : Row) (i : ℕ) (now : List Row) → negative_from 0 rows ≡ None → first_fraction n rows ≡ Some i → i < length rows
-      → now ≡ rows ++ constant_cut (row_at rows i) ∷ [] → R ≡ row_at now i → U ≡ with_cut T R → next_trace n (node_of rows) T ≡ U
-  cut-made U R i now e f h more row is =
-      let here : R ≡ row_at rows i = row ∙ ap (λ X. row_at X i) more ∙ get_or_append_left rows (constant_cut (row_at rows i) ∷ []) (form_row 0 []) i h in
-      next-cut i e f ∙ sym (is ∙ ap (with_cut T) here)
-
--- ---- an index for each row and each column
-
-module _ (n : ℕ) (rows now : List Row) (T U : Trace) (before : IsTraced n rows T) where
-  pub traced-pivot : (r c : ℕ) → U ≡ record T { columns = slice_set T.columns c (entry T.rows r) } → length now ≡ length rows → IsTraced n now U
-  traced-pivot r c is e = rw is (record {
-    rows_traced = before.rows_traced ∙ sym e;
-    columns_traced = length_slice_set T.columns c (entry T.rows r) ∙ before.columns_traced;
-  })
-
-  pub traced-cut : (R X : Row) → U ≡ with_cut T R → now ≡ rows ++ X ∷ [] → IsTraced n now U
-  traced-cut R X is e = rw (is, e) (record {
-    rows_traced = length-append T.rows (T.next ∷ []) ∙ ap (λ k. k + 1) before.rows_traced ∙ sym (length-append rows (X ∷ []));
-    columns_traced = before.columns_traced;
-  })
-
 -- ---- the run, turn by turn
 
-module _ (n : ℕ) (whole : Outcome (Option Refutation)) (rows : List Row) (T : Trace) (w : Work) (same : refute_from n T (node_of rows) w ≡ whole) where
+-- a run from these rows, this trace and these counts that goes on from others
+pub record IsOneTrace (first now : TableauRows) (begun T : Trace) (before w : Work) : Type 0 where
+  pub scope : HasSameScope first now
+  pub rows : now.unknowns ≤ length now.rows
+  pub traced : IsTraced now.unknowns now.rows T
+  pub counted : HasCounted before w
+  pub same : refute_from now.unknowns T (node_of now.rows) w ≡ refute_from first.unknowns begun (node_of first.rows) before
+
+pub starts_trace : (first : TableauRows) (T : Trace) (w : Work) → first.unknowns ≤ length first.rows → IsTraced first.unknowns first.rows T → IsOneTrace first first T T w w
+starts_trace first T w h traced = record { scope = scope_none first; rows = h; traced = traced; counted = counted_none w; same = refl }
+
+module _ (first rows now : TableauRows) (begun T : Trace) (before w v : Work) (is : IsOneTrace first rows begun T before w) (counted : HasCounted w v) where
   abbrev pub one_turn : Outcome Turn
-  one_turn = turn (point_setting n) (node_of rows) w
+  one_turn = turn (point_setting rows.unknowns) (node_of rows.rows) w
 
-  pub refutes-on : (U : Trace) (now : List Row) (v : Work) → next_trace n (node_of rows) T ≡ U → one_turn ≡ Done (Again (node_of now)) v → refute_from n U (node_of now) v ≡ whole
-  refutes-on U now v next e = ap (λ (X : Trace). refute_from n X (node_of now) v) (sym next) ∙ sym (refute-again n T (node_of rows) (node_of now) w v e) ∙ same
+  abbrev n : ℕ
+  n = rows.unknowns
 
-  pub refutes-less : (now : List Row) (v : Work) → one_turn ≡ Done (Again (node_of now)) v → left v < left w
-  refutes-less now v e = again_less (point_setting n) falls-constant_class (node_of rows) (node_of now) w v e
+  abbrev pub whole : Counted (Option Refutation)
+  whole = refute_from first.unknowns begun (node_of first.rows)
 
-  pub refutes-bottom : (U : Trace) (v : Work) → next_trace n (node_of rows) T ≡ U → one_turn ≡ Done (Closed Bottom) v → whole ≡ Done (steps_if true U) v
-  refutes-bottom U v next e = sym same ∙ refute-closed n T (node_of rows) Bottom w v e ∙ ap (λ (X : Trace). Done (steps_if true X) v) next
+  goes-on : (U : Trace) → HasSameScope rows now → next_trace n (node_of rows.rows) T ≡ U → length U.rows ≡ length now.rows → length U.columns ≡ length T.columns
+      → one_turn ≡ Done (Again (node_of now.rows)) v → IsOneTrace first now begun U before v
+  goes-on U scope next number columns e = record {
+    scope = scope_on first rows now is.scope scope;
+    rows = omega (arith, scope.unknowns, scope.rows is.rows);
+    traced = record { rows_traced = number; columns_traced = columns ∙ is.traced.columns_traced ∙ sym scope.unknowns };
+    counted = counted_on before w v is.counted counted;
+    same = ap (λ k. refute_from k U (node_of now.rows) v) scope.unknowns ∙ ap (λ (X : Trace). refute_from n X (node_of now.rows) v) (sym next)
+        ∙ sym (refute-again n T (node_of rows.rows) (node_of now.rows) w v e) ∙ is.same;
+  }
+
+  pub goes-on-pivot : (r c : ℕ) → HasSameScope rows now → IsTurnAt n rows.rows now.rows (code.Pivot r c) → one_turn ≡ Done (Again (node_of now.rows)) v → IsOneTrace first now begun (exchanged T r c) before v
+  goes-on-pivot r c scope at e =
+      goes-on (exchanged T r c) scope (next-pivot n rows.rows T r c at.0 at.2) (is.traced.rows_traced ∙ sym at.4) (length_slice_set T.columns c (entry T.rows r)) e
+
+  pub goes-on-cut : (i : ℕ) → HasSameScope rows now → IsTurnAt n rows.rows now.rows (code.Cut i) → one_turn ≡ Done (Again (node_of now.rows)) v
+      → IsOneTrace first now begun (with_cut T (row_at now.rows i)) before v
+  goes-on-cut i scope at e =
+      let X = constant_cut (row_at rows.rows i) in
+      let here : row_at now.rows i ≡ row_at rows.rows i = ap (λ (R : List Row). row_at R i) at.3 ∙ get_or_append_left rows.rows (X ∷ []) (form_row 0 []) i at.2 in
+      goes-on (with_cut T (row_at now.rows i)) scope (next-cut n rows.rows T i at.0 at.1 ∙ ap (with_cut T) (sym here))
+      (length-append T.rows (T.next ∷ []) ∙ ap (λ k. k + 1) is.traced.rows_traced ∙ sym (ap length at.3 ∙ length-append rows.rows (X ∷ []))) refl e
+
+  pub goes-less : one_turn ≡ Done (Again (node_of now.rows)) v → left v < left w
+  goes-less e = again_less (point_setting n) falls-constant_class (node_of rows.rows) (node_of now.rows) w v e
+
+  pub ends-bottom : {E : Type 0} (fault : E → Option Refusal) (r : ℕ) → IsTurnAt n rows.rows now.rows (code.Bottom r) → one_turn ≡ Done (Closed Bottom) v
+      → IsCountedRun (λ o. o) fault (Ok (Some (with_step T (last_step (row_at now.rows r) (entry T.rows r) T.columns)).steps)) before v whole
+  ends-bottom fault r at e = record {
+    agrees = sym is.same ∙ refute-closed n T (node_of rows.rows) Bottom w v e
+        ∙ ap (λ (X : Trace). Done (Some X.steps) v) (next-bottom n rows.rows T r at.0 at.2 ∙ ap (λ (R : List Row). with_step T (last_step (row_at R r) (entry T.rows r) T.columns)) (sym at.3));
+    counted = counted_on before w v is.counted counted;
+  }
 
 -- ---- from the first rows
 

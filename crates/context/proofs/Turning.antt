@@ -1,5 +1,6 @@
 -- The turns of the run without parameters.
-use Rattle.context.proofs.Words.{◌≡◌, refl, ap, ℕ, ◌+◌, ℤ, Bool, true, false, Option, Some, None, List, [], ◌∷◌, ◌++◌, length, arith, if◌then◌else◌, IfSome, is_nonneg, floor_div, gcd, gcd_of, constant, coefficients, entry, floor_divided, Row, row_at, first_fraction, is_whole, constant_cut, Work, Outcome, Done, Refused, Refusal, Node, Setting, Plus, Minus, Signs, AllPlus, MinusAt, go_on, scan, scan_on, turn, turn_by, last_turn, cut_turn, count_cut, give, row_component, Again, point_setting, negative_from, node_of, counted_cut}
+use Rattle.context.proofs.Words.{◌≡◌, refl, ap, ℕ, ◌+◌, ℤ, Bool, true, false, Option, Some, None, List, [], ◌∷◌, ◌++◌, length, if◌then◌else◌, IfSome, is_nonneg, constant, coefficients, Row, row_at, first_fraction, is_whole, constant_cut, Work, Outcome, Done, Refused, Refusal, Node, Setting, Plus, Minus, Signs, AllPlus, MinusAt, go_on, scan, scan_on, turn, turn_by, last_turn, cut_turn, count_cut, give, Again, point_setting, negative_from, node_of, counted_cut}
+use Rattle.context.proofs.Leaving.{passes_refusal}
 
 abbrev pub signs_of : Option ℕ → Signs
 signs_of None = AllPlus
@@ -39,6 +40,6 @@ cut_again n rows i w e one =
     let whole : is_whole (row_at rows i).den (coefficients (row_at rows i).constant) ≡ true = rw none refl in
     rw e (counted_again (point_setting n) (node_of rows) i w whole)
 
-pub cut_refused : (rows : List Row) (i : ℕ) (w u : Work) (o : Option Refusal) → IfSome o (λ f. counted_cut rows i w ≡ Refused f u) → IfSome o (λ f. go_on (counted_cut rows i w) (λ now. give (Again (node_of now))) ≡ Refused f u)
-cut_refused rows i w u None h = h
-cut_refused rows i w u (Some f) h = rw h refl
+pub cut_refused : (n : ℕ) (rows : List Row) (i : ℕ) (w u : Work) → first_fraction n rows ≡ Some i → length (row_at rows i).constant ≡ 1
+    → (o : Option Refusal) → IfSome o (λ f. counted_cut rows i w ≡ Refused f u) → IfSome o (λ f. last_turn (point_setting n) (node_of rows) (first_fraction n rows) w ≡ Refused f u)
+cut_refused n rows i w u e one o h = passes_refusal (counted_cut rows i w) (λ now. give (Again (node_of now))) _ (cut_again n rows i w e one) o u h

@@ -18,7 +18,7 @@ pub use Rattle.refutation_laws.proofs.RefuteSteps.{next_trace, refute-again, ref
 pub use Rattle.pip_model.specs.Numbers.{is_nonneg, is_positive, floor_div, gcd, gcd_of, fits}
 pub use Rattle.pip_model.proofs.Tests.{both}
 pub use Rattle.pip_model.specs.Certificate.{Refutation}
-pub use Rattle.pip_model.specs.Contexts.{IsContext, PointTells, IsPointRefusal}
+pub use Rattle.pip_model.specs.Contexts.{IsContext, IsNarrow, PointTells, IsPointRefusal}
 pub use Rattle.run_counts.specs.Counts.{IsCountedRun, HasCounted}
 pub use Rattle.pip_model.specs.Made.{narrow_to}
 pub use Rattle.pip_model.specs.Cuts.{constant_cut}
@@ -28,8 +28,8 @@ pub use Rattle.run_laws.proofs.RowsAt.{length_slice_set, length_pivot}
 pub use Rattle.affine_forms.specs.Checks.{Fits}
 pub use Rattle.run_counts.proofs.Counting.{counted_on, counted_none}
 pub use Rattle.context.specs.Turns.{node_of, negative_from, counted_cut, HasSameScope, pivoted}
-pub use Rattle.context.specs.Remembered.{first_rows, finds_point, ended, turned, replayed, RetracesTo, is_end, has_point, asked, IsReplay, IsRemembered, IsFormed, IsSameReplay, IsKnown, IsTurned, IsStopped, EndsWith}
-pub use Rattle.context.specs.Traces.{exchanged, exchanges, IsClosing, steps_if, with_cut, IsTraced}
+pub use Rattle.context.specs.Remembered.{form_rows, first_rows, finds_point, ended, turned, replayed, traced_point, RetracesTo, is_end, has_point, asked, IsReplay, IsRemembered, IsFormed, IsSameReplay, IsKnown, IsTurned, IsStopped, EndsWith}
+pub use Rattle.context.specs.Traces.{exchanged, exchanges, IsClosing, with_cut, IsTraced}
 pub use Rattle.context.specs.declared.remembered.Remembered.{Remembered}
 pub use Rattle.context.specs.Scoped.{KeptForms, AreFirst, AreFirstWithin, ScopedForms, IsKeptContext}
 pub use Rattle.context.specs.Stops.{stop_fault}

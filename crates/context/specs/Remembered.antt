@@ -3,8 +3,8 @@ use Rattle.std.specs.Prelude.{◌≡◌, ℕ, ◌<◌, ◌≤◌, ℤ, Bool, tru
 use Rattle.pip_model.specs.Contexts.{IsContext}
 use Rattle.pip_model.specs.Forms.{widen_to}
 use Rattle.pip_model.specs.Tree.{Tree, Bottom}
-use Rattle.pip_model.specs.Rows.{Row, row_at, start, eliminated, eliminated_listed, first_fraction}
-use Rattle.pip_model.specs.Run.{Work, Counted, Done, ◌>>=◌, ◌>>◌, go_on, give, listed, count_pivot, leaf, run_from, numbers_of, point, point_setting}
+use Rattle.pip_model.specs.Rows.{Row, row_at, form_row, start, eliminated, eliminated_listed, first_fraction}
+use Rattle.pip_model.specs.Run.{Work, Counted, Node, Done, ◌>>=◌, ◌>>◌, go_on, give, listed, count_pivot, leaf, run_from, numbers_of, point, point_setting}
 use Rattle.pip_model.specs.Refuting.{Trace, refute_from}
 use Rattle.dual_pivot.specs.Choices.{IsCandidate}
 use Rattle.context.specs.Traces.{exchanges}
@@ -58,20 +58,22 @@ pub record IsFormed (m : Replay) : Type 0 where
   pub each : (i : ℕ) → i < length m.columns.items
       → IsCandidate m.end.unknowns (row_at m.pivots.rows i) (get_or m.columns.items i 0)
 
--- with further rows behind them the first rows make these pivots, and go on from the rows E; so with a trace
-abbrev pub RetracesTo : ℕ → List Row → List Row → List ℕ → List ℕ → List Row → Type 0
-RetracesTo n first ps rs cs E = (T : Trace) (rows : List Row) (w : Work) → refute_from n T (node_of (first ++ rows)) w
-    ≡ go_on (replayed ps cs rows w) (λ now. refute_from n (exchanges rs cs T) (node_of (E ++ now)))
+-- with further rows behind them the first rows make these pivots in a run with a trace, and go on from the rows E
+abbrev pub RetracesTo : {Y : Type 0} → (Trace → Node → Counted Y) → List Row → List Row → List ℕ → List ℕ → List Row → Type 0
+RetracesTo run first ps rs cs E = (T : Trace) (rows : List Row) (w : Work) → run T (node_of (first ++ rows)) w
+    ≡ go_on (replayed ps cs rows w) (λ now. run (exchanges rs cs T) (node_of (E ++ now)))
 
--- with further rows behind them the first rows make these pivots, and go on from the last rows
+-- the run of a point, whatever its trace
+abbrev pub traced_point : ℕ → Trace → Node → Counted Tree
+traced_point n T N = run_from (point_setting n) N
+
+-- with further rows behind them the first rows make these pivots, and go on from the last rows; so with a trace
 pub record IsReplay (first : List Row) (m : Replay) : Type 0 where
   pub places : length m.rows.items ≡ length m.columns.items
   pub within : (i : ℕ) → i < length m.columns.items → get_or m.rows.items i 0 < length first
   pub number : length m.end.rows ≡ length first
-  pub run : (rows : List Row) (w : Work) → run_from (point_setting m.end.unknowns) (node_of (first ++ rows)) w
-      ≡ go_on (replayed m.pivots.rows m.columns.items rows w)
-      (λ now. run_from (point_setting m.end.unknowns) (node_of (m.end.rows ++ now)))
-  pub traced : RetracesTo m.end.unknowns first m.pivots.rows m.rows.items m.columns.items m.end.rows
+  pub run : RetracesTo (traced_point m.end.unknowns) first m.pivots.rows m.rows.items m.columns.items m.end.rows
+  pub traced : RetracesTo (refute_from m.end.unknowns) first m.pivots.rows m.rows.items m.columns.items m.end.rows
 
 -- the same pivots and rows
 pub record IsSameReplay (m copy : Replay) : Type 0 where
@@ -94,6 +96,10 @@ abbrev pub asked : Remembered → List Row → Counted Bool
 asked m rows = do
   now ← replayed m.run.pivots.rows m.run.columns.items rows
   finds_point m.run.end.unknowns (m.run.end.rows ++ now)
+
+-- the rows of forms
+abbrev pub form_rows : ℕ → List (List ℤ) → List Row
+form_rows n M = map (form_row n) (map (widen_to n) M)
 
 -- the first rows of a point's run
 abbrev pub first_rows : ℕ → List (List ℤ) → List Row

@@ -5,7 +5,6 @@ use Rattle.pip_model.specs.Numbers.{is_positive}
 use Rattle.pip_model.specs.Forms.{entry}
 use Rattle.pip_model.specs.Rows.{Row, row_at, entering, first_fraction}
 use Rattle.pip_model.specs.Cuts.{constant_cut}
-use Rattle.pip_model.specs.Certificate.{Refutation}
 use Rattle.pip_model.specs.Refuting.{Trace, cut_step}
 use Rattle.context.specs.Turns.{negative_from}
 use Rattle.context.specs.declared.point_turn.PointTurn.{PointTurn}
@@ -52,8 +51,3 @@ pub record IsClosing (rows : List Row) (r : ℕ) : Type 0 where
 pub record IsTraced (n : ℕ) (rows : List Row) (T : Trace) : Type 0 where
   pub rows_traced : length T.rows ≡ length rows
   pub columns_traced : length T.columns ≡ n
-
--- the steps of a run that ended without a point, none of one with a point
-abbrev pub steps_if : Bool → Trace → Option Refutation
-steps_if true T = Some T.steps
-steps_if false T = None

@@ -1,13 +1,11 @@
-ghost use Rattle.std.specs.Prelude.{◌≡◌, ℕ, ◌<◌, None, ◌++◌, length, map, get_or, IfErr, OnOk};
+ghost use Rattle.std.specs.Prelude.{◌≡◌, ℕ, ◌<◌, None, ◌++◌, length, get_or, IfErr, OnOk};
 ghost use Rattle.pip_model.specs.Contexts.{IsContext};
-ghost use Rattle.pip_model.specs.Forms.{widen_to};
-ghost use Rattle.pip_model.specs.Rows.{form_row};
+ghost use Rattle.pip_model.specs.Rows.{row_at};
 ghost use Rattle.run_counts.specs.Counts.{IsCountedRun};
 ghost use Rattle.context.specs.Stops.{stop_fault};
-ghost use Rattle.context.specs.Remembered.{IsFormed, replayed};
+ghost use Rattle.context.specs.Remembered.{IsFormed, turned, replayed, form_rows};
 ghost use Rattle.context.specs.Traces.{exchanges};
 
-use crate::asking::replay;
 use crate::remembered::Replay;
 use crate::short_rows::push_short;
 use crate::stop::Stop;
@@ -16,14 +14,42 @@ use affine_forms::{Form, WantOfMemory};
 use run_counts::Work;
 use short_tableau::ShortTableau;
 
+// A remembered pivot is counted, and turns these rows.
+fn turn_rows(rows: &mut ShortTableau, m: &Replay, i: usize, work: &mut Work) -> Result<(), Stop>
+    requires formed { IsFormed m.now }
+    requires pivot { i < length m.now.columns.items }
+    requires unknowns { rows.old.unknowns ≡ m.now.end.unknowns }
+    ensures gives { IsCountedRun (λ x. rows.new.rows) stop_fault result work.old work.new
+        (turned (row_at m.now.pivots.rows i) (get_or m.now.columns.items i 0) rows.old.rows) }
+    ensures unknowns { rows.new.unknowns ≡ rows.old.unknowns }
+    ensures number { OnOk result (length rows.new.rows ≡ length rows.old.rows) }
+{
+    work.count_pivot()?;
+    if !rows.eliminate(&m.pivots, i, m.columns[i]) {
+        return Err(Stop::Long);
+    }
+    Ok(())
+}
+
+// Turns the rows by the pivots in order.
+fn replay(m: &Replay, rows: &mut ShortTableau, work: &mut Work) -> Result<(), Stop>
+    requires formed { IsFormed m.now }
+    requires unknowns { rows.old.unknowns ≡ m.now.end.unknowns }
+    ensures gives { IsCountedRun (λ x. rows.new.rows) stop_fault result work.old work.new
+        (replayed m.now.pivots.rows m.now.columns.items rows.old.rows) }
+    ensures unknowns { rows.new.unknowns ≡ m.now.end.unknowns }
+    ensures number { OnOk result (length rows.new.rows ≡ length rows.old.rows) }
+{
+    for i in 0..m.columns.len() {
+        turn_rows(rows, m, i, work)?;
+    }
+    Ok(())
+}
+
 // Starts again with the rows of these forms alone, whose numbers have to be short.
 fn start_forms(rows: &mut ShortTableau, unknowns: usize, forms: &[Form]) -> Result<(), Stop>
     requires { IsContext unknowns forms.now }
-    ensures value { OnOk result (rows.new ≡ record {
-      unknowns = unknowns;
-      width = 0;
-      rows = map (form_row unknowns) (map (widen_to unknowns) forms.now);
-    }) }
+    ensures value { OnOk result (rows.new ≡ record { unknowns = unknowns; width = 0; rows = form_rows unknowns forms.now }) }
     ensures free { IfErr result (λ e. stop_fault e ≡ None) }
 {
     rows.restart(unknowns);
@@ -54,8 +80,7 @@ pub(crate) fn rows_behind(
     requires formed { IsFormed m.now }
     requires context { IsContext m.now.end.unknowns forms.now }
     ensures gives { IsCountedRun (λ x. rows.new.rows) stop_fault result work.old work.new
-        (replayed m.now.pivots.rows m.now.columns.items
-        (map (form_row m.now.end.unknowns) (map (widen_to m.now.end.unknowns) forms.now))) }
+        (replayed m.now.pivots.rows m.now.columns.items (form_rows m.now.end.unknowns forms.now)) }
     ensures unknowns { OnOk result (rows.new.unknowns ≡ m.now.end.unknowns) }
     ensures number { OnOk result (length rows.new.rows ≡ length forms.now) }
 {

@@ -5,7 +5,7 @@ ghost use Rattle.pip_model.specs.Rows.{row_at};
 ghost use Rattle.run_counts.specs.Counts.{IsCountedRun};
 ghost use Rattle.context.specs.Remembered.{IsStopped};
 ghost use Rattle.context.specs.Stops.{stop_fault};
-ghost use Rattle.context.specs.Traces.{IsTraced, IsClosing, steps_if};
+ghost use Rattle.context.specs.Traces.{IsTraced, IsClosing};
 ghost use Rattle.context.specs.Turns.{node_of};
 
 use crate::behind::put_behind;
@@ -15,6 +15,7 @@ use crate::short_refute::refute_on;
 use crate::stop::Stop;
 use crate::trace::Trace;
 use affine_forms::WantOfMemory;
+use certificate_parts::Refutation;
 use run_counts::Work;
 use short_tableau::ShortTableau;
 use std::alloc::Global;
@@ -56,25 +57,25 @@ fn trace_behind(
     trace.close(alloc, at, &view_of(&numbers, rows.unknowns(), true))
 }
 
-// Goes on from a remembered run with the question's rows behind its own, with its trace: whether it finds no point.
-// Where the run shows a point and ends at the first row below 0, no rows are copied.
+// Goes on from a remembered run with the question's rows behind its own, with its trace: the steps, none where it finds
+// a point. Where the run shows a point and ends at the first row below 0, no rows are copied.
 pub(crate) fn refute_with(
     alloc: Global,
     m: &Remembered,
     question: &mut Question,
-    trace: &mut Trace,
+    mut trace: Trace,
     work: &mut Work,
-) -> Result<bool, Stop>
+) -> Result<Option<Refutation>, Stop>
     requires stopped { IsStopped m.now }
     requires unknowns { question.old.row.unknowns ≡ m.now.run.end.unknowns }
-    requires traced { IsTraced m.now.run.end.unknowns (m.now.run.end.rows ++ question.old.row.rows) trace.old }
-    ensures gives { IsCountedRun (λ b. steps_if b trace.new) stop_fault result work.old work.new
-        (refute_from m.now.run.end.unknowns trace.old (node_of (m.now.run.end.rows ++ question.old.row.rows))) }
+    requires traced { IsTraced m.now.run.end.unknowns (m.now.run.end.rows ++ question.old.row.rows) trace }
+    ensures gives { IsCountedRun (λ o. o) stop_fault result work.old work.new
+        (refute_from m.now.run.end.unknowns trace (node_of (m.now.run.end.rows ++ question.old.row.rows))) }
 {
     if m.at_end {
         if let Some(r) = closing_row(&question.row) {
-            trace_behind(alloc, m.run.end.rows(), &question.row, r, trace)?;
-            return Ok(true);
+            trace_behind(alloc, m.run.end.rows(), &question.row, r, &mut trace)?;
+            return Ok(Some(trace.into_steps()));
         }
     }
     put_behind(&m.run, &question.row, &mut question.run)?;

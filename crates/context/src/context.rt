@@ -11,7 +11,6 @@ ghost use Rattle.run_counts.specs.Counts.{IsCountedRun};
 ghost use Rattle.context.specs.Remembered.{has_point};
 ghost use Rattle.context.specs.Scoped.{IsKeptContext};
 
-use crate::alone::find_shortly;
 use crate::asking::{ask_plainly, ask_shortly};
 use crate::constants::are_nonnegative;
 use crate::further::go_further;
@@ -27,6 +26,7 @@ use run_counts::Work;
 use std::alloc::Global;
 use std::marker::Model;
 use std::mem::{replace, swap};
+use std::slice::from_ref;
 
 /// A context: forms over the parameters and quotients in scope, which it takes to be at least 0. Its width is their
 /// number; a form that is narrower reads 0 at the missing places. It stands for the whole vectors of numbers from 0 on
@@ -259,13 +259,10 @@ impl Context {
         }
     }
 
-    // Makes the run of all forms alone, where that was not tried before.
+    // Makes the run of all forms alone.
     fn recall(&mut self)
         ensures kept { IsKeptContext self.old self.new }
     {
-        if self.is_tried {
-            return;
-        }
         self.is_tried = true;
         self.is_known = if self.is_known {
             let further = &self.forms[self.known..];
@@ -276,33 +273,19 @@ impl Context {
         self.known = self.forms.len();
     }
 
-    // Whether the context with one form more has a point, by the remembered run of all forms; None where there is none,
-    // or a number is not short, and nothing is counted then.
-    fn ask_known(&mut self, form: &Form, work: &mut Work) -> Option<Result<bool, Refusal>>
-        requires narrow { length form.now ≤ self.old.width + 1 }
+    // Whether the context with these further forms has a point, by the remembered run of all its own; None where there
+    // is none, or a number is not short, and nothing is counted then.
+    fn ask_known(&mut self, further: &[Form], work: &mut Work) -> Option<Result<bool, Refusal>>
+        requires narrow { IsContext self.old.width further.now }
         ensures gives { IfSome result (λ r. IsCountedRun (λ b. b) run_fault r work.old work.new
-            (has_point self.old.width (self.old.forms ++ form.now ∷ []))) }
+            (has_point self.old.width (self.old.forms ++ further.now))) }
         ensures none { IfNone result (work.new ≡ work.old) }
         ensures kept { IsKeptContext self.old self.new }
     {
         if !self.is_known || self.known < self.forms.len() {
             return None;
         }
-        ask_shortly(&self.run, &mut self.question, form, work)
-    }
-
-    // Whether the context has a point, by the remembered run of all forms; None where there is none, or a number is not
-    // short, and nothing is counted then.
-    fn find_known(&mut self, work: &mut Work) -> Option<Result<bool, Refusal>>
-        ensures gives { IfSome result (λ r. IsCountedRun (λ b. b) run_fault r work.old work.new
-            (has_point self.old.width self.old.forms)) }
-        ensures none { IfNone result (work.new ≡ work.old) }
-        ensures kept { IsKeptContext self.old self.new }
-    {
-        if !self.is_known || self.known < self.forms.len() {
-            return None;
-        }
-        find_shortly(&self.run, &mut self.question, work)
+        ask_shortly(&self.run, &mut self.question, further, work)
     }
 
     // Whether the context has a point, where it has no forms, or no places: the run then ends at its first rows. None
@@ -330,7 +313,7 @@ impl Context {
             return Ok(found);
         }
         self.prepare();
-        if let Some(answer) = self.find_known(work) {
+        if let Some(answer) = self.ask_known(&[], work) {
             return answer;
         }
         let point = find_point(alloc, self.width, &self.forms, work)?;
@@ -353,7 +336,8 @@ impl Context {
         ensures kept { IsKeptContext self.old self.new }
     {
         self.prepare();
-        if let Some(answer) = self.ask_known(form, work) {
+        let _ = form.width();
+        if let Some(answer) = self.ask_known(from_ref(form), work) {
             return answer;
         }
         ask_plainly(alloc, self.width, &self.forms, form, work)

@@ -1,5 +1,5 @@
 ghost use Rattle.std.specs.Prelude.{◌≡◌, ℕ, ◌+◌, ◌≤◌, ℤ, List, [], ◌∷◌, ◌++◌, length, OnOk, IsTrue};
-ghost use Rattle.pip_model.specs.Contexts.{IsContext};
+ghost use Rattle.pip_model.specs.Contexts.{IsContext, IsNarrow};
 ghost use Rattle.pip_model.specs.Forms.{widen_to};
 ghost use Rattle.pip_model.specs.Rows.{Row, form_row};
 ghost use Rattle.context.specs.Remembered.{IsFormed, IsReplay, IsStopped, IsRemembered, IsTurned, first_rows};
@@ -9,6 +9,7 @@ use crate::short_rows::push_short;
 use crate::stop::Stop;
 use affine_forms::Form;
 use short_tableau::ShortTableau;
+use std::slice::from_ref;
 
 // Turns the rows by the pivots in order; whether all numbers of the rows that are made are short. Nothing is counted.
 fn turn_by_all(m: &Replay, rows: &mut ShortTableau) -> bool
@@ -76,18 +77,6 @@ pub(crate) fn go_further(
     Ok(())
 }
 
-// The same with one form.
-fn go_one_further(m: &mut Remembered, form: &Form, room: &mut ShortTableau) -> Result<(), Stop>
-    requires stopped { IsStopped m.old }
-    requires narrow { length form.now ≤ m.old.run.end.unknowns + 1 }
-    ensures { OnOk result ((n : ℕ) (K : List (List ℤ)) → IsRemembered n K m.old
-        → IsRemembered n (K ++ form.now ∷ []) m.new) }
-{
-    push_further(&mut m.run, form, room)?;
-    run_to_end(m)?;
-    Ok(())
-}
-
 // Goes on from a run that is known; whether that of one form more is.
 pub(crate) fn goes_further(
     is_known: bool,
@@ -96,12 +85,12 @@ pub(crate) fn goes_further(
     room: &mut ShortTableau,
 ) -> bool
     requires stopped { IsTrue is_known → IsStopped m.old }
-    requires narrow { IsTrue is_known → length form.now ≤ m.old.run.end.unknowns + 1 }
+    requires narrow { IsTrue is_known → IsNarrow m.old.run.end.unknowns form.now }
     ensures { (n : ℕ) (K : List (List ℤ)) → (IsTrue is_known → IsRemembered n K m.old)
         → IsTrue result → IsRemembered n (K ++ form.now ∷ []) m.new }
 {
     if !is_known {
         return false;
     }
-    go_one_further(m, form, room).is_ok()
+    go_further(m, from_ref(form), room).is_ok()
 }

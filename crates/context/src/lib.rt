@@ -1,7 +1,6 @@
 //! Contexts, which are lists of forms, and their whole points.
 #![tactic(auto)]
 
-mod alone;
 mod asking;
 mod behind;
 mod closing;

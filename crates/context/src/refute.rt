@@ -5,7 +5,7 @@ ghost use Rattle.pip_model.specs.Refuting.{refute_by, refute_from};
 ghost use Rattle.affine_forms.specs.Checks.{Fits};
 ghost use Rattle.pip_problem.specs.Faults.{run_fault};
 ghost use Rattle.run_counts.specs.Counts.{IsCountedRun};
-ghost use Rattle.context.specs.Traces.{IsTraced, steps_if};
+ghost use Rattle.context.specs.Traces.{IsTraced};
 ghost use Rattle.context.specs.Turns.{node_of};
 
 use crate::point_turn::{PointTurn, take_turn};
@@ -19,26 +19,26 @@ use run_counts::Work;
 use std::alloc::Global;
 use tableau::Tableau;
 
-// The run without parameters to its end, with its trace: whether it found no point.
+// The run without parameters to its end, with its trace: the steps, none where it found a point.
 fn refute_on(
     alloc: Global,
     rows: &mut Tableau,
-    trace: &mut Trace,
+    mut trace: Trace,
     work: &mut Work,
-) -> Result<bool, Refusal>
+) -> Result<Option<Refutation>, Refusal>
     requires width { rows.old.width ≡ 0 }
     requires rows { rows.old.unknowns ≤ length rows.old.rows }
-    requires traced { IsTraced rows.old.unknowns rows.old.rows trace.old }
-    ensures gives { IsCountedRun (λ b. steps_if b trace.new) run_fault result work.old work.new
-        (refute_from rows.old.unknowns trace.old (node_of rows.old.rows)) }
+    requires traced { IsTraced rows.old.unknowns rows.old.rows trace }
+    ensures gives { IsCountedRun (λ o. o) run_fault result work.old work.new
+        (refute_from rows.old.unknowns trace (node_of rows.old.rows)) }
 {
     loop {
         match take_turn(rows, work)? {
             PointTurn::Bottom(r) => {
                 trace.close(alloc, r, &rows.row(r))?;
-                return Ok(true);
+                return Ok(Some(trace.into_steps()));
             }
-            PointTurn::List => return Ok(false),
+            PointTurn::List => return Ok(None),
             PointTurn::Pivot(r, c) => trace.exchange(r, c),
             PointTurn::Cut(i) => trace.cut(alloc, &rows.row(i))?,
         }
@@ -61,11 +61,8 @@ fn run(
         (refute_by (length places.now) forms.now places.now first) }
 {
     let mut rows = start_rows(alloc, places.len(), forms)?;
-    let mut trace = Trace::start(alloc, places, forms.len(), first)?;
-    if !refute_on(alloc, &mut rows, &mut trace, work)? {
-        return Ok(None);
-    }
-    Ok(Some(trace.into_steps()))
+    let trace = Trace::start(alloc, places, forms.len(), first)?;
+    refute_on(alloc, &mut rows, trace, work)
 }
 
 // The steps by which the forms have no point, none where they have one.

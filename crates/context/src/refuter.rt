@@ -1,15 +1,15 @@
-ghost use Rattle.std.specs.Prelude.{◌≡◌, ◌^◌, ◌<◌, [], ◌∷◌, ◌++◌, pos, ◌≤ℤ◌, ◌<ℤ◌, List, ℤ, length, map, All, IsTrue, IfOk, OnOk};
+ghost use Rattle.std.specs.Prelude.{◌≡◌, ◌^◌, ◌<◌, ◌≤◌, [], ◌∷◌, ◌++◌, pos, ◌≤ℤ◌, ◌<ℤ◌, List, ℤ, length, map, All, IsTrue, IfOk, OnOk};
 ghost use Rattle.pip_model.specs.Contexts.{IsContext};
 ghost use Rattle.pip_model.specs.Made.{narrow_to};
 ghost use Rattle.pip_model.specs.Refuting as model;
-ghost use Rattle.pip_model.specs.Refuting.{refute_by, refute_from};
+ghost use Rattle.pip_model.specs.Refuting.{refute_from};
 ghost use Rattle.affine_forms.specs.Checks.{Fits};
 ghost use Rattle.pip_problem.specs.Faults.{run_fault};
 ghost use Rattle.run_counts.specs.Counts.{IsCountedRun};
 ghost use Rattle.context.specs.Remembered.{first_rows};
 ghost use Rattle.context.specs.Scoped.{AreFirst, AreFirstWithin, AreFirstOver};
 ghost use Rattle.context.specs.Stops.{stop_fault};
-ghost use Rattle.context.specs.Traces.{IsTraced, steps_if};
+ghost use Rattle.context.specs.Traces.{IsTraced};
 ghost use Rattle.context.specs.Turns.{node_of};
 
 use crate::behind::{exchange_all, rows_behind};
@@ -158,18 +158,19 @@ impl Refuter {
         Ok(true)
     }
 
-    // The kept run with further forms behind its own, with its trace: whether it found no point.
+    // The kept run with further forms behind its own, with its trace: the steps, none where it
+    // found a point.
     fn refute_behind(
         &mut self,
         more: &[Form],
-        trace: &mut Trace,
+        mut trace: Trace,
         work: &mut Work,
-    ) -> Result<bool, Stop>
+    ) -> Result<Option<Refutation>, Stop>
         requires more { IsContext self.old.width more.now }
         requires traced { IsTraced self.old.width
-            (first_rows self.old.width (self.old.forms ++ more.now)) trace.old }
-        ensures gives { IsCountedRun (λ b. steps_if b trace.new) stop_fault result work.old work.new
-            (refute_from self.old.width trace.old
+            (first_rows self.old.width (self.old.forms ++ more.now)) trace }
+        ensures gives { IsCountedRun (λ o. o) stop_fault result work.old work.new
+            (refute_from self.old.width trace
             (node_of (first_rows self.old.width (self.old.forms ++ more.now)))) }
         ensures kept { self.new ≡ self.old }
     {
@@ -177,11 +178,12 @@ impl Refuter {
             return Err(Stop::Long);
         }
         rows_behind(&self.run.run, &mut self.question.row, more, work)?;
-        exchange_all(&self.run.run, trace);
+        exchange_all(&self.run.run, &mut trace);
         refute_with(self.alloc, &self.run, &mut self.question, trace, work)
     }
 
-    // The steps by which known forms have no point, by the run of its own; `Long` where it has none.
+    // The steps by which known forms, of which there are some, have no point, by the run of its own; `Long` where it has
+    // none.
     fn refute_kept(
         &mut self,
         known: &[Form],
@@ -194,17 +196,15 @@ impl Refuter {
         requires some { pos 0 ≤ℤ first }
         requires few { first <ℤ pos (2 ^ 64) }
         requires first { AreFirstOver (length places.now) self.old known.now }
+        requires some_known { 1 ≤ length known.now }
         ensures gives { IsCountedRun (λ o. o) stop_fault result work.old work.new
-            (refute_by (length places.now) (map (narrow_to (length places.now)) known.now) places.now first) }
+            (model.refute (length places.now) (map (narrow_to (length places.now)) known.now) places.now first) }
         ensures kept { self.new ≡ self.old }
     {
         let (_, more) = known.split_at(self.forms.len());
         let more = narrow_all(self.alloc, more, places.len())?;
-        let mut trace = Trace::start(self.alloc, places, known.len(), first)?;
-        if !self.refute_behind(&more, &mut trace, work)? {
-            return Ok(None);
-        }
-        Ok(Some(trace.into_steps()))
+        let trace = Trace::start(self.alloc, places, known.len(), first)?;
+        self.refute_behind(&more, trace, work)
     }
 
     // The same by the run of all of them.

@@ -7,7 +7,7 @@ ghost use Rattle.affine_forms.specs.Checks.{Fits};
 ghost use Rattle.pip_problem.specs.Faults.{run_fault};
 ghost use Rattle.run_counts.specs.Counts.{IsCountedRun};
 ghost use Rattle.context.specs.Stops.{stop_fault};
-ghost use Rattle.context.specs.Traces.{IsTraced, steps_if, with_cut};
+ghost use Rattle.context.specs.Traces.{IsTraced, with_cut};
 ghost use Rattle.context.specs.Turns.{node_of};
 
 use crate::point_turn::PointTurn;
@@ -54,27 +54,27 @@ fn trace_last(
     trace.close(alloc, r, &view_of(&numbers, rows.unknowns(), true))
 }
 
-// The run over short rows to its end, with its trace: whether it found no point.
+// The run over short rows to its end, with its trace: the steps, none where it found a point.
 pub(crate) fn refute_on(
     alloc: Global,
     rows: &mut ShortTableau,
-    trace: &mut Trace,
+    mut trace: Trace,
     work: &mut Work,
-) -> Result<bool, Stop>
+) -> Result<Option<Refutation>, Stop>
     requires rows { rows.old.unknowns ≤ length rows.old.rows }
-    requires traced { IsTraced rows.old.unknowns rows.old.rows trace.old }
-    ensures gives { IsCountedRun (λ b. steps_if b trace.new) stop_fault result work.old work.new
-        (refute_from rows.old.unknowns trace.old (node_of rows.old.rows)) }
+    requires traced { IsTraced rows.old.unknowns rows.old.rows trace }
+    ensures gives { IsCountedRun (λ o. o) stop_fault result work.old work.new
+        (refute_from rows.old.unknowns trace (node_of rows.old.rows)) }
 {
     loop {
         match take_turn(rows, work)? {
             PointTurn::Bottom(r) => {
-                trace_last(alloc, rows, r, trace)?;
-                return Ok(true);
+                trace_last(alloc, rows, r, &mut trace)?;
+                return Ok(Some(trace.into_steps()));
             }
-            PointTurn::List => return Ok(false),
+            PointTurn::List => return Ok(None),
             PointTurn::Pivot(r, c) => trace.exchange(r, c),
-            PointTurn::Cut(i) => trace_cut(alloc, rows, i, trace)?,
+            PointTurn::Cut(i) => trace_cut(alloc, rows, i, &mut trace)?,
         }
     }
 }
@@ -96,11 +96,8 @@ fn run(
 {
     let mut rows = ShortTableau::new(alloc, places.len());
     start_short(&mut rows, places.len(), forms)?;
-    let mut trace = Trace::start(alloc, places, forms.len(), first)?;
-    if !refute_on(alloc, &mut rows, &mut trace, work)? {
-        return Ok(None);
-    }
-    Ok(Some(trace.into_steps()))
+    let trace = Trace::start(alloc, places, forms.len(), first)?;
+    refute_on(alloc, &mut rows, trace, work)
 }
 
 // The same; None where a number is not short, and nothing is counted then.

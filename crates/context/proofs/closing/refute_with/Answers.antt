@@ -1,4 +1,4 @@
-use Rattle.context.proofs.Words.{rules, arith, ◌≡◌, ◌∙◌, ap, sym, ◌+◌, ◌++◌, length, length-append, entry, row_at, with_step, last_step, IsClosing, counted_none}
+use Rattle.context.proofs.Words.{rules, arith, ◌≡◌, ◌∙◌, sym, ◌++◌, length-append, IsClosing, counted_none}
 use Rattle.context.proofs.EndingBehind.{refuted-behind}
 use Rattle.context.proofs.closing.refute_with.Goals as goal
 
@@ -11,19 +11,9 @@ trace_behind-requires-clause-index c =
 
 pub returns-in-Some : goal.returns-in-Some
 returns-in-Some c =
-    let n = c.args.m.now.run.end.unknowns in
-    let E = c.args.m.now.run.end.rows in
-    let now = c.args.question.now.row.rows in
-    let T = c.args.trace.now in
     let is : IsClosing c.args.question.now.row.rows c.in-Some.r = search rules in
-    let made : c.trace_behind.new.trace ≡ with_step c.args.trace.now (last_step (row_at c.args.question.now.row.rows c.in-Some.r) (entry c.args.trace.now.rows (length c.args.m.now.run.end.rows + c.in-Some.r)) c.args.trace.now.columns)
-    = c.in_ok-trace_behind.ensures ∙ ap (λ k. with_step c.args.trace.now (last_step (row_at c.args.question.now.row.rows c.in-Some.r) (entry c.args.trace.now.rows (k + c.in-Some.r)) c.args.trace.now.columns)) c.rows.ensures in
-    record {
-      gives = record {
-        agrees = refuted-behind n E now c.in-Some.r is (sym c.requires.stopped.at_end ∙ c.if-m.true) T c.trace_behind.new.trace c.args.work.now made;
-        counted = counted_none c.args.work.now;
-      };
-    }
+    let run = refuted-behind c.args.m.now.run.end.unknowns c.args.m.now.run.end.rows c.args.question.now.row.rows c.in-Some.r is (sym c.requires.stopped.at_end ∙ c.if-m.true) c.args.trace c.args.work.now in
+    record { gives = record { agrees = rw (c.into_steps.ensures, c.in_ok-trace_behind.ensures, c.rows.ensures) run; counted = counted_none c.args.work.now } }
 
 pub returns : goal.returns
 returns c =

@@ -1,6 +1,5 @@
-use Rattle.context.proofs.Words.{rules, ◌≡◌, ◌∙◌, refl, ap, sym, subst, ℕ, ◌+◌, ◌<◌, ℤ, List, [], ◌∷◌, ◌++◌, length, take, append-nil, take_more, widen_to, Row, form_row, IsReplay, first_rows}
-use Rattle.context.proofs.FurtherRows.{append-assoc}
-use Rattle.context.proofs.OneFormMore.{first_more}
+use Rattle.context.proofs.Words.{rules, ◌≡◌, ◌∙◌, refl, ap, sym, subst, ℕ, ◌+◌, ◌<◌, ℤ, List, [], ◌∷◌, ◌++◌, length, take, append-nil, take_more, append_assoc, widen_to, Row, form_row, IsReplay, first_rows}
+use Rattle.context.proofs.OneFormMore.{rows-more}
 use Rattle.context.proofs.further.push_all_further.Goals as goal
 
 pub loop-form-init : goal.loop-form-init
@@ -26,5 +25,5 @@ loop-form-preserved c =
           let at = c.in_ok-push_further.ensures.replay front (c.loop-form.invariant.replay K is) in
           let over = subst (λ (k : ℕ). IsReplay (front ++ form_row k (widen_to k f) ∷ []) c.push_further.new.m) c.loop-form.invariant.unknowns at in
           subst (λ (rows : List Row). IsReplay rows c.push_further.new.m)
-          (sym (first_more n (K ++ take i c.args.forms.now) f) ∙ ap (first_rows n) (append-assoc K (take i c.args.forms.now) (f ∷ []) ∙ ap (λ (l : List (List ℤ)). K ++ l) (sym more))) over;
+          (sym (rows-more n (K ++ take i c.args.forms.now) (f ∷ [])) ∙ ap (first_rows n) (append_assoc K (take i c.args.forms.now) (f ∷ []) ∙ ap (λ (l : List (List ℤ)). K ++ l) (sym more))) over;
     }

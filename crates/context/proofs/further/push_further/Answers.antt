@@ -1,6 +1,6 @@
-use Rattle.context.proofs.Words.{rules, arith, ◌≡◌, ◌∙◌, refl, ap, subst, List, [], ◌∷◌, ◌++◌, length, length-append, widen_to, Row, row_at, form_row, TableauRows, IsTurned}
+use Rattle.context.proofs.Words.{rules, arith, ◌≡◌, ◌∙◌, refl, ap, subst, List, [], ◌∷◌, ◌++◌, length, length-append, widen_to, Row, row_at, form_row, TableauRows, refute_from, traced_point, IsTurned}
 use Rattle.context.proofs.Ending.{only}
-use Rattle.context.proofs.GoingFurther.{reaches_further, retraces_further}
+use Rattle.context.proofs.GoingFurther.{retraces_further}
 use Rattle.context.proofs.Retracing.{retraces-made}
 use Rattle.context.proofs.further.push_further.Goals as goal
 
@@ -19,9 +19,9 @@ returns-clause-replay c first is =
       within = λ i h. omega (arith, is.within i h, length-append first R);
       number = rw (c.in_ok-push_copy.ensures.ok) (length-append m.end.rows (row_at now 0 ∷ []) ∙ omega (arith, is.number, length-append first R));
       run = rw (c.in_ok-push_copy.ensures.ok, only c.turn_by_all.new.rows.rows number)
-          (reaches_further n first m.pivots.rows m.columns.items m.end.rows (form_row n (widen_to n c.args.form.now) ∷ []) now is.run of_row);
-      traced = retraces-made n c.push_copy.new.self.unknowns (first ++ R) m.pivots.rows m.pivots.rows m.rows.items m.rows.items m.columns.items m.columns.items (m.end.rows ++ now) c.push_copy.new.self.rows
-          (retraces_further n first m.pivots.rows m.rows.items m.columns.items m.end.rows R now is.traced of_row)
+          (retraces_further (traced_point n) first m.pivots.rows m.rows.items m.columns.items m.end.rows R now is.run of_row);
+      traced = retraces-made refute_from n c.push_copy.new.self.unknowns (first ++ R) m.pivots.rows m.pivots.rows m.rows.items m.rows.items m.columns.items m.columns.items (m.end.rows ++ now) c.push_copy.new.self.rows
+          (retraces_further (refute_from n) first m.pivots.rows m.rows.items m.columns.items m.end.rows R now is.traced of_row)
           (ap (λ (t : TableauRows). t.unknowns) c.in_ok-push_copy.ensures.ok) refl refl refl
           (ap (λ (t : TableauRows). t.rows) c.in_ok-push_copy.ensures.ok ∙ ap (λ (rows : List Row). m.end.rows ++ rows) (only now number));
     }

@@ -1,68 +1,37 @@
-use Rattle.context.proofs.Words.{rules, arith, ◌≡◌, refl, ◌<◌, [], ◌∷◌, ◌++◌, length, Some, None, slice_set, entry, Bottom, row_at, entering, first_fraction, constant_cut, Again, Closed, Done, turn, point_setting, refute_from, with_step, last_step, with_cut, negative_from, node_of, counted_on}
-use Rattle.context.proofs.Leaving.{scope_on}
-use Rattle.context.proofs.Tracing.{bottom-made, pivot-made, cut-made, traced-pivot, traced-cut, refutes-on, refutes-less, refutes-bottom}
+use Rattle.context.proofs.Words.{rules, ◌≡◌, Bottom, Again, Closed, Done, turn, point_setting, stop_fault, node_of}
+use Rattle.context.specs.Traces.{IsTurnAt}
+use Rattle.context.specs.declared.point_turn.PointTurn.TheVariants as code
+use Rattle.context.proofs.Tracing.{starts_trace, goes-on-pivot, goes-on-cut, goes-less, ends-bottom}
 use Rattle.context.proofs.short_refute.refute_on.Goals as goal
+
+pub loop-trace-init : goal.loop-trace-init
+loop-trace-init c = starts_trace c.args.rows.now c.args.trace c.args.work.now c.requires.rows c.requires.traced
 
 pub returns-in-Bottom : goal.returns-in-Bottom
 returns-in-Bottom c =
-    let n = c.args.rows.now.unknowns in
-    let rows = c.loop-r.rows.rows in
-    let e : turn (point_setting c.args.rows.now.unknowns) (node_of c.loop-r.rows.rows) c.loop-r.work ≡ Done (Closed Bottom) c.take_turn.new.work = search rules in
-    let below : negative_from 0 c.loop-r.rows.rows ≡ Some c.in-Bottom.r = search rules in
-    let none : entering c.loop-r.rows.rows c.in-Bottom.r ≡ None = search rules in
-    let kept : c.take_turn.new.rows.rows ≡ c.loop-r.rows.rows = search rules in
-    let closed : c.trace_last.new.trace ≡ with_step c.loop-r.trace (last_step (row_at c.take_turn.new.rows.rows c.in-Bottom.r) (entry c.loop-r.trace.rows c.in-Bottom.r) c.loop-r.trace.columns) = search rules in
-    let next = bottom-made n rows c.loop-r.trace c.trace_last.new.trace (row_at c.take_turn.new.rows.rows c.in-Bottom.r) c.in-Bottom.r c.take_turn.new.rows.rows below none kept refl closed in
-    record {
-      gives = record {
-        agrees = refutes-bottom n (refute_from c.args.rows.now.unknowns c.args.trace.now (node_of c.args.rows.now.rows) c.args.work.now) rows c.loop-r.trace c.loop-r.work c.loop-r.invariant.same c.trace_last.new.trace c.take_turn.new.work next e;
-        counted = counted_on c.args.work.now c.loop-r.work c.take_turn.new.work c.loop-r.invariant.counted c.take_turn.ensures.gives.counted;
-      };
-    }
+    let e : turn (point_setting c.loop-trace.rows.unknowns) (node_of c.loop-trace.rows.rows) c.loop-trace.work ≡ Done (Closed Bottom) c.take_turn.new.work = search rules in
+    let at : IsTurnAt c.loop-trace.rows.unknowns c.loop-trace.rows.rows c.take_turn.new.rows.rows (code.Bottom c.in-Bottom.r) = search rules in
+    let taken : c.into_steps.result ≡ c.trace_last.new.trace.steps = search rules in
+    record { gives = rw (taken, c.in_ok-trace_last-in-Bottom.ensures) (ends-bottom c.args.rows.now c.loop-trace.rows c.take_turn.new.rows c.args.trace c.loop-trace.trace c.args.work.now c.loop-trace.work c.take_turn.new.work c.loop-trace.invariant c.take_turn.ensures.gives.counted stop_fault c.in-Bottom.r at e) }
 
-pub loop-r-smaller-in-Pivot : goal.loop-r-smaller-in-Pivot
-loop-r-smaller-in-Pivot c =
-    let e : turn (point_setting c.args.rows.now.unknowns) (node_of c.loop-r.rows.rows) c.loop-r.work ≡ Done (Again (node_of c.take_turn.new.rows.rows)) c.take_turn.new.work = search rules in
-    refutes-less c.args.rows.now.unknowns _ c.loop-r.rows.rows c.loop-r.trace c.loop-r.work c.loop-r.invariant.same c.take_turn.new.rows.rows c.take_turn.new.work e
+pub loop-trace-smaller-in-Pivot : goal.loop-trace-smaller-in-Pivot
+loop-trace-smaller-in-Pivot c =
+    let e : turn (point_setting c.loop-trace.rows.unknowns) (node_of c.loop-trace.rows.rows) c.loop-trace.work ≡ Done (Again (node_of c.take_turn.new.rows.rows)) c.take_turn.new.work = search rules in
+    goes-less c.args.rows.now c.loop-trace.rows c.take_turn.new.rows c.args.trace c.loop-trace.trace c.args.work.now c.loop-trace.work c.take_turn.new.work c.loop-trace.invariant c.take_turn.ensures.gives.counted e
 
-pub loop-r-preserved-in-Pivot : goal.loop-r-preserved-in-Pivot
-loop-r-preserved-in-Pivot c =
-    let n = c.args.rows.now.unknowns in
-    let rows = c.loop-r.rows.rows in
-    let e : turn (point_setting c.args.rows.now.unknowns) (node_of c.loop-r.rows.rows) c.loop-r.work ≡ Done (Again (node_of c.take_turn.new.rows.rows)) c.take_turn.new.work = search rules in
-    let below : negative_from 0 c.loop-r.rows.rows ≡ Some c.in-Pivot.r = search rules in
-    let enters : entering c.loop-r.rows.rows c.in-Pivot.r ≡ Some c.in-Pivot.c = search rules in
-    let number : length c.take_turn.new.rows.rows ≡ length c.loop-r.rows.rows = search rules in
-    let made : c.exchange.new.self ≡ record c.loop-r.trace { columns = slice_set c.loop-r.trace.columns c.in-Pivot.c (entry c.loop-r.trace.rows c.in-Pivot.r) } = search rules in
-    let next = pivot-made n rows c.loop-r.trace c.exchange.new.self c.in-Pivot.r c.in-Pivot.c below enters made in
-    record {
-      scope = scope_on c.args.rows.now c.loop-r.rows c.take_turn.new.rows c.loop-r.invariant.scope c.in_ok-r.ensures.scope;
-      rows = omega (arith, c.in_ok-r.ensures.scope.unknowns, c.in_ok-r.ensures.scope.rows c.loop-r.invariant.rows);
-      traced = traced-pivot n rows c.take_turn.new.rows.rows c.loop-r.trace c.exchange.new.self c.loop-r.invariant.traced c.in-Pivot.r c.in-Pivot.c made number;
-      counted = counted_on c.args.work.now c.loop-r.work c.take_turn.new.work c.loop-r.invariant.counted c.take_turn.ensures.gives.counted;
-      same = refutes-on n _ rows c.loop-r.trace c.loop-r.work c.loop-r.invariant.same c.exchange.new.self c.take_turn.new.rows.rows c.take_turn.new.work next e;
-    }
+pub loop-trace-preserved-in-Pivot : goal.loop-trace-preserved-in-Pivot
+loop-trace-preserved-in-Pivot c =
+    let e : turn (point_setting c.loop-trace.rows.unknowns) (node_of c.loop-trace.rows.rows) c.loop-trace.work ≡ Done (Again (node_of c.take_turn.new.rows.rows)) c.take_turn.new.work = search rules in
+    let at : IsTurnAt c.loop-trace.rows.unknowns c.loop-trace.rows.rows c.take_turn.new.rows.rows (code.Pivot c.in-Pivot.r c.in-Pivot.c) = search rules in
+    rw c.exchange.ensures (goes-on-pivot c.args.rows.now c.loop-trace.rows c.take_turn.new.rows c.args.trace c.loop-trace.trace c.args.work.now c.loop-trace.work c.take_turn.new.work c.loop-trace.invariant c.take_turn.ensures.gives.counted c.in-Pivot.r c.in-Pivot.c c.in_ok-r.ensures.scope at e)
 
-pub loop-r-smaller : goal.loop-r-smaller
-loop-r-smaller c =
-    let e : turn (point_setting c.args.rows.now.unknowns) (node_of c.loop-r.rows.rows) c.loop-r.work ≡ Done (Again (node_of c.take_turn.new.rows.rows)) c.take_turn.new.work = search rules in
-    refutes-less c.args.rows.now.unknowns _ c.loop-r.rows.rows c.loop-r.trace c.loop-r.work c.loop-r.invariant.same c.take_turn.new.rows.rows c.take_turn.new.work e
+pub loop-trace-smaller : goal.loop-trace-smaller
+loop-trace-smaller c =
+    let e : turn (point_setting c.loop-trace.rows.unknowns) (node_of c.loop-trace.rows.rows) c.loop-trace.work ≡ Done (Again (node_of c.take_turn.new.rows.rows)) c.take_turn.new.work = search rules in
+    goes-less c.args.rows.now c.loop-trace.rows c.take_turn.new.rows c.args.trace c.loop-trace.trace c.args.work.now c.loop-trace.work c.take_turn.new.work c.loop-trace.invariant c.take_turn.ensures.gives.counted e
 
-pub loop-r-preserved : goal.loop-r-preserved
-loop-r-preserved c =
-    let n = c.args.rows.now.unknowns in
-    let rows = c.loop-r.rows.rows in
-    let e : turn (point_setting c.args.rows.now.unknowns) (node_of c.loop-r.rows.rows) c.loop-r.work ≡ Done (Again (node_of c.take_turn.new.rows.rows)) c.take_turn.new.work = search rules in
-    let none : negative_from 0 c.loop-r.rows.rows ≡ None = search rules in
-    let found : first_fraction c.args.rows.now.unknowns c.loop-r.rows.rows ≡ Some c.in-Cut.i = search rules in
-    let inside : c.in-Cut.i < length c.loop-r.rows.rows = search rules in
-    let more : c.take_turn.new.rows.rows ≡ c.loop-r.rows.rows ++ constant_cut (row_at c.loop-r.rows.rows c.in-Cut.i) ∷ [] = search rules in
-    let made : c.trace_cut.new.trace ≡ with_cut c.loop-r.trace (row_at c.take_turn.new.rows.rows c.in-Cut.i) = search rules in
-    let next = cut-made n rows c.loop-r.trace c.trace_cut.new.trace (row_at c.take_turn.new.rows.rows c.in-Cut.i) c.in-Cut.i c.take_turn.new.rows.rows none found inside more refl made in
-    record {
-      scope = scope_on c.args.rows.now c.loop-r.rows c.take_turn.new.rows c.loop-r.invariant.scope c.in_ok-r.ensures.scope;
-      rows = omega (arith, c.in_ok-r.ensures.scope.unknowns, c.in_ok-r.ensures.scope.rows c.loop-r.invariant.rows);
-      traced = traced-cut n rows c.take_turn.new.rows.rows c.loop-r.trace c.trace_cut.new.trace c.loop-r.invariant.traced (row_at c.take_turn.new.rows.rows c.in-Cut.i) (constant_cut (row_at c.loop-r.rows.rows c.in-Cut.i)) made more;
-      counted = counted_on c.args.work.now c.loop-r.work c.take_turn.new.work c.loop-r.invariant.counted c.take_turn.ensures.gives.counted;
-      same = refutes-on n _ rows c.loop-r.trace c.loop-r.work c.loop-r.invariant.same c.trace_cut.new.trace c.take_turn.new.rows.rows c.take_turn.new.work next e;
-    }
+pub loop-trace-preserved : goal.loop-trace-preserved
+loop-trace-preserved c =
+    let e : turn (point_setting c.loop-trace.rows.unknowns) (node_of c.loop-trace.rows.rows) c.loop-trace.work ≡ Done (Again (node_of c.take_turn.new.rows.rows)) c.take_turn.new.work = search rules in
+    let at : IsTurnAt c.loop-trace.rows.unknowns c.loop-trace.rows.rows c.take_turn.new.rows.rows (code.Cut c.in-Cut.i) = search rules in
+    rw c.in_ok-trace_cut-in-Cut.ensures (goes-on-cut c.args.rows.now c.loop-trace.rows c.take_turn.new.rows c.args.trace c.loop-trace.trace c.args.work.now c.loop-trace.work c.take_turn.new.work c.loop-trace.invariant c.take_turn.ensures.gives.counted c.in-Cut.i c.in_ok-r.ensures.scope at e)

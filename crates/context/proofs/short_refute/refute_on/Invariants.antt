@@ -1,14 +1,9 @@
-use Rattle.context.proofs.Words.{◌≡◌, ◌≤◌, length, left, refute_from, HasCounted, IsTraced, node_of, HasSameScope}
+use Rattle.context.proofs.Words.{left}
+use Rattle.context.proofs.Tracing.{IsOneTrace}
 use Rattle.context.proofs.short_refute.refute_on.Given as goal
 
-abbrev pub invariant-loop-r : goal.invariant-loop-r
-invariant-loop-r l = record {
-  scope : HasSameScope l.fn.rows l.rows;
-  rows : l.rows.unknowns ≤ length l.rows.rows;
-  traced : IsTraced l.fn.rows.unknowns l.rows.rows l.trace;
-  counted : HasCounted l.fn.work l.work;
-  same : refute_from l.fn.rows.unknowns l.trace (node_of l.rows.rows) l.work ≡ refute_from l.fn.rows.unknowns l.fn.trace (node_of l.fn.rows.rows) l.fn.work;
-}
+abbrev pub invariant-loop-trace : goal.invariant-loop-trace
+invariant-loop-trace l = IsOneTrace l.fn.rows l.rows l.fn.trace l.trace l.fn.work l.work
 
-abbrev pub decreases-loop-r : goal.decreases-loop-r
-decreases-loop-r l = left l.work
+abbrev pub decreases-loop-trace : goal.decreases-loop-trace
+decreases-loop-trace l = left l.work

@@ -1,13 +1,11 @@
-use Rattle.context.proofs.Words.{rules, ◌≡◌, ◌∙◌, refl, sym, arith, subst, length, IfSome, common_steps, row_at, Refused, Done, stop_fault, counted_cut}
+use Rattle.context.proofs.Words.{rules, ◌≡◌, ◌∙◌, refl, arith, length, common_steps, row_at, Done, stop_fault, counted_cut}
 use Rattle.context.proofs.Turning.{cut_again, cut_refused}
 use Rattle.context.proofs.short_run.last_turn.Goals as goal
 
 pub returns-in_err-count_and_cut-clause-gives : goal.returns-in_err-count_and_cut-clause-gives
 returns-in_err-count_and_cut-clause-gives c =
     let one : length (row_at c.args.rows.now.rows c.in-Some.i).constant ≡ 1 = c.in-Some.ensures.row.constant in
-    let on = cut_again c.args.rows.now.unknowns c.args.rows.now.rows c.in-Some.i c.args.work.now (search rules) one in
-    let fault = cut_refused c.args.rows.now.rows c.in-Some.i c.args.work.now c.count_and_cut.new.work (stop_fault c.in_err-count_and_cut.field-0.0) c.in_err-count_and_cut.ensures.gives.agrees in
-    let told = subst (λ o. IfSome (stop_fault c.in_err-count_and_cut.field-0.0) (λ f. o ≡ Refused f c.count_and_cut.new.work)) (sym on) fault in
+    let told = cut_refused c.args.rows.now.unknowns c.args.rows.now.rows c.in-Some.i c.args.work.now c.count_and_cut.new.work (search rules) one (stop_fault c.in_err-count_and_cut.field-0.0) c.in_err-count_and_cut.ensures.gives.agrees in
     record { agrees = grind (arith, common_steps, told); counted = c.count_and_cut.ensures.gives.counted }
 
 pub returns-clause-gives : goal.returns-clause-gives

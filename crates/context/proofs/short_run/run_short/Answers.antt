@@ -1,38 +1,31 @@
-use Rattle.context.proofs.Words.{rules, arith, ◌≡◌, refl, subst, IfSome, common_steps, Bottom, Again, Closed, Done, Refused, turn, point_setting, leaf, stop_fault, node_of, counted_none, counted_on}
-use Rattle.context.proofs.Leaving.{scope_none, scope_on}
-use Rattle.context.proofs.Pointing.{run_goes_on, run_less, run_closed, run_refused}
+use Rattle.context.proofs.Words.{rules, arith, ◌≡◌, true, false, common_steps, Bottom, Again, Closed, Done, turn, point_setting, leaf, stop_fault, node_of}
+use Rattle.context.proofs.Pointing.{starts_run, run_goes_on, run_less, run_closed, run_refused}
 use Rattle.context.proofs.short_run.run_short.Goals as goal
 
 pub loop-init : goal.loop-init
-loop-init c = record { scope = scope_none c.args.rows.now; rows = c.requires; counted = counted_none c.args.work.now; same = refl }
+loop-init c = starts_run c.args.rows.now c.args.work.now c.requires
 
 pub returns-in_err-take_turn : goal.returns-in_err-take_turn
 returns-in_err-take_turn c =
-    let given = subst (λ n. IfSome (stop_fault c.in_err-take_turn.field-0.0) (λ f. turn (point_setting n) (node_of c.loop.rows.rows) c.loop.work ≡ Refused f c.take_turn.new.work)) c.loop.invariant.scope.unknowns c.in_err-take_turn.ensures.gives.agrees in
-    let fault = run_refused c.args.rows.now.unknowns c.args.rows.now.rows c.args.work.now c.loop.rows.rows c.loop.work c.loop.invariant.same (stop_fault c.in_err-take_turn.field-0.0) c.take_turn.new.work given in
-    record { gives = record { agrees = grind (arith, common_steps, fault); counted = counted_on c.args.work.now c.loop.work c.take_turn.new.work c.loop.invariant.counted c.take_turn.ensures.gives.counted } }
+    let told = run_refused c.args.rows.now c.loop.rows c.args.work.now c.loop.work c.take_turn.new.work c.loop.invariant c.take_turn.ensures.gives.counted stop_fault c.take_turn.new.rows.rows c.in_err-take_turn.field-0.0 c.in_err-take_turn.ensures.gives.agrees in
+    record { gives = record { agrees = grind (arith, common_steps, told.agrees); counted = told.counted } }
 
 pub returns-in-Bottom : goal.returns-in-Bottom
 returns-in-Bottom c =
-    let e : turn (point_setting c.args.rows.now.unknowns) (node_of c.loop.rows.rows) c.loop.work ≡ Done (Closed Bottom) c.take_turn.new.work = search rules in
-    record { gives = record { agrees = run_closed c.args.rows.now.unknowns c.args.rows.now.rows c.args.work.now c.loop.rows.rows c.loop.work c.loop.invariant.same Bottom c.take_turn.new.work e; counted = counted_on c.args.work.now c.loop.work c.take_turn.new.work c.loop.invariant.counted c.take_turn.ensures.gives.counted } }
+    let e : turn (point_setting c.loop.rows.unknowns) (node_of c.loop.rows.rows) c.loop.work ≡ Done (Closed Bottom) c.take_turn.new.work = search rules in
+    record { gives = run_closed c.args.rows.now c.loop.rows c.args.work.now c.loop.work c.take_turn.new.work c.loop.invariant c.take_turn.ensures.gives.counted stop_fault c.take_turn.new.rows.rows false e }
 
 pub returns-in-List : goal.returns-in-List
 returns-in-List c =
-    let e : turn (point_setting c.args.rows.now.unknowns) (node_of c.loop.rows.rows) c.loop.work ≡ Done (Closed (leaf (point_setting c.args.rows.now.unknowns) (node_of c.take_turn.new.rows.rows))) c.take_turn.new.work = search rules in
-    record { gives = record { agrees = run_closed c.args.rows.now.unknowns c.args.rows.now.rows c.args.work.now c.loop.rows.rows c.loop.work c.loop.invariant.same (leaf (point_setting c.args.rows.now.unknowns) (node_of c.take_turn.new.rows.rows)) c.take_turn.new.work e; counted = counted_on c.args.work.now c.loop.work c.take_turn.new.work c.loop.invariant.counted c.take_turn.ensures.gives.counted } }
+    let e : turn (point_setting c.loop.rows.unknowns) (node_of c.loop.rows.rows) c.loop.work ≡ Done (Closed (leaf (point_setting c.loop.rows.unknowns) (node_of c.take_turn.new.rows.rows))) c.take_turn.new.work = search rules in
+    record { gives = run_closed c.args.rows.now c.loop.rows c.args.work.now c.loop.work c.take_turn.new.work c.loop.invariant c.take_turn.ensures.gives.counted stop_fault c.take_turn.new.rows.rows true e }
 
 pub loop-smaller : goal.loop-smaller
 loop-smaller c =
-    let e : turn (point_setting c.args.rows.now.unknowns) (node_of c.loop.rows.rows) c.loop.work ≡ Done (Again (node_of c.take_turn.new.rows.rows)) c.take_turn.new.work = search rules in
-    run_less c.args.rows.now.unknowns c.args.rows.now.rows c.args.work.now c.loop.rows.rows c.loop.work c.loop.invariant.same c.take_turn.new.rows.rows c.take_turn.new.work e
+    let e : turn (point_setting c.loop.rows.unknowns) (node_of c.loop.rows.rows) c.loop.work ≡ Done (Again (node_of c.take_turn.new.rows.rows)) c.take_turn.new.work = search rules in
+    run_less c.args.rows.now c.loop.rows c.args.work.now c.loop.work c.take_turn.new.work c.loop.invariant c.take_turn.ensures.gives.counted c.take_turn.new.rows.rows e
 
 pub loop-preserved : goal.loop-preserved
 loop-preserved c =
-    let e : turn (point_setting c.args.rows.now.unknowns) (node_of c.loop.rows.rows) c.loop.work ≡ Done (Again (node_of c.take_turn.new.rows.rows)) c.take_turn.new.work = search rules in
-    record {
-      scope = scope_on c.args.rows.now c.loop.rows c.take_turn.new.rows c.loop.invariant.scope c.in_ok-take_turn.ensures.scope;
-      rows = omega (arith, c.in_ok-take_turn.ensures.scope.unknowns, c.in_ok-take_turn.ensures.scope.rows c.loop.invariant.rows);
-      counted = counted_on c.args.work.now c.loop.work c.take_turn.new.work c.loop.invariant.counted c.take_turn.ensures.gives.counted;
-      same = run_goes_on c.args.rows.now.unknowns c.args.rows.now.rows c.args.work.now c.loop.rows.rows c.loop.work c.loop.invariant.same c.take_turn.new.rows.rows c.take_turn.new.work e;
-    }
+    let e : turn (point_setting c.loop.rows.unknowns) (node_of c.loop.rows.rows) c.loop.work ≡ Done (Again (node_of c.take_turn.new.rows.rows)) c.take_turn.new.work = search rules in
+    run_goes_on c.args.rows.now c.loop.rows c.args.work.now c.loop.work c.take_turn.new.work c.loop.invariant c.take_turn.ensures.gives.counted c.take_turn.new.rows c.in_ok-take_turn.ensures.scope e

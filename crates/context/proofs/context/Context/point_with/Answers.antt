@@ -1,10 +1,17 @@
-use Rattle.context.proofs.Words.{rules, ◌≡◌}
-use Rattle.context.proofs.OneFormMore.{plain_run}
+use Rattle.context.proofs.Words.{rules, arith, ◌≡◌, sym, [], ◌∷◌}
+use Rattle.context.proofs.Leaving.{run_same}
+use Rattle.context.proofs.OneFormMore.{has_point_is}
 use Rattle.context.proofs.context.Context.point_with.Goals as goal
+
+pub ask_known-requires : goal.ask_known-requires
+ask_known-requires c = record {
+  narrow = rw c.from_ref.ensures.value (record { some = omega (arith, c.width.ensures.entries); most = omega (arith, c.requires.narrow, c.prepare.ensures.kept.width) }, tt);
+}
 
 pub returns-clause-gives : goal.returns-clause-gives
 returns-clause-gives c =
     let width : c.self.inside.width ≡ c.args.self.now.width = search rules in
     let forms : c.deref.result.now ≡ c.args.self.now.forms = search rules in
     let same : c.ask_known.new.work ≡ c.args.work.now = search rules in
-    rw (← width, ← forms, ← same) (plain_run c.self.inside.width c.deref.result.now c.args.form.now c.ask_known.new.work c.ask_plainly.new.work c.ask_plainly.result c.ask_plainly.ensures.gives)
+    let run = sym (has_point_is c.self.inside.width c.deref.result.now (c.args.form.now ∷ []) c.ask_known.new.work) in
+    rw (← width, ← forms, ← same) (run_same c.ask_plainly.ensures.gives run)

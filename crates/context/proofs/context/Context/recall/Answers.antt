@@ -2,27 +2,27 @@ use Rattle.context.proofs.Words.{◌≡◌, ◌∙◌, ap, sym, length}
 use Rattle.std.specs.Vec.{vec_len}
 use Rattle.context.specs.declared.context.Context.TheInside.{Inside}
 use Rattle.context.proofs.GoingFurther.{known_all, of_all, ok_tells}
-use Rattle.context.proofs.context.Context.recall.Goals.{then-self-2, else-self-2}
+use Rattle.context.proofs.context.Context.recall.Goals.{then-self, else-self}
 use Rattle.context.proofs.context.Context.recall.Goals as goal
 
 pub invariant_of-self : goal.invariant_of-self
-invariant_of-self c = elim c.if-self-2.branch [
-  | then-self-2 w ↦
+invariant_of-self c = elim c.if-self.branch [
+  | then-self w ↦
       let n = c.self.inside.width in
       let K = c.self.inside.forms.items in
       let number : c.len-self-inside.result ≡ length c.self.inside.forms.items
       = c.len-self-inside.ensures ∙ ap (λ (s : Inside). vec_len s.forms) w.self-inside-is ∙ sym w.deref.ensures.len ∙ ap length w.deref.ensures.value in
       rw (w.self-is, w.self-inside-is)
       (known_all n c.len-self-inside.result K w.is_ok-self-inside.result w.go_further.new.m c.self.inside.is_known c.self.inside.known c.self.inside.run c.self.inside.is_earlier c.self.inside.earlier_known c.self.inside.earlier c.self.invariant number
-      (λ h. of_all n c.self.inside.known K w.deref.result.now c.self.inside.run w.go_further.new.m w.deref.ensures.value (c.self.invariant.remembered w.if-self-2.true)
+      (λ h. of_all n c.self.inside.known K w.deref.result.now c.self.inside.run w.go_further.new.m w.deref.ensures.value (c.self.invariant.remembered w.if-self.true)
       (ok_tells w.go_further.result w.is_ok-self-inside.result w.is_ok-self-inside.ensures.value w.go_further.ensures h)))
-  | else-self-2 w ↦
+  | else-self w ↦
       let n = c.self.inside.width in
       let K = c.self.inside.forms.items in
       let number : c.len-self-inside.result ≡ length c.self.inside.forms.items
-      = c.len-self-inside.ensures ∙ ap (λ (s : Inside). vec_len s.forms) w.self-inside-is ∙ sym w.deref-else-self-2.ensures.len ∙ ap length w.deref-else-self-2.ensures.value in
-      let is = ok_tells w.remember.result w.is_ok-self-inside-else-self-2.result w.is_ok-self-inside-else-self-2.ensures.value w.remember.ensures in
+      = c.len-self-inside.ensures ∙ ap (λ (s : Inside). vec_len s.forms) w.self-inside-is ∙ sym w.deref-else-self.ensures.len ∙ ap length w.deref-else-self.ensures.value in
+      let is = ok_tells w.remember.result w.is_ok-self-inside-else-self.result w.is_ok-self-inside-else-self.ensures.value w.remember.ensures in
       rw (w.self-is, w.self-inside-is)
-      (known_all n c.len-self-inside.result K w.is_ok-self-inside-else-self-2.result w.remember.new.m c.self.inside.is_known c.self.inside.known c.self.inside.run c.self.inside.is_earlier c.self.inside.earlier_known c.self.inside.earlier c.self.invariant number
-      (λ h. rw (← w.deref-else-self-2.ensures.value) (is h)))
+      (known_all n c.len-self-inside.result K w.is_ok-self-inside-else-self.result w.remember.new.m c.self.inside.is_known c.self.inside.known c.self.inside.run c.self.inside.is_earlier c.self.inside.earlier_known c.self.inside.earlier c.self.invariant number
+      (λ h. rw (← w.deref-else-self.ensures.value) (is h)))
 ]

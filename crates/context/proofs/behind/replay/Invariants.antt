@@ -1,5 +1,5 @@
 use Rattle.context.proofs.Words.{◌≡◌, length, drop, HasCounted, replayed}
-use Rattle.context.proofs.asking.replay.Given as goal
+use Rattle.context.proofs.behind.replay.Given as goal
 
 abbrev pub invariant-loop-i : goal.invariant-loop-i
 invariant-loop-i l = record {

@@ -1,6 +1,6 @@
 use Rattle.context.proofs.Words.{rules, ◌≡◌, ◌∙◌, subst, get_or, get_or_default_zero, row_at, Done, turned}
 use Rattle.context.proofs.Replaying.{turned-made}
-use Rattle.context.proofs.asking.turn_rows.Goals as goal
+use Rattle.context.proofs.behind.turn_rows.Goals as goal
 
 pub returns-clause-gives : goal.returns-clause-gives
 returns-clause-gives c =

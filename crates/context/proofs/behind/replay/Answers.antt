@@ -1,6 +1,6 @@
 use Rattle.context.proofs.Words.{rules, ◌≡◌, ◌∙◌, ◌<◌, sym, get_or, length, row_at, Done, turned, counted_on}
 use Rattle.context.proofs.Replaying.{replayed-on}
-use Rattle.context.proofs.asking.replay.Goals as goal
+use Rattle.context.proofs.behind.replay.Goals as goal
 
 pub loop-i-preserved : goal.loop-i-preserved
 loop-i-preserved c =
