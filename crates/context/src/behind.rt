@@ -15,6 +15,7 @@ use run_counts::Work;
 use short_tableau::ShortTableau;
 
 // A remembered pivot is counted, and turns these rows.
+#[inline(always)]
 fn turn_rows(rows: &mut ShortTableau, m: &Replay, i: usize, work: &mut Work) -> Result<(), Stop>
     requires formed { IsFormed m.now }
     requires pivot { i < length m.now.columns.items }
@@ -32,6 +33,7 @@ fn turn_rows(rows: &mut ShortTableau, m: &Replay, i: usize, work: &mut Work) -> 
 }
 
 // Turns the rows by the pivots in order.
+#[inline(always)]
 fn replay(m: &Replay, rows: &mut ShortTableau, work: &mut Work) -> Result<(), Stop>
     requires formed { IsFormed m.now }
     requires unknowns { rows.old.unknowns ≡ m.now.end.unknowns }
@@ -47,6 +49,7 @@ fn replay(m: &Replay, rows: &mut ShortTableau, work: &mut Work) -> Result<(), St
 }
 
 // Starts again with the rows of these forms alone, whose numbers have to be short.
+#[inline(always)]
 fn start_forms(rows: &mut ShortTableau, unknowns: usize, forms: &[Form]) -> Result<(), Stop>
     requires { IsContext unknowns forms.now }
     ensures value { OnOk result (rows.new ≡ record { unknowns = unknowns; width = 0; rows = form_rows unknowns forms.now }) }
@@ -60,6 +63,7 @@ fn start_forms(rows: &mut ShortTableau, unknowns: usize, forms: &[Form]) -> Resu
 }
 
 // Adds the rows of another tableau over the same columns.
+#[inline(always)]
 fn push_rows(rows: &mut ShortTableau, more: &ShortTableau) -> Result<(), WantOfMemory>
     requires { more.now.unknowns ≡ rows.old.unknowns }
     ensures { OnOk result (rows.new ≡ record rows.old { rows = rows.old.rows ++ more.now.rows }) }
@@ -71,6 +75,7 @@ fn push_rows(rows: &mut ShortTableau, more: &ShortTableau) -> Result<(), WantOfM
 }
 
 // Makes the rows of further forms, turned by the remembered pivots.
+#[inline(always)]
 pub(crate) fn rows_behind(
     m: &Replay,
     rows: &mut ShortTableau,
@@ -90,6 +95,7 @@ pub(crate) fn rows_behind(
 }
 
 // Puts rows behind the last rows of a run.
+#[inline(always)]
 pub(crate) fn put_behind(
     m: &Replay,
     rows: &ShortTableau,

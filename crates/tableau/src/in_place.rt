@@ -114,6 +114,7 @@ struct Pivot<'t> {
 
 // Makes of the numbers of a short row those after the pivot; whether they are known to be short, and whether the row is
 // not that of a column.
+#[inline(always)]
 fn turn_row(row: &mut [i128], pivot: &Pivot<'_>) -> (bool, bool)
     requires { IsMadeRow pivot.now.unknowns pivot.now.width true true row.old }
     ensures value { row_of_numbers pivot.now.unknowns row.new
