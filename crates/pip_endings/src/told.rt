@@ -226,17 +226,12 @@ fn tell_walk(refusal: ToolRefusal) -> Told
     ensures { ending_told result ≡ or_memory (walk_ending refusal) }
 {
     match refusal {
-        ToolRefusal::Overflow => tell_words(Status::NumberTooLarge, "overflow"),
-        ToolRefusal::Pivots(limit) => tell_budget("budget of pivots ", limit),
-        ToolRefusal::Cuts(limit) => tell_budget("budget of cuts ", limit),
-        ToolRefusal::Splits(limit) => tell_budget("budget of splits ", limit),
-        ToolRefusal::Nesting(limit) => tell_budget("budget of nesting ", limit),
+        ToolRefusal::Run(refusal) => tell_run(refusal),
         ToolRefusal::Negative => tell_words(Status::QuotientNegative, "negative quotient"),
         ToolRefusal::Lengths(first, second) => Told {
             status: Status::LengthsDiffer,
             line: Line::Lengths(first, second),
         },
-        ToolRefusal::WantOfMemory => tell_want_of_memory(),
     }
 }
 

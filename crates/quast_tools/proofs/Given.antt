@@ -12,10 +12,6 @@ use Rattle.quast.specs.declared.node.Node.{Node}
 use Rattle.quast_tools.specs.declared.sameness.Sameness.{Sameness}
 use Rattle.quast_tools.specs.declared.sameness.Sameness.TheVariants as sameness
 
-pub told : {A : Type 0} (P Q : A → Type 0) (o : Option A) → ((x : A) → P x → Q x) → IfSome o P → IfSome o Q
-told P Q None f h = h
-told P Q (Some x) f h = f x h
-
 -- rows of one width are a context
 narrow_rows : (m : ℕ) (K : List (List ℤ)) → All (λ c. length c ≡ m + 1) K → IsContext m K
 narrow_rows m [] h = tt

@@ -2,4 +2,3 @@ mod Words
 pub mod Lists
 pub mod Given
 pub mod SameSteps
-pub mod LesserSteps

@@ -1,5 +1,5 @@
 -- Lists where they are read over further places.
-use Rattle.quast_tools.proofs.Words.{◌≡◌, ◌∙◌, ap, ap₂, sym, subst, refl, ℕ, suc, ◌+◌, ◌-◌, ◌≤◌, arith, true, List, [], ◌∷◌, ◌++◌, length, take, drop, replicate, map, ℤ, pos, All, Bool, eq-eqb, IsTrue, if◌then◌else◌, drop-append_seam, width, coefficients, constant, widen_to, Work, Tree, Leaf, Component, is_component, is_scoped, spread, spread_component, spread_tree, widened_component, widened_components, least_lists, least_leaves, Walked, stop, Lengths, Visit, length_map, scoped_of, component_wide}
+use Rattle.quast_tools.proofs.Words.{◌≡◌, ◌∙◌, ap, ap₂, sym, subst, refl, ℕ, suc, ◌+◌, ◌-◌, ◌≤◌, arith, true, List, [], ◌∷◌, ◌++◌, length, take, drop, replicate, map, ℤ, pos, All, IsTrue, drop-append_seam, width, coefficients, constant, widen_to, Leaf, Component, is_component, is_scoped, spread, spread_component, spread_tree, widened_component, widened_components, length_map, scoped_of, component_wide}
 use Rattle.std.specs.List.{list_all}
 use Rattle.pip_model.proofs.Division.{form-parts}
 use Rattle.pip_model.proofs.Tests.{both}
@@ -47,13 +47,3 @@ lists_met m n w cs ds xs ys met first second same = record {
   second = rw second met.second;
   lengths = ap (λ (zs : List Component). length zs) first ∙ length_map (widened_component w) cs ∙ same ∙ sym (ap (λ (zs : List Component). length zs) second ∙ length_map (spread_component m n) ds);
 }
-
-module _ (h : Visit) (cs ds : List Component) (w : Work) where
-  abbrev wide : List Component
-  wide = widened_components h.places cs
-
-  abbrev by_lengths : Bool → Walked Tree
-  by_lengths b = (if b then least_lists (Leaf wide) (Leaf ds) wide ds h else stop (Lengths (length cs) (length ds))) w
-
-  pub lists_alike : length cs ≡ length ds → least_leaves h (Leaf cs) (Leaf ds) w ≡ least_lists (Leaf wide) (Leaf ds) wide ds h w
-  lists_alike e = ap by_lengths (eq-eqb (length cs) (length ds) e)

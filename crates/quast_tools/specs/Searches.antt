@@ -1,11 +1,11 @@
 -- The parts of a walk that looks for a difference.
-use Rattle.std.specs.Prelude.{◌≡◌, ℕ, ◌++◌, ℤ, pos, negsuc, ◌-ℤ◌, List, [], ◌∷◌, Option, Some, None, IfSome, Result, Ok, Err}
+use Rattle.std.specs.Prelude.{◌≡◌, ℕ, ◌++◌, ℤ, pos, negsuc, ◌-ℤ◌, List, [], ◌∷◌, Option, IfSome, Result, Ok, Err}
 use Rattle.pip_model.specs.Forms.{constant, plus, opposite}
 use Rattle.pip_model.specs.Listed.{opposite_listed}
 use Rattle.pip_model.specs.Tree.{Component}
 use Rattle.pip_model.specs.Run.{Work, point, listed}
-use Rattle.pip_model.specs.Walks.{Walked, Made, Stopped, Walking, ◌>>=◌, ◌>>◌, by_run, Visit}
-use Rattle.pip_model.specs.Tools.{difference, difference_listed, differ_or}
+use Rattle.pip_model.specs.Walks.{Walked, Stopped, Walking, ◌>>=◌, ◌>>◌, by_run, Visit}
+use Rattle.pip_model.specs.Tools.{difference, difference_listed, differ_or, first_of_both}
 use Rattle.quast_walk.specs.Faults.{tool_fault}
 use Rattle.quast_walk.specs.declared.refusal.ToolRefusal.{ToolRefusal}
 
@@ -27,6 +27,5 @@ component_or m h c d next = do
 
 -- a point that was found, a refusal, or what comes next
 abbrev pub Finds : Result (Option (List ℤ)) ToolRefusal → Work → Walked (Option (List ℤ)) → Walking (Option (List ℤ)) → Type 0
-Finds (Ok None) now whole next = whole ≡ next now
-Finds (Ok (Some p)) now whole next = whole ≡ Made (Some p) now
+Finds (Ok found) now whole next = whole ≡ first_of_both [] found next now
 Finds (Err e) now whole next = IfSome (tool_fault e) (λ f. whole ≡ Stopped f now)

@@ -1,4 +1,4 @@
-ghost use Rattle.std.specs.Prelude.{◌≡◌, IfOk, IfErr, IfSome};
+ghost use Rattle.std.specs.Prelude.{IfOk, IfErr, IfSome};
 ghost use Rattle.pip_model.specs.Agreement.{Agrees};
 ghost use Rattle.pip_model.specs.Run.{start_work};
 ghost use Rattle.pip_model.specs.ToolAgreement.{AgreesWalked, without_counts};
@@ -12,21 +12,11 @@ use crate::nodes::given;
 use crate::sameness::Sameness;
 use crate::searching::search_answers;
 use affine_forms::Forms;
-use context::{Context, Point, Work};
+use context::{Context, Work};
 use pip_problem::Limits;
 use quast::Answer;
 use quast_walk::{ToolRefusal, context_of, levels, point};
 use std::alloc::Global;
-
-// That no difference was found, or the point of one.
-fn sameness(found: Option<Point>) -> Sameness
-    ensures { sameness_of result ≡ model.sameness found }
-{
-    match found {
-        None => Sameness::Same,
-        Some(point) => Sameness::Differ(point),
-    }
-}
 
 // Whether two answers agree on the rows, after what was counted.
 fn compared(
@@ -45,8 +35,10 @@ fn compared(
     if point(alloc, &context, work)?.is_none() {
         return Ok(Sameness::Same);
     }
-    let found = search_answers(alloc, first, second, &mut context, work)?;
-    Ok(sameness(found))
+    match search_answers(alloc, first, second, &mut context, work)? {
+        None => Ok(Sameness::Same),
+        Some(point) => Ok(Sameness::Differ(point)),
+    }
 }
 
 /// Whether two answers have the same value at each whole vector of numbers from 0 on that satisfies the rows, fractions

@@ -1,7 +1,7 @@
-ghost use Rattle.std.specs.Prelude.{◌≡◌, ℕ, ◌+◌, ◌≤◌, ℤ, List, Option, length, IfOk, IfSome};
+ghost use Rattle.std.specs.Prelude.{◌≡◌, ℕ, ◌+◌, ◌≤◌, ℤ, List, Option, length, IfOk};
 ghost use Rattle.pip_model.specs.Agreement.{IsChecked};
 ghost use Rattle.pip_model.specs.ToolAgreement.{AgreesWalked};
-ghost use Rattle.pip_model.specs.Tools.{differ_here, first_numbers, same_lists};
+ghost use Rattle.pip_model.specs.Tools.{differ_here, same_lists};
 ghost use Rattle.pip_model.specs.Walks.{Walking};
 ghost use Rattle.affine_forms.specs.Checks.{is_form_overflow};
 ghost use Rattle.context.specs.Scoped.{IsKeptContext};
@@ -15,20 +15,6 @@ use context::{Context, Point, Work};
 use quast::Component;
 use quast_walk::{Reading, ToolRefusal, above, below, difference, enter, leave, mark, point};
 
-// The point's first m numbers.
-fn cut(found: Option<Point>, m: usize) -> Option<Point>
-    requires { IfSome found (λ p. m ≤ length p) }
-    ensures { result ≡ first_numbers m found }
-{
-    match found {
-        None => None,
-        Some(mut point) => {
-            point.keep_first(m);
-            Some(point)
-        }
-    }
-}
-
 // The context's point, cut to its parameters.
 pub(crate) fn find_here(
     reading: &Reading,
@@ -39,8 +25,13 @@ pub(crate) fn find_here(
     ensures { AgreesWalked (λ o. o) tool_fault result work.new
         (differ_here reading.now.parameters (visit_of context.now 0) work.old) }
 {
-    let found = point(reading.alloc, context, work)?;
-    Ok(cut(found, reading.parameters))
+    match point(reading.alloc, context, work)? {
+        None => Ok(None),
+        Some(mut found) => {
+            found.keep_first(reading.parameters);
+            Ok(Some(found))
+        }
+    }
 }
 
 // The context's point where a condition that was calculated is at least 0, cut to its parameters.
@@ -109,9 +100,9 @@ pub(crate) fn find_in_lists(
     ensures kept { IsKeptContext context.old context.new }
 {
     for i in 0..first.len() {
-        let found = find_unequal(reading, &first[i], &second[i], context, work)?;
-        if found.is_some() {
-            return Ok(found);
+        match find_unequal(reading, &first[i], &second[i], context, work)? {
+            Some(point) => return Ok(Some(point)),
+            None => {}
         }
     }
     Ok(None)

@@ -2,6 +2,7 @@ ghost use Rattle.std.specs.Prelude.{◌≡◌, ℕ, IfOk, IfSome, IsTrue};
 ghost use Rattle.pip_model.specs.Tools.{spread_tree};
 ghost use Rattle.pip_model.specs.Tree as model;
 ghost use Rattle.pip_model.specs.Tree.{is_scoped};
+ghost use Rattle.pip_model.specs.WellFormed.{IsWellFormedAnswer};
 ghost use Rattle.quast.specs.Answers.{answer_of, IsOver};
 ghost use Rattle.quast.specs.Trees.{tree_of, IsQuast};
 ghost use Rattle.quast_walk.specs.Readings.{leaf_tree};
@@ -91,6 +92,7 @@ pub(crate) fn leaf_node(reading: &Reading, leaf: TreeLeaf) -> Result<Node, WantO
 pub(crate) fn as_answer(width: usize, made: Option<Node>) -> Answer
     requires { IfSome made (λ node. IsQuast (record { width = width; tree = tree_of node })) }
     ensures value { answer_of result ≡ node_answer made }
+    ensures well_formed { IsWellFormedAnswer width (answer_of result) }
     ensures scope { IsOver width result }
 {
     match made {

@@ -24,8 +24,7 @@ use std::alloc::Global;
 // A walk that keeps each node that chooses whose form has both signs, each new parameter and each leaf.
 #[derive(Drop)]
 struct Restricting {
-    alloc: Global,
-    parameters: usize,
+    reading: Reading,
 }
 
 impl Walker for Restricting {
@@ -37,9 +36,9 @@ impl Walker for Restricting {
 
     ghost walker = { λ s. model.restricting };
 
-    ghost parameters = { λ s. s.parameters };
+    ghost parameters = { λ s. s.reading.parameters };
 
-    ghost between = { λ s. 0 };
+    ghost between = { λ s. s.reading.between };
 
     ghost room = { λ s. 0 };
 
@@ -48,11 +47,7 @@ impl Walker for Restricting {
     ghost ends = { λ made. false };
 
     fn reading(&self) -> Reading {
-        Reading {
-            alloc: self.alloc,
-            parameters: self.parameters,
-            between: 0,
-        }
+        self.reading
     }
 
     fn at_split(&self, _depth: u64, _work: &mut Work) -> Result<(), ToolRefusal> {
@@ -70,7 +65,7 @@ impl Walker for Restricting {
         _context: &mut Context,
         _work: &mut Work,
     ) -> Result<Node, ToolRefusal> {
-        let made = leaf_node(&self.reading(), leaf)?;
+        let made = leaf_node(&self.reading, leaf)?;
         Ok(made)
     }
 
@@ -79,11 +74,11 @@ impl Walker for Restricting {
     }
 
     fn join(&self, form: Form, first: Node, second: Node) -> Result<Node, WantOfMemory> {
-        choice(self.alloc, form, first, second)
+        choice(self.reading.alloc, form, first, second)
     }
 
     fn define(&self, form: Form, den: i128, below: Node) -> Result<Node, WantOfMemory> {
-        definition(self.alloc, form, den, below)
+        definition(self.reading.alloc, form, den, below)
     }
 }
 
@@ -99,11 +94,12 @@ fn restrict_tree(
     ensures { AgreesWalked tree_of tool_fault result work.new
         (walks.walk model.restricting (start_visit context.old.width context.old.forms) tree.now.tree work.old) }
 {
-    let walker = Restricting {
+    let reading = Reading {
         alloc,
         parameters: tree.width(),
+        between: 0,
     };
-    walk(&walker, tree.root(), 0, context, work)
+    walk(&Restricting { reading }, tree.root(), 0, context, work)
 }
 
 // The answer on the rows, after what was counted; none is `void`.

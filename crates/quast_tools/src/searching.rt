@@ -16,6 +16,9 @@ use quast::Answer;
 use quast_walk::{Reading, ToolRefusal, TreeLeaf, Walker, walk};
 use std::alloc::Global;
 
+// A point at which two answers differ, if one was found.
+type Found = Option<Point>;
+
 // The first answer's walk: the second one is walked from each leaf.
 #[derive(Drop)]
 struct Searching<'t> {
@@ -24,7 +27,7 @@ struct Searching<'t> {
 }
 
 impl Walker for Searching<'_> {
-    type Made = Option<Point>;
+    type Made = Found;
 
     ghost Seen = { Option (List ℤ) };
 
@@ -61,29 +64,19 @@ impl Walker for Searching<'_> {
         depth: u64,
         context: &mut Context,
         work: &mut Work,
-    ) -> Result<Option<Point>, ToolRefusal> {
+    ) -> Result<Found, ToolRefusal> {
         search_second(&self.reading, leaf, self.second, depth, context, work)
     }
 
-    fn is_end(&self, first: &Option<Point>) -> bool {
+    fn is_end(&self, first: &Found) -> bool {
         first.is_some()
     }
 
-    fn join(
-        &self,
-        _form: Form,
-        _first: Option<Point>,
-        second: Option<Point>,
-    ) -> Result<Option<Point>, WantOfMemory> {
+    fn join(&self, _form: Form, _first: Found, second: Found) -> Result<Found, WantOfMemory> {
         Ok(second)
     }
 
-    fn define(
-        &self,
-        _form: Form,
-        _den: i128,
-        below: Option<Point>,
-    ) -> Result<Option<Point>, WantOfMemory> {
+    fn define(&self, _form: Form, _den: i128, below: Found) -> Result<Found, WantOfMemory> {
         Ok(below)
     }
 }
@@ -96,7 +89,7 @@ struct Meeting<'t> {
 }
 
 impl Walker for Meeting<'_> {
-    type Made = Option<Point>;
+    type Made = Found;
 
     ghost Seen = { Option (List ℤ) };
 
@@ -134,29 +127,19 @@ impl Walker for Meeting<'_> {
         _depth: u64,
         context: &mut Context,
         work: &mut Work,
-    ) -> Result<Option<Point>, ToolRefusal> {
+    ) -> Result<Found, ToolRefusal> {
         find_at_leaves(&self.reading, self.first, leaf, context, work)
     }
 
-    fn is_end(&self, first: &Option<Point>) -> bool {
+    fn is_end(&self, first: &Found) -> bool {
         first.is_some()
     }
 
-    fn join(
-        &self,
-        _form: Form,
-        _first: Option<Point>,
-        second: Option<Point>,
-    ) -> Result<Option<Point>, WantOfMemory> {
+    fn join(&self, _form: Form, _first: Found, second: Found) -> Result<Found, WantOfMemory> {
         Ok(second)
     }
 
-    fn define(
-        &self,
-        _form: Form,
-        _den: i128,
-        below: Option<Point>,
-    ) -> Result<Option<Point>, WantOfMemory> {
+    fn define(&self, _form: Form, _den: i128, below: Found) -> Result<Found, WantOfMemory> {
         Ok(below)
     }
 }
@@ -169,7 +152,7 @@ fn search_second(
     depth: u64,
     context: &mut Context,
     work: &mut Work,
-) -> Result<Option<Point>, ToolRefusal>
+) -> Result<Found, ToolRefusal>
     requires few { reading.now.parameters ≤ context.old.width }
     requires leaf { IsTrue (is_scoped context.old.width (leaf_tree leaf)) }
     requires answer { IsOver reading.now.parameters answer.now }
@@ -199,7 +182,7 @@ pub(crate) fn search_answers(
     second: &Answer,
     context: &mut Context,
     work: &mut Work,
-) -> Result<Option<Point>, ToolRefusal>
+) -> Result<Found, ToolRefusal>
     requires first { IsOver context.old.width first.now }
     requires second { IsOver context.old.width second.now }
     requires room { HasRoom (2 * answer_nesting first.now + 2 * answer_nesting second.now + 1) 0 0 context.old }

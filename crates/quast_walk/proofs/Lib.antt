@@ -3,6 +3,5 @@ pub mod Placing
 pub mod Walking
 pub mod Narrow
 pub mod Defining
-pub mod Branching
 pub mod Pointed
 pub mod Readied

@@ -7,6 +7,3 @@ lower_long x w p k is some most h = let long = length-bounds w p k some (omega a
 
 pub upper_long : (x : List ℤ) (w p : ℕ) (k : Quotient) → x ≡ upper_bound w p k → 1 ≤ length k.form → length k.form ≤ w + 1 → p ≤ w → length x ≡ w + 1
 upper_long x w p k is some most h = let long = length-bounds w p k some (omega arith) h in let same = ap (λ (c : List ℤ). length c) is in omega (arith, long.1, same)
-
-abbrev pub quotient : List ℤ → ℤ → Quotient
-quotient v d = record { form = v; den = d }

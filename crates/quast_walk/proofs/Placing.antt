@@ -1,6 +1,7 @@
 -- Lists that are cut, and forms that are read with further places.
-use Rattle.quast_walk.proofs.Words.{◌≡◌, ◌∙◌, ap, ap₂, sym, subst, refl, arith, ℕ, ◌+◌, ◌<◌, ◌≤◌, true, IsTrue, List, [], ◌∷◌, ◌++◌, length, take, drop, get_or, map, ℤ, pos, All, int_le, eqb-true, append-nil, nat_le, list_all, take_min, drop_min, take-append-drop, map_more, All-cons, All-nil, gcd, gcd_of, same_number, floor_div, floor_divided, width, Tree, Bottom, Leaf, If, NewParm, Component, reduced, is_form, is_component, is_scoped, spread, spread_component, spread_tree, three, both, same_number_is, IsOwnComponent}
+use Rattle.quast_walk.proofs.Words.{◌≡◌, ◌∙◌, ap, ap₂, subst, refl, arith, ℕ, ◌+◌, ◌≤◌, true, IsTrue, List, [], ◌∷◌, ◌++◌, length, take, drop, get_or, map, ℤ, pos, All, int_le, eqb-true, append-nil, nat_le, list_all, take_min, drop_min, take-append-drop, gcd, gcd_of, same_number, floor_div, floor_divided, width, Tree, Bottom, Leaf, If, NewParm, Component, reduced, is_form, is_component, is_scoped, spread, spread_component, spread_tree, three, both, same_number_is, IsOwnComponent}
 use Rattle.std.proofs.lemmas.Bool.{leb-true}
+use Rattle.std.proofs.lemmas.List.Sums.{AllPass-from_list_all}
 use Rattle.pip_model.specs.Limits.{most_components}
 use Rattle.quast.specs.Components.{IsComponent}
 use Rattle.quast.specs.Places.{IsListOver}
@@ -61,10 +62,7 @@ made_so f w (x ∷ xs) h =
     ap₂ (λ (y : Component) (ys : List Component). y ∷ ys) (reduced_is w (f x) parts.0) (made_so f w xs parts.1)
 
 pub all_wide : (w : ℕ) (cs : List Component) → list_all (is_component w) cs ≡ true → All (λ c. length c.form ≡ w + 1) cs
-all_wide w [] h = All-nil (λ c. length c.form ≡ w + 1)
-all_wide w (c ∷ cs) h =
-    let parts = both (is_component w c) (list_all (is_component w) cs) h in
-    All-cons (λ c. length c.form ≡ w + 1) c cs (component_wide w c parts.0) (all_wide w cs parts.1)
+all_wide w cs h = λ k d l. component_wide w (get_or cs k d) (AllPass-from_list_all (is_component w) cs h k d l)
 
 -- of components over their own places
 own_each : (w : ℕ) (c : Component) → IsOwnComponent c → length c.form ≡ w + 1 → IsComponent w c
@@ -74,8 +72,3 @@ pub own_list : (w : ℕ) (xs : List Component) → IsTrue (is_scoped w (Leaf xs)
 own_list w xs h own =
     let s = scoped_of w xs h in
     record { some = omega (arith, s.some); few = s.few; components = λ k d l. own_each w (get_or xs k d) (own k d l) (all_wide w xs s.each k d l) }
-
--- one more is made
-pub made_more : (f : Component → Component) (xs : List Component) (i : ℕ) (x y : Component) (made : List Component) → made ≡ map f (take i xs) → y ≡ f x → x ≡ get_or xs i x → i < length xs → made ++ y ∷ [] ≡ map f (take (i + 1) xs)
-made_more f xs i x y made before e is within =
-    ap₂ (λ (ys : List Component) (z : Component). ys ++ z ∷ []) before (e ∙ ap f is) ∙ sym (map_more f xs i x within)

@@ -4,10 +4,7 @@ use Rattle.pip_model.specs.Contexts.{PointTells}
 use Rattle.pip_model.specs.Problem.{is_vector, all_nonneg}
 
 -- it has one for each place
-abbrev pub HasPlaces : ℕ → Option (List ℤ) → Type 0
-HasPlaces w o = IfSome o (λ p. length p ≡ w)
-
-pub point_places : (w : ℕ) (K : List (List ℤ)) (o : Option (List ℤ)) → PointTells w K o → HasPlaces w o
+pub point_places : (w : ℕ) (K : List (List ℤ)) (o : Option (List ℤ)) → PointTells w K o → IfSome o (λ p. length p ≡ w)
 point_places w K None h = tt
 point_places w K (Some p) h =
     let vector = (both (is_vector w p) (all_nonneg (map (widen_to w) K) p) h).0 in

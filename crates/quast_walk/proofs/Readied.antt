@@ -1,17 +1,8 @@
 -- What is known of the trees that are walked, and of their leaves.
-use Rattle.quast_walk.proofs.Words.{◌≡◌, ◌∙◌, ap, sym, subst, ℕ, ◌-◌, ◌≤◌, arith, [], Option, Some, None, IsTrue, IfSome, Tree, Solved, is_scoped, Work, Counted, Refused, Stopped, by_run, walked_as, Visit, spread_tree, ScopedTree, IsQuast, by_run_fault, leaf_answer, leaf_tree, IsTreeAt}
+use Rattle.quast_walk.proofs.Words.{◌≡◌, ◌∙◌, ap, sym, subst, ℕ, ◌-◌, ◌≤◌, arith, [], Option, Some, None, IsTrue, IfSome, Tree, is_scoped, Work, Counted, Refused, Stopped, by_run, walked_as, Visit, ScopedTree, IsQuast, by_run_fault, IsTreeAt}
 use Rattle.pip_model.specs.Run as run
 use Rattle.walk_laws.proofs.SecondTree.{second-scoped}
-use Rattle.quast_walk.specs.declared.reading.TreeLeaf as code
 use Rattle.quast_walk.proofs.Placing.{spread_tree-none}
-
--- a leaf of a tree that is read as it stands
-pub leaf_scoped : (m n w : ℕ) (l : code.TreeLeaf) → n ≡ 0 → IsTrue (is_scoped w (spread_tree m n (leaf_tree l))) → IsTrue (is_scoped w (leaf_tree l))
-leaf_scoped m n w l none h = subst (λ (t : Tree). IsTrue (is_scoped w t)) (ap (λ (k : ℕ). spread_tree m k (leaf_tree l)) none ∙ spread_tree-none m (leaf_tree l)) h
-
--- so it is the leaf that it is
-pub leaf_whole : (m n : ℕ) (l : code.TreeLeaf) → n ≡ 0 → leaf_answer l ≡ Solved (leaf_tree l) → leaf_answer l ≡ Solved (spread_tree m n (leaf_tree l))
-leaf_whole m n l none kind = kind ∙ ap Solved (sym (ap (λ (k : ℕ). spread_tree m k (leaf_tree l)) none ∙ spread_tree-none m (leaf_tree l)))
 
 -- the second tree where it is walked
 pub second_ready : (m w : ℕ) (q : ScopedTree) (t : Tree) → t ≡ q.tree → q.width ≡ m → IsQuast q → m ≤ w → IsTreeAt m (w - m) w t

@@ -1,24 +1,24 @@
 -- The words of other modules that the proofs of this crate cite, passed on from one place. Declares nothing.
-pub use Rattle.std.proofs.Common.{◌≡◌, ap, ℕ, ◌+◌, ◌≤◌, arith, ℤ, List, length, ◌∙◌, refl, sym, Bool, true, false, [], ◌∷◌, ◌++◌, IsTrue, IsFalse, subst, Option, Some, None, Result, ap₂, ◌<◌, take, drop, get_or, map, pos, All, int_le, eqb-true, append-nil, ◌==◌, ◌-◌, ◌*◌, rules, negsuc, to_z, of_z}
-pub use Rattle.std.specs.Prelude.{IfSome, if◌then◌else◌, nat_le}
+pub use Rattle.std.proofs.Common.{◌≡◌, ap, ℕ, ◌+◌, ◌≤◌, arith, ℤ, List, length, ◌∙◌, refl, sym, true, [], ◌∷◌, ◌++◌, IsTrue, IsFalse, subst, Option, Some, None, ap₂, take, drop, get_or, map, pos, All, int_le, eqb-true, append-nil, ◌==◌, ◌-◌, ◌*◌, rules, to_z, of_z}
+pub use Rattle.std.specs.Prelude.{IfSome, nat_le}
 pub use Rattle.std.specs.List.{list_all}
 pub use Rattle.std.proofs.lemmas.List.{take_min, drop_min, take-append-drop, map_more, take_all}
-pub use Rattle.std.proofs.lemmas.List.Elements.{All-cons, All-nil, All-push}
+pub use Rattle.std.proofs.lemmas.List.Elements.{All-push}
 pub use Rattle.std.specs.Int.{w128}
 pub use Rattle.std.proofs.lemmas.Result.{err_from_is_err_and}
 pub use Rattle.pip_model.specs.Cuts.{Quotient, lower_bound, upper_bound}
 pub use Rattle.pip_model.specs.Listed.{all_fit}
-pub use Rattle.pip_model.specs.Tree.{Tree, NewParm, Bottom, Leaf, If, Component, reduced, is_form, is_component, is_scoped, Solved, size}
-pub use Rattle.pip_model.specs.Run.{Work, Overflow, Done, Refused, class, listed, Counted}
+pub use Rattle.pip_model.specs.Tree.{Tree, NewParm, Bottom, Leaf, If, Component, reduced, is_form, is_component, is_scoped, size}
+pub use Rattle.pip_model.specs.Run.{Work, Overflow, Refused, class, listed, Counted}
 pub use Rattle.pip_model.specs.Tools.{spread, spread_tree, spread_component}
-pub use Rattle.pip_model.specs.Walks.{Walked, Made, Stopped, Walking, walk_on, make, walked_as, by_run, ByRun, Visit, below_listed, Walker, not_negative, ToolRefusal, ◌>>=◌, where_holds, walk}
+pub use Rattle.pip_model.specs.Walks.{Walked, Made, Stopped, Walking, walk_on, make, walked_as, by_run, Visit, below_listed, Walker, not_negative, ToolRefusal, ◌>>=◌, where_holds, walk}
 pub use Rattle.affine_forms.specs.Checks.{is_form_overflow}
 pub use Rattle.context.specs.Scoped.{ScopedForms, IsKeptContext}
 pub use Rattle.pip_model.specs.Numbers.{gcd, gcd_of, same_number, floor_div, is_nonneg}
-pub use Rattle.pip_model.specs.Forms.{floor_divided, width, widen_to, opposite, negate, plus}
+pub use Rattle.pip_model.specs.Forms.{floor_divided, width, widen_to, opposite}
 pub use Rattle.pip_model.proofs.Tests.{three, both, same_number_is}
 pub use Rattle.quast.specs.Trees.{ScopedTree, IsQuast, tree_of}
 pub use Rattle.pip_model.proofs.Forms.{length-opposite, length-combine}
 pub use Rattle.quast_walk.specs.Faults.{tool_fault, of_form, by_run_fault}
-pub use Rattle.quast_walk.specs.Visits.{checked_sign, below_then, IsBelow, visit_of}
-pub use Rattle.quast_walk.specs.Readings.{IsOwnComponent, leaf_answer, leaf_tree, IsTreeAt, spread_reduced}
+pub use Rattle.quast_walk.specs.Visits.{checked_sign, below_then, visit_of}
+pub use Rattle.quast_walk.specs.Readings.{IsOwnComponent, IsTreeAt, spread_reduced}

@@ -1,5 +1,4 @@
-use Rattle.quast_tools.proofs.Words.{ap, sym, subst, refl, arith, least_second, tree_or_bottom, answer_of, IsOver, tree_of, tool_fault, leaf_tree, visit_of, second_ready, agrees_as}
-use Rattle.quast.specs.declared.answer.Answer as answer
+use Rattle.quast_tools.proofs.Words.{refl, arith, tree_of, second_ready}
 use Rattle.quast_tools.proofs.choosing_walk.choose_second.Goals as goal
 
 pub walk-requires-clause-ready : goal.walk-requires-clause-ready
@@ -14,17 +13,11 @@ choose_at_leaves-requires-clause-met c = record {
 
 pub walk-requires-clause-tree : goal.walk-requires-clause-tree
 walk-requires-clause-tree c =
-    let m = c.args.reading.now.parameters in
-    let over = subst (λ (x : answer.Answer). IsOver m x) c.in-Tree.is c.requires.answer in
-    rw (c.below-below.ensures.value, c.mark.ensures.width) (second_ready m c.args.context.now.width c.in-Tree.tree (tree_of c.root.result.now) c.root.ensures.tree over c.root.ensures.quast c.requires.few)
+    rw (c.below-below.ensures.value, c.mark.ensures.width) (second_ready c.args.reading.now.parameters c.args.context.now.width c.in-Tree.tree (tree_of c.root.result.now) c.root.ensures.tree (rw c.in-Tree.is at c.requires.answer) c.root.ensures.quast c.requires.few)
 
 pub returns-in-Void-clause-gives : goal.returns-in-Void-clause-gives
-returns-in-Void-clause-gives c =
-    let h = visit_of c.args.context.now c.args.depth in
-    let whole = ap (λ (x : answer.Answer). least_second c.args.reading.now.parameters (leaf_tree c.args.leaf) h (tree_or_bottom (answer_of x)) c.args.work.now) c.in-Void.is in
-    agrees_as tree_of tool_fault c.choose_at_leaves.result c.choose_at_leaves.new.work _ _ (sym whole) c.choose_at_leaves.ensures.gives
+returns-in-Void-clause-gives c = rw c.in-Void.is c.choose_at_leaves.ensures.gives
 
 pub returns-in-Tree-clause-gives : goal.returns-in-Tree-clause-gives
 returns-in-Tree-clause-gives c =
-    let whole = ap (λ (x : answer.Answer). least_second c.args.reading.now.parameters (leaf_tree c.args.leaf) (visit_of c.args.context.now c.args.depth) (tree_or_bottom (answer_of x)) c.args.work.now) c.in-Tree.is in
-    agrees_as tree_of tool_fault c.walk.result c.walk.new.work _ _ (sym whole) (rw (c.below-below.ensures.value, c.mark.ensures.width, c.root.ensures.tree) at c.walk.ensures.gives)
+    rw c.in-Tree.is (rw (c.below-below.ensures.value, c.mark.ensures.width, c.root.ensures.tree) at c.walk.ensures.gives)

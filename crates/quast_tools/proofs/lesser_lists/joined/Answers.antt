@@ -1,4 +1,4 @@
-use Rattle.quast_tools.proofs.Words.{◌∙◌, ap, sym, err_from_is_err_and, Made, make, tree_of, tool_fault, stops, goes_on}
+use Rattle.quast_tools.proofs.Words.{err_from_is_err_and, make, tool_fault, stops}
 use Rattle.pip_model.specs.Tree as model
 use Rattle.quast_tools.proofs.lesser_lists.joined.Goals as goal
 
@@ -8,6 +8,4 @@ returns-in_err-first c = λ part w told.
     rw (p.1, p.2) (stops (tool_fault c.in_err-first.field-0.0) part (λ x. make (model.If c.args.form x (model.Leaf c.args.other.now))) w (rw c.in_err-first.was at told))
 
 pub returns : goal.returns
-returns c = λ part w told.
-    goes_on part (λ x. make (model.If c.args.form x (model.Leaf c.args.other.now))) (tree_of c.in_ok-first.first) w (rw c.in_ok-first.was at told)
-    ∙ sym (ap (λ t. Made t w) c.in_ok-node.ensures ∙ ap (λ t. Made (model.If c.args.form (tree_of c.in_ok-first.first) t) w) c.in_ok-second.ensures)
+returns c = λ part w told. rw (rw c.in_ok-first.was at told, c.in_ok-node.ensures, c.in_ok-second.ensures)

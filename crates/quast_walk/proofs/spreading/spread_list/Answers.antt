@@ -1,10 +1,10 @@
-use Rattle.quast_walk.proofs.Words.{◌∙◌, ap, rules, arith, List, map, take_all, All-push, Component, spread_component, spread_reduced, IsOwnComponent}
-use Rattle.quast_walk.proofs.Placing.{made_more, made_so, scoped_of, own_list}
+use Rattle.quast_walk.proofs.Words.{◌∙◌, ap, rules, arith, List, map, take_all, map_more, All-push, Component, spread_component, spread_reduced, IsOwnComponent}
+use Rattle.quast_walk.proofs.Placing.{made_so, scoped_of, own_list}
 use Rattle.quast_walk.proofs.spreading.spread_list.Goals as goal
 
 pub loop-i-preserved : goal.loop-i-preserved
 loop-i-preserved c = (
-  rw c.in_ok-push.ensures.items (made_more (spread_reduced c.args.m c.args.n) c.args.components.now c.loop-i.i c.index-components-i.result c.in_ok-component.component c.loop-i.made.items c.loop-i.invariant.0 c.in_ok-component.ensures.value c.index-components-i.is (search rules)),
+  rw (c.in_ok-push.ensures.items, c.loop-i.invariant.0, c.in_ok-component.ensures.value, map_more (spread_reduced c.args.m c.args.n) c.args.components.now c.loop-i.i c.index-components-i.result (search rules), ← c.index-components-i.is),
   rw c.in_ok-push.ensures.items (All-push IsOwnComponent c.loop-i.made.items c.in_ok-component.component c.loop-i.invariant.1 (search rules)),
 )
 

@@ -1,5 +1,6 @@
 use Rattle.quast_walk.proofs.Words.{◌≡◌, arith, rules, ◌-◌, length, lower_bound, upper_bound}
-use Rattle.quast_walk.proofs.Narrow.{lower_long, upper_long, quotient}
+use Rattle.quast_walk.proofs.Defining.{quotient}
+use Rattle.quast_walk.proofs.Narrow.{lower_long, upper_long}
 use Rattle.quast_walk.proofs.steps.go_below.Goals as goal
 
 pub add-requires-clause-narrow : goal.add-requires-clause-narrow

@@ -1,35 +1,29 @@
-use Rattle.quast_walk.proofs.Words.{◌≡◌, ◌∙◌, ◌+◌, ap, sym, rules, to_z, of_z, w128, err_from_is_err_and, class, If, NewParm, spread_tree, Made, Walking, by_run, make, where_holds, walk, walk_on, tree_of, tool_fault, visit_of}
+use Rattle.quast_walk.proofs.Words.{◌≡◌, ◌∙◌, ◌+◌, sym, rules, to_z, of_z, w128, err_from_is_err_and, class, If, NewParm, spread_tree, Walking, by_run, make, where_holds, walk, walk_on, tree_of, tool_fault, visit_of}
 use Rattle.pip_model.specs.Walks as walks
-use Rattle.sign_split.specs.Classes.{class_of}
-use Rattle.quast_walk.proofs.Branching.{read_if}
-use Rattle.quast_walk.proofs.Defining.{read_define}
-use Rattle.quast_walk.proofs.Narrow.{quotient}
-use Rattle.quast_walk.proofs.Walking.{agrees_as, stops}
+use Rattle.quast_walk.proofs.Defining.{quotient}
+use Rattle.quast_walk.proofs.Walking.{stops}
 use Rattle.quast_walk.proofs.tree_walk.+walk.Goals as goal
 
 pub walk-returns-in_err-sign-in-Select-clause-gives : goal.walk-returns-in_err-sign-in-Select-clause-gives
 walk-returns-in_err-sign-in-Select-clause-gives g hyp c =
     let node : tree_of c.args.node.now ≡ If c.in-Select.form (tree_of c.in-Select.first.value) (tree_of c.in-Select.second.value) = search rules in
     let p = err_from_is_err_and c.from_residual-in_err-sign-in-Select.result c.from_residual-in_err-sign-in-Select.ensures.1 in
-    rw (p.1, p.2, read_if (g.W.Walker.parameters c.args.walker.now) (g.W.Walker.between c.args.walker.now) c.in-Select.form c.in_ok-form-in-Select.form c.in_ok-form-in-Select.ensures (tree_of c.args.node.now) _ _ node) (stops (tool_fault c.in_err-sign-in-Select.field-0.0) (by_run (class c.args.context.now.forms c.args.context.now.width c.in_ok-form-in-Select.form) c.args.work.now) _ c.sign.new.work c.in_err-sign-in-Select.ensures.gives)
+    rw (p.1, p.2, node, ← c.in_ok-form-in-Select.ensures) (stops (tool_fault c.in_err-sign-in-Select.field-0.0) (by_run (class c.args.context.now.forms c.args.context.now.width c.in_ok-form-in-Select.form) c.args.work.now) _ c.sign.new.work c.in_err-sign-in-Select.ensures.gives)
 
 pub walk-returns-in-Plus-clause-gives : goal.walk-returns-in-Plus-clause-gives
 walk-returns-in-Plus-clause-gives g hyp c =
     let node : tree_of c.args.node.now ≡ If c.in-Select.form (tree_of c.deref.result.now) (tree_of c.in-Select.second.value) = search rules in
-    let known = c.in_ok-sign-in-Select.ensures.gives ∙ ap (λ k. Made (class_of k) c.sign.new.work) c.in-Plus.is in
-    rw (read_if (g.W.Walker.parameters c.args.walker.now) (g.W.Walker.between c.args.walker.now) c.in-Select.form c.in_ok-form-in-Select.form c.in_ok-form-in-Select.ensures (tree_of c.args.node.now) _ _ node, known) (rw (c.sign.ensures.kept.width, c.sign.ensures.kept.forms) at c.walk.ensures.gives)
+    rw (node, ← c.in_ok-form-in-Select.ensures, rw c.in-Plus.is at c.in_ok-sign-in-Select.ensures.gives) (rw (c.sign.ensures.kept.width, c.sign.ensures.kept.forms) at c.walk.ensures.gives)
 
 pub walk-returns-in-Minus-clause-gives : goal.walk-returns-in-Minus-clause-gives
 walk-returns-in-Minus-clause-gives g hyp c =
     let node : tree_of c.args.node.now ≡ If c.in-Select.form (tree_of c.in-Select.first.value) (tree_of c.deref-in-Minus.result.now) = search rules in
-    let known = c.in_ok-sign-in-Select.ensures.gives ∙ ap (λ k. Made (class_of k) c.sign.new.work) c.in-Minus.is in
-    rw (read_if (g.W.Walker.parameters c.args.walker.now) (g.W.Walker.between c.args.walker.now) c.in-Select.form c.in_ok-form-in-Select.form c.in_ok-form-in-Select.ensures (tree_of c.args.node.now) _ _ node, known) (rw (c.sign.ensures.kept.width, c.sign.ensures.kept.forms) at c.walk-in-Minus.ensures.gives)
+    rw (node, ← c.in_ok-form-in-Select.ensures, rw c.in-Minus.is at c.in_ok-sign-in-Select.ensures.gives) (rw (c.sign.ensures.kept.width, c.sign.ensures.kept.forms) at c.walk-in-Minus.ensures.gives)
 
 pub walk-returns-in-Unknown-clause-gives : goal.walk-returns-in-Unknown-clause-gives
 walk-returns-in-Unknown-clause-gives g hyp c =
     let node : tree_of c.args.node.now ≡ If c.in-Select.form (tree_of c.deref-in-Unknown.result.now) (tree_of c.deref-in-Unknown-2.result.now) = search rules in
-    let known = c.in_ok-sign-in-Select.ensures.gives ∙ ap (λ k. Made (class_of k) c.sign.new.work) c.in-Unknown.is in
-    rw (read_if (g.W.Walker.parameters c.args.walker.now) (g.W.Walker.between c.args.walker.now) c.in-Select.form c.in_ok-form-in-Select.form c.in_ok-form-in-Select.ensures (tree_of c.args.node.now) _ _ node, known) (rw (c.sign.ensures.kept.width, c.sign.ensures.kept.forms) at c.walk_both.ensures.gives)
+    rw (node, ← c.in_ok-form-in-Select.ensures, rw c.in-Unknown.is at c.in_ok-sign-in-Select.ensures.gives) (rw (c.sign.ensures.kept.width, c.sign.ensures.kept.forms) at c.walk_both.ensures.gives)
 
 pub walk-returns-in_err-go_under-in-Define-clause-gives : goal.walk-returns-in_err-go_under-in-Define-clause-gives
 walk-returns-in_err-go_under-in-Define-clause-gives g hyp c =
@@ -42,7 +36,7 @@ walk-returns-in_err-go_under-in-Define-clause-gives g hyp c =
     let den : to_z w128 (of_z w128 d) ≡ d = search rules in
     let next : Walking g.W.Walker.Seen = λ w. walk_on (walk W (walks.below (visit_of c.args.context.now c.args.depth) (quotient f d)) (spread_tree m n (tree_of c.in-Define.tree.value)) w) (λ x. make (W.defined f d x)) in
     let p = err_from_is_err_and c.from_residual-in_err-go_under-in-Define.result c.from_residual-in_err-go_under-in-Define.ensures.1 in
-    rw (p.1, p.2, read_define m n c.in-Define.form f c.in_ok-form-in-Define.ensures d (tree_of c.args.node.now) _ node) (rw den at (c.in_err-go_under-in-Define.ensures.gives next))
+    rw (p.1, p.2, node, ← c.in_ok-form-in-Define.ensures) (rw den at (c.in_err-go_under-in-Define.ensures.gives next))
 
 pub walk-returns-in_ok-go_under-in-Define-clause-gives : goal.walk-returns-in_ok-go_under-in-Define-clause-gives
 walk-returns-in_ok-go_under-in-Define-clause-gives g hyp c =
@@ -56,7 +50,7 @@ walk-returns-in_ok-go_under-in-Define-clause-gives g hyp c =
     let next : Walking g.W.Walker.Seen = λ w. walk_on (walk W (walks.below (visit_of c.args.context.now c.args.depth) (quotient f d)) (spread_tree m n (tree_of c.deref-in-Define.result.now)) w) (λ x. make (W.defined f d x)) in
     let part = walk W (visit_of c.go_under.new.context (c.args.depth + 1)) (spread_tree m n (tree_of c.deref-in-Define.result.now)) c.go_under.new.work in
     let below = c.in_ok-go_under-in-Define.ensures.context in
-    rw (read_define m n c.in-Define.form f c.in_ok-form-in-Define.ensures d (tree_of c.args.node.now) _ node) (agrees_as g.W.Walker.seen tool_fault c.defined.result c.walk-walked.new.work _ _ (sym (rw den at (c.in_ok-go_under-in-Define.ensures.gives next))) (rw (below.width, below.forms, den) at (c.defined.ensures part c.walk-walked.new.work c.walk-walked.ensures.gives)))
+    rw (node, ← c.in_ok-form-in-Define.ensures) (rw (rw den at (c.in_ok-go_under-in-Define.ensures.gives next)) (rw (below.width, below.forms, den) at (c.defined.ensures part c.walk-walked.new.work c.walk-walked.ensures.gives)))
 
 pub walk_both-returns-in_err-fails-clause-gives : goal.walk_both-returns-in_err-fails-clause-gives
 walk_both-returns-in_err-fails-clause-gives g hyp c =

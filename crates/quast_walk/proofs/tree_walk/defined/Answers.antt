@@ -1,5 +1,4 @@
 use Rattle.quast_walk.proofs.Words.{◌≡◌, rules, to_z, of_z, w128, err_from_is_err_and, make, tool_fault}
-use Rattle.quast_walk.proofs.Defining.{define_gives}
 use Rattle.quast_walk.proofs.Walking.{stops}
 use Rattle.quast_walk.proofs.tree_walk.defined.Goals as goal
 
@@ -11,6 +10,5 @@ returns-in_err-below g c = λ part w told.
 
 pub returns : goal.returns
 returns g c = λ part w told.
-    let W = g.W.Walker.walker c.args.walker.now in
     let den : to_z w128 (of_z w128 c.args.den) ≡ c.args.den = search rules in
-    define_gives W c.args.form c.args.den (to_z w128 (of_z w128 c.args.den)) den part (g.W.Walker.seen c.in_ok-below.below) (g.W.Walker.seen c.in_ok-made.made) w c.in_ok-made.ensures (rw c.in_ok-below.was at told)
+    rw (rw c.in_ok-below.was at told, c.in_ok-made.ensures, den)

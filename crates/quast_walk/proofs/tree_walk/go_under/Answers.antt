@@ -1,6 +1,5 @@
-use Rattle.quast_walk.proofs.Words.{◌≡◌, subst, rules, ℤ, IsTrue, IsFalse, to_z, of_z, w128, err_from_is_err_and, all_fit, below_listed, is_form_overflow, tool_fault, visit_of, checked_sign, IsBelow}
-use Rattle.quast_walk.proofs.Defining.{listed_goes, unfit_stops, below_is, kept_below}
-use Rattle.quast_walk.proofs.Narrow.{quotient}
+use Rattle.quast_walk.proofs.Words.{◌≡◌, arith, rules, IsTrue, IsFalse, to_z, of_z, w128, err_from_is_err_and, all_fit, below_listed, is_form_overflow, tool_fault, visit_of, checked_sign}
+use Rattle.quast_walk.proofs.Defining.{unfit_stops, below_is, quotient}
 use Rattle.quast_walk.proofs.Walking.{stops}
 use Rattle.quast_walk.proofs.tree_walk.go_under.Goals as goal
 
@@ -27,10 +26,11 @@ returns-clause-gives g c = λ next.
     let den : to_z w128 (of_z w128 c.args.den) ≡ c.args.den = search rules in
     let zs = below_listed (visit_of c.args.context.now c.args.depth) (quotient c.args.form.now c.args.den) in
     let fit : IsTrue (all_fit zs) = rw (den, c.check_sign.ensures.kept.width) at (c.in_ok-go_below.ensures.listed c.args.depth) in
-    rw (below_is (g.W.Walker.walker c.args.walker.now) (visit_of c.args.context.now c.args.depth) (quotient c.args.form.now c.args.den) next c.args.work.now, c.in_ok-check_sign.ensures.gives, c.in_ok-at_quotient.ensures c.args.context.now) (listed_goes zs (λ done. next) c.check_sign.new.work fit)
+    rw (below_is (g.W.Walker.walker c.args.walker.now) (visit_of c.args.context.now c.args.depth) (quotient c.args.form.now c.args.den) next c.args.work.now, c.in_ok-check_sign.ensures.gives, c.in_ok-at_quotient.ensures c.args.context.now, fit)
 
 pub returns-clause-context : goal.returns-clause-context
 returns-clause-context g c =
     let den : to_z w128 (of_z w128 c.args.den) ≡ c.args.den = search rules in
-    let below = subst (λ (e : ℤ). IsBelow c.check_sign.new.context (quotient c.args.form.now e) c.go_below.new.context) den c.in_ok-go_below.ensures.below in
-    kept_below c.args.context.now c.check_sign.new.context c.go_below.new.context (quotient c.args.form.now c.args.den) c.check_sign.ensures.kept below
+    let kept = c.check_sign.ensures.kept in
+    let below = rw den at c.in_ok-go_below.ensures.below in
+    record { width = rw kept.width at below.width; forms = rw (kept.width, kept.forms) at below.forms; spare = omega (arith, kept.spare, below.spare) }
