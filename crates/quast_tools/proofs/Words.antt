@@ -14,7 +14,7 @@ pub use Rattle.quast_walk.specs.Faults.{tool_fault}
 pub use Rattle.quast_walk.specs.Visits.{visit_of}
 pub use Rattle.quast_walk.proofs.Defining.{unfit_stops}
 pub use Rattle.quast_walk.proofs.Placing.{scoped_of, all_wide, component_wide, spread_tree-none}
-pub use Rattle.quast_walk.proofs.Walking.{kept_kept, stops}
+pub use Rattle.quast_walk.proofs.Walking.{stops}
 pub use Rattle.pip_model.specs.Forms.{width, coefficients, constant, widen_to, plus, opposite}
 pub use Rattle.run_laws.proofs.Lengths.{length_map}
 pub use Rattle.pip_model.specs.ToolLaws.{IsSameness}

@@ -1,6 +1,7 @@
 -- Lists that are cut, and forms that are read with further places.
 use Rattle.quast_walk.proofs.Words.{◌≡◌, ◌∙◌, ap, ap₂, subst, refl, arith, ℕ, ◌+◌, ◌≤◌, true, IsTrue, List, [], ◌∷◌, ◌++◌, length, take, drop, get_or, map, ℤ, pos, All, int_le, eqb-true, append-nil, nat_le, list_all, take_min, drop_min, take-append-drop, gcd, gcd_of, same_number, floor_div, floor_divided, width, Tree, Bottom, Leaf, If, NewParm, Component, reduced, is_form, is_component, is_scoped, spread, spread_component, spread_tree, three, both, same_number_is, IsOwnComponent}
 use Rattle.std.proofs.lemmas.Bool.{leb-true}
+pub use Rattle.pip_model.proofs.Forms.{length-opposite, length-combine}
 use Rattle.std.proofs.lemmas.List.Sums.{AllPass-from_list_all}
 use Rattle.pip_model.specs.Limits.{most_components}
 use Rattle.quast.specs.Components.{IsComponent}
@@ -8,6 +9,8 @@ use Rattle.quast.specs.Places.{IsListOver}
 use Rattle.pip_model.proofs.Gcd.{div_one, floor_divided_one}
 
 pub ruleset cut_lemmas = (take_min, drop_min)
+
+pub ruleset length_lemmas = (length-opposite, length-combine)
 
 -- ---- no place in between
 

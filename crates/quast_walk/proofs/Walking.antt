@@ -1,8 +1,5 @@
 -- The steps of a walk, from what the calls at a node answered: a part that stops a walk stops it.
-use Rattle.quast_walk.proofs.Words.{◌≡◌, ◌∙◌, ap, refl, arith, Option, Some, None, IfSome, Work, ToolRefusal, Walked, Made, Stopped, Walking, walk_on, ◌>>=◌, ScopedForms, IsKeptContext}
-
-pub kept_kept : (k l m : ScopedForms) → IsKeptContext k l → IsKeptContext l m → IsKeptContext k m
-kept_kept k l m f g = record { width = g.width ∙ f.width; forms = g.forms ∙ f.forms; spare = omega (arith, f.spare, g.spare) }
+use Rattle.quast_walk.proofs.Words.{◌≡◌, ap, refl, Option, Some, None, IfSome, Work, ToolRefusal, Walked, Made, Stopped, Walking, walk_on, ◌>>=◌}
 
 -- a part that stops a walk
 pub stops : {A B : Type 0} (o : Option ToolRefusal) (part : Walked A) (rest : A → Walking B) (now : Work) → IfSome o (λ f. part ≡ Stopped f now) → IfSome o (λ f. walk_on part rest ≡ Stopped f now)

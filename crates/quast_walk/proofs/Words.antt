@@ -13,12 +13,10 @@ pub use Rattle.pip_model.specs.Run.{Work, Overflow, Refused, class, listed, Coun
 pub use Rattle.pip_model.specs.Tools.{spread, spread_tree, spread_component}
 pub use Rattle.pip_model.specs.Walks.{Walked, Made, Stopped, Walking, walk_on, make, walked_as, by_run, Visit, below_listed, Walker, not_negative, ToolRefusal, ◌>>=◌, where_holds, walk}
 pub use Rattle.affine_forms.specs.Checks.{is_form_overflow}
-pub use Rattle.context.specs.Scoped.{ScopedForms, IsKeptContext}
 pub use Rattle.pip_model.specs.Numbers.{gcd, gcd_of, same_number, floor_div, is_nonneg}
-pub use Rattle.pip_model.specs.Forms.{floor_divided, width, widen_to, opposite}
+pub use Rattle.pip_model.specs.Forms.{floor_divided, width, widen_to}
 pub use Rattle.pip_model.proofs.Tests.{three, both, same_number_is}
 pub use Rattle.quast.specs.Trees.{ScopedTree, IsQuast, tree_of}
-pub use Rattle.pip_model.proofs.Forms.{length-opposite, length-combine}
 pub use Rattle.quast_walk.specs.Faults.{tool_fault, of_form, by_run_fault}
 pub use Rattle.quast_walk.specs.Visits.{checked_sign, below_then, visit_of}
 pub use Rattle.quast_walk.specs.Readings.{IsOwnComponent, IsTreeAt, spread_reduced}

@@ -12,6 +12,7 @@ use std::alloc::Global;
 
 /// The first component less the second, times both denominators. They are over the same places. It overflows exactly
 /// where a number of the calculation does not fit.
+#[tactic(auto, using(crate::proofs::Placing::length_lemmas))]
 pub fn difference(alloc: Global, first: &Component, second: &Component) -> Result<Form, FormRefusal>
     requires { length first.now.form ≡ length second.now.form }
     ensures listed { IsChecked is_form_overflow (model.difference_listed first.now second.now) result }
@@ -39,6 +40,7 @@ pub fn negated(alloc: Global, form: &Form) -> Result<Form, WantOfMemory>
 }
 
 /// -e - 1: at least 0 just where e is below 0. It overflows exactly where that constant does not fit.
+#[tactic(auto, using(crate::proofs::Placing::length_lemmas))]
 pub fn below(alloc: Global, form: &Form) -> Result<Form, FormRefusal>
     ensures listed { IsChecked is_form_overflow (opposite_listed form.now) result }
     ensures value { IfOk result (λ made. made ≡ forms.opposite form.now) }

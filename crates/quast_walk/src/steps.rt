@@ -58,6 +58,7 @@ pub(crate) fn check_sign(
 }
 
 /// The opposite of a condition, -c - 1: at least 0 just where the condition is below 0. Its numbers are known to fit.
+#[tactic(auto, using(crate::proofs::Placing::length_lemmas))]
 pub(crate) fn opposite(alloc: Global, condition: &Form) -> Result<Form, WantOfMemory>
     requires some { 1 ≤ length condition.now }
     requires fits { IsTrue (all_fit (opposite_listed condition.now)) }

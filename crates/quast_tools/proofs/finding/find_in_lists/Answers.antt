@@ -1,4 +1,4 @@
-use Rattle.quast_tools.proofs.Words.{rules, ◌+◌, drop, err_from_is_err_and, same_lists, visit_of, kept_kept}
+use Rattle.quast_tools.proofs.Words.{◌∙◌, rules, arith, ◌+◌, drop, err_from_is_err_and, same_lists, visit_of}
 use Rattle.quast_tools.proofs.SameSteps.{wide_at, at_component}
 use Rattle.quast_tools.proofs.finding.find_in_lists.Goals as goal
 
@@ -27,9 +27,10 @@ returns-in-Some-clause-gives c = λ depth.
 pub loop-i-preserved : goal.loop-i-preserved
 loop-i-preserved c =
     let kept = c.loop-i.invariant.kept in
+    let step = c.find_unequal.ensures.kept in
     record {
       compared = λ depth.
           let others = same_lists c.args.reading.now.parameters (visit_of c.args.context.now depth) (drop (c.loop-i.i + 1) c.args.first.now) (drop (c.loop-i.i + 1) c.args.second.now) in
           rw (c.loop-i.invariant.compared depth, at_component c.args.reading.now.parameters c.args.context.now depth c.args.first.now c.args.second.now c.loop-i.i c.index-first-i.result c.index-second-i.result (search rules) (search rules) c.index-first-i.is c.index-second-i.is c.loop-i.work) (rw (kept.width, kept.forms, c.in-None.is) at (c.in_ok-point.ensures.finds others));
-      kept = kept_kept c.args.context.now c.loop-i.context c.find_unequal.new.context kept c.find_unequal.ensures.kept;
+      kept = record { width = step.width ∙ kept.width; forms = step.forms ∙ kept.forms; spare = omega (arith, step.spare, kept.spare) };
     }
