@@ -5,7 +5,7 @@ pub use Rattle.std.proofs.Math.Seq.{drop-cons, drop-append_seam}
 pub use Rattle.std.proofs.lemmas.Result.{err_from_is_err_and, IfOk-weaker}
 pub use Rattle.pip_model.specs.Listed.{opposite_listed}
 pub use Rattle.pip_model.specs.Tree.{Component, Leaf, is_scoped, Tree, is_component}
-pub use Rattle.pip_model.specs.Run.{Work, point, Budget, start_work, count_split, class, check_nesting}
+pub use Rattle.pip_model.specs.Run.{Work, point, Budget, start_work, count_split, check_nesting}
 pub use Rattle.pip_model.specs.Walks.{Walked, Made, Stopped, Walking, walk_on, make, by_run, walked_as, where_holds}
 pub use Rattle.pip_model.specs.Tools.{difference_listed, first_numbers, differ_or, first_of_both, same_lists, widened_components, spread, spread_component, spread_tree, widened_component, least, count_if}
 pub use Rattle.pip_model.specs.ToolAgreement.{AgreesWalked}

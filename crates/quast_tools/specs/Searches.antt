@@ -16,14 +16,11 @@ point_or m h zs c next = do
   some ← by_run (point h.places (h.context ++ c ∷ []))
   differ_or m some next
 
--- where two components differ by e, the first above or below the second, else what comes next
-abbrev pub above_or_below : ℕ → Visit → List ℤ → Walking (Option (List ℤ)) → Walking (Option (List ℤ))
-above_or_below m h e next = point_or m h ((constant e -ℤ pos 1) ∷ []) (plus e (negsuc 0)) (point_or m h (opposite_listed e) (opposite e) next)
-
+-- where two components differ, the first above or below the second, else what comes next
 abbrev pub component_or : ℕ → Visit → Component → Component → Walking (Option (List ℤ)) → Walking (Option (List ℤ))
-component_or m h c d next = do
-  by_run (listed (difference_listed c d))
-  above_or_below m h (difference c d) next
+component_or m h c d next =
+    let e = difference c d in
+    by_run (listed (difference_listed c d)) >> point_or m h ((constant e -ℤ pos 1) ∷ []) (plus e (negsuc 0)) (point_or m h (opposite_listed e) (opposite e) next)
 
 -- a point that was found, a refusal, or what comes next
 abbrev pub Finds : Result (Option (List ℤ)) ToolRefusal → Work → Walked (Option (List ℤ)) → Walking (Option (List ℤ)) → Type 0

@@ -1,4 +1,4 @@
-use Rattle.quast_tools.proofs.Words.{◌∙◌, ap, sym, rules, arith, ◌<◌, length, err_from_is_err_and, AgreesWalked, class, count_if, Made, by_run, where_holds, tree_of, tool_fault, visit_of, scoped_of, all_wide, stops, rest_chosen}
+use Rattle.quast_tools.proofs.Words.{◌∙◌, ap, sym, rules, arith, ◌<◌, length, err_from_is_err_and, AgreesWalked, count_if, Made, where_holds, tree_of, tool_fault, visit_of, scoped_of, all_wide, stops, rest_chosen}
 use Rattle.quast_tools.proofs.SameSteps.{drop_at}
 use Rattle.quast_tools.proofs.lesser_lists.+lesser.Goals as goal
 
@@ -20,9 +20,7 @@ choose_rest-difference-requires t c =
     ∙ sym (all_wide w r.second.now (scoped_of w r.second.now c.requires.rest.lists.second).each r.next c.index-rest-rest-in-Nothing.result (omega (arith, left, c.requires.rest.lists.lengths)))
 
 pub choose_by-returns-in_err-sign-clause-gives : goal.choose_by-returns-in_err-sign-clause-gives
-choose_by-returns-in_err-sign-clause-gives t c =
-    let p = err_from_is_err_and c.from_residual.result c.from_residual.ensures.1 in
-    rw (p.1, p.2) (stops (tool_fault c.in_err-sign.field-0.0) (by_run (class c.args.context.now.forms c.args.context.now.width c.args.form.now) c.args.work.now) _ c.sign.new.work c.in_err-sign.ensures.gives)
+choose_by-returns-in_err-sign-clause-gives t c = search (rules, stops)
 
 pub choose_by-returns-in-Plus-clause-gives : goal.choose_by-returns-in-Plus-clause-gives
 choose_by-returns-in-Plus-clause-gives t c =

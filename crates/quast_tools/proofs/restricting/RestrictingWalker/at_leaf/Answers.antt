@@ -2,6 +2,3 @@ use Rattle.quast_tools.proofs.restricting.RestrictingWalker.at_leaf.Goals as goa
 
 pub leaf_node-requires : goal.leaf_node-requires
 leaf_node-requires c = (c.args._context.now.width, c.requires.leaf.tree.scoped)
-
-pub returns-clause-gives : goal.returns-clause-gives
-returns-clause-gives c = rw c.in_ok-made.ensures
