@@ -1,4 +1,4 @@
-use Rattle.quast_tools.proofs.Words.{◌≡◌, arith, ◌+◌, ◌≤◌, pos, negsuc, ◌-ℤ◌, [], ◌∷◌, length, err_from_is_err_and, IfOk-weaker, constant, plus, opposite, opposite_listed, difference_listed, visit_of, unfit_stops, point_or}
+use Rattle.quast_tools.proofs.Words.{rules, ◌≡◌, arith, ◌+◌, ◌≤◌, pos, negsuc, ◌-ℤ◌, [], ◌∷◌, length, err_from_is_err_and, IfOk-weaker, constant, plus, opposite, opposite_listed, visit_of, unfit_stops, point_or}
 use Rattle.quast_tools.proofs.finding.find_unequal.Goals as goal
 
 pub find_where-requires-clause-narrow : goal.find_where-requires-clause-narrow
@@ -10,9 +10,7 @@ find_where-requires-in-None-clause-narrow c =
     IfOk-weaker c.below-under.result (λ x. length x ≡ length c.in_ok-form.form) (λ x. length x ≤ c.find_where.new.context.width + 1) (λ x e. omega (arith, e, c.in_ok-form.ensures.length, c.requires.first, c.find_where.ensures.kept.width)) c.below-under.ensures.length
 
 pub returns-in_err-form-clause-finds : goal.returns-in_err-form-clause-finds
-returns-in_err-form-clause-finds c =
-    let p = err_from_is_err_and c.from_residual.result c.from_residual.ensures.1 in
-    rw p.1 (λ next. unfit_stops (difference_listed c.args.first.now c.args.second.now) _ c.args.work.now c.in_err-form.field-0.0 p.0 p.2 c.in_err-form.ensures.listed)
+returns-in_err-form-clause-finds c = search (rules, unfit_stops)
 
 pub returns-in_err-point-clause-finds : goal.returns-in_err-point-clause-finds
 returns-in_err-point-clause-finds c =

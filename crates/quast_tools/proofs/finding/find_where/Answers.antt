@@ -1,4 +1,4 @@
-use Rattle.quast_tools.proofs.Words.{err_from_is_err_and, unfit_stops, point, by_run, ◌++◌, ◌∷◌, []}
+use Rattle.quast_tools.proofs.Words.{rules, unfit_stops, point, by_run, ◌++◌, ◌∷◌, []}
 use Rattle.quast_tools.proofs.SameSteps.{by_point}
 use Rattle.quast_tools.proofs.finding.find_where.Goals as goal
 
@@ -6,9 +6,7 @@ pub enter-requires-clause-narrow : goal.enter-requires-clause-narrow
 enter-requires-clause-narrow c = rw c.in_ok-condition.was at c.requires.narrow
 
 pub returns-in_err-condition-clause-finds : goal.returns-in_err-condition-clause-finds
-returns-in_err-condition-clause-finds c =
-    let p = err_from_is_err_and c.from_residual.result c.from_residual.ensures.1 in
-    rw p.1 (λ zs v next checked same. unfit_stops zs _ c.args.work.now c.in_err-condition.field-0.0 p.0 p.2 (rw c.in_err-condition.was at checked))
+returns-in_err-condition-clause-finds c = search (rules, unfit_stops)
 
 pub returns-clause-finds : goal.returns-clause-finds
 returns-clause-finds c = λ zs v next checked same.

@@ -53,15 +53,10 @@ walk-returns-in_ok-go_under-in-Define-clause-gives g hyp c =
     rw (node, ← c.in_ok-form-in-Define.ensures) (rw (rw den at (c.in_ok-go_under-in-Define.ensures.gives next)) (rw (below.width, below.forms, den) at (c.defined.ensures part c.walk-walked.new.work c.walk-walked.ensures.gives)))
 
 pub walk_both-returns-in_err-fails-clause-gives : goal.walk_both-returns-in_err-fails-clause-gives
-walk_both-returns-in_err-fails-clause-gives g hyp c =
-    let p = err_from_is_err_and c.from_residual.result c.from_residual.ensures.1 in
-    rw (p.1, p.2) (stops (tool_fault c.in_err-fails.field-0.0) ((g.W.Walker.walker c.args.walker.now).at_split (visit_of c.args.context.now c.args.depth) c.args.work.now) _ c.split.new.work (c.in_err-fails.ensures.gives c.args.context.now))
+walk_both-returns-in_err-fails-clause-gives g hyp c = search (rules, stops)
 
 pub walk_both-returns-in_err-made-clause-gives : goal.walk_both-returns-in_err-made-clause-gives
-walk_both-returns-in_err-made-clause-gives g hyp c =
-    let a = spread_tree (g.W.Walker.parameters c.args.walker.now) (g.W.Walker.between c.args.walker.now) (tree_of c.args.first.now) in
-    let p = err_from_is_err_and c.from_residual-in_err-made.result c.from_residual-in_err-made.ensures.1 in
-    rw (p.1, p.2, c.in_ok-fails.ensures.gives c.args.context.now) (stops (tool_fault c.in_err-made.field-0.0) (walk (g.W.Walker.walker c.args.walker.now) (where_holds (visit_of c.args.context.now c.args.depth) c.args.condition) a c.split.new.work) _ c.walk_where.new.work c.in_err-made.ensures.gives)
+walk_both-returns-in_err-made-clause-gives g hyp c = rw (c.in_ok-fails.ensures.gives c.args.context.now) (search (rules, stops))
 
 pub walk_both-returns-then-is_end-clause-gives : goal.walk_both-returns-then-is_end-clause-gives
 walk_both-returns-then-is_end-clause-gives g hyp c =
