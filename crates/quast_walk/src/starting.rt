@@ -34,6 +34,7 @@ pub fn context_of(alloc: Global, rows: &Forms, levels: usize) -> Result<Context,
 
 /// The context's point, none where no whole vector of numbers from 0 on satisfies it. It is refused where the point's
 /// run is: a number does not fit, or the budget of pivots or of cuts is spent.
+#[tactic(auto, using(crate::proofs::Pointed::point_places))]
 pub fn point(
     alloc: Global,
     context: &Context,

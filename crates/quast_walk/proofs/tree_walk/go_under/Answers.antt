@@ -1,12 +1,11 @@
-use Rattle.quast_walk.proofs.Words.{◌≡◌, arith, rules, IsTrue, IsFalse, to_z, of_z, w128, err_from_is_err_and, all_fit, below_listed, is_form_overflow, tool_fault, visit_of, checked_sign}
+use Rattle.quast_walk.proofs.Words.{◌≡◌, arith, rules, IsTrue, IsFalse, to_z, of_z, w128, err_from_is_err_and, all_fit, below_listed, is_form_overflow, tool_fault, visit_of}
 use Rattle.quast_walk.proofs.Defining.{unfit_stops, below_is, quotient}
 use Rattle.quast_walk.proofs.Walking.{stops}
 use Rattle.quast_walk.proofs.tree_walk.go_under.Goals as goal
 
 pub returns-in_err-check_sign-clause-gives : goal.returns-in_err-check_sign-clause-gives
-returns-in_err-check_sign-clause-gives g c =
-    let p = err_from_is_err_and c.from_residual.result c.from_residual.ensures.1 in
-    rw (p.1, p.2) (λ next. rw (below_is (g.W.Walker.walker c.args.walker.now) (visit_of c.args.context.now c.args.depth) (quotient c.args.form.now c.args.den) next c.args.work.now) (stops (tool_fault c.in_err-check_sign.field-0.0) (checked_sign c.args.context.now.forms c.args.context.now.width c.args.form.now c.args.work.now) _ c.check_sign.new.work c.in_err-check_sign.ensures.gives))
+returns-in_err-check_sign-clause-gives g c = λ next.
+    rw (below_is (g.W.Walker.walker c.args.walker.now) (visit_of c.args.context.now c.args.depth) (quotient c.args.form.now c.args.den) next c.args.work.now) (search (rules, stops))
 
 pub returns-in_err-at_quotient-clause-gives : goal.returns-in_err-at_quotient-clause-gives
 returns-in_err-at_quotient-clause-gives g c =
