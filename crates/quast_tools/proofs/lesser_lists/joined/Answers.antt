@@ -1,5 +1,4 @@
 use Rattle.quast_tools.proofs.Words.{rules, stops}
-use Rattle.pip_model.specs.Tree as model
 use Rattle.quast_tools.proofs.lesser_lists.joined.Goals as goal
 
 pub returns-in_err-first : goal.returns-in_err-first
