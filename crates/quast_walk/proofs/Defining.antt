@@ -1,5 +1,5 @@
 -- The walk of a new parameter, from what the calls at it answered.
-use Rattle.quast_walk.proofs.Words.{◌≡◌, refl, List, ℤ, IsTrue, IsFalse, IfSome, all_fit, Quotient, Work, Overflow, class, listed, Stopped, Walking, walk_on, by_run, Visit, below_listed, Walker, not_negative, is_form_overflow, tool_fault, of_form, checked_sign, below_then}
+use Rattle.quast_walk.proofs.Words.{◌≡◌, refl, List, ℤ, IsTrue, IsFalse, IfSome, all_fit, Quotient, Work, class, listed, Stopped, Walking, walk_on, by_run, Visit, below_listed, Walker, not_negative, is_form_overflow, tool_fault, of_form, checked_sign, below_then}
 use Rattle.affine_forms.specs.declared.memory.FormRefusal.{FormRefusal}
 use Rattle.affine_forms.specs.declared.memory.FormRefusal.TheVariants as refused
 use Rattle.quast_walk.specs.declared.refusal.ToolRefusal.{ToolRefusal}
