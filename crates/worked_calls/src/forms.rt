@@ -1,6 +1,6 @@
 ghost use Rattle.std.specs.Prelude.{◌≡◌, pos, negsuc, [], ◌∷◌, IfOk};
 
-use affine_rows::{Form, WantOfMemory, divided};
+use affine_rows::{Form, WantOfMemory};
 use std::alloc::Global;
 use std::test::Fail;
 
@@ -19,12 +19,5 @@ fn residue(alloc: Global) -> Result<Form, WantOfMemory> {
 #[test]
 fn a_residue_is_made(rt: HostRuntime) -> Result<(), Fail> {
     assert!(rt; residue(rt.alloc())?.as_slice() == [1, 1, 3].as_slice());
-    Ok(())
-}
-
-#[test]
-fn entries_are_divided(rt: HostRuntime) -> Result<(), Fail> {
-    let quotients = divided(rt.alloc(), 4, &[4, -6, 7])?;
-    assert!(rt; quotients.as_slice() == [1, -2, 1].as_slice());
     Ok(())
 }
