@@ -73,6 +73,7 @@ pub fn append_divided(numbers: &mut Vec<i128>, row: &RowView<'_>) -> bool
 }
 
 // Appends `a*r - b*s`, entry by entry, for short numbers; whether those are short too.
+#[inline(always)]
 fn append_combined(numbers: &mut Vec<i128>, a: i64, r: &[i128], b: i64, s: &[i128]) -> bool
     requires room { vec_len numbers.old + length r.now ≤ vec_capacity numbers.old }
     requires factors { AreShort a b }
