@@ -1,7 +1,8 @@
 -- The words of other modules that the proofs of this crate cite, passed on from one place. Declares nothing.
 pub use Rattle.std.proofs.Common.{◌≡◌, ◌∙◌, ap, sym, subst, ℕ, suc, ◌+◌, ◌<◌, arith, true, List, [], ◌∷◌, ◌++◌, length, get_or, take, drop, ℤ, eq-eqb, Option, Some, None, Result, Ok, Err, IsTrue, ap₂, refl, ◌-◌, ◌≤◌, replicate, map, pos, All, negsuc, ◌-ℤ◌, rules, ◌^◌, ◌*◌}
 pub use Rattle.std.specs.Prelude.{IfSome}
-pub use Rattle.std.proofs.Math.Seq.{drop-cons, drop-append_seam}
+pub use Rattle.std.proofs.Math.Seq.{drop-append_seam}
+pub use Rattle.std.proofs.lemmas.List.{drop_more}
 pub use Rattle.std.proofs.lemmas.Result.{err_from_is_err_and, IfOk-weaker}
 pub use Rattle.pip_model.specs.Listed.{opposite_listed}
 pub use Rattle.pip_model.specs.Tree.{Component, Leaf, is_scoped, Tree, is_component}
@@ -12,8 +13,8 @@ pub use Rattle.pip_model.specs.ToolAgreement.{AgreesWalked}
 pub use Rattle.context.specs.Scoped.{ScopedForms, IsKeptContext}
 pub use Rattle.quast_walk.specs.Faults.{tool_fault}
 pub use Rattle.quast_walk.specs.Visits.{visit_of}
-pub use Rattle.quast_walk.proofs.Defining.{unfit_stops}
-pub use Rattle.quast_walk.proofs.Placing.{scoped_of, all_wide, component_wide, spread_tree-none}
+pub use Rattle.quast_walk.proofs.Walking.{unfit_stops}
+pub use Rattle.quast_walk.proofs.Placing.{scoped_of, component_wide, spread_tree-none}
 pub use Rattle.quast_walk.proofs.Walking.{stops}
 pub use Rattle.pip_model.specs.Forms.{width, coefficients, constant, widen_to, plus, opposite}
 pub use Rattle.run_laws.proofs.Lengths.{length_map}

@@ -2,10 +2,7 @@
 use Rattle.quast_walk.proofs.Words.{◌≡◌, ◌∙◌, ap, ap₂, subst, refl, arith, ℕ, ◌+◌, ◌≤◌, true, IsTrue, List, [], ◌∷◌, ◌++◌, length, take, drop, get_or, map, ℤ, pos, All, int_le, eqb-true, append-nil, nat_le, list_all, take_min, drop_min, take-append-drop, gcd, gcd_of, same_number, floor_div, floor_divided, width, Tree, Bottom, Leaf, If, NewParm, Component, reduced, is_form, is_component, is_scoped, spread, spread_component, spread_tree, three, both, same_number_is, IsOwnComponent}
 use Rattle.std.proofs.lemmas.Bool.{leb-true}
 pub use Rattle.pip_model.proofs.Forms.{length-opposite, length-combine}
-use Rattle.std.proofs.lemmas.List.Sums.{AllPass-from_list_all}
 use Rattle.pip_model.specs.Limits.{most_components}
-use Rattle.quast.specs.Components.{IsComponent}
-use Rattle.quast.specs.Places.{IsListOver}
 use Rattle.pip_model.proofs.Gcd.{div_one, floor_divided_one}
 
 pub ruleset cut_lemmas = (take_min, drop_min)
@@ -63,15 +60,3 @@ made_so f w [] h = refl
 made_so f w (x ∷ xs) h =
     let parts = both (is_component w (f x)) (list_all (is_component w) (map f xs)) h in
     ap₂ (λ (y : Component) (ys : List Component). y ∷ ys) (reduced_is w (f x) parts.0) (made_so f w xs parts.1)
-
-pub all_wide : (w : ℕ) (cs : List Component) → list_all (is_component w) cs ≡ true → All (λ c. length c.form ≡ w + 1) cs
-all_wide w cs h = λ k d l. component_wide w (get_or cs k d) (AllPass-from_list_all (is_component w) cs h k d l)
-
--- of components over their own places
-own_each : (w : ℕ) (c : Component) → IsOwnComponent c → length c.form ≡ w + 1 → IsComponent w c
-own_each w c own wide = let e : width c.form ≡ w = omega (arith, wide) in subst (λ (n : ℕ). IsComponent n c) e own
-
-pub own_list : (w : ℕ) (xs : List Component) → IsTrue (is_scoped w (Leaf xs)) → All IsOwnComponent xs → IsListOver w xs
-own_list w xs h own =
-    let s = scoped_of w xs h in
-    record { some = omega (arith, s.some); few = s.few; components = λ k d l. own_each w (get_or xs k d) (own k d l) (all_wide w xs s.each k d l) }

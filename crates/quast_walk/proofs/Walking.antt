@@ -1,12 +1,19 @@
 -- The steps of a walk, from what the calls at a node answered: a part that stops a walk stops it.
-use Rattle.quast_walk.proofs.Words.{◌≡◌, ap, refl, Option, Some, None, IfSome, Work, ToolRefusal, Walked, Made, Stopped, Walking, walk_on, ◌>>=◌}
+use Rattle.quast_walk.proofs.Words.{◌≡◌, ap, refl, List, ℤ, IsTrue, IsFalse, Option, Some, None, IfSome, all_fit, Quotient, Work, listed, ToolRefusal, Walked, Stopped, Walking, walk_on, by_run, is_form_overflow, tool_fault, of_form}
+use Rattle.affine_forms.specs.declared.memory.FormRefusal.{FormRefusal}
+use Rattle.affine_forms.specs.declared.memory.FormRefusal.TheVariants as refused
+use Rattle.quast_walk.specs.declared.refusal.ToolRefusal as code
 
 -- a part that stops a walk
 pub stops : {A B : Type 0} (o : Option ToolRefusal) (part : Walked A) (rest : A → Walking B) (now : Work) → IfSome o (λ f. part ≡ Stopped f now) → IfSome o (λ f. walk_on part rest ≡ Stopped f now)
 stops None part rest now h = h
 stops (Some f) part rest now h = ap (λ x. walk_on x rest) h
 
--- a part in two
-pub in_two : {A B C : Type 0} (part : Walked A) (f : A → Walking B) (rest : B → Walking C) → walk_on part (λ x. f x >>= rest) ≡ walk_on (walk_on part f) rest
-in_two (Made x w) f rest = refl
-in_two (Stopped e w) f rest = refl
+-- a calculation that was refused
+pub unfit_stops : {X : Type 0} (zs : List ℤ) (rest : Unit {0} → Walking X) (w : Work) (r : FormRefusal) (e : code.ToolRefusal) → e ≡ of_form r → (IsTrue (is_form_overflow r) → IsFalse (all_fit zs)) → IfSome (tool_fault e) (λ f. walk_on (by_run (listed zs) w) rest ≡ Stopped f w)
+unfit_stops zs rest w refused.Overflow e same unfit = rw (same, unfit refl)
+unfit_stops zs rest w refused.WantOfMemory e same unfit = rw same tt
+
+-- a new parameter
+abbrev pub quotient : List ℤ → ℤ → Quotient
+quotient v d = record { form = v; den = d }

@@ -18,5 +18,5 @@ pub use Rattle.pip_model.specs.Forms.{floor_divided, width, widen_to}
 pub use Rattle.pip_model.proofs.Tests.{three, both, same_number_is}
 pub use Rattle.quast.specs.Trees.{ScopedTree, IsQuast, tree_of}
 pub use Rattle.quast_walk.specs.Faults.{tool_fault, of_form, by_run_fault}
-pub use Rattle.quast_walk.specs.Visits.{checked_sign, below_then, visit_of}
+pub use Rattle.quast_walk.specs.Visits.{below_then, visit_of}
 pub use Rattle.quast_walk.specs.Readings.{IsOwnComponent, IsTreeAt, spread_reduced}

@@ -16,10 +16,6 @@ use Rattle.quast_walk.specs.declared.refusal.ToolRefusal.{ToolRefusal}
 abbrev pub visit_of : ScopedForms → ℕ → Visit
 visit_of k depth = record { places = k.width; context = k.forms; depth = depth }
 
--- a new parameter's form is at least 0 on a context over w places, or the walk ends
-abbrev pub checked_sign : List (List ℤ) → ℕ → List ℤ → Walking (Unit {0})
-checked_sign K w v = by_run (class K w v) >>= not_negative
-
 -- what is done at a new parameter before what comes next
 abbrev pub below_then : {X : Type 0} → Walker X → Visit → Quotient → Walking X → Walking X
 below_then W h q next = do

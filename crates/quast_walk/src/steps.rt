@@ -9,7 +9,7 @@ ghost use Rattle.affine_forms.specs.Checks.{Fits, is_form_overflow};
 ghost use Rattle.context.specs.Scoped.{ScopedForms, IsKeptContext};
 ghost use Rattle.sign_split.specs.Classes.{class_of, ConditionIs};
 ghost use Rattle.quast_walk.specs.Faults.{tool_fault};
-ghost use Rattle.quast_walk.specs.Visits.{visit_of, checked_sign, IsUnder, IsBelow, IsGrown, IsMarked};
+ghost use Rattle.quast_walk.specs.Visits.{visit_of, IsUnder, IsBelow, IsGrown, IsMarked};
 
 use crate::refusal::ToolRefusal;
 use affine_forms::{Form, FormRefusal, WantOfMemory, lower_bound, upper_bound};
@@ -34,27 +34,6 @@ pub fn sign(
 {
     let found = class(alloc, context, form, work)?;
     Ok(found)
-}
-
-/// Whether a new parameter's form, which is no wider than the context, is at least 0 on it: else the walk ends, with
-/// Negative. The context stays as it was, with no less room. It is refused also as `sign` is.
-pub(crate) fn check_sign(
-    alloc: Global,
-    form: &Form,
-    context: &mut Context,
-    work: &mut Work,
-) -> Result<(), ToolRefusal>
-    requires { length form.now ≤ context.old.width + 1 }
-    ensures gives { AgreesWalked (λ x. tt) tool_fault result work.new
-        (checked_sign context.old.forms context.old.width form.now work.old) }
-    ensures kept { IsKeptContext context.old context.new }
-    ensures budget { work.new.budget ≡ work.old.budget }
-{
-    match sign(alloc, form, context, work)? {
-        Class::Plus => Ok(()),
-        Class::Minus => Err(ToolRefusal::Negative),
-        Class::Unknown(_) => Err(ToolRefusal::Negative),
-    }
 }
 
 /// The opposite of a condition, -c - 1: at least 0 just where the condition is below 0. Its numbers are known to fit.

@@ -17,7 +17,7 @@ ghost use Rattle.quast_walk.specs.Visits.{visit_of, below_then, both_trees, IsBe
 use crate::reading::{Reading, TreeLeaf};
 use crate::refusal::ToolRefusal;
 use crate::spreading::spread;
-use crate::steps::{check_sign, enter, go_below, leave, mark, opposite, sign};
+use crate::steps::{enter, go_below, leave, mark, opposite, sign};
 use affine_forms::{Form, WantOfMemory};
 use context::{Context, Work};
 use quast::Node;
@@ -117,46 +117,6 @@ fn read<W: Walker>(walker: &W, form: &Form) -> Result<Form, WantOfMemory>
     spread(reading.alloc, form, reading.parameters, reading.between)
 }
 
-// Before the two trees of a node that chooses: the condition of its second tree.
-fn split<W: Walker>(
-    walker: &W,
-    condition: &Form,
-    depth: u64,
-    work: &mut Work,
-) -> Result<Form, ToolRefusal>
-    requires shallow { depth < 2 ^ 63 }
-    requires some { 1 ≤ length condition.now }
-    requires fits { IsTrue (all_fit (opposite_listed condition.now)) }
-    ensures gives { (k : ScopedForms) → AgreesWalked (λ x. tt) tool_fault result work.new
-        ((W.walker walker.now).at_split (visit_of k depth) work.old) }
-    ensures value { IfOk result (λ form. form ≡ opposite_of condition.now) }
-    ensures length { IfOk result (λ form. length form ≡ length condition.now) }
-{
-    walker.at_split(depth, work)?;
-    let fails = opposite(walker.reading().alloc, condition)?;
-    Ok(fails)
-}
-
-// What is made of a node that chooses, from what was made of its first tree and what the walk of its second gave.
-fn joined<W: Walker>(
-    walker: &W,
-    form: Form,
-    made: W::Made,
-    walked: Result<W::Made, ToolRefusal>,
-) -> Result<W::Made, ToolRefusal>
-    requires goes_on { W.ends made ≡ false }
-    requires stops { (v : List ℤ) → (second : model.Walking W.Seen) → (w x : run.Work) →
-        (e : model.ToolRefusal) → second w ≡ model.Stopped e x →
-        (W.walker walker.now).joined v (W.seen made) second w ≡ model.Stopped e x }
-    ensures { (second : model.Walking W.Seen) → (w x : run.Work) →
-        AgreesWalked W.seen tool_fault walked x (second w) →
-        AgreesWalked W.seen tool_fault result x ((W.walker walker.now).joined form (W.seen made) second w) }
-{
-    let other = walked?;
-    let whole = walker.join(form, made, other)?;
-    Ok(whole)
-}
-
 // Goes below a new parameter of this form and divisor, after its sign. Where it is refused, the context is as before.
 fn go_under<W: Walker>(
     walker: &W,
@@ -178,7 +138,11 @@ fn go_under<W: Walker>(
         (λ e. IsKeptContext context.old context.new) }
 {
     let alloc = walker.reading().alloc;
-    check_sign(alloc, form, context, work)?;
+    match sign(alloc, form, context, work)? {
+        Class::Plus => {}
+        Class::Minus => return Err(ToolRefusal::Negative),
+        Class::Unknown(_) => return Err(ToolRefusal::Negative),
+    }
     walker.at_quotient(depth, work)?;
     go_below(alloc, form, den, context)?;
     Ok(())
@@ -264,13 +228,15 @@ fn walk_both<W: Walker>(
         (spread_tree (W.parameters walker.now) (W.between walker.now) (tree_of second.now)) condition work.old) }
     ensures kept { IsKeptContext context.old context.new }
 {
-    let fails = split(walker, &condition, depth, work)?;
+    walker.at_split(depth, work)?;
+    let fails = opposite(walker.reading().alloc, &condition)?;
     let made = walk_where(walker, first, condition, depth, context, work)?;
     if walker.is_end(&made) {
         return Ok(made);
     }
-    let walked = walk_where(walker, second, fails, depth, context, work);
-    joined(walker, form, made, walked)
+    let other = walk_where(walker, second, fails, depth, context, work)?;
+    let whole = walker.join(form, made, other)?;
+    Ok(whole)
 }
 
 // The walk of a node's tree where a condition is at least 0, below a node that chooses of what is made.

@@ -1,5 +1,5 @@
 use Rattle.quast_walk.proofs.Words.{◌∙◌, ap, rules, arith, List, map, take_all, map_more, All-push, Component, spread_component, spread_reduced, IsOwnComponent}
-use Rattle.quast_walk.proofs.Placing.{made_so, scoped_of, own_list}
+use Rattle.quast_walk.proofs.Placing.{made_so, scoped_of}
 use Rattle.quast_walk.proofs.spreading.spread_list.Goals as goal
 
 pub loop-i-preserved : goal.loop-i-preserved
@@ -13,6 +13,3 @@ returns-clause-value c = λ w scoped.
     let f = spread_component c.args.m c.args.n in
     let whole = take_all c.loop-i.i c.args.components.now (omega arith) in
     c.loop-i.invariant.0 ∙ ap (λ (cs : List Component). map (spread_reduced c.args.m c.args.n) cs) whole ∙ made_so f w c.args.components.now (scoped_of w (map f c.args.components.now) scoped).each
-
-pub returns-clause-list : goal.returns-clause-list
-returns-clause-list c = λ w scoped. own_list w c.loop-i.made.items scoped c.loop-i.invariant.1

@@ -1,6 +1,6 @@
 use Rattle.quast_walk.proofs.Words.{◌≡◌, ap, arith, rules, ◌-◌, List, ℤ, length, lower_bound, upper_bound}
 use Rattle.pip_model.proofs.Bounds.{length-bounds}
-use Rattle.quast_walk.proofs.Defining.{quotient}
+use Rattle.quast_walk.proofs.Walking.{quotient}
 use Rattle.quast_walk.proofs.steps.go_below.Goals as goal
 
 pub add-requires-clause-narrow : goal.add-requires-clause-narrow

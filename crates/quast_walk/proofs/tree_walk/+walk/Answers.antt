@@ -1,7 +1,7 @@
 use Rattle.quast_walk.proofs.Words.{◌≡◌, ◌∙◌, ◌+◌, sym, rules, to_z, of_z, w128, err_from_is_err_and, class, If, NewParm, spread_tree, Walking, by_run, make, where_holds, walk, walk_on, tree_of, tool_fault, visit_of}
+use Rattle.std.proofs.lemmas.Option.{IfSome_then}
 use Rattle.pip_model.specs.Walks as walks
-use Rattle.quast_walk.proofs.Defining.{quotient}
-use Rattle.quast_walk.proofs.Walking.{stops}
+use Rattle.quast_walk.proofs.Walking.{stops, quotient}
 use Rattle.quast_walk.proofs.tree_walk.+walk.Goals as goal
 
 pub walk-returns-in_err-sign-in-Select-clause-gives : goal.walk-returns-in_err-sign-in-Select-clause-gives
@@ -52,24 +52,29 @@ walk-returns-in_ok-go_under-in-Define-clause-gives g hyp c =
     let below = c.in_ok-go_under-in-Define.ensures.context in
     rw (node, ← c.in_ok-form-in-Define.ensures) (rw (rw den at (c.in_ok-go_under-in-Define.ensures.gives next)) (rw (below.width, below.forms, den) at (c.defined.ensures part c.walk-walked.new.work c.walk-walked.ensures.gives)))
 
-pub walk_both-returns-in_err-fails-clause-gives : goal.walk_both-returns-in_err-fails-clause-gives
-walk_both-returns-in_err-fails-clause-gives g hyp c = search (rules, stops)
+pub walk_both-returns-in_err-at_split-clause-gives : goal.walk_both-returns-in_err-at_split-clause-gives
+walk_both-returns-in_err-at_split-clause-gives g hyp c =
+    let p = err_from_is_err_and c.from_residual.result c.from_residual.ensures.1 in
+    rw (p.1, p.2) (stops (tool_fault c.in_err-at_split.field-0.0) ((g.W.Walker.walker c.args.walker.now).at_split (visit_of c.args.context.now c.args.depth) c.args.work.now) _ c.at_split.new.work (c.in_err-at_split.ensures c.args.context.now))
 
 pub walk_both-returns-in_err-made-clause-gives : goal.walk_both-returns-in_err-made-clause-gives
-walk_both-returns-in_err-made-clause-gives g hyp c = rw (c.in_ok-fails.ensures.gives c.args.context.now) (search (rules, stops))
+walk_both-returns-in_err-made-clause-gives g hyp c = rw (c.in_ok-at_split.ensures c.args.context.now) (search (rules, stops))
 
 pub walk_both-returns-then-is_end-clause-gives : goal.walk_both-returns-then-is_end-clause-gives
 walk_both-returns-then-is_end-clause-gives g hyp c =
-    rw (c.in_ok-fails.ensures.gives c.args.context.now, c.in_ok-made.ensures.gives) (c.is_end.ensures.ends (sym c.is_end.ensures.value ∙ c.if-is_end.true) c.args.form _ c.walk_where.new.work)
+    rw (c.in_ok-at_split.ensures c.args.context.now, c.in_ok-made.ensures.gives) (c.is_end.ensures.ends (sym c.is_end.ensures.value ∙ c.if-is_end.true) c.args.form _ c.walk_where.new.work)
+
+pub walk_both-returns-in_err-other-clause-gives : goal.walk_both-returns-in_err-other-clause-gives
+walk_both-returns-in_err-other-clause-gives g hyp c =
+    let goes_on = c.is_end.ensures.stops (sym c.is_end.ensures.value ∙ c.if-is_end.false) c.args.form in
+    let p = err_from_is_err_and c.from_residual-in_err-other.result c.from_residual-in_err-other.ensures.1 in
+    rw (p.1, p.2, c.in_ok-at_split.ensures c.args.context.now, c.in_ok-made.ensures.gives) (IfSome_then (tool_fault c.in_err-other.field-0.0) (rw (c.walk_where.ensures.kept.width, c.walk_where.ensures.kept.forms, c.in_ok-fails.ensures.value) at c.in_err-other.ensures.gives) (λ f is. goes_on _ c.walk_where.new.work c.walk_where-2.new.work f is))
 
 pub walk_both-returns-clause-gives : goal.walk_both-returns-clause-gives
 walk_both-returns-clause-gives g hyp c =
     let b = spread_tree (g.W.Walker.parameters c.args.walker.now) (g.W.Walker.between c.args.walker.now) (tree_of c.args.second.now) in
     let second = walk (g.W.Walker.walker c.args.walker.now) (where_holds (visit_of c.walk_where.new.context c.args.depth) c.in_ok-fails.fails) b in
-    rw (c.in_ok-fails.ensures.gives c.args.context.now, c.in_ok-made.ensures.gives) (rw (c.walk_where.ensures.kept.width, c.walk_where.ensures.kept.forms, c.in_ok-fails.ensures.value) at (c.joined.ensures second c.walk_where.new.work c.walk_where-walked.new.work c.walk_where-walked.ensures.gives))
-
-pub walk_both-joined-requires-clause-stops : goal.walk_both-joined-requires-clause-stops
-walk_both-joined-requires-clause-stops g hyp c = c.is_end.ensures.stops (sym c.is_end.ensures.value ∙ c.if-is_end.false)
+    rw (c.in_ok-at_split.ensures c.args.context.now, c.in_ok-made.ensures.gives) (rw (c.walk_where.ensures.kept.width, c.walk_where.ensures.kept.forms, c.in_ok-fails.ensures.value) at (c.in_ok-whole.ensures second c.walk_where.new.work c.walk_where-2.new.work c.in_ok-other.ensures.gives))
 
 pub walk_where-returns-clause-gives : goal.walk_where-returns-clause-gives
 walk_where-returns-clause-gives g hyp c =
