@@ -4,16 +4,7 @@ use Rattle.std.specs.List.{list_all}
 use Rattle.pip_model.proofs.Division.{form-parts}
 use Rattle.pip_model.proofs.Tests.{both}
 use Rattle.walk_laws.proofs.Spread.{widened-scoped}
-use Rattle.quast.specs.Components.{IsComponent, width_of}
-use Rattle.quast.specs.Places.{IsListOver}
 use Rattle.quast_tools.specs.Pairs.{AreMet, AreLists}
-
-own_width : (w : ℕ) (xs : List Component) → IsListOver w xs → w ≡ width_of xs
-own_width w [] h = omega (arith, h.some)
-own_width w (c ∷ cs) h = let wide = component_wide w c (h.components 0 c h.some).scoped in omega (arith, wide)
-
-pub own_components : (w : ℕ) (xs : List Component) → IsListOver w xs → All (IsComponent (width_of xs)) xs
-own_components w xs h = subst (λ (n : ℕ). All (IsComponent n) xs) (own_width w xs h) h.components
 
 -- ---- a list of the first tree
 

@@ -1,5 +1,5 @@
 -- The steps by which two lists are compared, or the lesser of them is made.
-use Rattle.quast_tools.proofs.Words.{◌≡◌, ◌∙◌, ap, ap₂, sym, refl, ℕ, suc, ◌+◌, ◌<◌, arith, List, [], ◌∷◌, length, get_or, drop, ℤ, Option, Some, None, Result, Ok, Err, IsTrue, drop-cons, Component, Leaf, is_scoped, Work, Walked, Made, Stopped, Walking, walk_on, make, first_numbers, first_of_both, differ_or, same_lists, AgreesWalked, ScopedForms, tool_fault, visit_of, scoped_of, all_wide, stops, component_or, Finds}
+use Rattle.quast_tools.proofs.Words.{◌≡◌, ◌∙◌, ap, ap₂, sym, refl, ℕ, suc, ◌+◌, ◌<◌, arith, List, [], ◌∷◌, length, get_or, drop, ℤ, Option, Some, None, Result, Ok, Err, IsTrue, drop_more, Component, Leaf, is_scoped, Work, Walked, Made, Stopped, Walking, walk_on, make, first_numbers, first_of_both, differ_or, same_lists, AgreesWalked, ScopedForms, tool_fault, visit_of, scoped_of, stops, component_or, Finds}
 use Rattle.quast_walk.specs.declared.refusal.ToolRefusal.{ToolRefusal}
 
 -- ---- where a condition is at least 0
@@ -19,14 +19,8 @@ module _ (m : ℕ) (next : Walking (Option (List ℤ))) (now : Work) where
 
 -- ---- the components in order
 
-pub drop_at : (xs : List Component) (i : ℕ) (x : Component) → i < length xs → drop i xs ≡ get_or xs i x ∷ drop (i + 1) xs
-drop_at xs i x l = let s : suc i ≡ i + 1 = omega arith in drop-cons xs i x l ∙ ap (λ (n : ℕ). get_or xs i x ∷ drop n xs) s
-
-pub wide_at : (w x : ℕ) (cs : List Component) (i : ℕ) (c : Component) → IsTrue (is_scoped w (Leaf cs)) → x ≡ w → i < length cs → c ≡ get_or cs i c → length c.form ≡ x + 1
-wide_at w x cs i c h same l e = rw same (ap (λ (d : Component). length d.form) e ∙ all_wide w cs (scoped_of w cs h).each i c l)
-
 pub at_component : (m : ℕ) (k : ScopedForms) (depth : ℕ) (cs ds : List Component) (i : ℕ) (c d : Component) → i < length cs → i < length ds → c ≡ get_or cs i c → d ≡ get_or ds i d → (w : Work)
     → same_lists m (visit_of k depth) (drop i cs) (drop i ds) w ≡ component_or m (visit_of k 0) c d (same_lists m (visit_of k depth) (drop (i + 1) cs) (drop (i + 1) ds)) w
 at_component m k depth cs ds i c d lc ld ec ed w =
     ap₂ (λ (xs ys : List Component). same_lists m (visit_of k depth) xs ys w)
-    (drop_at cs i c lc ∙ ap (λ (x : Component). x ∷ drop (i + 1) cs) (sym ec)) (drop_at ds i d ld ∙ ap (λ (x : Component). x ∷ drop (i + 1) ds) (sym ed))
+    (drop_more cs i c lc ∙ ap (λ (x : Component). x ∷ drop (i + 1) cs) (sym ec)) (drop_more ds i d ld ∙ ap (λ (x : Component). x ∷ drop (i + 1) ds) (sym ed))

@@ -14,7 +14,7 @@ ghost use Rattle.quast_tools.specs.Pairs.{AreMet};
 use crate::leaves::first_list;
 use crate::lesser_lists::choose_rest;
 use crate::nodes::{leaf_node, list};
-use crate::rest::Rest;
+use crate::rest::{Known, Rest};
 use affine_forms::WantOfMemory;
 use context::{Context, Work};
 use quast::{Component, Node};
@@ -57,7 +57,15 @@ fn choose_between(
     }
     let wide = first_list(reading, first, context.mark().width)?;
     let other = spread_list(reading.alloc, second, reading.parameters, reading.between)?;
-    let rest = Rest::start(reading.alloc, &wide, &other, depth);
+    let known = Known::Nothing;
+    let rest = Rest {
+        alloc: reading.alloc,
+        first: &wide,
+        second: &other,
+        next: 0,
+        known,
+        depth,
+    };
     choose_rest(&rest, context, work)
 }
 

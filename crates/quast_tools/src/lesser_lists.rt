@@ -40,18 +40,6 @@ pub(crate) fn count_if(depth: u64, work: &mut Work) -> Result<(), ToolRefusal>
     raise(depth, work)
 }
 
-// Before the two trees of a node that chooses by a condition, which is kept for the node.
-fn split(next: &Rest, condition: &Form, work: &mut Work) -> Result<Form, ToolRefusal>
-    requires { next.now.depth < 2 ^ 63 }
-    ensures counted { (k : ScopedForms) → AgreesWalked (λ x. tt) tool_fault result work.new
-        (count_of (visit_of k next.now.depth) work.old) }
-    ensures value { IfOk result (λ form. form ≡ condition.now) }
-{
-    count_if(next.depth, work)?;
-    let form = condition.try_clone(next.alloc)?;
-    Ok(form)
-}
-
 // A node that chooses: what was made where its form is at least 0, and elsewhere a list.
 fn joined(
     alloc: Global,
@@ -99,7 +87,16 @@ pub(crate) fn choose_rest(
                 return Ok(list_again(rest.alloc, rest.first)?);
             }
             let form = difference(rest.alloc, &rest.first[rest.next], &rest.second[rest.next])?;
-            choose_by(&form, rest.first, &rest.not_below(&form), context, work)
+            let known = Known::NotBelow(&form);
+            let next = Rest {
+                alloc: rest.alloc,
+                first: rest.first,
+                second: rest.second,
+                next: rest.next,
+                known,
+                depth: rest.depth,
+            };
+            choose_by(&form, rest.first, &next, context, work)
         }
     }
 }
@@ -126,7 +123,8 @@ fn choose_by(
         Class::Plus => choose_rest(next, context, work),
         Class::Minus => Ok(list_again(next.alloc, other)?),
         Class::Unknown(condition) => {
-            let form = split(next, &condition, work)?;
+            count_if(next.depth, work)?;
+            let form = condition.try_clone(next.alloc)?;
             let start = mark(context);
             enter(context, condition);
             let deeper = Rest {

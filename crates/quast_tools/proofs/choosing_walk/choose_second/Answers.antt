@@ -1,23 +1,6 @@
 use Rattle.quast_tools.proofs.Words.{refl, arith, tree_of, second_ready}
 use Rattle.quast_tools.proofs.choosing_walk.choose_second.Goals as goal
 
-pub walk-requires-clause-ready : goal.walk-requires-clause-ready
-walk-requires-clause-ready c = rw (c.below-below.ensures.places, c.mark.ensures.width) c.requires.leaf
-
-pub choose_at_leaves-requires-clause-met : goal.choose_at_leaves-requires-clause-met
-choose_at_leaves-requires-clause-met c = record {
-  few = omega (arith, c.below-below.ensures.places, c.mark.ensures.width);
-  first = rw (c.below-below.ensures.places, c.mark.ensures.width) c.requires.leaf;
-  second = refl;
-}
-
 pub walk-requires-clause-tree : goal.walk-requires-clause-tree
 walk-requires-clause-tree c =
     rw (c.below-below.ensures.value, c.mark.ensures.width) (second_ready c.args.reading.now.parameters c.args.context.now.width c.in-Tree.tree (tree_of c.root.result.now) c.root.ensures.tree (rw c.in-Tree.is at c.requires.answer) c.root.ensures.quast c.requires.few)
-
-pub returns-in-Void-clause-gives : goal.returns-in-Void-clause-gives
-returns-in-Void-clause-gives c = rw c.in-Void.is c.choose_at_leaves.ensures.gives
-
-pub returns-in-Tree-clause-gives : goal.returns-in-Tree-clause-gives
-returns-in-Tree-clause-gives c =
-    rw c.in-Tree.is (rw (c.below-below.ensures.value, c.mark.ensures.width, c.root.ensures.tree) at c.walk.ensures.gives)

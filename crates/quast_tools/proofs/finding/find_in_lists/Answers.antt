@@ -1,14 +1,6 @@
 use Rattle.quast_tools.proofs.Words.{◌∙◌, rules, arith, ◌+◌, drop, err_from_is_err_and, same_lists, visit_of}
-use Rattle.quast_tools.proofs.SameSteps.{wide_at, at_component}
+use Rattle.quast_tools.proofs.SameSteps.{at_component}
 use Rattle.quast_tools.proofs.finding.find_in_lists.Goals as goal
-
-pub find_unequal-requires-clause-first : goal.find_unequal-requires-clause-first
-find_unequal-requires-clause-first c =
-    wide_at c.args.context.now.width c.loop-i.context.width c.args.first.now c.loop-i.i c.index-first-i.result c.requires.lists.first c.loop-i.invariant.kept.width (search rules) c.index-first-i.is
-
-pub find_unequal-requires-clause-second : goal.find_unequal-requires-clause-second
-find_unequal-requires-clause-second c =
-    wide_at c.args.context.now.width c.loop-i.context.width c.args.second.now c.loop-i.i c.index-second-i.result c.requires.lists.second c.loop-i.invariant.kept.width (search rules) c.index-second-i.is
 
 pub returns-in_err-point-clause-gives : goal.returns-in_err-point-clause-gives
 returns-in_err-point-clause-gives c =

@@ -1,17 +1,6 @@
 use Rattle.quast_tools.proofs.Words.{rules, ◌≡◌, arith, ◌+◌, ◌≤◌, pos, negsuc, ◌-ℤ◌, [], ◌∷◌, length, err_from_is_err_and, IfOk-weaker, constant, plus, opposite, opposite_listed, visit_of, unfit_stops, point_or}
 use Rattle.quast_tools.proofs.finding.find_unequal.Goals as goal
 
-pub find_where-requires-clause-narrow : goal.find_where-requires-clause-narrow
-find_where-requires-clause-narrow c =
-    IfOk-weaker c.above-over.result (λ x. length x ≡ length c.in_ok-form.form) (λ x. length x ≤ c.args.context.now.width + 1) (λ x e. omega (arith, e, c.in_ok-form.ensures.length, c.requires.first)) c.above-over.ensures.length
-
-pub find_where-requires-in-None-clause-narrow : goal.find_where-requires-in-None-clause-narrow
-find_where-requires-in-None-clause-narrow c =
-    IfOk-weaker c.below-under.result (λ x. length x ≡ length c.in_ok-form.form) (λ x. length x ≤ c.find_where.new.context.width + 1) (λ x e. omega (arith, e, c.in_ok-form.ensures.length, c.requires.first, c.find_where.ensures.kept.width)) c.below-under.ensures.length
-
-pub returns-in_err-form-clause-finds : goal.returns-in_err-form-clause-finds
-returns-in_err-form-clause-finds c = search (rules, unfit_stops)
-
 pub returns-in_err-point-clause-finds : goal.returns-in_err-point-clause-finds
 returns-in_err-point-clause-finds c =
     let e = c.in_ok-form.form in

@@ -2,12 +2,6 @@ use Rattle.quast_tools.proofs.Words.{rules, unfit_stops, point, by_run, ◌++◌
 use Rattle.quast_tools.proofs.SameSteps.{by_point}
 use Rattle.quast_tools.proofs.finding.find_where.Goals as goal
 
-pub enter-requires-clause-narrow : goal.enter-requires-clause-narrow
-enter-requires-clause-narrow c = rw c.in_ok-condition.was at c.requires.narrow
-
-pub returns-in_err-condition-clause-finds : goal.returns-in_err-condition-clause-finds
-returns-in_err-condition-clause-finds c = search (rules, unfit_stops)
-
 pub returns-clause-finds : goal.returns-clause-finds
 returns-clause-finds c = λ zs v next checked same.
     let k = c.args.context.now in

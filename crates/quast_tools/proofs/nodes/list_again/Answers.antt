@@ -1,8 +1,5 @@
 use Rattle.quast_tools.proofs.Words.{◌∙◌, sym, subst, IsTrue, Tree, Leaf, is_scoped, spread_tree-none}
 use Rattle.quast_tools.proofs.nodes.list_again.Goals as goal
 
-pub list-requires : goal.list-requires
-list-requires c = (c.requires.0, subst (λ (t : Tree). IsTrue (is_scoped c.requires.0 t)) (sym (spread_tree-none 0 (Leaf c.args.components.now))) c.requires.1)
-
 pub returns : goal.returns
 returns c = c.in_ok-made.ensures ∙ spread_tree-none 0 (Leaf c.args.components.now)

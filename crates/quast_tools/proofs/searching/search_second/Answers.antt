@@ -1,22 +1,9 @@
 use Rattle.quast_tools.proofs.Words.{refl, arith, tree_of, second_ready}
 use Rattle.quast_tools.proofs.searching.search_second.Goals as goal
 
-pub walk-requires-clause-ready : goal.walk-requires-clause-ready
-walk-requires-clause-ready c = rw (c.below-below.ensures.places, c.mark.ensures.width) c.requires.leaf
-
-pub find_at_leaves-requires-clause-met : goal.find_at_leaves-requires-clause-met
-find_at_leaves-requires-clause-met c = record {
-  few = omega (arith, c.below-below.ensures.places, c.mark.ensures.width);
-  first = rw (c.below-below.ensures.places, c.mark.ensures.width) c.requires.leaf;
-  second = refl;
-}
-
 pub walk-requires-clause-tree : goal.walk-requires-clause-tree
 walk-requires-clause-tree c =
     rw (c.below-below.ensures.value, c.mark.ensures.width) (second_ready c.args.reading.now.parameters c.args.context.now.width c.in-Tree.tree (tree_of c.root.result.now) c.root.ensures.tree (rw c.in-Tree.is at c.requires.answer) c.root.ensures.quast c.requires.few)
-
-pub returns-in-Void-clause-gives : goal.returns-in-Void-clause-gives
-returns-in-Void-clause-gives c = rw c.in-Void.is (rw c.below-below.ensures.value at (c.find_at_leaves.ensures.gives c.args.depth))
 
 pub returns-in-Tree-clause-gives : goal.returns-in-Tree-clause-gives
 returns-in-Tree-clause-gives c =
