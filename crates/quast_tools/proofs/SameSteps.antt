@@ -1,5 +1,5 @@
 -- The steps by which two lists are compared, or the lesser of them is made.
-use Rattle.quast_tools.proofs.Words.{◌≡◌, ◌∙◌, ap, ap₂, sym, refl, ℕ, suc, ◌+◌, ◌<◌, arith, List, [], ◌∷◌, length, get_or, drop, ℤ, Option, Some, None, Result, Ok, Err, IsTrue, drop_more, Component, Leaf, is_scoped, Work, Walked, Made, Stopped, Walking, walk_on, make, first_numbers, first_of_both, differ_or, same_lists, AgreesWalked, ScopedForms, tool_fault, visit_of, scoped_of, stops, component_or, Finds}
+use Rattle.quast_tools.proofs.Words.{◌≡◌, ◌∙◌, ap, ap₂, sym, refl, ℕ, ◌+◌, ◌<◌, List, [], ◌∷◌, length, get_or, drop, ℤ, Option, Some, None, Result, Ok, Err, drop_more, Component, Work, Walked, Made, Stopped, Walking, walk_on, make, first_numbers, first_of_both, differ_or, same_lists, AgreesWalked, ScopedForms, tool_fault, visit_of, stops, component_or, Finds}
 use Rattle.quast_walk.specs.declared.refusal.ToolRefusal.{ToolRefusal}
 
 -- ---- where a condition is at least 0

@@ -1,4 +1,4 @@
-ghost use Rattle.std.specs.Prelude.{◌≡◌, ℕ, ◌+◌, ◌*◌, ◌≤◌, IsTrue, IfOk};
+ghost use Rattle.std.specs.Prelude.{◌≡◌, ◌+◌, ◌*◌, ◌≤◌, IsTrue, IfOk};
 ghost use Rattle.pip_model.specs.Limits.{most_components};
 ghost use Rattle.pip_model.specs.ToolAgreement.{AgreesWalked};
 ghost use Rattle.pip_model.specs.Tools.{least_leaves, spread_tree, widened_components};

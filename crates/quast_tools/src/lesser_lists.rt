@@ -1,10 +1,10 @@
-ghost use Rattle.std.specs.Prelude.{◌≡◌, ℕ, ◌+◌, ◌^◌, ◌<◌, length, IfOk, IsTrue};
-ghost use Rattle.pip_model.specs.Run.{Work as Counts, check_nesting};
+ghost use Rattle.std.specs.Prelude.{◌≡◌, ◌+◌, ◌^◌, ◌<◌, length, IsTrue};
+ghost use Rattle.pip_model.specs.Run.{check_nesting};
 ghost use Rattle.pip_model.specs.ToolAgreement.{AgreesWalked};
 ghost use Rattle.pip_model.specs.Tools.{count_if as count_of};
 ghost use Rattle.pip_model.specs.Tree as model;
 ghost use Rattle.pip_model.specs.Tree.{is_scoped};
-ghost use Rattle.pip_model.specs.Walks.{Walked, walk_on, make, by_run};
+ghost use Rattle.pip_model.specs.Walks.{by_run};
 ghost use Rattle.context.specs.Scoped.{ScopedForms, IsKeptContext};
 ghost use Rattle.quast.specs.Trees.{tree_of};
 ghost use Rattle.quast_walk.specs.Faults.{tool_fault};
@@ -38,24 +38,6 @@ pub(crate) fn count_if(depth: u64, work: &mut Work) -> Result<(), ToolRefusal>
 {
     work.count_split()?;
     raise(depth, work)
-}
-
-// A node that chooses: what was made where its form is at least 0, and elsewhere a list.
-fn joined(
-    alloc: Global,
-    form: Form,
-    made: Result<Node, ToolRefusal>,
-    other: &[Component],
-) -> Result<Node, ToolRefusal>
-    requires { (w : ℕ) × IsTrue (is_scoped w (model.Leaf other.now)) }
-    ensures { (part : Walked model.Tree) → (w : Counts) → AgreesWalked tree_of tool_fault made w part →
-        AgreesWalked tree_of tool_fault result w
-        (walk_on part (λ x. make (model.If form x (model.Leaf other.now)))) }
-{
-    let first = made?;
-    let second = list_again(alloc, other)?;
-    let node = choice(alloc, form, first, second)?;
-    Ok(node)
 }
 
 // The lesser of two lists, by what is left of them: the first list, where it is below the second by the next
@@ -133,7 +115,9 @@ fn choose_by(
             };
             let made = choose_rest(&deeper, context, work);
             leave(context, start);
-            joined(next.alloc, form, made, other)
+            let first = made?;
+            let second = list_again(next.alloc, other)?;
+            Ok(choice(next.alloc, form, first, second)?)
         }
     }
 }

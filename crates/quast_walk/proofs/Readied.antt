@@ -1,6 +1,5 @@
 -- What is known of the trees that are walked, and of their leaves.
-use Rattle.quast_walk.proofs.Words.{◌≡◌, ◌∙◌, ap, sym, subst, ℕ, ◌-◌, ◌≤◌, arith, [], Option, Some, None, IsTrue, IfSome, Tree, is_scoped, Work, Counted, Refused, Stopped, by_run, walked_as, Visit, ScopedTree, IsQuast, by_run_fault, IsTreeAt}
-use Rattle.pip_model.specs.Run as run
+use Rattle.quast_walk.proofs.Words.{◌≡◌, ◌∙◌, sym, subst, ℕ, ◌-◌, ◌≤◌, arith, [], IsTrue, Tree, is_scoped, Visit, ScopedTree, IsQuast, IsTreeAt}
 use Rattle.walk_laws.proofs.SecondTree.{second-scoped}
 use Rattle.quast_walk.proofs.Placing.{spread_tree-none}
 
@@ -18,8 +17,3 @@ first_ready w q t is over quast = record {
   scoped = subst (λ (u : Tree). IsTrue (is_scoped w u)) (sym (spread_tree-none w t ∙ is)) (subst (λ (n : ℕ). IsTrue (is_scoped n q.tree)) over quast.well_formed.scoped);
   numbers = rw is quast.fits;
 }
-
--- a count that was refused
-pub counted_stops : {A : Type 0} (part : Counted A) (o : Option run.Refusal) (w0 w1 : Work) → IfSome o (λ f. part w0 ≡ Refused f w1) → IfSome (by_run_fault o) (λ f. by_run part w0 ≡ Stopped f w1)
-counted_stops part None w0 w1 s = s
-counted_stops part (Some f) w0 w1 s = ap walked_as s

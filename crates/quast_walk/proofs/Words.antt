@@ -9,14 +9,14 @@ pub use Rattle.std.proofs.lemmas.Result.{err_from_is_err_and}
 pub use Rattle.pip_model.specs.Cuts.{Quotient, lower_bound, upper_bound}
 pub use Rattle.pip_model.specs.Listed.{all_fit}
 pub use Rattle.pip_model.specs.Tree.{Tree, NewParm, Bottom, Leaf, If, Component, reduced, is_form, is_component, is_scoped, size}
-pub use Rattle.pip_model.specs.Run.{Work, Overflow, Refused, class, listed, Counted}
+pub use Rattle.pip_model.specs.Run.{Work, class, listed}
 pub use Rattle.pip_model.specs.Tools.{spread, spread_tree, spread_component}
-pub use Rattle.pip_model.specs.Walks.{Walked, Made, Stopped, Walking, walk_on, make, walked_as, by_run, Visit, below_listed, Walker, not_negative, ToolRefusal, ◌>>=◌, where_holds, walk}
+pub use Rattle.pip_model.specs.Walks.{Walked, Stopped, Walking, walk_on, make, by_run, Visit, below_listed, ToolRefusal, where_holds, walk}
 pub use Rattle.affine_forms.specs.Checks.{is_form_overflow}
 pub use Rattle.pip_model.specs.Numbers.{gcd, gcd_of, same_number, floor_div, is_nonneg}
 pub use Rattle.pip_model.specs.Forms.{floor_divided, width, widen_to}
 pub use Rattle.pip_model.proofs.Tests.{three, both, same_number_is}
 pub use Rattle.quast.specs.Trees.{ScopedTree, IsQuast, tree_of}
-pub use Rattle.quast_walk.specs.Faults.{tool_fault, of_form, by_run_fault}
-pub use Rattle.quast_walk.specs.Visits.{below_then, visit_of}
+pub use Rattle.quast_walk.specs.Faults.{tool_fault, of_form}
+pub use Rattle.quast_walk.specs.Visits.{visit_of}
 pub use Rattle.quast_walk.specs.Readings.{IsOwnComponent, IsTreeAt, spread_reduced}

@@ -1,6 +1,4 @@
-ghost use Rattle.std.specs.Prelude.{◌≡◌, ℕ, ◌+◌, ◌^◌, ◌<◌, ◌≤◌, ◌≤ℤ◌, pos, ℤ, List, Bool, false, true, length, IfOk, IsTrue, MatchResult};
-ghost use Rattle.pip_model.specs.Forms.{opposite as opposite_of};
-ghost use Rattle.pip_model.specs.Listed.{all_fit, opposite_listed};
+ghost use Rattle.std.specs.Prelude.{◌≡◌, ℕ, ◌+◌, ◌^◌, ◌<◌, ◌≤◌, ◌≤ℤ◌, pos, ℤ, List, Bool, false, true, length, IfOk, MatchResult};
 ghost use Rattle.pip_model.specs.Run as run;
 ghost use Rattle.pip_model.specs.ToolAgreement.{AgreesWalked};
 ghost use Rattle.pip_model.specs.Tools.{spread as spread_of, spread_tree};

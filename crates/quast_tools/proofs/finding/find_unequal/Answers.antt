@@ -1,4 +1,4 @@
-use Rattle.quast_tools.proofs.Words.{rules, ◌≡◌, arith, ◌+◌, ◌≤◌, pos, negsuc, ◌-ℤ◌, [], ◌∷◌, length, err_from_is_err_and, IfOk-weaker, constant, plus, opposite, opposite_listed, visit_of, unfit_stops, point_or}
+use Rattle.quast_tools.proofs.Words.{pos, negsuc, ◌-ℤ◌, [], ◌∷◌, err_from_is_err_and, constant, plus, opposite, opposite_listed, visit_of, point_or}
 use Rattle.quast_tools.proofs.finding.find_unequal.Goals as goal
 
 pub returns-in_err-point-clause-finds : goal.returns-in_err-point-clause-finds

@@ -1,4 +1,4 @@
-use Rattle.quast_tools.proofs.Words.{rules, unfit_stops, point, by_run, ◌++◌, ◌∷◌, []}
+use Rattle.quast_tools.proofs.Words.{point, by_run, ◌++◌, ◌∷◌, []}
 use Rattle.quast_tools.proofs.SameSteps.{by_point}
 use Rattle.quast_tools.proofs.finding.find_where.Goals as goal
 

@@ -1,4 +1,4 @@
-use Rattle.quast_tools.proofs.Words.{rules, ◌≡◌, ◌∙◌, ap, sym, eq-eqb, ℕ, length, map, spread_component, widened_components, length_map}
+use Rattle.quast_tools.proofs.Words.{rules, ◌∙◌, ap, ℕ, widened_components}
 use Rattle.quast_tools.proofs.Lists.{lists_met}
 use Rattle.quast_tools.proofs.leaves.find_between.Goals as goal
 

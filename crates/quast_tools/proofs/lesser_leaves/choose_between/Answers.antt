@@ -1,4 +1,4 @@
-use Rattle.quast_tools.proofs.Words.{rules, arith, ◌≡◌, ◌∙◌, ap, sym, subst, eq-eqb, ℕ, length, map, spread_component, widened_components, length_map, HasRoom, scoped_of, left, IsRest}
+use Rattle.quast_tools.proofs.Words.{rules, arith, ◌∙◌, ap, ℕ, widened_components}
 use Rattle.quast_tools.proofs.Lists.{lists_met}
 use Rattle.quast_tools.proofs.lesser_leaves.choose_between.Goals as goal
 

@@ -1,4 +1,4 @@
-use Rattle.quast_tools.proofs.Words.{◌∙◌, sym, subst, IsTrue, Tree, Leaf, is_scoped, spread_tree-none}
+use Rattle.quast_tools.proofs.Words.{◌∙◌, Leaf, spread_tree-none}
 use Rattle.quast_tools.proofs.nodes.list_again.Goals as goal
 
 pub returns : goal.returns

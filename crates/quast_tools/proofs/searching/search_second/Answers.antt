@@ -1,4 +1,4 @@
-use Rattle.quast_tools.proofs.Words.{refl, arith, tree_of, second_ready}
+use Rattle.quast_tools.proofs.Words.{tree_of, second_ready}
 use Rattle.quast_tools.proofs.searching.search_second.Goals as goal
 
 pub walk-requires-clause-tree : goal.walk-requires-clause-tree

@@ -52,18 +52,6 @@ walk-returns-in_ok-go_under-in-Define-clause-gives g hyp c =
     let below = c.in_ok-go_under-in-Define.ensures.context in
     rw (node, ← c.in_ok-form-in-Define.ensures) (rw (rw den at (c.in_ok-go_under-in-Define.ensures.gives next)) (rw (below.width, below.forms, den) at (c.defined.ensures part c.walk-walked.new.work c.walk-walked.ensures.gives)))
 
-pub walk_both-returns-in_err-at_split-clause-gives : goal.walk_both-returns-in_err-at_split-clause-gives
-walk_both-returns-in_err-at_split-clause-gives g hyp c =
-    let p = err_from_is_err_and c.from_residual.result c.from_residual.ensures.1 in
-    rw (p.1, p.2) (stops (tool_fault c.in_err-at_split.field-0.0) ((g.W.Walker.walker c.args.walker.now).at_split (visit_of c.args.context.now c.args.depth) c.args.work.now) _ c.at_split.new.work (c.in_err-at_split.ensures c.args.context.now))
-
-pub walk_both-returns-in_err-made-clause-gives : goal.walk_both-returns-in_err-made-clause-gives
-walk_both-returns-in_err-made-clause-gives g hyp c = rw (c.in_ok-at_split.ensures c.args.context.now) (search (rules, stops))
-
-pub walk_both-returns-then-is_end-clause-gives : goal.walk_both-returns-then-is_end-clause-gives
-walk_both-returns-then-is_end-clause-gives g hyp c =
-    rw (c.in_ok-at_split.ensures c.args.context.now, c.in_ok-made.ensures.gives) (c.is_end.ensures.ends (sym c.is_end.ensures.value ∙ c.if-is_end.true) c.args.form _ c.walk_where.new.work)
-
 pub walk_both-returns-in_err-other-clause-gives : goal.walk_both-returns-in_err-other-clause-gives
 walk_both-returns-in_err-other-clause-gives g hyp c =
     let goes_on = c.is_end.ensures.stops (sym c.is_end.ensures.value ∙ c.if-is_end.false) c.args.form in
@@ -75,7 +63,3 @@ walk_both-returns-clause-gives g hyp c =
     let b = spread_tree (g.W.Walker.parameters c.args.walker.now) (g.W.Walker.between c.args.walker.now) (tree_of c.args.second.now) in
     let second = walk (g.W.Walker.walker c.args.walker.now) (where_holds (visit_of c.walk_where.new.context c.args.depth) c.in_ok-fails.fails) b in
     rw (c.in_ok-at_split.ensures c.args.context.now, c.in_ok-made.ensures.gives) (rw (c.walk_where.ensures.kept.width, c.walk_where.ensures.kept.forms, c.in_ok-fails.ensures.value) at (c.in_ok-whole.ensures second c.walk_where.new.work c.walk_where-2.new.work c.in_ok-other.ensures.gives))
-
-pub walk_where-returns-clause-gives : goal.walk_where-returns-clause-gives
-walk_where-returns-clause-gives g hyp c =
-    rw (c.enter.ensures.width, c.enter.ensures.forms) at c.walk-made.ensures.gives
