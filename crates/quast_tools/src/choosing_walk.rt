@@ -144,6 +144,7 @@ impl Walker for Lessening<'_> {
 }
 
 // The lesser of the answers along the second one's walk, from a leaf of the first.
+#[tactic(auto, using(quast_walk::proofs::Readied::second_ready))]
 fn choose_second(
     reading: &Reading,
     leaf: TreeLeaf,
@@ -175,6 +176,7 @@ fn choose_second(
 }
 
 // The lesser of two answers on the rows' context, which has a point. A `void` answer counts as bottom.
+#[tactic(auto, using(quast_walk::proofs::Readied::first_ready))]
 pub(crate) fn choose_answers(
     alloc: Global,
     first: &Answer,

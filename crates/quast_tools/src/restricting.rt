@@ -83,6 +83,7 @@ impl Walker for Restricting {
 }
 
 // What a tree is on the rows' context, which has a point.
+#[tactic(auto, using(quast_walk::proofs::Readied::first_ready))]
 fn restrict_tree(
     alloc: Global,
     tree: &Quast,

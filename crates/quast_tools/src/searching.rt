@@ -145,6 +145,7 @@ impl Walker for Meeting<'_> {
 }
 
 // The first point at which the answers differ in the order of the second one's walk, from a leaf of the first.
+#[tactic(auto, using(quast_walk::proofs::Readied::second_ready))]
 fn search_second(
     reading: &Reading,
     leaf: TreeLeaf,
@@ -176,6 +177,7 @@ fn search_second(
 }
 
 // The first point at which two answers differ on the rows' context, which has a point.
+#[tactic(auto, using(quast_walk::proofs::Readied::first_ready))]
 pub(crate) fn search_answers(
     alloc: Global,
     first: &Answer,
