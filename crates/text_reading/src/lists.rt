@@ -7,7 +7,7 @@ use crate::fault::{Reads, TextFault};
 use crate::steps::{expect, number};
 use affine_forms::Form;
 use std::alloc::Global;
-use text_tokens::Kind;
+use text_tokens::{Kind, small_number};
 
 /// So many numbers, and the place behind them.
 pub fn numbers(
@@ -24,9 +24,18 @@ pub fn numbers(
     let mut read = Vec::with_capacity(alloc, count)?;
     let mut at = place;
     for _ in 0..count {
-        let (entry, after) = number(bytes, at)?;
-        read.push_reserved(entry);
-        at = after;
+        let (_, rest) = bytes.split_at(at);
+        match small_number(rest) {
+            Some((entry, len)) => {
+                read.push_reserved(entry);
+                at += len;
+            }
+            None => {
+                let (entry, after) = number(bytes, at)?;
+                read.push_reserved(entry);
+                at = after;
+            }
+        }
     }
     Ok((read, at))
 }

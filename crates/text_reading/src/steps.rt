@@ -1,4 +1,4 @@
-ghost use Rattle.std.specs.Prelude.{◌≡◌, ℕ, ◌+◌, ◌<◌, ◌≤◌, true, false, length, slice_index, IfOk, IfSome};
+ghost use Rattle.std.specs.Prelude.{◌≡◌, ℕ, ◌+◌, ◌<◌, ◌≤◌, true, false, length, IfOk, IfNone, IfSome};
 ghost use Rattle.pip_model.specs.Reading as model;
 ghost use Rattle.pip_model.specs.Tokens as tokens;
 ghost use Rattle.pip_model.specs.TreeText as words;
@@ -6,7 +6,7 @@ ghost use Rattle.affine_forms.specs.Checks.{Fits};
 ghost use Rattle.text_reading.specs.Steps.{fault_of, IsPassed, IsRead};
 
 use crate::fault::{Reads, TextFault};
-use text_tokens::{Kind, Lexeme, plain_number, token};
+use text_tokens::{Kind, Lexeme, plain_number, skip_blanks, token};
 
 /// Whether the kind is the wanted bracket.
 pub fn same_bracket(kind: Kind, wanted: Kind) -> bool
@@ -21,27 +21,14 @@ pub fn same_bracket(kind: Kind, wanted: Kind) -> bool
     )
 }
 
-// The place behind the wanted bracket, which is the next token, where it is not read at one go.
-#[inline(never)]
-fn bracket_token(bytes: &[u8], wanted: Kind, place: usize) -> Result<usize, TextFault>
-    requires { place ≤ length bytes.now }
-    ensures { IsPassed fault_of bytes.now place result (model.expect bytes.now wanted place) }
-{
-    let token = token(bytes, place);
-    if same_bracket(token.kind, wanted) {
-        Ok(token.after)
-    } else {
-        Err(TextFault::Syntax(token.start))
-    }
-}
-
 // How many bytes the wanted bracket takes at the front; none where it does not stand there.
 #[inline(always)]
 fn bracket_len(bytes: &[u8], wanted: Kind) -> Option<usize>
     ensures bracket { IfSome result (λ len. model.same_bracket wanted wanted ≡ true) }
     ensures value { IfSome result
         (λ len. (place : ℕ) → tokens.token_here place bytes.now ≡ tokens.lexeme place wanted len) }
-    ensures front { IfSome result (λ len. tokens.is_blank (slice_index bytes.now 0) ≡ false) }
+    ensures none { IfNone result
+        ((place : ℕ) → model.same_bracket (tokens.token_here place bytes.now).kind wanted ≡ false) }
     ensures order { IfSome result (λ len. (0 < len) × (len ≤ length bytes.now)) }
 {
     match (wanted, bytes) {
@@ -53,38 +40,17 @@ fn bracket_len(bytes: &[u8], wanted: Kind) -> Option<usize>
     }
 }
 
-// The place behind the wanted bracket, which is the next token, at the front or behind one space or newline; none where
-// it has to be looked for.
-#[inline(always)]
-fn bracket_end(bytes: &[u8], wanted: Kind) -> Option<usize>
-    ensures kind { IfSome result
-        (λ len. (place : ℕ) → model.same_bracket (tokens.token_in place bytes.now).kind wanted ≡ true) }
-    ensures after { IfSome result (λ len. (place : ℕ) → (tokens.token_in place bytes.now).after ≡ place + len) }
-    ensures order { IfSome result (λ len. (0 < len) × (len ≤ length bytes.now)) }
-{
-    match bytes {
-        [b' ' | b'\n', rest @ ..] => match bracket_len(rest, wanted) {
-            Some(len) => Some(len + 1),
-            None => None,
-        },
-        _ => bracket_len(bytes, wanted),
-    }
-}
-
 /// The place behind the wanted bracket, which is the next token.
 #[inline(always)]
 pub fn expect(bytes: &[u8], wanted: Kind, place: usize) -> Result<usize, TextFault>
     requires { place ≤ length bytes.now }
     ensures { IsPassed fault_of bytes.now place result (model.expect bytes.now wanted place) }
 {
-    let (_, rest) = bytes.split_at(place);
-    match bracket_end(rest, wanted) {
-        Some(len) => Ok(place + len),
-        // Part by part, so that the result above need not stand in memory.
-        None => match bracket_token(bytes, wanted, place) {
-            Ok(after) => Ok(after),
-            Err(fault) => Err(fault),
-        },
+    let start = skip_blanks(bytes, place);
+    let (_, rest) = bytes.split_at(start);
+    match bracket_len(rest, wanted) {
+        Some(len) => Ok(start + len),
+        None => Err(TextFault::Syntax(start)),
     }
 }
 
@@ -134,7 +100,7 @@ fn number_token(bytes: &[u8], place: usize) -> Reads<i128, TextFault>
 }
 
 /// The number that is the next token, and the place behind it.
-#[inline(always)]
+#[inline(never)]
 pub fn number(bytes: &[u8], place: usize) -> Reads<i128, TextFault>
     requires { place ≤ length bytes.now }
     ensures reads { IsRead (λ z. z) fault_of bytes.now place result (model.number bytes.now place) }

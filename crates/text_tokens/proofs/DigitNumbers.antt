@@ -1,5 +1,5 @@
 -- A number of one digit, behind which a byte stands that ends a number.
-use Rattle.text_tokens.proofs.Words.{◌≡◌, ◌≤◌, ℕ, ℤ, ◌+◌, ◌-◌, ◌^◌, ◌∙◌, ap, sym, true, false, pos, List, [], ◌∷◌, length, refl, arith, ◌==◌, ◌||◌, neg_ℤ, slice_index, nat_tests, lt-ltb, Number, Fits, is_sign, is_digit, digits_at, unsigned_part, behind_stroke, integer_of, lexeme, token_here}
+use Rattle.text_tokens.proofs.Words.{◌≡◌, ◌≤◌, ℕ, ℤ, ◌+◌, ◌-◌, ◌^◌, ◌∙◌, ap, sym, true, false, pos, List, [], ◌∷◌, length, refl, arith, ◌==◌, ◌||◌, nat_lt, neg_ℤ, slice_index, nat_tests, lt-ltb, Number, Fits, is_sign, is_digit, digits_at, unsigned_part, behind_stroke, integer_of, lexeme, token_here}
 use Rattle.pip_model.proofs.Fitting.{fits-neg}
 use Rattle.text_tokens.proofs.ShortNumbers.{number_here}
 
@@ -9,10 +9,10 @@ digit_no_sign b h = grind (arith, nat_tests)
 digit_no_minus : (b : ℕ) → is_digit b ≡ true → (b == 45) ≡ false
 digit_no_minus b h = grind (arith, nat_tests)
 
-end_no_digit : (n : ℕ) → ((n == 32) || (n == 93) || (n == 10) || (n == 41)) ≡ true → is_digit n ≡ false
+end_no_digit : (n : ℕ) → (nat_lt n 47 || nat_lt 57 n) ≡ true → is_digit n ≡ false
 end_no_digit n h = grind (arith, nat_tests)
 
-end_no_stroke : (n : ℕ) → ((n == 32) || (n == 93) || (n == 10) || (n == 41)) ≡ true → (n == 47) ≡ false
+end_no_stroke : (n : ℕ) → (nat_lt n 47 || nat_lt 57 n) ≡ true → (n == 47) ≡ false
 end_no_stroke n h = grind (arith, nat_tests)
 
 digit_small : (b : ℕ) → is_digit b ≡ true → b ≤ 57
@@ -55,7 +55,7 @@ minus_first place b n bs h k s =
 
 -- one digit at the front
 pub digit_here : (place : ℕ) (z : ℤ) (bs : List ℕ) → 2 ≤ length bs → is_digit (slice_index bs 0) ≡ true
-    → ((slice_index bs 1 == 32) || (slice_index bs 1 == 93) || (slice_index bs 1 == 10) || (slice_index bs 1 == 41)) ≡ true
+    → (nat_lt (slice_index bs 1) 47 || nat_lt 57 (slice_index bs 1)) ≡ true
     → z ≡ pos (slice_index bs 0 - 48) → token_here place bs ≡ lexeme place (Number z) 1
 digit_here place z [] some digit end is = absurd (omega arith)
 digit_here place z (b ∷ []) some digit end is = absurd (omega arith)
@@ -67,7 +67,7 @@ minus_bytes place a b n bs e h k s = rw e (minus_first place b n bs h k s)
 
 -- a `-` and one digit at the front
 pub minus_here : (place : ℕ) (z : ℤ) (bs : List ℕ) → 3 ≤ length bs → slice_index bs 0 ≡ 45 → is_digit (slice_index bs 1) ≡ true
-    → ((slice_index bs 2 == 32) || (slice_index bs 2 == 93) || (slice_index bs 2 == 10) || (slice_index bs 2 == 41)) ≡ true
+    → (nat_lt (slice_index bs 2) 47 || nat_lt 57 (slice_index bs 2)) ≡ true
     → z ≡ neg_ℤ (pos (slice_index bs 1 - 48)) → token_here place bs ≡ lexeme place (Number z) 2
 minus_here place z [] some minus digit end is = absurd (omega arith)
 minus_here place z (a ∷ []) some minus digit end is = absurd (omega arith)

@@ -5,4 +5,7 @@ mod groups;
 mod tokens;
 
 pub use groups::{group_end, next_open, open_after};
-pub use tokens::{Kind, Lexeme, blank, digits, integer, plain_number, token, unsigned_part};
+pub use tokens::{
+    Kind, Lexeme, blank, digits, integer, plain_number, skip_blanks, small_number, token,
+    unsigned_part,
+};

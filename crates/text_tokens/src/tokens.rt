@@ -1,4 +1,4 @@
-ghost use Rattle.std.specs.Prelude.{◌≡◌, ℕ, ◌+◌, ◌<◌, ◌≤◌, ◌^◌, ◌-◌, ◌==◌, ◌||◌, false, pos, min, length, take, drop, slice_index, IfSome};
+ghost use Rattle.std.specs.Prelude.{◌≡◌, ℕ, ◌+◌, ◌<◌, ◌≤◌, ◌^◌, ◌-◌, ◌||◌, nat_lt, false, pos, min, length, take, drop, slice_index, IfSome};
 ghost use Rattle.std.specs.List.{prefix_len, take_while};
 ghost use Rattle.pip_model.specs.Numbers.{fits};
 ghost use Rattle.pip_model.specs.declared.Kind.TheVariants.{Number};
@@ -237,8 +237,9 @@ fn token_here(place: usize, bytes: &[u8]) -> Lexeme
     }
 }
 
-// The place of the first byte at or behind `start` that is no blank, or the number of bytes.
-fn skip_blanks(bytes: &[u8], start: usize) -> usize
+/// The place of the first byte at or behind `start` that is no blank, or the number of bytes.
+#[inline(always)]
+pub fn skip_blanks(bytes: &[u8], start: usize) -> usize
     requires { start ≤ length bytes.now }
     ensures value { result ≡ start + length (take_while is_blank (drop start bytes.now)) }
     ensures order { (start ≤ result) × (result ≤ length bytes.now) }
@@ -247,11 +248,11 @@ fn skip_blanks(bytes: &[u8], start: usize) -> usize
     start + blanks(rest)
 }
 
-// Whether the byte is a space, newline, `]` or `)`, before which a number ends.
+// Whether the byte is neither a digit nor a `/`, so that a number ends before it.
 fn ends_number(byte: u8) -> bool
-    ensures { result ≡ ((byte == 32) || (byte == 93) || (byte == 10) || (byte == 41)) }
+    ensures { result ≡ (nat_lt byte 47 || nat_lt 57 byte) }
 {
-    matches!(byte, b' ' | b']' | b'\n' | b')')
+    byte < b'/' || b'9' < byte
 }
 
 // The number of one digit at the front, behind a `-` or none, and how many bytes spell it; none where there is no such
@@ -278,7 +279,7 @@ fn digit_number(bytes: &[u8]) -> Option<(i128, usize)>
 // The number of one digit that is the next token, behind one space or none, and the place behind it; none where there
 // is no such number.
 #[inline(always)]
-fn small_number(bytes: &[u8]) -> Option<(i128, usize)>
+pub fn small_number(bytes: &[u8]) -> Option<(i128, usize)>
     ensures value { IfSome result (λ x. (place : ℕ) → ((token_in place bytes.now).kind ≡ Number x.0)
         × ((token_in place bytes.now).after ≡ place + x.1)) }
     ensures fits { IfSome result (λ x. Fits x.0) }
@@ -293,21 +294,6 @@ fn small_number(bytes: &[u8]) -> Option<(i128, usize)>
     }
 }
 
-// The number that is the next token at or behind `start`, and the place behind it; none where `token` has to be asked.
-#[inline(never)]
-fn wide_number(bytes: &[u8], start: usize) -> Option<(i128, usize)>
-    requires { start ≤ length bytes.now }
-    ensures value { IfSome result (λ x. ((token_of bytes.now start).kind ≡ Number x.0)
-        × ((token_of bytes.now start).after ≡ x.1)) }
-    ensures fits { IfSome result (λ x. Fits x.0) }
-    ensures order { IfSome result (λ x. (start < x.1) × (x.1 ≤ length bytes.now)) }
-{
-    let place = skip_blanks(bytes, start);
-    let (_, rest) = bytes.split_at(place);
-    let (number, len) = short_number(rest)?;
-    Some((number, place + len))
-}
-
 /// The number that is the next token at or behind `start`, which is at most the number of bytes, and the place behind
 /// it; none where `token` has to be asked.
 #[inline(always)]
@@ -318,15 +304,10 @@ pub fn plain_number(bytes: &[u8], start: usize) -> Option<(i128, usize)>
     ensures fits { IfSome result (λ x. Fits x.0) }
     ensures order { IfSome result (λ x. (start < x.1) × (x.1 ≤ length bytes.now)) }
 {
-    let (_, rest) = bytes.split_at(start);
-    match small_number(rest) {
-        Some((number, len)) => Some((number, start + len)),
-        // Part by part, so that the result above need not stand in memory.
-        None => match wide_number(bytes, start) {
-            Some((number, after)) => Some((number, after)),
-            None => None,
-        },
-    }
+    let place = skip_blanks(bytes, start);
+    let (_, rest) = bytes.split_at(place);
+    let (number, len) = short_number(rest)?;
+    Some((number, place + len))
 }
 
 /// The next token at or behind `start`, which is at most the number of bytes: blanks are skipped, and the token is the
