@@ -14,7 +14,7 @@ use affine_forms::{Bytes, Form, WantOfMemory, floor_div, gcd};
 use itoa::Buffer;
 use quast::{Answer, Component, Node, Quast};
 use std::alloc::AllocError;
-use text_printing::{put, put_entry, put_number, put_row};
+use text_printing::{put, put_entry, put_mark, put_number, put_row};
 
 // The room that an answer's text takes at first: most texts need no more.
 const FIRST_ROOM: usize = 256;
@@ -59,7 +59,7 @@ fn put_commented(out: &mut Vec<u8>, comment: &Bytes, answer: &Answer) -> Result<
 {
     put_comment(out, comment.as_slice())?;
     put_solution(out, answer)?;
-    put(out, b")\n")
+    put_mark(out, b")\n")
 }
 
 /// Appends a `(`, the comment and a newline.
@@ -67,9 +67,9 @@ pub fn put_comment(out: &mut Vec<u8>, comment: &[u8]) -> Result<(), AllocError>
     ensures ok { Appends (codes "(" ++ comment.now ++ newline) out.old.items out.new.items result }
     ensures kept { Begins out.old.items out.new.items }
 {
-    put(out, b"(")?;
+    put_mark(out, b"(")?;
     put(out, comment)?;
-    put(out, b"\n")
+    put_mark(out, b"\n")
 }
 
 fn put_solution(out: &mut Vec<u8>, answer: &Answer) -> Result<(), AllocError>
@@ -79,7 +79,7 @@ fn put_solution(out: &mut Vec<u8>, answer: &Answer) -> Result<(), AllocError>
     ensures kept { Begins out.old.items out.new.items }
 {
     match answer {
-        Answer::Void => put(out, b"void\n"),
+        Answer::Void => put_mark(out, b"void\n"),
         Answer::Tree(tree) => put_node(out, tree.root()),
     }
 }
@@ -90,13 +90,13 @@ pub fn put_node(out: &mut Vec<u8>, node: &Node) -> Result<(), AllocError>
     ensures kept { Begins out.old.items out.new.items }
 {
     match node {
-        Node::Bottom => put(out, b"()\n"),
+        Node::Bottom => put_mark(out, b"()\n"),
         Node::Leaf(components) => put_list(out, components.as_slice()),
         Node::Select(v, a, b) => {
             put_condition(out, v)?;
             put_node(out, a)?;
             put_node(out, b)?;
-            put(out, b")\n")
+            put_mark(out, b")\n")
         }
         Node::Define(v, d, a) => {
             put_definition(out, v, *d)?;
@@ -109,9 +109,9 @@ fn put_condition(out: &mut Vec<u8>, v: &Form) -> Result<(), AllocError>
     ensures ok { Appends (codes "(if " ++ spell_form v.now ++ newline) out.old.items out.new.items result }
     ensures kept { Begins out.old.items out.new.items }
 {
-    put(out, b"(if ")?;
+    put_mark(out, b"(if ")?;
     put_form(out, v)?;
-    put(out, b"\n")
+    put_mark(out, b"\n")
 }
 
 /// Appends the line of a new parameter, the floor of `v` over `d`.
@@ -131,9 +131,9 @@ fn put_parameter(out: &mut Vec<u8>, number: usize) -> Result<(), AllocError>
     ensures ok { Appends (codes "(newparm " ++ decimal number ++ codes " (div ") out.old.items out.new.items result }
     ensures kept { Begins out.old.items out.new.items }
 {
-    put(out, b"(newparm ")?;
+    put_mark(out, b"(newparm ")?;
     put(out, Buffer::new().format(number).as_bytes())?;
-    put(out, b" (div ")
+    put_mark(out, b" (div ")
 }
 
 fn put_divisor(out: &mut Vec<u8>, d: i128) -> Result<(), AllocError>
@@ -141,7 +141,7 @@ fn put_divisor(out: &mut Vec<u8>, d: i128) -> Result<(), AllocError>
     ensures kept { Begins out.old.items out.new.items }
 {
     put_entry(out, d)?;
-    put(out, b"))\n")
+    put_mark(out, b"))\n")
 }
 
 /// Appends the numbers of a form between row brackets.
@@ -157,9 +157,9 @@ fn put_list(out: &mut Vec<u8>, components: &[Component]) -> Result<(), AllocErro
         out.old.items out.new.items result }
     ensures kept { Begins out.old.items out.new.items }
 {
-    put(out, b"(list\n")?;
+    put_mark(out, b"(list\n")?;
     put_components(out, components)?;
-    put(out, b")\n")
+    put_mark(out, b")\n")
 }
 
 #[tactic(auto, using(std::proofs::lemmas::List::take_all, crate::proofs::Spellings::components_flat))]
@@ -177,9 +177,9 @@ fn put_component(out: &mut Vec<u8>, component: &Component) -> Result<(), AllocEr
     ensures ok { Appends (spell_component component.now) out.old.items out.new.items result }
     ensures kept { Begins out.old.items out.new.items }
 {
-    put(out, b"#[")?;
+    put_mark(out, b"#[")?;
     put_fractions(out, component)?;
-    put(out, b"]\n")
+    put_mark(out, b"]\n")
 }
 
 fn put_fractions(out: &mut Vec<u8>, component: &Component) -> Result<(), AllocError>
@@ -216,7 +216,7 @@ fn put_fraction(out: &mut Vec<u8>, c: i128, d: i128) -> Result<(), AllocError>
     ensures ok { Appends (spell_term d c) out.old.items out.new.items result }
     ensures kept { Begins out.old.items out.new.items }
 {
-    put(out, b" ")?;
+    put_mark(out, b" ")?;
     put_lowest(out, c, d)
 }
 
@@ -245,6 +245,6 @@ fn put_denominator(out: &mut Vec<u8>, d: i128, divisor: i128) -> Result<(), Allo
     if divisor == d {
         return Ok(());
     }
-    put(out, b"/")?;
+    put_mark(out, b"/")?;
     put_number(out, floor_div(d, divisor))
 }

@@ -3,4 +3,4 @@
 
 mod parts;
 
-pub use parts::{put, put_entry, put_number, put_row};
+pub use parts::{put, put_entry, put_mark, put_number, put_row};

@@ -11,9 +11,9 @@ pub fn put_row(out: &mut Vec<u8>, numbers: &[i128]) -> Result<(), AllocError>
     ensures ok { Appends (spell_form numbers.now) out.old.items out.new.items result }
     ensures kept { Begins out.old.items out.new.items }
 {
-    put(out, b"#[")?;
+    put_mark(out, b"#[")?;
     put_numbers(out, numbers)?;
-    put(out, b"]")
+    put_mark(out, b"]")
 }
 
 fn put_numbers(out: &mut Vec<u8>, numbers: &[i128]) -> Result<(), AllocError>
@@ -33,7 +33,7 @@ fn put_digit(out: &mut Vec<u8>, digit: u8) -> Result<(), AllocError>
     ensures ok { Appends (codes " " ++ decimal digit) out.old.items out.new.items result }
     ensures kept { Begins out.old.items out.new.items }
 {
-    put(out, &[b' ', b'0' + digit])
+    put_mark(out, &[b' ', b'0' + digit])
 }
 
 // Appends a blank and the opposite of a digit.
@@ -43,7 +43,7 @@ fn put_opposite(out: &mut Vec<u8>, digit: u8) -> Result<(), AllocError>
     ensures ok { Appends (codes " -" ++ decimal digit) out.old.items out.new.items result }
     ensures kept { Begins out.old.items out.new.items }
 {
-    put(out, &[b' ', b'-', b'0' + digit])
+    put_mark(out, &[b' ', b'-', b'0' + digit])
 }
 
 // Appends a blank and a number, part by part.
@@ -51,7 +51,7 @@ fn put_parts(out: &mut Vec<u8>, entry: i128) -> Result<(), AllocError>
     ensures ok { Appends (spell_entry entry) out.old.items out.new.items result }
     ensures kept { Begins out.old.items out.new.items }
 {
-    put(out, b" ")?;
+    put_mark(out, b" ")?;
     put_number(out, entry)
 }
 
@@ -86,4 +86,17 @@ pub fn put(out: &mut Vec<u8>, bytes: &[u8]) -> Result<(), AllocError>
     ensures kept { Begins out.old.items out.new.items }
 {
     out.extend_from_slice(bytes)
+}
+
+/// Appends a few bytes, one by one: no more than marks and short words, for which a copy costs more.
+#[inline(always)]
+pub fn put_mark(out: &mut Vec<u8>, bytes: &[u8]) -> Result<(), AllocError>
+    ensures ok { Appends bytes.now out.old.items out.new.items result }
+    ensures kept { Begins out.old.items out.new.items }
+{
+    out.reserve(bytes.len())?;
+    for byte in bytes {
+        out.push_reserved(*byte);
+    }
+    Ok(())
 }
