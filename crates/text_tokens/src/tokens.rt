@@ -276,8 +276,8 @@ fn digit_number(bytes: &[u8]) -> Option<(i128, usize)>
     }
 }
 
-// The number of one digit that is the next token, behind one space or none, and the place behind it; none where there
-// is no such number.
+/// The number of one digit that is the next token, behind one space or none, and how many bytes they take; none where
+/// there is no such number at the front.
 #[inline(always)]
 pub fn small_number(bytes: &[u8]) -> Option<(i128, usize)>
     ensures value { IfSome result (λ x. (place : ℕ) → ((token_in place bytes.now).kind ≡ Number x.0)
