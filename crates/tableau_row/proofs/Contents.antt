@@ -1,5 +1,5 @@
 -- The numbers of each row of a run have no common divisor: a divided row's, a row's of denominator 1, a widened row's.
-use Rattle.tableau_row.proofs.Words.{◌≡◌, ◌∙◌, refl, ap, sym, ℕ, ◌+◌, ◌*◌, ◌<◌, ℤ, pos, negsuc, ◌≤ℤ◌, unsigned_abs, arith, List, [], ◌∷◌, ◌++◌, ints, floor_div, euclid, gcd, gcd_of, floor_divided, Row, divided, gcd-divides, gcd_of-divides, all_through, through, common-IsGcd, common-scaled, times-one, size-divided, size-gcd_of, gcd_one, gcd_zero, content}
+use Rattle.tableau_row.proofs.Words.{◌≡◌, ◌∙◌, refl, ap, sym, ℕ, ◌+◌, ◌*◌, ◌<◌, ℤ, pos, negsuc, ◌≤ℤ◌, unsigned_abs, arith, List, [], ◌∷◌, ◌++◌, ints, floor_div, euclid, gcd, gcd_of, floor_divided, Row, divided, gcd-divides, gcd_of-divides, all_through, through, common-IsGcd, common-scaled, times-one, size-divided, size-gcd_of, gcd_one, gcd_zero, content, Multiple, AllByRecursion, gcd-greatest, gcd_of-greatest}
 use Rattle.std.proofs.Math.Nat.{pos_of_dvd_of_pos}
 
 -- a row of denominator 1
@@ -8,13 +8,29 @@ content-one r e = rw e (gcd_one (gcd (gcd_of r.coefs) (gcd_of r.constant)))
 
 -- a divided row
 
+-- the divisor of a row divides each of its numbers
+pub content-divides : (r : Row) → Multiple (content r) r.den × AllByRecursion (Multiple (content r)) r.coefs × AllByRecursion (Multiple (content r)) r.constant
+content-divides r =
+    let rest = gcd (gcd_of r.coefs) (gcd_of r.constant) in
+    let parts = gcd-divides r.den rest in
+    let lists = gcd-divides (gcd_of r.coefs) (gcd_of r.constant) in (
+      parts.0,
+      all_through (content r) (gcd_of r.coefs) r.coefs (through (content r) rest (gcd_of r.coefs) parts.1 lists.0) (gcd_of-divides r.coefs),
+      all_through (content r) (gcd_of r.constant) r.constant (through (content r) rest (gcd_of r.constant) parts.1 lists.1) (gcd_of-divides r.constant),
+    )
+
+-- and is a multiple of what does
+pub content-greatest : (d : ℕ) (r : Row) → Multiple (pos d) r.den → AllByRecursion (Multiple (pos d)) r.coefs → AllByRecursion (Multiple (pos d)) r.constant → Multiple (pos d) (content r)
+content-greatest d r den coefs constant =
+    gcd-greatest d r.den (gcd (gcd_of r.coefs) (gcd_of r.constant)) den
+    (gcd-greatest d (gcd_of r.coefs) (gcd_of r.constant) (gcd_of-greatest d r.coefs coefs) (gcd_of-greatest d r.constant constant))
+
 content_by : (r : Row) (g : ℕ) → content r ≡ pos g → 0 < g
     → gcd (floor_div r.den (pos g)) (gcd (gcd_of (floor_divided (pos g) r.coefs)) (gcd_of (floor_divided (pos g) r.constant))) ≡ pos 1
 content_by r g is h =
-    let parts = rw is at (gcd-divides r.den (gcd (gcd_of r.coefs) (gcd_of r.constant))) in
-    let lists = gcd-divides (gcd_of r.coefs) (gcd_of r.constant) in
-    let coefs = all_through (pos g) (gcd_of r.coefs) r.coefs (through (pos g) (gcd (gcd_of r.coefs) (gcd_of r.constant)) (gcd_of r.coefs) parts.1 lists.0) (gcd_of-divides r.coefs) in
-    let entries = all_through (pos g) (gcd_of r.constant) r.constant (through (pos g) (gcd (gcd_of r.coefs) (gcd_of r.constant)) (gcd_of r.constant) parts.1 lists.1) (gcd_of-divides r.constant) in
+    let parts = rw is at (content-divides r) in
+    let coefs = parts.1 in
+    let entries = parts.2 in
     let size : euclid (unsigned_abs (gcd (gcd_of r.coefs) (gcd_of r.constant)) + 1) (unsigned_abs r.den) (unsigned_abs (gcd (gcd_of r.coefs) (gcd_of r.constant))) ≡ g = ap unsigned_abs is in
     let d = unsigned_abs (floor_div r.den (pos g)) in
     let a = unsigned_abs (gcd_of (floor_divided (pos g) r.coefs)) in

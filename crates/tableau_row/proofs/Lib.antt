@@ -2,6 +2,8 @@ mod Words
 pub mod Combining
 pub mod Contents
 pub mod Lent
+pub mod Lowest
+pub mod Multiples
 pub mod Numbers
 pub mod Places
 pub mod Rounding

@@ -1,7 +1,7 @@
 -- The words of other modules that the proofs of this crate cite, passed on from one place. Declares nothing.
 pub use Rattle.std.proofs.Common.{◌≡◌, refl, sym, subst, ◌∙◌, ℕ, ◌-◌, ◌<◌, pos, ◌≤ℤ◌, Bool, length, arith, ◌+◌, ◌^◌, ℤ, unsigned_abs, List, [], ◌∷◌, ◌++◌, replicate, take, drop, get_or, to_z, of_z, ap, flat_map, zero, suc, negsuc, ◌*ℤ◌, true, false, ◌&&◌, length-set, ◌≤◌, append-nil, append_assoc, map, length-append, ◌-ℤ◌, set, ◌+ℤ◌, neg_ℤ, vec_len, vec_capacity, ◌*◌, rules}
 pub use Rattle.std.specs.Prelude.{IsTrue, All, slice_set, Vec}
-pub use Rattle.std.specs.List.{list_all}
+pub use Rattle.std.specs.List.{list_all, AllByRecursion}
 pub use Rattle.std.proofs.lemmas.Bool.{ltb-true, lt-ltb, eqb-true}
 pub use Rattle.std.proofs.lemmas.List.Sums.{AllPass-from_list_all, list_all-from_AllPass}
 pub use Rattle.std.proofs.lemmas.List.Elements.{All-append, All-take, All-drop, All-replicate, All-cons, All-nil, All-get_or, All-map, All-set, All-push}
@@ -22,9 +22,10 @@ pub use Rattle.affine_forms.proofs.Divisors.{gcd_assoc, floor_divided_one, gcd_s
 pub use Rattle.affine_forms.proofs.Combined.{listed_at, listed_step, listed_refused, listed_end}
 pub use Rattle.pip_model.specs.Cuts.{residue_of, rounding, rounded_listed, rounded}
 pub use Rattle.affine_forms.specs.Forms.{raised}
-pub use Rattle.pip_model.proofs.Division.{floor-unique, gcd-divides, gcd_of-divides, all_through, through}
-pub use Rattle.pip_model.proofs.Gcd.{common-scaled, common-IsGcd, times-one, size-divided, size-gcd_of, gcd_one, gcd_zero, size_opposite, gcd_opposite, gcd_of_negate, gcd_exchanged}
+pub use Rattle.pip_model.proofs.Division.{floor-unique, floor-exact, gcd-divides, gcd_of-divides, all_through, through, Multiple}
+pub use Rattle.pip_model.proofs.Gcd.{common, common-scaled, gcd-greatest, gcd_of-greatest, common-IsGcd, times-one, size-divided, size-gcd_of, gcd_one, gcd_zero, size_opposite, gcd_opposite, gcd_of_negate, gcd_exchanged}
 pub use Rattle.affine_forms.proofs.Mapped.{mapped, mapped_step}
+pub use Rattle.tableau_row.specs.Lowest.{AreLowest, substituted_by}
 pub use Rattle.tableau_row.specs.Rows.{IsRow, IsOwnRow, IsReduced, row_from, content}
 pub use Rattle.tableau_row.specs.Short.{IsShortRow, is_short, IsShort, AreShortRows}
 pub use Rattle.tableau_row.specs.Steps.{IsPivotRow, IsElimination, MakesRow, IsMadeReduced, Appends}

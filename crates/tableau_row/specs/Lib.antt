@@ -1,4 +1,5 @@
 pub mod Flat
+pub mod Lowest
 pub mod Rows
 pub mod Short
 pub mod Steps
