@@ -5,4 +5,6 @@ mod division;
 mod products;
 
 pub use division::{short_floor_div, short_gcd};
-pub use products::{half_difference, is_half, narrow, short_difference, short_product};
+pub use products::{
+    half_difference, half_product, is_half, narrow, short_difference, short_product,
+};

@@ -65,9 +65,9 @@ fn exact_half_product(a: i64, b: i64) -> i64
     a * b
 }
 
-// The product of numbers of 32 bits, and its bound.
+/// The product of numbers of 32 bits, and its bound.
 #[tactic(auto, using(crate::proofs::Bounds::half_bound))]
-fn half_product(a: i64, b: i64) -> i64
+pub fn half_product(a: i64, b: i64) -> i64
     requires { AreHalf a b }
     ensures value { result ≡ a *ℤ b }
     ensures bound { unsigned_abs result < 2 ^ 62 }

@@ -1,5 +1,5 @@
 -- A pivot of rows whose numbers stand one after the other, in place.
-use Rattle.tableau.proofs.Words.{rules, tests, ◌≡◌, refl, ap, sym, ◌∙◌, subst, ℕ, zero, suc, ◌+◌, ◌-◌, ◌<◌, ◌≤◌, ◌≢◌, ℤ, pos, ◌≤ℤ◌, Bool, true, false, ◌&&◌, List, [], ◌∷◌, ◌++◌, length, map, take, drop, get_or, arith, length-append, append-nil, append_assoc, IsTrue, All, flat_map, slice_set, ◌==◌, if◌then◌else◌, All-head, All-tail, All-cons, All-append, All-take, All-drop, take_at, drop_at, length-drop, length-take, get_or-take, get_or-drop, take-append-drop, take_all, drop_all, entry, all_fit, gcd_of, Row, row_at, form_row, divided, unit_row, eliminated, eliminated_listed, pivot, pivot_listed, divided_one, numbers_of, row_of_numbers, is_unit_row, IsRow, IsReduced, IsShortRow, AreShortRows, IsElimination, IsMadeReduced, row_again, short_eliminated, elimination, eliminated_none, all_fit-append, KeptRows, IsFlat, IsPivot, IsRun, IsSolvable, kept_short, row_kept, row_length, rows_kept, with_more, with_rows, rows_along, IsMadeRow, AreAlong, AreMade, ArePair, IsSolvedPair, IsHere, flat_rows, is_ready, is_ready_middle, is_ready_front, pivoted, Kept, RowPlace}
+use Rattle.tableau.proofs.Words.{rules, tests, ◌≡◌, refl, ap, sym, ◌∙◌, subst, ℕ, zero, suc, ◌+◌, ◌-◌, ◌<◌, ◌≤◌, ◌≢◌, ℤ, pos, ◌≤ℤ◌, Bool, true, false, ◌&&◌, List, [], ◌∷◌, ◌++◌, length, map, take, drop, get_or, arith, length-append, append-nil, append_assoc, IsTrue, slice_set, ◌==◌, if◌then◌else◌, take_at, drop_at, length-drop, length-take, get_or-take, get_or-drop, take-append-drop, take_all, drop_all, entry, all_fit, gcd_of, Row, row_at, form_row, divided, unit_row, eliminated, eliminated_listed, pivot, pivot_listed, divided_one, numbers_of, row_of_numbers, is_unit_row, IsRow, IsReduced, IsShortRow, AreShortRows, IsElimination, IsMadeReduced, row_again, short_eliminated, elimination, eliminated_none, KeptRows, IsFlat, IsPivot, IsRun, IsSolvable, kept_short, row_kept, row_length, rows_kept, with_more, with_rows, rows_along, IsMadeRow, AreAlong, AreMade, ArePair, IsSolvedPair, IsHere, flat_rows, is_ready, is_ready_middle, is_ready_front, pivoted, Kept, RowPlace}
 use Rattle.std.specs.List.{list_all}
 use Rattle.std.proofs.lemmas.List.Elements.{All-map}
 use Rattle.std.proofs.lemmas.List.Sums.{AllPass-from_list_all}

@@ -149,6 +149,7 @@ impl FlatRows {
         requires room { length self.old.rows < self.old.most }
         requires p { IsSolvable self.old.unknowns self.old.width (row_of p.now) c }
         requires row { IsRow self.old.unknowns self.old.width (row_of row.now) }
+        requires reduced { IsReduced (row_of row.now) }
         requires run { IfSome run (λ s. s.now ≡ numbers_of (row_of row.now)) }
         requires listed { IsTrue (all_fit (model.eliminated_listed (row_of p.now) c (row_of row.now))) }
         ensures { self.new ≡ with_more self.old (model.eliminated (row_of p.now) c (row_of row.now)) }

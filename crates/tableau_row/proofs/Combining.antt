@@ -56,7 +56,7 @@ module _ (a b : ℤ) (r s : List ℤ) (same : length r ≡ length s) (i : ℕ) (
   pub kept_at : (P : ℤ → Type 0) (now : List ℤ) → now ≡ combined a r b s i → All P r → P (get_or now i (pos 0))
   kept_at P now e all = subst P (sym (ap (λ (xs : List ℤ). get_or xs i (pos 0)) e ∙ combined_read)) (all i (pos 0) h)
 
-  combine_more : combine a (take (i + 1) r) b (take (i + 1) s) ≡ combine a (take i r) b (take i s) ++ (a *ℤ get_or r i (pos 0) -ℤ b *ℤ get_or s i (pos 0)) ∷ []
+  pub combine_more : combine a (take (i + 1) r) b (take (i + 1) s) ≡ combine a (take i r) b (take i s) ++ (a *ℤ get_or r i (pos 0) -ℤ b *ℤ get_or s i (pos 0)) ∷ []
   combine_more =
       rw (take_more r i (pos 0) h, take_more s i (pos 0) (omega arith))
       (combine_append a b (take i r) (take i s) (get_or r i (pos 0) ∷ []) (get_or s i (pos 0) ∷ []) front_lengths)

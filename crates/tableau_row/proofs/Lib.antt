@@ -1,6 +1,7 @@
 mod Words
 pub mod Combining
 pub mod Contents
+pub mod Found
 pub mod Lent
 pub mod Lowest
 pub mod Multiples

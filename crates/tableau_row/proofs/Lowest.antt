@@ -1,6 +1,6 @@
 -- A row after a pivot, made by factors in lowest terms: where the numbers of both rows have no common divisor, its
 -- divisor divides both denominators.
-use Rattle.tableau_row.proofs.Words.{◌≡◌, ◌∙◌, refl, ap, sym, subst, ℕ, zero, suc, ◌*◌, ◌<◌, ℤ, pos, negsuc, ◌≤ℤ◌, ◌-ℤ◌, ◌*ℤ◌, unsigned_abs, arith, List, [], ◌∷◌, length, AllByRecursion, ints, floor_div, floor_divided, gcd, gcd_of, entry, combine, scale, Row, divided, eliminated, floor-unique, Multiple, gcd-divides, through, all_through, common, common-scaled, times-one, size-divided, floor-exact, content, IsReduced, IsElimination, AreLowest, substituted_by}
+use Rattle.tableau_row.proofs.Words.{◌≡◌, ◌∙◌, refl, ap, sym, subst, ℕ, zero, suc, ◌*◌, ◌<◌, ℤ, pos, negsuc, ◌≤ℤ◌, ◌-ℤ◌, ◌*ℤ◌, unsigned_abs, arith, List, [], ◌∷◌, length, AllByRecursion, ints, floor_div, floor_divided, gcd, gcd_of, entry, combine, scale, Row, divided, eliminated, floor-unique, Multiple, gcd-divides, through, all_through, common, common-IsGcd, common-scaled, times-one, size-divided, floor-exact, content, IsReduced, IsElimination, AreLowest, substituted_by}
 use Rattle.std.proofs.lemmas.List.{map-set}
 use Rattle.std.proofs.lemmas.Nat.Gcd.{dvd_antisymm}
 use Rattle.std.proofs.Math.Nat.{eq-one_of_dvd-one}
@@ -39,6 +39,13 @@ lowest-alone a b one = record { divisor = 1; positive = omega arith; first = onc
   where
     once : (z : ℤ) → z ≡ pos 1 *ℤ z
     once z = omega (arith, ints)
+
+-- a divisor of 1 and another number
+pub gcd_with_one : (a : ℤ) → gcd a (pos 1) ≡ pos 1
+gcd_with_one a = ap pos (eq-one_of_dvd-one (common-IsGcd (unsigned_abs a) 1).1)
+
+pub gcd_with_minus : (a : ℤ) → gcd a (negsuc 0) ≡ pos 1
+gcd_with_minus a = gcd_with_one a
 
 -- ---- a row and its multiples are the same row once they are divided
 

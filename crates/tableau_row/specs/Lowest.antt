@@ -3,6 +3,7 @@ use Rattle.std.specs.Prelude.{◌≡◌, ℕ, ◌<◌, ℤ, pos, ◌*ℤ◌, sli
 use Rattle.pip_model.specs.Numbers.{gcd}
 use Rattle.pip_model.specs.Forms.{combine}
 use Rattle.pip_model.specs.Rows.{Row}
+use Rattle.tableau_row.specs.Rows.{IsReduced}
 
 -- x and y are a and b over a divisor of both, and have no common divisor
 pub record AreLowest (a b x y : ℤ) : Type 0 where
@@ -19,3 +20,8 @@ substituted_by x y p c i = record {
   coefs = slice_set (combine x i.coefs y p.coefs) c (y *ℤ p.den);
   constant = combine x i.constant y p.constant;
 }
+
+-- the numbers of neither row have a common divisor
+pub record AreReduced (p r : Row) : Type 0 where
+  pub first : IsReduced p
+  pub second : IsReduced r

@@ -1,8 +1,9 @@
 -- What the steps of rows ask, and what they leave.
-use Rattle.std.specs.Prelude.{◌≡◌, ℕ, ◌+◌, ◌-◌, ◌<◌, ◌≤◌, ℤ, pos, ◌≤ℤ◌, Bool, List, ◌++◌, length, IsTrue, Vec, vec_len, vec_capacity}
+use Rattle.std.specs.Prelude.{◌≡◌, ℕ, ◌+◌, ◌-◌, ◌<◌, ◌≤◌, ℤ, pos, ◌≤ℤ◌, Bool, List, ◌++◌, length, take, IsTrue, Vec, vec_len, vec_capacity}
 use Rattle.std.specs.declared.alloc.Global.{Global}
 use Rattle.pip_model.specs.Forms.{entry}
 use Rattle.pip_model.specs.Rows.{Row, unit_row}
+use Rattle.tableau_row.specs.Flat.{numbers_of}
 use Rattle.tableau_row.specs.Rows.{IsRow, IsOwnRow, IsReduced}
 use Rattle.tableau_row.specs.Short.{IsShortRow}
 
@@ -49,3 +50,15 @@ pub record Appends (old new : Vec ℤ Global) (zs : List ℤ) : Type 0 where
 pub record Leaves (old new : Vec ℤ Global) : Type 0 where
   pub items : new.items ≡ old.items
   pub room : vec_capacity old ≤ vec_capacity new
+
+-- those that were there are there still, in no less room
+pub record Keeps (old new : Vec ℤ Global) : Type 0 where
+  pub items : take (length old.items) new.items ≡ old.items
+  pub room : vec_capacity old ≤ vec_capacity new
+
+-- the numbers of the wanted row, which are short, are behind those that were there, where that is done; those are there
+-- still
+pub record WasTried (old new : Vec ℤ Global) (wanted : Row) (done : Bool) : Type 0 where
+  pub appended : IsTrue done → Appends old new (numbers_of wanted)
+  pub short : IsTrue done → IsShortRow wanted
+  pub kept : Keeps old new

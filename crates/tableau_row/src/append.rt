@@ -1,4 +1,4 @@
-ghost use Rattle.std.specs.Prelude.{◌≡◌, ◌+◌, ◌-◌, ◌<◌, ◌≤◌, [], ◌∷◌, length, All, IsTrue, IfOk, IfSome, OnErr, OnOk, true, vec_len, vec_capacity};
+ghost use Rattle.std.specs.Prelude.{◌≡◌, ◌+◌, ◌-◌, ◌<◌, ◌≤◌, pos, ◌≤ℤ◌, [], ◌∷◌, length, All, IsTrue, IfOk, IfSome, OnErr, OnOk, true, vec_len, vec_capacity};
 ghost use Rattle.pip_model.specs.Forms.{combine, negate};
 ghost use Rattle.pip_model.specs.Listed.{all_fit};
 ghost use Rattle.pip_model.specs.Rows as model;
@@ -7,12 +7,16 @@ ghost use Rattle.pip_model.specs.Agreement.{IsChecked};
 ghost use Rattle.affine_forms.specs.Checks.{Fits, is_overflow};
 ghost use Rattle.tableau_row.specs.Flat.{numbers_of};
 ghost use Rattle.tableau_row.specs.Short.{IsShort, IsShortRow, AreShort, AreShortLists, AreShortRows};
+ghost use Rattle.tableau_row.specs.Lowest.{AreReduced, substituted_by};
 ghost use Rattle.tableau_row.specs.Rows.{IsOwnRow, IsReduced};
+ghost use Rattle.tableau_row.specs.Stepped.{IsStep};
 ghost use Rattle.tableau_row.specs.Steps.{IsPivotRow, IsElimination, IsMadeReduced, MakesRow, Appends, Leaves, column_row};
 ghost use Rattle.tableau_row.specs.Views.{row_of};
 
-use crate::row::{divide, eliminate, round};
-use crate::short::{both, short_entry, short_opposite, with_entry};
+use crate::quotients::append_tried;
+use crate::row::{divide, divide_from, eliminate, round};
+use crate::short::{both, is_short, short_entry, short_opposite, with_entry};
+use crate::step::Step;
 use crate::view::RowView;
 use affine_forms::Overflow;
 use short_numbers::{is_half, narrow, short_product};
@@ -30,7 +34,7 @@ pub fn append_entries(numbers: &mut Vec<i128>, entries: &[i128])
 }
 
 // Appends the number, for which there is room.
-fn append_one(numbers: &mut Vec<i128>, number: i128)
+pub(crate) fn append_one(numbers: &mut Vec<i128>, number: i128)
     requires room { vec_len numbers.old < vec_capacity numbers.old }
     ensures { Appends numbers.old numbers.new (number ∷ []) }
 {
@@ -93,30 +97,83 @@ fn append_combined(numbers: &mut Vec<i128>, a: i64, r: &[i128], b: i64, s: &[i12
     short
 }
 
-// Appends the numbers of the row with row p, solved for column c, put in; whether they are short. The numbers of both
-// rows are short.
-fn append_substituted(numbers: &mut Vec<i128>, p: &RowView<'_>, c: usize, row: &RowView<'_>) -> bool
+// Appends the numbers of the row with row p, solved for column c, put in by the factors; whether they are short. The
+// numbers of both rows are short.
+fn append_substituted(
+    numbers: &mut Vec<i128>,
+    step: Step,
+    p: &RowView<'_>,
+    c: usize,
+    row: &RowView<'_>,
+) -> bool
     requires room { vec_len numbers.old + length (numbers_of (row_of row.now)) ≤ vec_capacity numbers.old }
-    requires step { IsElimination (row_of p.now) c (row_of row.now) }
+    requires elimination { IsElimination (row_of p.now) c (row_of row.now) }
     requires short { AreShortRows (row_of p.now) (row_of row.now) }
     ensures appended { Appends numbers.old numbers.new
-        (numbers_of (model.substituted (row_of p.now) c (row_of row.now))) }
-    ensures made { let made = model.substituted (row_of p.now) c (row_of row.now) in
+        (numbers_of (substituted_by step.row step.pivot (row_of p.now) c (row_of row.now))) }
+    ensures made { let made = substituted_by step.row step.pivot (row_of p.now) c (row_of row.now) in
         MakesRow (row_of row.now) made result made }
 {
-    let a = narrow(p.coefs[c]);
-    let b = narrow(row.coefs[c]);
-    let den = short_product(row.den, p.coefs[c]);
-    let entry = short_product(row.coefs[c], p.den);
+    let den = short_product(row.den, step.row as i128);
+    let entry = short_product(step.pivot as i128, p.den);
     let place = numbers.len() + 1 + c;
     append_one(numbers, den);
-    let coefs_short = append_combined(numbers, a, row.coefs, b, p.coefs);
+    let coefs_short = append_combined(numbers, step.row, row.coefs, step.pivot, p.coefs);
     numbers[place] = entry;
-    let constant_short = append_combined(numbers, a, row.constant, b, p.constant);
+    let constant_short = append_combined(numbers, step.row, row.constant, step.pivot, p.constant);
     both(
         with_entry(coefs_short, entry),
         with_entry(constant_short, den),
     )
+}
+
+// Appends the numbers of what the row is after the pivot on row p and column c, whose divisor is found from the step's;
+// whether they are short. The numbers of both rows are short.
+fn append_found(
+    numbers: &mut Vec<i128>,
+    step: Step,
+    p: &RowView<'_>,
+    c: usize,
+    row: &RowView<'_>,
+) -> bool
+    requires room { vec_len numbers.old + length (numbers_of (row_of row.now)) ≤ vec_capacity numbers.old }
+    requires elimination { IsElimination (row_of p.now) c (row_of row.now) }
+    requires reduced { AreReduced (row_of p.now) (row_of row.now) }
+    requires short { AreShortRows (row_of p.now) (row_of row.now) }
+    requires step { IsStep (row_of p.now) c (row_of row.now) step }
+    ensures appended { Appends numbers.old numbers.new
+        (numbers_of (model.eliminated (row_of p.now) c (row_of row.now))) }
+    ensures made { IsMadeReduced (row_of row.now) result (model.eliminated (row_of p.now) c (row_of row.now)) }
+{
+    let start = numbers.len();
+    let short = append_substituted(numbers, step, p, c, row);
+    let (_, last) = numbers.split_at_mut(start);
+    divide_from(last, row.coefs.len(), step.divisor, short)
+}
+
+// The same, where the divisor may be the step's.
+fn append_parted(
+    numbers: &mut Vec<i128>,
+    step: Step,
+    p: &RowView<'_>,
+    c: usize,
+    row: &RowView<'_>,
+) -> bool
+    requires room { vec_len numbers.old + length (numbers_of (row_of row.now)) ≤ vec_capacity numbers.old }
+    requires elimination { IsElimination (row_of p.now) c (row_of row.now) }
+    requires reduced { AreReduced (row_of p.now) (row_of row.now) }
+    requires short { AreShortRows (row_of p.now) (row_of row.now) }
+    requires step { IsStep (row_of p.now) c (row_of row.now) step }
+    ensures appended { Appends numbers.old numbers.new
+        (numbers_of (model.eliminated (row_of p.now) c (row_of row.now))) }
+    ensures made { IsMadeReduced (row_of row.now) result (model.eliminated (row_of p.now) c (row_of row.now)) }
+{
+    let start = numbers.len();
+    if append_tried(numbers, step, p, c, row) {
+        return true;
+    }
+    numbers.truncate(start);
+    append_found(numbers, step, p, c, row)
 }
 
 // Appends the numbers of what the row is after the pivot on row p and column c, without a copy of the row before;
@@ -124,15 +181,17 @@ fn append_substituted(numbers: &mut Vec<i128>, p: &RowView<'_>, c: usize, row: &
 fn append_made(numbers: &mut Vec<i128>, p: &RowView<'_>, c: usize, row: &RowView<'_>) -> bool
     requires room { vec_len numbers.old + length (numbers_of (row_of row.now)) ≤ vec_capacity numbers.old }
     requires step { IsElimination (row_of p.now) c (row_of row.now) }
+    requires reduced { AreReduced (row_of p.now) (row_of row.now) }
     requires short { AreShortRows (row_of p.now) (row_of row.now) }
     ensures appended { Appends numbers.old numbers.new
         (numbers_of (model.eliminated (row_of p.now) c (row_of row.now))) }
     ensures made { IsMadeReduced (row_of row.now) result (model.eliminated (row_of p.now) c (row_of row.now)) }
 {
-    let start = numbers.len();
-    let short = append_substituted(numbers, p, c, row);
-    let (_, last) = numbers.split_at_mut(start);
-    divide(last, row.coefs.len(), short)
+    let step = Step::new(p, c, row.den, row.coefs[c]);
+    if step.divisor == 1 {
+        return append_substituted(numbers, step, p, c, row);
+    }
+    append_parted(numbers, step, p, c, row)
 }
 
 // Appends the numbers of what the row is after the pivot on row p and column c, by a copy of the row that is changed in
@@ -146,6 +205,7 @@ fn append_in_place(
 ) -> bool
     requires room { vec_len numbers.old + length (numbers_of (row_of row.now)) ≤ vec_capacity numbers.old }
     requires step { IsElimination (row_of p.now) c (row_of row.now) }
+    requires reduced { AreReduced (row_of p.now) (row_of row.now) }
     requires run { IfSome run (λ s. s.now ≡ numbers_of (row_of row.now)) }
     requires listed { IsTrue (all_fit (model.eliminated_listed (row_of p.now) c (row_of row.now))) }
     ensures appended { Appends numbers.old numbers.new
@@ -169,6 +229,7 @@ pub fn append_eliminated(
 ) -> bool
     requires room { vec_len numbers.old + length (numbers_of (row_of row.now)) ≤ vec_capacity numbers.old }
     requires step { IsElimination (row_of p.now) c (row_of row.now) }
+    requires reduced { AreReduced (row_of p.now) (row_of row.now) }
     requires run { IfSome run (λ s. s.now ≡ numbers_of (row_of row.now)) }
     requires listed { IsTrue (all_fit (model.eliminated_listed (row_of p.now) c (row_of row.now))) }
     ensures appended { Appends numbers.old numbers.new

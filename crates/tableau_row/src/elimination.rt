@@ -4,16 +4,16 @@ ghost use Rattle.pip_model.specs.Listed.{all_fit, combine_listed};
 ghost use Rattle.pip_model.specs.Rows as model;
 ghost use Rattle.pip_model.specs.Agreement.{IsChecked};
 ghost use Rattle.affine_forms.specs.Checks.{Fits, is_overflow};
-ghost use Rattle.tableau_row.specs.Short.{IsShortRow, AreShortRows};
+ghost use Rattle.tableau_row.specs.Short.{IsShortRow};
 ghost use Rattle.tableau_row.specs.Rows.{IsRow, IsOwnRow, row_from};
 ghost use Rattle.tableau_row.specs.Steps.{IsElimination, MakesRow};
 ghost use Rattle.tableau_row.specs.Views.{row_of};
 
 use crate::narrow::{divide_all_short, short_divisor_with, short_quotient};
-use crate::short::{all_short, both, combine_short, is_short, is_short_row, with_entry};
+use crate::short::{all_short, is_short, is_short_row};
 use crate::view::RowView;
 use affine_forms::{Overflow, difference, divide_all, floor_div, gcd_with, times};
-use short_numbers::{narrow, short_product};
+use short_numbers::narrow;
 
 // Checks `a*r - b*s`, entry by entry.
 fn check_each(a: i128, r: &[i128], b: i128, s: &[i128]) -> Result<(), Overflow>
@@ -209,69 +209,21 @@ fn substitute_long(
     exact_product(den, a)
 }
 
-// The same for rows whose numbers are short; also whether those made are.
-fn substitute_short(
-    p: &RowView<'_>,
-    c: usize,
-    den: i128,
-    coefs: &mut [i128],
-    constant: &mut [i128],
-) -> (i128, bool)
-    requires step { IsElimination (row_of p.now) c (row_from den coefs.old constant.old) }
-    requires short { AreShortRows (row_of p.now) (row_from den coefs.old constant.old) }
-    ensures { let r = row_from den coefs.old constant.old in
-        MakesRow r (model.substituted (row_of p.now) c r) result.1 (row_from result.0 coefs.new constant.new) }
-{
-    let a = p.coefs[c];
-    let b = coefs[c];
-    let den = short_product(den, a);
-    let entry = short_product(b, p.den);
-    let coefs_short = with_entry(combine_short(a, coefs, b, p.coefs), entry);
-    coefs[c] = entry;
-    let constant_short = with_entry(combine_short(a, constant, b, p.constant), den);
-    (den, both(coefs_short, constant_short))
-}
-
-// The same for rows whose numbers may be known to be short.
-fn substitute(
-    p: &RowView<'_>,
-    c: usize,
-    den: i128,
-    coefs: &mut [i128],
-    constant: &mut [i128],
-    short: bool,
-) -> (i128, bool)
-    requires step { IsElimination (row_of p.now) c (row_from den coefs.old constant.old) }
-    requires listed { IsTrue (all_fit
-        (model.eliminated_listed (row_of p.now) c (row_from den coefs.old constant.old))) }
-    requires short { IsTrue short → AreShortRows (row_of p.now) (row_from den coefs.old constant.old) }
-    ensures { let r = row_from den coefs.old constant.old in
-        MakesRow r (model.substituted (row_of p.now) c r) result.1 (row_from result.0 coefs.new constant.new) }
-{
-    if short {
-        return substitute_short(p, c, den, coefs, constant);
-    }
-    let den = substitute_long(p, c, den, coefs, constant);
-    (den, is_short_row(den, coefs, constant))
-}
-
 // Makes of a row what it is after the pivot on row p and column c; the new denominator, and whether the numbers are
-// short. Those of both rows may be known to be.
+// short.
 pub(crate) fn eliminate_parts(
     p: &RowView<'_>,
     c: usize,
     den: i128,
     coefs: &mut [i128],
     constant: &mut [i128],
-    short: bool,
 ) -> (i128, bool)
     requires step { IsElimination (row_of p.now) c (row_from den coefs.old constant.old) }
     requires listed { IsTrue (all_fit
         (model.eliminated_listed (row_of p.now) c (row_from den coefs.old constant.old))) }
-    requires short { IsTrue short → AreShortRows (row_of p.now) (row_from den coefs.old constant.old) }
     ensures { let r = row_from den coefs.old constant.old in
         MakesRow r (model.eliminated (row_of p.now) c r) result.1 (row_from result.0 coefs.new constant.new) }
 {
-    let (den, short) = substitute(p, c, den, coefs, constant, short);
-    divide_parts(den, coefs, constant, short)
+    let den = substitute_long(p, c, den, coefs, constant);
+    divide_parts(den, coefs, constant, is_short_row(den, coefs, constant))
 }

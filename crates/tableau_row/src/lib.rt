@@ -4,8 +4,10 @@
 mod append;
 mod elimination;
 mod narrow;
+mod quotients;
 mod row;
 mod short;
+mod step;
 mod view;
 
 pub use append::{

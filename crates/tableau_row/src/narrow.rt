@@ -1,4 +1,4 @@
-ghost use Rattle.std.specs.Prelude.{◌≡◌, pos, ◌≤ℤ◌, All};
+ghost use Rattle.std.specs.Prelude.{◌≡◌, ◌<◌, pos, ◌≤ℤ◌, length, drop, All};
 ghost use Rattle.pip_model.specs.Forms.{floor_divided};
 ghost use Rattle.pip_model.specs.Numbers.{gcd as gcd_of_two, gcd_of, floor_div as floor_div_of};
 ghost use Rattle.tableau_row.specs.Short.{IsShort};
@@ -46,5 +46,22 @@ pub(crate) fn divide_all_short(entries: &mut [i128], d: i64)
 {
     for entry in entries.iter_mut() {
         *entry = short_quotient(*entry, d);
+    }
+}
+
+// Divides short numbers by what is common to the start, at least 1, and all of them but the first.
+pub(crate) fn divide_run(numbers: &mut [i128], start: i64)
+    requires some { 0 < length numbers.old }
+    requires start { pos 1 ≤ℤ start }
+    requires start_short { IsShort start }
+    requires short { All IsShort numbers.old }
+    ensures value { numbers.new
+        ≡ floor_divided (gcd_of_two start (gcd_of (drop 1 numbers.old))) numbers.old }
+    ensures short { All IsShort numbers.new }
+{
+    let (_, entries) = numbers.split_at(1);
+    let divisor = short_divisor_with(start, entries);
+    if divisor != 1 {
+        divide_all_short(numbers, divisor);
     }
 }

@@ -1,6 +1,6 @@
-ghost use Rattle.std.specs.Prelude.{◌≡◌, ◌+◌, ◌-◌, ◌<◌, pos, ◌&&◌, false, length, drop, IsTrue, IfOk, IfSome, IfNone, OnErr, OnOk, replicate, slice_set};
+ghost use Rattle.std.specs.Prelude.{◌≡◌, ◌+◌, ◌-◌, ◌<◌, pos, ◌≤ℤ◌, ◌&&◌, false, length, drop, IsTrue, IfOk, IfSome, IfNone, OnErr, OnOk, replicate, slice_set};
 ghost use Rattle.std.specs.List.{list_all};
-ghost use Rattle.pip_model.specs.Numbers.{is_zero, same_number};
+ghost use Rattle.pip_model.specs.Numbers.{gcd as gcd_of_two, gcd_of, is_zero, same_number};
 ghost use Rattle.pip_model.specs.Forms.{entry};
 ghost use Rattle.pip_model.specs.Listed.{all_fit};
 ghost use Rattle.pip_model.specs.Rows as model;
@@ -8,15 +8,19 @@ ghost use Rattle.pip_model.specs.Cuts.{rounded, rounded_listed};
 ghost use Rattle.pip_model.specs.Agreement.{IsChecked};
 ghost use Rattle.affine_forms.specs.Checks.{is_overflow};
 ghost use Rattle.tableau_row.specs.Flat.{numbers_of, row_of_numbers, is_unit, is_unit_row};
-ghost use Rattle.tableau_row.specs.Short.{IsShortRow, AreShortRows};
-ghost use Rattle.tableau_row.specs.Rows.{IsRow, IsOwnRow, IsReduced, row_from};
-ghost use Rattle.tableau_row.specs.Steps.{IsElimination, IsMadeReduced};
+ghost use Rattle.tableau_row.specs.Lowest.{AreReduced, substituted_by};
+ghost use Rattle.tableau_row.specs.Short.{IsShort, IsShortRow, AreShort, AreShortRows};
+ghost use Rattle.tableau_row.specs.Rows.{IsRow, IsOwnRow, IsReduced, content, row_from};
+ghost use Rattle.tableau_row.specs.Steps.{IsElimination, IsMadeReduced, MakesRow};
 ghost use Rattle.tableau_row.specs.Views.{row_of};
 
 use crate::elimination::{divide_parts, eliminate_parts};
-use crate::short::is_short_row;
+use crate::narrow::divide_run;
+use crate::short::{both, combine_short, is_short_row, with_entry};
+use crate::step::Step;
 use crate::view::RowView;
 use affine_forms::{Overflow, divide_all, floor_div, gcd_with, round_form};
+use short_numbers::short_product;
 
 /// The row of these numbers over so many columns: its denominator, its coefficients, the entries of its constant form.
 pub fn view_of(numbers: &[i128], unknowns: usize, short: bool) -> RowView<'_>
@@ -99,11 +103,94 @@ pub(crate) fn divide(numbers: &mut [i128], unknowns: usize, short: bool) -> bool
     made_short
 }
 
+// The same, where the greatest common divisor is that of the start, at least 1, and all numbers but the denominator.
+pub(crate) fn divide_from(numbers: &mut [i128], unknowns: usize, start: i64, short: bool) -> bool
+    requires length { unknowns < length numbers.old }
+    requires row { IsOwnRow (row_of_numbers unknowns numbers.old) }
+    requires start { pos 1 ≤ℤ start }
+    requires start_short { IsShort start }
+    requires divisor { content (row_of_numbers unknowns numbers.old)
+        ≡ gcd_of_two start (gcd_of (drop 1 numbers.old)) }
+    requires short { IsTrue short → IsShortRow (row_of_numbers unknowns numbers.old) }
+    ensures value { numbers.new ≡ numbers_of (model.divided (row_of_numbers unknowns numbers.old)) }
+    ensures made { let r = row_of_numbers unknowns numbers.old in IsMadeReduced r result (model.divided r) }
+{
+    if !short {
+        return divide(numbers, unknowns, false);
+    }
+    divide_run(numbers, start);
+    true
+}
+
+// Makes of a row's numbers those of the row with row p, solved for column c, put in by the step; whether they are
+// short. Those of both rows are.
+fn substitute_short(numbers: &mut [i128], step: Step, p: &RowView<'_>, c: usize) -> bool
+    requires length { length p.now.coefs.now < length numbers.old }
+    requires step { IsElimination (row_of p.now) c (row_of_numbers (length p.now.coefs.now) numbers.old) }
+    requires short { AreShortRows (row_of p.now) (row_of_numbers (length p.now.coefs.now) numbers.old) }
+    ensures value { numbers.new ≡ numbers_of (substituted_by step.row step.pivot (row_of p.now) c
+        (row_of_numbers (length p.now.coefs.now) numbers.old)) }
+    ensures made { let r = row_of_numbers (length p.now.coefs.now) numbers.old in
+        let made = substituted_by step.row step.pivot (row_of p.now) c r in MakesRow r made result made }
+{
+    let (den, parts) = numbers.split_at_mut(1);
+    let (coefs, constant) = parts.split_at_mut(p.coefs.len());
+    let made = short_product(den[0], step.row as i128);
+    let entry = short_product(step.pivot as i128, p.den);
+    let coefs_short = combine_short(step.row as i128, coefs, step.pivot as i128, p.coefs);
+    coefs[c] = entry;
+    let constant_short = combine_short(step.row as i128, constant, step.pivot as i128, p.constant);
+    den[0] = made;
+    both(
+        with_entry(coefs_short, entry),
+        with_entry(constant_short, made),
+    )
+}
+
+// Makes of a row's numbers those of what the row is after the pivot on row p and column c; whether they are short.
+// Those of both rows are.
+fn eliminate_short(numbers: &mut [i128], p: &RowView<'_>, c: usize) -> bool
+    requires length { length p.now.coefs.now < length numbers.old }
+    requires step { IsElimination (row_of p.now) c (row_of_numbers (length p.now.coefs.now) numbers.old) }
+    requires reduced { AreReduced (row_of p.now) (row_of_numbers (length p.now.coefs.now) numbers.old) }
+    requires short { AreShortRows (row_of p.now) (row_of_numbers (length p.now.coefs.now) numbers.old) }
+    ensures value { numbers.new
+        ≡ numbers_of (model.eliminated (row_of p.now) c (row_of_numbers (length p.now.coefs.now) numbers.old)) }
+    ensures made { let r = row_of_numbers (length p.now.coefs.now) numbers.old in
+        IsMadeReduced r result (model.eliminated (row_of p.now) c r) }
+{
+    let step = Step::new(p, c, numbers[0], numbers[1 + c]);
+    let short = substitute_short(numbers, step, p, c);
+    if step.divisor == 1 {
+        return short;
+    }
+    divide_from(numbers, p.coefs.len(), step.divisor, short)
+}
+
+// The same, where the numbers of one of the rows are not known to be short.
+fn eliminate_long(numbers: &mut [i128], p: &RowView<'_>, c: usize) -> bool
+    requires length { length p.now.coefs.now < length numbers.old }
+    requires step { IsElimination (row_of p.now) c (row_of_numbers (length p.now.coefs.now) numbers.old) }
+    requires listed { IsTrue (all_fit
+        (model.eliminated_listed (row_of p.now) c (row_of_numbers (length p.now.coefs.now) numbers.old))) }
+    ensures value { numbers.new
+        ≡ numbers_of (model.eliminated (row_of p.now) c (row_of_numbers (length p.now.coefs.now) numbers.old)) }
+    ensures made { let r = row_of_numbers (length p.now.coefs.now) numbers.old in
+        IsMadeReduced r result (model.eliminated (row_of p.now) c r) }
+{
+    let (den, parts) = numbers.split_at_mut(1);
+    let (coefs, constant) = parts.split_at_mut(p.coefs.len());
+    let (made, made_short) = eliminate_parts(p, c, den[0], coefs, constant);
+    den[0] = made;
+    made_short
+}
+
 /// Makes of a row's numbers those of what the row is after the pivot on row p and column c; whether they are known to
-/// be short. Those of both rows may be known to be.
+/// be short. Those of both rows may be known to be. Neither row's numbers have a common divisor.
 pub fn eliminate(numbers: &mut [i128], p: &RowView<'_>, c: usize, short: bool) -> bool
     requires length { length p.now.coefs.now < length numbers.old }
     requires step { IsElimination (row_of p.now) c (row_of_numbers (length p.now.coefs.now) numbers.old) }
+    requires reduced { AreReduced (row_of p.now) (row_of_numbers (length p.now.coefs.now) numbers.old) }
     requires listed { IsTrue (all_fit
         (model.eliminated_listed (row_of p.now) c (row_of_numbers (length p.now.coefs.now) numbers.old))) }
     requires short { IsTrue short
@@ -113,11 +200,10 @@ pub fn eliminate(numbers: &mut [i128], p: &RowView<'_>, c: usize, short: bool) -
     ensures made { let r = row_of_numbers (length p.now.coefs.now) numbers.old in
         IsMadeReduced r result (model.eliminated (row_of p.now) c r) }
 {
-    let (den, parts) = numbers.split_at_mut(1);
-    let (coefs, constant) = parts.split_at_mut(p.coefs.len());
-    let (made, made_short) = eliminate_parts(p, c, den[0], coefs, constant, short);
-    den[0] = made;
-    made_short
+    if short {
+        return eliminate_short(numbers, p, c);
+    }
+    eliminate_long(numbers, p, c)
 }
 
 // The parts of the row rounded by the quotient at place q, and its new denominator; a refusal leaves the parts as they

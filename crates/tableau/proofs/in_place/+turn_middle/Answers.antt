@@ -1,4 +1,4 @@
-use Rattle.tableau.proofs.Words.{rules, arith, sym, subst, drop, List, ◌++◌, ◌&&◌, ◌<◌, ◌-◌, ℤ, slice_set, AreMade, rows_along, pivoted, row_length, row_of, IsTrue}
+use Rattle.tableau.proofs.Words.{rules, arith, sym, subst, drop, List, ◌++◌, ◌&&◌, ◌<◌, ◌-◌, ℤ, slice_set, AreMade, rows_along, pivoted, row_length, row_of}
 use Rattle.tableau.specs.declared.kept.Kept.TheVariants as kept
 use Rattle.tableau.proofs.InPlace.{is_first, part_unit, part_at, ready_parts, room_behind, moved_up, pivoted_behind}
 use Rattle.tableau.proofs.in_place.+turn_middle.Goals as goal

@@ -1,4 +1,4 @@
-use Rattle.tableau.proofs.Words.{rules, map, eliminated, refl, row_of, IsTrue}
+use Rattle.tableau.proofs.Words.{rules, map, eliminated, refl, row_of}
 use Rattle.tableau.specs.declared.kept.Kept.TheVariants as kept
 use Rattle.tableau.proofs.InPlace.{is_first, part_unit, part_at, first_ready}
 use Rattle.tableau.proofs.in_place.+turn_part.Goals as goal

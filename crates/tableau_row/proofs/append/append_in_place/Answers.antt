@@ -1,4 +1,5 @@
 use Rattle.tableau_row.proofs.Words.{rules, ◌∙◌, ap, sym, subst, length, IsTrue, all_fit, Row, eliminated, eliminated_listed, numbers_of, AreShortRows, IsElimination, IsMadeReduced, row_of}
+use Rattle.tableau_row.specs.Lowest.{AreReduced}
 use Rattle.tableau_row.proofs.Lent.{lent, written_last}
 use Rattle.tableau_row.proofs.append.append_in_place.Goals as goal
 
@@ -11,6 +12,7 @@ eliminate-requires c =
     record {
       length = last.longer;
       step = subst (IsElimination p c.args.c) (sym last.row) c.requires.step;
+      reduced = subst (AreReduced p) (sym last.row) c.requires.reduced;
       listed = subst (λ (x : Row). IsTrue (all_fit (eliminated_listed p c.args.c x))) (sym last.row) c.requires.listed;
       short = λ s. subst (AreShortRows p) (sym last.row) (known s);
     }
