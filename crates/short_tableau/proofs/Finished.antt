@@ -1,19 +1,9 @@
 -- A row that is made in two steps, and what shows that it is not short.
-use Rattle.short_tableau.proofs.Words.{rules, ◌≡◌, refl, ap, sym, ◌∙◌, ℕ, zero, suc, ◌+◌, ◌<◌, ◌≤◌, ℤ, pos, negsuc, ◌≤ℤ◌, ◌*ℤ◌, ◌-ℤ◌, Bool, true, false, ◌&&◌, List, [], ◌∷◌, ◌++◌, length, take, drop, get_or, set, arith, append-nil, append_assoc, length-append, length-drop, length-set, ints, and-false, lt-ltb, take_at, drop_at, take_all, drop_all, take-append-drop, length-take, length-map, drop_more, take_more, set_at, get_or_at, map-set, map-append, get_or-map, get_or-set_same, list_all-append, list_all_at, slice_set, None, list_all, length-combine, entry-combine, gcd, gcd_of, floor_div, combine, entry, floor_divided, Row, divided, gcd_assoc, gcd_zero, gcd_exchanged, gcd_step, combined, is_short, row_from, finished, begun_coefs, begun_constant, begun_row, begun_divisor, IsBegun, AreEnds, is_short_row, IsDenominatorOf}
-use Rattle.std.proofs.Math.IntN.{*ℤ_comm}
+use Rattle.short_tableau.proofs.Words.{rules, ◌≡◌, refl, ap, sym, ◌∙◌, ℕ, zero, suc, ◌+◌, ◌<◌, ◌≤◌, ℤ, pos, negsuc, ◌≤ℤ◌, ◌*ℤ◌, ◌-ℤ◌, Bool, true, false, ◌&&◌, List, [], ◌∷◌, ◌++◌, length, take, drop, get_or, set, arith, append-nil, append_assoc, length-append, length-drop, length-set, ints, and-false, lt-ltb, take_at, drop_at, take_all, drop_all, take-append-drop, length-take, length-map, drop_more, take_more, set_at, get_or_at, map-set, map-append, get_or-map, get_or-set_same, list_all-append, list_all_at, slice_set, None, list_all, length-combine, entry-combine, gcd, gcd_of, floor_div, combine, floor_divided, Row, divided, gcd_assoc, gcd_zero, gcd_exchanged, gcd_step, combined, is_short, row_from, finished, begun_coefs, begun_constant, begun_row, begun_divisor, IsBegun, is_short_row, IsDenominatorOf}
 use Rattle.tableau_row.proofs.Places.{take_combine, drop_combine}
 use Rattle.short_numbers.proofs.Quotients.{quotient_short}
 use Rattle.tableau_row.proofs.RowLaws.{divided_row}
 use Rattle.short_tableau.specs.declared.begun.Begun.{Begun}
-
--- ---- the entries of a*r - b*s
-
-none_left : (a b : ℤ) → a *ℤ b -ℤ b *ℤ a ≡ pos 0
-none_left a b = let e = *ℤ_comm a b in omega (arith, ints, e)
-
--- the entry at which r is b and s is a
-pub combine_zero : (a b : ℤ) (r s : List ℤ) (c : ℕ) → length r ≡ length s → c < length r → b ≡ entry r c → a ≡ entry s c → entry (combine a r b s) c ≡ pos 0
-combine_zero a b r s c same h e f = entry-combine a r b s c same ∙ rw (sym e, sym f) (none_left a b)
 
 -- ---- the entries in front of a place are made
 
@@ -35,13 +25,7 @@ module _ (a b : ℤ) (r s : List ℤ) (k : ℕ) where
       let made = length-combine a (drop k r) b (drop k s) lengths in
       simp (length-append, length-take, made, length-drop) (omega arith)
 
--- the row that is begun is the row itself where all entries are made
-pub begun_all : (w : Begun) (p : Row) (coefs constant : List ℤ) (x : ℤ × ℤ) → AreEnds w (length coefs) (length constant) x → (d e : ℤ) → d ≡ x.0 → e ≡ x.1
-    → row_from d (slice_set coefs w.column e) constant ≡ begun_row w p coefs constant
-begun_all w p coefs constant x h d e f g =
-    rw (f ∙ h.den, g ∙ h.entry, finished_all w.by.of_row w.by.of_pivot coefs p.coefs w.coefs h.coefs_made, finished_all w.by.of_row w.by.of_pivot constant p.constant w.constant h.constant_made) refl
-
-gcd_of_append : (xs ys : List ℤ) → gcd_of (xs ++ ys) ≡ gcd (gcd_of xs) (gcd_of ys)
+pub gcd_of_append : (xs ys : List ℤ) → gcd_of (xs ++ ys) ≡ gcd (gcd_of xs) (gcd_of ys)
 gcd_of_append [] ys = sym (gcd_zero ys)
 gcd_of_append (x ∷ xs) ys = ap (gcd x) (gcd_of_append xs ys) ∙ sym (gcd_assoc x (gcd_of xs) (gcd_of ys))
 

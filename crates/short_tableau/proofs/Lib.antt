@@ -1,6 +1,7 @@
 mod Words
 pub mod Finished
 pub mod Places
+pub mod Puts
 pub mod Fitting
 pub mod ShortParts
 pub mod UnitNumbers

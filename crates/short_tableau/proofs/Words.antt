@@ -28,7 +28,7 @@ pub use Rattle.tableau.specs.Flat.{row_of_numbers, numbers_of}
 pub use Rattle.tableau.proofs.Contents.{content-divided, content-one}
 pub use Rattle.tableau.proofs.Substituting.{eliminated_none, eliminated_reduced, row_parts}
 pub use Rattle.dual_pivot.specs.Choices.{IsCandidate, choice, candidates_from, product_at}
-pub use Rattle.short_tableau.specs.Begun.{finished, begun_coefs, begun_constant, begun_row, begun_divisor, IsBegun, AreEnds}
+pub use Rattle.short_tableau.specs.Begun.{finished, begun_coefs, begun_constant, begun_row, begun_divisor, IsBegun}
 pub use Rattle.short_tableau.specs.Turned.{is_short_row, IsDenominatorOf, IsTurned, AreTurned}
 pub use Rattle.short_tableau.specs.Dense.{IsShortReduced, row_size, rows_in, IsDense, IsPivot}
 pub use Rattle.short_tableau.specs.Rows.{row_of}

@@ -4,7 +4,6 @@ use Rattle.pip_model.specs.Forms.{combine, entry}
 use Rattle.pip_model.specs.Numbers.{gcd, gcd_of}
 use Rattle.pip_model.specs.Rows.{Row}
 use Rattle.affine_forms.specs.Checks.{Fits}
-use Rattle.tableau.specs.Short.{IsShort}
 use Rattle.tableau.specs.Tableaus.{row_from}
 use Rattle.short_tableau.specs.Terms.{AreTerms, IsDivisor}
 use Rattle.short_tableau.specs.declared.begun.Begun.{Begun}
@@ -38,12 +37,3 @@ pub record IsBegun (w : Begun) (p : Row) (coefs constant : List ℤ) : Type 0 wh
   pub coefs_made : w.coefs ≤ length coefs
   pub constant_made : w.constant ≤ length constant
   pub zero : entry (begun_coefs w p coefs) w.column ≡ pos 0
-
--- the denominator and the entry in the column of a row whose numbers, so many, are all made
-pub record AreEnds (w : Begun) (coefs constant : ℕ) (ends : ℤ × ℤ) : Type 0 where
-  pub den : ends.0 ≡ w.den
-  pub entry : ends.1 ≡ w.entry
-  pub den_short : IsShort ends.0
-  pub entry_short : IsShort ends.1
-  pub coefs_made : coefs ≤ w.coefs
-  pub constant_made : constant ≤ w.constant

@@ -1,12 +1,11 @@
-ghost use Rattle.std.specs.Prelude.{◌≡◌, pos, ◌≤ℤ◌, length, IfSome};
+ghost use Rattle.std.specs.Prelude.{◌≡◌, pos, ◌≤ℤ◌, length};
 ghost use Rattle.pip_model.specs.Rows as model;
 ghost use Rattle.tableau.specs.Tableaus.{row_from};
-ghost use Rattle.short_tableau.specs.Begun.{begun_row, begun_divisor, IsBegun, AreEnds};
+ghost use Rattle.short_tableau.specs.Begun.{begun_row, begun_divisor, IsBegun};
 ghost use Rattle.short_tableau.specs.Dense.{IsShortReduced, IsPivot};
 ghost use Rattle.short_tableau.specs.Rows.{row_of};
 ghost use Rattle.short_tableau.specs.Turned.{IsDenominatorOf};
 
-use crate::numbers::{combine, narrow, product};
 use crate::row::ShortRow;
 use crate::wide::{Factors, divide_finished, gcd_with_finished, narrow_quotient};
 use affine_forms::gcd;
@@ -22,44 +21,6 @@ pub(crate) struct Begun {
     pub entry: i128,
     pub coefs: usize,
     pub constant: usize,
-}
-
-// Begins to put row p, solved for column c, into a row: up to the first coefficient and constant that is not short.
-pub(crate) fn begin(
-    p: &ShortRow<'_>,
-    c: usize,
-    den: i64,
-    coefs: &mut [i64],
-    constant: &mut [i64],
-) -> Begun
-    requires pivot { IsPivot (length coefs.old) (row_of p.now) c }
-    requires row { IsShortReduced (length coefs.old) (row_from den coefs.old constant.old) }
-    ensures value { begun_row result (row_of p.now) coefs.new constant.new
-        ≡ model.substituted (row_of p.now) c (row_from den coefs.old constant.old) }
-    ensures begun { IsBegun result (row_of p.now) coefs.new constant.new }
-{
-    let by = Factors {
-        of_row: p.coefs[c],
-        of_pivot: coefs[c],
-    };
-    Begun {
-        by,
-        column: c,
-        den: product(den, by.of_row),
-        entry: product(by.of_pivot, p.den),
-        coefs: combine(by.of_row, coefs, by.of_pivot, p.coefs),
-        constant: combine(by.of_row, constant, by.of_pivot, p.constant),
-    }
-}
-
-// The denominator and the entry in the column, where they are short and all other numbers are made.
-pub(crate) fn short_ends(begun: &Begun, coefs: usize, constant: usize) -> Option<(i64, i64)>
-    ensures { IfSome result (AreEnds begun.now coefs constant) }
-{
-    if begun.coefs < coefs || begun.constant < constant {
-        return None;
-    }
-    Some((narrow(begun.den)?, narrow(begun.entry)?))
 }
 
 // The greatest common divisor of all numbers of the row.

@@ -6,11 +6,14 @@ mod begun;
 mod choice;
 mod cuts;
 mod fractions;
+mod halves;
 mod numbers;
 mod pushing;
+mod put;
 mod row;
 mod rows;
 mod short_table;
+mod turn;
 mod wide;
 
 pub use short_table::ShortTableau;

@@ -6,9 +6,7 @@ ghost use Rattle.short_numbers.specs.Short.{IsShort, AreShort};
 ghost use Rattle.short_tableau.specs.Begun.{finished};
 ghost use Rattle.short_tableau.specs.Terms.{AreTerms, IsShortDivisor, IsNarrowed};
 
-use short_numbers::{
-    half_difference, is_half, short_difference, short_floor_div, short_gcd, short_product,
-};
+use short_numbers::{short_difference, short_floor_div, short_gcd, short_product};
 
 // The product of short numbers.
 pub(crate) fn product(a: i64, b: i64) -> i128
@@ -50,18 +48,6 @@ fn narrow_entry(a: i64, x: i64, b: i64, y: i64) -> Option<i64>
     narrow(wide_entry(a, x, b, y))
 }
 
-// `a*x - b*y` for short numbers, where it is short: by 64 bits where they have 32.
-fn entry(a: i64, x: i64, b: i64, y: i64) -> Option<i64>
-    requires first { AreShort a x }
-    requires second { AreShort b y }
-    ensures { IsNarrowed (a *ℤ x -ℤ b *ℤ y) result }
-{
-    if is_half(a) && is_half(x) && is_half(b) && is_half(y) {
-        return Some(half_difference(a, x, b, y));
-    }
-    narrow_entry(a, x, b, y)
-}
-
 // Makes `a*r - b*s` of r, entry by entry, up to the first that is not short; how many are made.
 pub(crate) fn combine(a: i64, r: &mut [i64], b: i64, s: &[i64]) -> usize
     requires { AreTerms a r.old b s.now }
@@ -70,7 +56,7 @@ pub(crate) fn combine(a: i64, r: &mut [i64], b: i64, s: &[i64]) -> usize
     ensures short { All IsShort r.new }
 {
     for i in 0..r.len() {
-        let Some(number) = entry(a, r[i], b, s[i]) else {
+        let Some(number) = narrow_entry(a, r[i], b, s[i]) else {
             return i;
         };
         r[i] = number;

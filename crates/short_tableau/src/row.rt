@@ -7,7 +7,6 @@ ghost use Rattle.short_tableau.specs.Dense.{IsShortReduced, IsPivot, row_size};
 ghost use Rattle.short_tableau.specs.Rows.{row_of};
 ghost use Rattle.short_tableau.specs.Turned.{IsDenominatorOf, IsTurned};
 
-use crate::begun::{begin, finish, short_ends};
 use crate::numbers::{divide_all, gcd_with};
 use short_numbers::short_floor_div;
 
@@ -51,48 +50,6 @@ pub(crate) fn divide_parts(den: i64, coefs: &mut [i64], constant: &mut [i64]) ->
     divide_all(coefs, divisor);
     divide_all(constant, divisor);
     short_floor_div(den, divisor)
-}
-
-// Makes of a row what it is after the pivot on row p and column c; the new denominator, none where a number of it is
-// not short.
-fn eliminate_parts(
-    p: &ShortRow<'_>,
-    c: usize,
-    den: i64,
-    coefs: &mut [i64],
-    constant: &mut [i64],
-) -> Option<i64>
-    requires pivot { IsPivot (length coefs.old) (row_of p.now) c }
-    requires row { IsShortReduced (length coefs.old) (row_from den coefs.old constant.old) }
-    ensures { IsDenominatorOf (model.eliminated (row_of p.now) c (row_from den coefs.old constant.old))
-        coefs.new constant.new result }
-{
-    let begun = begin(p, c, den, coefs, constant);
-    match short_ends(&begun, coefs.len(), constant.len()) {
-        Some(ends) => {
-            coefs[begun.column] = ends.1;
-            Some(divide_parts(ends.0, coefs, constant))
-        }
-        None => finish(p, &begun, coefs, constant),
-    }
-}
-
-// Makes of the numbers of a row those after the pivot on row p and column c; whether they are short.
-pub(crate) fn eliminate(row: &mut [i64], unknowns: usize, p: &ShortRow<'_>, c: usize) -> bool
-    requires size { length row.old ≡ row_size unknowns }
-    requires row { IsShortReduced unknowns (row_of_numbers unknowns row.old) }
-    requires pivot { IsPivot unknowns (row_of p.now) c }
-    ensures { IsTurned unknowns (model.eliminated (row_of p.now) c (row_of_numbers unknowns row.old)) result row.new }
-{
-    let (den, rest) = row.split_at_mut(1);
-    let (coefs, constant) = rest.split_at_mut(unknowns);
-    match eliminate_parts(p, c, den[0], coefs, constant) {
-        Some(now) => {
-            den[0] = now;
-            true
-        }
-        None => false,
-    }
 }
 
 // Makes all numbers 0.

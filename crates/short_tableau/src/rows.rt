@@ -9,7 +9,8 @@ ghost use Rattle.short_tableau.specs.Dense.{IsDense, IsPivot, rows_in, row_size}
 ghost use Rattle.short_tableau.specs.Rows.{row_of};
 ghost use Rattle.short_tableau.specs.Turned.{is_short_row, AreTurned};
 
-use crate::row::{ShortRow, eliminate, make_unit, view_of};
+use crate::row::{ShortRow, make_unit, view_of};
+use crate::turn::turn;
 
 // Where the numbers of row i begin.
 pub(crate) fn place_of(unknowns: usize, rows: usize, i: usize, numbers: &[i64]) -> usize
@@ -78,22 +79,17 @@ pub(crate) fn coef_at(numbers: &[i64], unknowns: usize, rows: usize, i: usize, k
 
 // Makes of row i of so many what it is after the pivot on row p and column c; whether its numbers are short. A row that
 // is 0 in the column stays.
-fn turn_at(
-    numbers: &mut [i64],
-    unknowns: usize,
-    rows: usize,
-    i: usize,
-    p: &ShortRow<'_>,
-    c: usize,
-) -> bool
+#[inline(always)]
+fn turn_at(numbers: &mut [i64], unknowns: usize, rows: usize, i: usize, p: &[i64], c: usize) -> bool
     requires dense { IsDense unknowns rows numbers.old }
     requires row { i < rows }
-    requires pivot { IsPivot unknowns (row_of p.now) c }
+    requires size { length p.now ≡ row_size unknowns }
+    requires pivot { IsPivot unknowns (row_of_numbers unknowns p.now) c }
     ensures dense { IsTrue result → IsDense unknowns rows numbers.new }
     ensures rows { IsTrue result → rows_in unknowns rows numbers.new
         ≡ slice_set (rows_in unknowns rows numbers.old) i
-        (model.eliminated (row_of p.now) c (model.row_at (rows_in unknowns rows numbers.old) i)) }
-    ensures long { IsFalse result → is_short_row (model.eliminated (row_of p.now) c
+        (model.eliminated (row_of_numbers unknowns p.now) c (model.row_at (rows_in unknowns rows numbers.old) i)) }
+    ensures long { IsFalse result → is_short_row (model.eliminated (row_of_numbers unknowns p.now) c
         (model.row_at (rows_in unknowns rows numbers.old) i)) ≡ false }
 {
     if coef_at(numbers, unknowns, rows, i, c) == 0 {
@@ -102,21 +98,25 @@ fn turn_at(
     let place = place_of(unknowns, rows, i, numbers);
     let (_, behind) = numbers.split_at_mut(place);
     let (row, _) = behind.split_at_mut(unknowns + 2);
-    eliminate(row, unknowns, p, c)
+    turn(row, unknowns, p, c)
 }
 
-// Makes of so many rows what they are after the pivot on row p and column c; whether their numbers are short.
+// Makes of so many rows what they are after the pivot on the row of these numbers and column c; whether their numbers
+// are short.
+#[inline(always)]
 pub(crate) fn turn_rows(
     numbers: &mut [i64],
     unknowns: usize,
     rows: usize,
-    p: &ShortRow<'_>,
+    p: &[i64],
     c: usize,
 ) -> bool
     requires dense { IsDense unknowns rows numbers.old }
-    requires pivot { IsPivot unknowns (row_of p.now) c }
+    requires size { length p.now ≡ row_size unknowns }
+    requires pivot { IsPivot unknowns (row_of_numbers unknowns p.now) c }
     ensures { AreTurned unknowns rows
-        (map (model.eliminated (row_of p.now) c) (rows_in unknowns rows numbers.old)) result numbers.new }
+        (map (model.eliminated (row_of_numbers unknowns p.now) c) (rows_in unknowns rows numbers.old))
+        result numbers.new }
 {
     for i in 0..rows {
         if !turn_at(numbers, unknowns, rows, i, p, c) {
@@ -124,19 +124,6 @@ pub(crate) fn turn_rows(
         }
     }
     true
-}
-
-// The same on the row of these numbers.
-fn turn_by(numbers: &mut [i64], unknowns: usize, rows: usize, row: &[i64], c: usize) -> bool
-    requires dense { IsDense unknowns rows numbers.old }
-    requires size { length row.now ≡ row_size unknowns }
-    requires pivot { IsPivot unknowns (row_of_numbers unknowns row.now) c }
-    ensures { AreTurned unknowns rows
-        (map (model.eliminated (row_of_numbers unknowns row.now) c) (rows_in unknowns rows numbers.old))
-        result numbers.new }
-{
-    let p = view_of(row, unknowns);
-    turn_rows(numbers, unknowns, rows, &p, c)
 }
 
 // Makes of so many rows those after the pivot on row r and column c; whether their numbers are short.
@@ -155,10 +142,10 @@ pub(crate) fn pivot_rows(
     let place = place_of(unknowns, rows, r, numbers);
     let (front, behind) = numbers.split_at_mut(place);
     let (row, back) = behind.split_at_mut(unknowns + 2);
-    if !turn_by(front, unknowns, r, row, c) {
+    if !turn_rows(front, unknowns, r, row, c) {
         return false;
     }
-    if !turn_by(back, unknowns, rows - (r + 1), row, c) {
+    if !turn_rows(back, unknowns, rows - (r + 1), row, c) {
         return false;
     }
     make_unit(row, unknowns, c);

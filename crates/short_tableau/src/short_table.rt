@@ -124,6 +124,16 @@ impl ShortTableau {
         row_in(&self.numbers, self.unknowns, self.count, i)
     }
 
+    // The numbers of row i.
+    pub(crate) fn row_numbers(&self, i: usize) -> &[i64]
+        requires { i < length self.now.rows }
+        ensures value { row_of_numbers self.now.unknowns result.now ≡ model.row_at self.now.rows i }
+        ensures length { length result.now ≡ row_size self.now.unknowns }
+        ensures row { IsShortReduced self.now.unknowns (row_of_numbers self.now.unknowns result.now) }
+    {
+        numbers_in(&self.numbers, self.unknowns, self.count, i)
+    }
+
     // The coefficient of row i in column k.
     pub(crate) fn coef(&self, i: usize, k: usize) -> i64
         requires row { i < length self.now.rows }
@@ -245,6 +255,7 @@ impl ShortTableau {
     /// Puts row i of a tableau over the same columns, solved for the quantity of column c, into each row. Whether all
     /// numbers of the rows that are made are short; where one is not, no row is left. All listed numbers fit. It takes
     /// no memory.
+    #[inline(always)]
     pub fn eliminate(&mut self, t: &ShortTableau, i: usize, c: usize) -> bool
         requires unknowns { t.now.unknowns ≡ self.old.unknowns }
         requires row { i < length t.now.rows }
@@ -257,7 +268,8 @@ impl ShortTableau {
             (map (model.eliminated (model.row_at t.now.rows i) c) self.old.rows) ≡ false }
         ensures none { IsFalse result → self.new ≡ record self.old { rows = [] } }
     {
-        if !turn_rows(&mut self.numbers, self.unknowns, self.count, &t.row(i), c) {
+        let row = t.row_numbers(i);
+        if !turn_rows(&mut self.numbers, self.unknowns, self.count, row, c) {
             self.count = 0;
             self.numbers.clear();
             return false;

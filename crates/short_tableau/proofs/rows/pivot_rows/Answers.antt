@@ -3,33 +3,33 @@ use Rattle.short_tableau.proofs.Places.{split_twice, split_front, split_back, sp
 use Rattle.short_tableau.proofs.ShortParts.{unit_reduced}
 use Rattle.short_tableau.proofs.rows.pivot_rows.Goals as goal
 
-pub turn_by-requires : goal.turn_by-requires
-turn_by-requires c =
+pub turn_rows-requires : goal.turn_rows-requires
+turn_rows-requires c =
     let split = split_twice c.args.unknowns c.args.rows c.args.r c.place_of-place.result c.args.numbers.now c.split_at_mut-front.result.0.now c.split_at_mut-front.result.1.now c.split_at_mut-row.result.0.now c.split_at_mut-row.result.1.now
     c.requires.dense c.requires.row (search rules) (search rules) c.split_at_mut-front.ensures.front c.split_at_mut-front.ensures.back c.split_at_mut-row.ensures.front c.split_at_mut-row.ensures.back in
     record { dense = split_front _ _ _ _ _ _ _ split; size = split.parts.mid_size; pivot = split_pivot _ _ _ c.args.c _ _ _ _ split c.requires.candidate }
 
-pub turn_by-requires-2 : goal.turn_by-requires-2
-turn_by-requires-2 c =
+pub turn_rows-requires-2 : goal.turn_rows-requires-2
+turn_rows-requires-2 c =
     let split = split_twice c.args.unknowns c.args.rows c.args.r c.place_of-place.result c.args.numbers.now c.split_at_mut-front.result.0.now c.split_at_mut-front.result.1.now c.split_at_mut-row.result.0.now c.split_at_mut-row.result.1.now
     c.requires.dense c.requires.row (search rules) (search rules) c.split_at_mut-front.ensures.front c.split_at_mut-front.ensures.back c.split_at_mut-row.ensures.front c.split_at_mut-row.ensures.back in
     record { dense = split_back _ _ _ _ _ _ _ split; size = split.parts.mid_size; pivot = split_pivot _ _ _ c.args.c _ _ _ _ split c.requires.candidate }
 
-pub returns-then-not-turn_by : goal.returns-then-not-turn_by
-returns-then-not-turn_by c =
+pub returns-then-not-turn_rows : goal.returns-then-not-turn_rows
+returns-then-not-turn_rows c =
     let split = split_twice c.args.unknowns c.args.rows c.args.r c.place_of-place.result c.args.numbers.now c.split_at_mut-front.result.0.now c.split_at_mut-front.result.1.now c.split_at_mut-row.result.0.now c.split_at_mut-row.result.1.now
     c.requires.dense c.requires.row (search rules) (search rules) c.split_at_mut-front.ensures.front c.split_at_mut-front.ensures.back c.split_at_mut-row.ensures.front c.split_at_mut-row.ensures.back in
-    long_before _ _ _ _ _ _ _ _ split _ (c.turn_by.ensures.long (search rules))
+    long_before _ _ _ _ _ _ _ _ split _ (c.turn_rows.ensures.long (search rules))
 
-pub returns-then-not-turn_by-2 : goal.returns-then-not-turn_by-2
-returns-then-not-turn_by-2 c =
+pub returns-then-not-turn_rows-2 : goal.returns-then-not-turn_rows-2
+returns-then-not-turn_rows-2 c =
     let split = split_twice c.args.unknowns c.args.rows c.args.r c.place_of-place.result c.args.numbers.now c.split_at_mut-front.result.0.now c.split_at_mut-front.result.1.now c.split_at_mut-row.result.0.now c.split_at_mut-row.result.1.now
     c.requires.dense c.requires.row (search rules) (search rules) c.split_at_mut-front.ensures.front c.split_at_mut-front.ensures.back c.split_at_mut-row.ensures.front c.split_at_mut-row.ensures.back in
-    long_behind _ _ _ _ _ _ _ _ split _ (c.turn_by-2.ensures.long (search rules))
+    long_behind _ _ _ _ _ _ _ _ split _ (c.turn_rows-2.ensures.long (search rules))
 
 pub returns : goal.returns
 returns c =
     let split = split_twice c.args.unknowns c.args.rows c.args.r c.place_of-place.result c.args.numbers.now c.split_at_mut-front.result.0.now c.split_at_mut-front.result.1.now c.split_at_mut-row.result.0.now c.split_at_mut-row.result.1.now
     c.requires.dense c.requires.row (search rules) (search rules) c.split_at_mut-front.ensures.front c.split_at_mut-front.ensures.back c.split_at_mut-row.ensures.front c.split_at_mut-row.ensures.back in
-    pivot_made _ _ _ _ _ _ _ _ split c.turn_by.new.numbers c.make_unit.new.row c.turn_by-2.new.numbers _ _ c.make_unit.auto.row (unit_reduced c.args.unknowns c.args.c c.requires.candidate.column) c.make_unit.ensures
-    c.turn_by.ensures (search rules) c.turn_by-2.ensures (search rules)
+    pivot_made _ _ _ _ _ _ _ _ split c.turn_rows.new.numbers c.make_unit.new.row c.turn_rows-2.new.numbers _ _ c.make_unit.auto.row (unit_reduced c.args.unknowns c.args.c c.requires.candidate.column) c.make_unit.ensures
+    c.turn_rows.ensures (search rules) c.turn_rows-2.ensures (search rules)

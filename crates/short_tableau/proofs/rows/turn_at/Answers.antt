@@ -1,22 +1,22 @@
-use Rattle.short_tableau.proofs.Words.{rules, ◌≡◌, ◌∙◌, ap, sym, pos, [], set-get_or, entry, Row, row_at, form_row, eliminated, eliminated_none, rows_in, row_of, is_short_row}
+use Rattle.short_tableau.proofs.Words.{rules, ◌≡◌, ◌∙◌, ap, sym, pos, [], set-get_or, entry, Row, row_at, form_row, eliminated, eliminated_none, rows_in, row_of_numbers, is_short_row}
 use Rattle.std.proofs.Common.{slice_set}
 use Rattle.short_tableau.proofs.Places.{dense_row, split_twice, split_read, split_row, split_turned, split_dense}
 use Rattle.short_tableau.proofs.rows.turn_at.Goals as goal
 
-pub eliminate-requires-clause-row : goal.eliminate-requires-clause-row
-eliminate-requires-clause-row c =
+pub turn-requires : goal.turn-requires
+turn-requires c =
     let split = split_twice c.args.unknowns c.args.rows c.args.i c.place_of-place.result c.args.numbers.now c.split_at_mut-behind.result.0.now c.split_at_mut-behind.result.1.now c.split_at_mut-row.result.0.now c.split_at_mut-row.result.1.now
     c.requires.dense c.requires.row (search rules) (search rules) c.split_at_mut-behind.ensures.front c.split_at_mut-behind.ensures.back c.split_at_mut-row.ensures.front c.split_at_mut-row.ensures.back in
-    split_row _ _ _ _ _ _ _ split
+    record { size = split.parts.mid_size; row = split_row _ _ _ _ _ _ _ split; pivot_size = c.requires.size; pivot = c.requires.pivot }
 
 pub returns : goal.returns
 returns c =
     let split = split_twice c.args.unknowns c.args.rows c.args.i c.place_of-place.result c.args.numbers.now c.split_at_mut-behind.result.0.now c.split_at_mut-behind.result.1.now c.split_at_mut-row.result.0.now c.split_at_mut-row.result.1.now
     c.requires.dense c.requires.row (search rules) (search rules) c.split_at_mut-behind.ensures.front c.split_at_mut-behind.ensures.back c.split_at_mut-row.ensures.front c.split_at_mut-row.ensures.back in
     record {
-      dense = λ all. split_dense _ _ _ _ _ _ _ split c.eliminate.new.row c.eliminate.auto.row (c.eliminate.ensures.row all);
-      rows = λ all. split_turned _ _ _ _ _ _ _ split c.eliminate.new.row c.eliminate.auto.row (eliminated (row_of c.args.p.now) c.args.c) (c.eliminate.ensures.value all);
-      long = λ none. ap (λ (r : Row). is_short_row (eliminated (row_of c.args.p.now) c.args.c r)) (split_read _ _ _ _ _ _ _ split) ∙ c.eliminate.ensures.long none;
+      dense = λ all. split_dense _ _ _ _ _ _ _ split c.turn.new.row c.turn.auto.row (c.turn.ensures.row all);
+      rows = λ all. split_turned _ _ _ _ _ _ _ split c.turn.new.row c.turn.auto.row (eliminated (row_of_numbers c.args.unknowns c.args.p.now) c.args.c) (c.turn.ensures.value all);
+      long = λ none. ap (λ (r : Row). is_short_row (eliminated (row_of_numbers c.args.unknowns c.args.p.now) c.args.c r)) (split_read _ _ _ _ _ _ _ split) ∙ c.turn.ensures.long none;
     }
 
 pub returns-then-coef_at-eq0-clause-rows : goal.returns-then-coef_at-eq0-clause-rows
@@ -25,5 +25,5 @@ returns-then-coef_at-eq0-clause-rows c = λ all.
     let none : entry (row_at (rows_in c.args.unknowns c.args.rows c.args.numbers.now) c.args.i).coefs c.args.c ≡ pos 0 = search rules in
     let p = c.requires.pivot in
     let row = dense_row c.args.unknowns c.args.rows c.args.i c.args.numbers.now c.requires.dense c.requires.row in
-    let stay = eliminated_none c.args.unknowns 0 (row_of c.args.p.now) c.args.c (row_at rows c.args.i) p.row.row row.row p.candidate.positive none row.reduced in
+    let stay = eliminated_none c.args.unknowns 0 (row_of_numbers c.args.unknowns c.args.p.now) c.args.c (row_at rows c.args.i) p.row.row row.row p.candidate.positive none row.reduced in
     sym (ap (λ (r : Row). slice_set (rows_in c.args.unknowns c.args.rows c.args.numbers.now) c.args.i r) (sym stay) ∙ set-get_or rows c.args.i (form_row 0 []))

@@ -1,8 +1,8 @@
-use Rattle.short_tableau.proofs.Words.{◌≡◌, eliminated, mapped, IsDense, rows_in, row_of}
+use Rattle.short_tableau.proofs.Words.{◌≡◌, eliminated, mapped, IsDense, rows_in, row_of_numbers}
 use Rattle.short_tableau.proofs.rows.turn_rows.Given as goal
 
 abbrev pub invariant-loop-i : goal.invariant-loop-i
 invariant-loop-i l = record {
   dense : IsDense l.unknowns l.rows l.numbers;
-  rows : rows_in l.unknowns l.rows l.numbers ≡ mapped (eliminated (row_of l.p) l.c) l.i (rows_in l.unknowns l.rows l.fn.numbers);
+  rows : rows_in l.unknowns l.rows l.numbers ≡ mapped (eliminated (row_of_numbers l.unknowns l.p) l.c) l.i (rows_in l.unknowns l.rows l.fn.numbers);
 }

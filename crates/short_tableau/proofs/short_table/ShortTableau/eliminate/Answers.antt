@@ -1,20 +1,27 @@
-use Rattle.short_tableau.proofs.Words.{◌≡◌, ◌∙◌, ap, sym, subst, arith, rules, ℕ, ℤ, false, List, map, IsTrue, IsFalse, flat_map, list_all, IsCandidate, all_fit, Row, row_at, eliminated, eliminated_listed, TableauRows, rows_in, IsShortReduced, row_of, is_short_row}
+use Rattle.short_tableau.proofs.Words.{◌≡◌, ◌∙◌, ap, sym, subst, arith, rules, ℕ, ℤ, false, List, map, IsTrue, IsFalse, flat_map, list_all, IsCandidate, all_fit, Row, row_at, eliminated, eliminated_listed, TableauRows, rows_in, row_size, row_of_numbers, length, IsPivot, IsShortReduced, is_short_row}
 use Rattle.short_tableau.proofs.Fitting.{flat_fit}
 use Rattle.short_tableau.proofs.short_table.ShortTableau.eliminate.Goals as goal
 
+pub turn_rows-requires-clause-size : goal.turn_rows-requires-clause-size
+turn_rows-requires-clause-size c =
+    let n : c.args.t.now.unknowns ≡ c.self.inside.unknowns = c.requires.unknowns ∙ sym (ap (λ (t : TableauRows). t.unknowns) c.self.view_is) in
+    subst (λ (k : ℕ). length c.row_numbers-row.result.now ≡ row_size k) n c.row_numbers-row.ensures.length
+
 pub turn_rows-requires-clause-pivot : goal.turn_rows-requires-clause-pivot
 turn_rows-requires-clause-pivot c =
-    let n : c.self.inside.unknowns ≡ c.args.self.now.unknowns = ap (λ (t : TableauRows). t.unknowns) c.self.view_is in
-    record {
-      row = subst (λ (k : ℕ). IsShortReduced k (row_of c.row.result)) (c.requires.unknowns ∙ sym n) c.row.ensures.row;
-      candidate = subst (λ (k : ℕ). IsCandidate k (row_of c.row.result) c.args.c) (sym n) (subst (λ (r : Row). IsCandidate c.args.self.now.unknowns r c.args.c) (sym c.row.ensures.value) c.requires.candidate);
-    }
+    let n : c.args.t.now.unknowns ≡ c.self.inside.unknowns = c.requires.unknowns ∙ sym (ap (λ (t : TableauRows). t.unknowns) c.self.view_is) in
+    subst (λ (k : ℕ). IsPivot k (row_of_numbers k c.row_numbers-row.result.now) c.args.c) n (record {
+      row = c.row_numbers-row.ensures.row;
+      candidate =
+          subst (λ (k : ℕ). IsCandidate k (row_of_numbers c.args.t.now.unknowns c.row_numbers-row.result.now) c.args.c) (sym c.requires.unknowns)
+          (subst (λ (r : Row). IsCandidate c.args.self.now.unknowns r c.args.c) (sym c.row_numbers-row.ensures.value) c.requires.candidate);
+    })
 
 pub returns-then-not-turn_rows-clause-listed : goal.returns-then-not-turn_rows-clause-listed
 returns-then-not-turn_rows-clause-listed c =
     let s = c.self.inside in
     let n : c.args.t.now.unknowns ≡ c.self.inside.unknowns = c.requires.unknowns ∙ sym (ap (λ (t : TableauRows). t.unknowns) c.self.view_is) in
-    let row = subst (IsShortReduced s.unknowns) c.row.ensures.value (subst (λ (k : ℕ). IsShortReduced k (row_of c.row.result)) n c.row.ensures.row) in
+    let row = subst (IsShortReduced s.unknowns) c.row_numbers-row.ensures.value (subst (λ (k : ℕ). IsShortReduced k (row_of_numbers c.args.t.now.unknowns c.row_numbers-row.result.now)) n c.row_numbers-row.ensures.row) in
     subst (λ (t : TableauRows). IsTrue (all_fit (flat_map (eliminated_listed (row_at c.args.t.now.rows c.args.i) c.args.c) t.rows))) c.self.view_is
     (flat_fit s.unknowns (row_at c.args.t.now.rows c.args.i) c.args.c (rows_in s.unknowns s.count s.numbers.items) row (omega (arith, n, c.requires.unknowns, c.requires.candidate.column)) c.self.invariant.rows)
 
@@ -22,16 +29,17 @@ pub returns-clause-listed : goal.returns-clause-listed
 returns-clause-listed c =
     let s = c.self.inside in
     let n : c.args.t.now.unknowns ≡ c.self.inside.unknowns = c.requires.unknowns ∙ sym (ap (λ (t : TableauRows). t.unknowns) c.self.view_is) in
-    let row = subst (IsShortReduced s.unknowns) c.row.ensures.value (subst (λ (k : ℕ). IsShortReduced k (row_of c.row.result)) n c.row.ensures.row) in
+    let row = subst (IsShortReduced s.unknowns) c.row_numbers-row.ensures.value (subst (λ (k : ℕ). IsShortReduced k (row_of_numbers c.args.t.now.unknowns c.row_numbers-row.result.now)) n c.row_numbers-row.ensures.row) in
     subst (λ (t : TableauRows). IsTrue (all_fit (flat_map (eliminated_listed (row_at c.args.t.now.rows c.args.i) c.args.c) t.rows))) c.self.view_is
     (flat_fit s.unknowns (row_at c.args.t.now.rows c.args.i) c.args.c (rows_in s.unknowns s.count s.numbers.items) row (omega (arith, n, c.requires.unknowns, c.requires.candidate.column)) c.self.invariant.rows)
 
 pub returns-then-not-turn_rows-clause-long : goal.returns-then-not-turn_rows-clause-long
 returns-then-not-turn_rows-clause-long c = λ none.
     let s = c.self.inside in
+    let n : c.args.t.now.unknowns ≡ c.self.inside.unknowns = c.requires.unknowns ∙ sym (ap (λ (t : TableauRows). t.unknowns) c.self.view_is) in
     let items : c.self.inside.numbers.items ≡ c.deref_mut.result.now = search rules in
     let long : IsFalse c.turn_rows.result = search rules in
     subst (λ (t : TableauRows). list_all is_short_row (map (eliminated (row_at c.args.t.now.rows c.args.i) c.args.c) t.rows) ≡ false) c.self.view_is
     (ap (λ (zs : List ℤ). list_all is_short_row (map (eliminated (row_at c.args.t.now.rows c.args.i) c.args.c) (rows_in s.unknowns s.count zs))) items
-    ∙ ap (λ (r : Row). list_all is_short_row (map (eliminated r c.args.c) (rows_in s.unknowns s.count c.deref_mut.result.now))) (sym c.row.ensures.value)
+    ∙ ap (λ (r : Row). list_all is_short_row (map (eliminated r c.args.c) (rows_in s.unknowns s.count c.deref_mut.result.now))) (sym c.row_numbers-row.ensures.value ∙ ap (λ (k : ℕ). row_of_numbers k c.row_numbers-row.result.now) n)
     ∙ c.turn_rows.ensures.long long)
