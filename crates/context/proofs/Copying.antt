@@ -1,5 +1,5 @@
 -- A copied run is that from which it was copied.
-use Rattle.context.proofs.Words.{◌≡◌, refl, ap, sym, subst, ℕ, ◌+◌, ◌≤◌, ℤ, Bool, true, false, arith, List, [], ◌∷◌, ◌++◌, length, take, length-append, IsTrue, take-take, take-append-le, length-take-le, IsContext, refute_from, Row, TableauRows, Remembered, IsFormed, IsReplay, IsSameReplay, IsRemembered, IsKnown, first_rows}
+use Rattle.context.proofs.Words.{◌≡◌, ap, sym, subst, ℕ, ◌+◌, ◌≤◌, ℤ, Bool, true, false, arith, List, [], ◌∷◌, ◌++◌, length, take, length-append, IsTrue, take-take, take-append-le, length-take-le, IsContext, refute_from, Row, TableauRows, Remembered, IsFormed, IsReplay, IsSameReplay, IsRemembered, IsKnown, first_rows}
 use Rattle.context.proofs.Retracing.{retraces-made}
 use Rattle.context.specs.declared.remembered.Replay.{Replay}
 

@@ -1,5 +1,5 @@
 -- Where no row is below 0 and those of the unknowns are whole, the run without parameters has a point.
-use Rattle.context.proofs.Words.{◌≡◌, ◌∙◌, refl, ap, sym, ℕ, zero, suc, ◌+◌, ◌≤◌, ℤ, arith, Bool, true, false, Option, Some, None, is_none, is_some, List, [], ◌∷◌, ◌++◌, length, take, if◌then◌else◌, filter, ◌||◌, take-append-le, get_or_at, list_any, is_nonneg, is_positive, constant, entry, Row, row_at, form_row, count_from, candidates, entering, entering_of, entering_of_listed, first_fraction, fraction_from, Bottom, Work, Done, Closed, go_on, give, listed, leaf, turn, turn_by, last_turn, pivot_turn, numbers_of, point_setting, both, closed_run_from, falls-constant_class, negative_from, node_of, replayed, finds_point, asked, IsStopped, EndsWith, Remembered}
+use Rattle.context.proofs.Words.{◌≡◌, ◌∙◌, refl, ap, sym, ℕ, zero, suc, ◌+◌, ◌≤◌, ℤ, arith, Bool, true, false, Option, Some, None, is_none, is_some, List, [], ◌∷◌, ◌++◌, length, take, if◌then◌else◌, filter, ◌||◌, take-append-le, list_any, is_nonneg, is_positive, constant, entry, Row, row_at, count_from, candidates, entering, entering_of, entering_of_listed, first_fraction, fraction_from, Bottom, Work, Done, Closed, go_on, give, listed, leaf, turn, turn_by, last_turn, pivot_turn, numbers_of, point_setting, both, closed_run_from, falls-constant_class, negative_from, node_of, replayed, finds_point, asked, IsStopped, EndsWith, Remembered}
 use Rattle.context.proofs.Turning.{signs_of, turn_is}
 
 pub none_of : (o : Option ℕ) → is_none o ≡ true → o ≡ None

@@ -1,5 +1,5 @@
 -- Where a run shows a point, the first row behind its own that is below 0 ends it where no column enters there.
-use Rattle.context.proofs.Words.{◌≡◌, ◌∙◌, refl, ap, sym, ℕ, suc, ◌+◌, ◌-◌, arith, Bool, true, false, Option, Some, None, is_none, List, [], ◌∷◌, ◌++◌, length, if◌then◌else◌, get_or-append_right, is_nonneg, constant, entry, Row, row_at, form_row, candidates, first_fraction, Bottom, Work, Done, Trace, refute_from, with_step, last_step, refute-closed, both, negative_from, node_of, is_end, finds_point, EndsWith, IsClosing}
+use Rattle.context.proofs.Words.{◌≡◌, ◌∙◌, refl, ap, sym, ℕ, suc, ◌+◌, ◌-◌, arith, Bool, true, false, Option, Some, None, is_none, List, [], ◌∷◌, ◌++◌, length, if◌then◌else◌, get_or-append_right, is_nonneg, constant, entry, Row, row_at, form_row, candidates, first_fraction, Bottom, Work, Done, Trace, refute_from, with_step, last_step, refute-closed, both, negative_from, node_of, is_end, EndsWith, IsClosing}
 use Rattle.context.proofs.Ending.{none_of, no_candidates, no_column, closes, finds_none}
 use Rattle.context.proofs.Tracing.{next-bottom}
 
@@ -21,7 +21,7 @@ negative-later (x ∷ S) j = by (is_nonneg (constant x.constant)) (negative-late
     by true a b = a ∙ later-later j (negative_from 0 S) ∙ ap (later j) (sym b)
     by false a b = let e : j ≡ j + 0 = omega arith in ap Some e
 
-negative-behind : (E S : List Row) (i r : ℕ) → negative_from i E ≡ None → negative_from 0 S ≡ Some r → negative_from i (E ++ S) ≡ Some (i + (length E + r))
+pub negative-behind : (E S : List Row) (i r : ℕ) → negative_from i E ≡ None → negative_from 0 S ≡ Some r → negative_from i (E ++ S) ≡ Some (i + (length E + r))
 negative-behind [] S i r e f = negative-later S i ∙ ap (later i) f ∙ (let g : i + r ≡ i + (0 + r) = omega arith in ap Some g)
 negative-behind (x ∷ E) S i r e f = by (is_nonneg (constant x.constant)) e (λ h. negative-behind E S (i + 1) r h f)
   where

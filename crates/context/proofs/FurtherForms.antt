@@ -1,5 +1,5 @@
 -- The kept run of some forms with others behind them.
-use Rattle.context.proofs.Words.{◌≡◌, ◌∙◌, refl, ap, ap₂, sym, subst, ℕ, zero, suc, ◌+◌, ◌<◌, ◌≤◌, arith, ℤ, List, [], ◌∷◌, ◌++◌, All, length, length-append, map, get_or, take, drop, Option, Some, IfSome, map-append, length-map, length-take-le, take-append-drop, All-head, All-tail, IsContext, narrow_to, Refutation, constant, widen_to, Row, form_row, Work, Outcome, Done, Refused, Refusal, go_on, Trace, refute, refute_from, first_trace, length_slice_set, node_of, replayed, form_rows, first_rows, IsRemembered, exchanged, exchanges, IsTraced, Remembered, KeptForms, AreFirst}
+use Rattle.context.proofs.Words.{◌≡◌, ◌∙◌, refl, ap, ap₂, sym, subst, ℕ, zero, suc, ◌+◌, ◌<◌, ◌≤◌, arith, ℤ, List, [], ◌∷◌, ◌++◌, All, length, length-append, map, get_or, take, drop, Option, IfSome, map-append, length-map, length-take-le, take-append-drop, All-head, All-tail, IsContext, narrow_to, Refutation, constant, widen_to, Row, form_row, Work, Outcome, Done, Refused, Refusal, go_on, Trace, refute, refute_from, first_trace, length_slice_set, node_of, replayed, form_rows, first_rows, IsRemembered, exchanged, exchanges, IsTraced, Remembered, KeptForms, AreFirst}
 use Rattle.context.specs.Scoped.{AreFirstOver}
 use Rattle.context.proofs.Leaving.{passes_refusal}
 use Rattle.context.proofs.OneFormMore.{rows-more}

@@ -1,9 +1,9 @@
 -- Rows behind all others: while another is below 0 they are not chosen, so the pivots are the same with them and without them.
-use Rattle.context.proofs.Words.{◌≡◌, ◌∙◌, refl, ap, sym, ℕ, zero, suc, ◌+◌, ◌-◌, ◌<◌, ◌≤◌, ℤ, arith, List, [], ◌∷◌, ◌++◌, length, map, take, drop, Bool, true, false, ◌&&◌, Some, flat_map, if◌then◌else◌, nat_lt, map-append, append_assoc, take-append-le, drop-append-le, flat_map-append, fits, is_nonneg, constant, all_fit, Row, row_at, other_rows, pivot, pivot_listed, entering, entering_listed, eliminated, eliminated_listed, Setting, Node, Again, MinusAt, Work, Outcome, Done, Refused, Pivots, Overflow, go_on, give, listed, left, turn, turn_by, run, run_from, count_pivot, point_setting, negative_from, node_of, turned}
+use Rattle.context.proofs.Words.{◌≡◌, ◌∙◌, refl, ap, sym, ℕ, zero, suc, ◌+◌, ◌<◌, ◌≤◌, ℤ, arith, List, [], ◌∷◌, ◌++◌, length, map, take, drop, Bool, true, false, ◌&&◌, Some, flat_map, if◌then◌else◌, map-append, append_assoc, take-append-le, drop-append-le, flat_map-append, fits, is_nonneg, constant, all_fit, Row, row_at, other_rows, pivot, pivot_listed, entering, entering_listed, eliminated, eliminated_listed, Setting, Node, Again, MinusAt, Work, go_on, give, listed, turn, turn_by, count_pivot, point_setting, negative_from, node_of}
 use Rattle.std.specs.Prelude.{slice_set}
 use Rattle.context.proofs.Turning.{signs_of, turn_is}
 
-row_at-front : (R S : List Row) (r : ℕ) → r < length R → row_at (R ++ S) r ≡ row_at R r
+pub row_at-front : (R S : List Row) (r : ℕ) → r < length R → row_at (R ++ S) r ≡ row_at R r
 row_at-front [] S r h = absurd (omega arith)
 row_at-front (x ∷ R) S zero h = refl
 row_at-front (x ∷ R) S (suc r) h = row_at-front R S r (omega arith)

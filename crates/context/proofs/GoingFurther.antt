@@ -1,5 +1,5 @@
 -- A run remembered goes on with further rows behind its first ones: they are turned by its pivots, and stand behind its last rows.
-use Rattle.context.proofs.Words.{◌≡◌, ◌∙◌, refl, ap, sym, subst, ℕ, ◌+◌, ◌-◌, ◌<◌, ℤ, arith, List, [], ◌∷◌, ◌++◌, length, map, take, get_or, drop, Bool, true, false, flat_map, if◌then◌else◌, IsTrue, Result, Ok, Err, OnOk, is_ok, map-append, drop_more, take_all, take_rest, take-append-drop, append_assoc, flat_map-append, IsContext, all_fit, Row, row_at, form_row, eliminated, eliminated_listed, Work, Outcome, Done, Refused, Overflow, ◌>>◌, go_on, give, listed, count_pivot, Counted, Node, Trace, node_of, turned, replayed, RetracesTo, IsTurned, IsRemembered, IsKnown, exchanges, Remembered}
+use Rattle.context.proofs.Words.{◌≡◌, ◌∙◌, refl, ap, sym, subst, ℕ, ◌+◌, ◌-◌, ◌<◌, ℤ, arith, List, [], ◌∷◌, ◌++◌, length, map, take, get_or, drop, Bool, true, false, flat_map, if◌then◌else◌, IsTrue, Result, Ok, Err, OnOk, is_ok, map-append, drop_more, take_all, take_rest, take-append-drop, append_assoc, flat_map-append, all_fit, Row, row_at, form_row, eliminated, eliminated_listed, Work, Outcome, Done, Refused, Overflow, ◌>>◌, go_on, give, listed, count_pivot, Counted, Node, Trace, node_of, turned, replayed, RetracesTo, IsTurned, IsRemembered, IsKnown, exchanges, Remembered}
 use Rattle.std.specs.Prelude.{◌&&◌}
 use Rattle.context.proofs.FurtherRows.{all_fit-append}
 

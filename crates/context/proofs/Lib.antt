@@ -13,6 +13,7 @@ pub mod FurtherForms
 pub mod OneFormMore
 pub mod Ending
 pub mod EndingBehind
+pub mod EndingByPivot
 pub mod AtOnce
 pub mod PointMeaning
 pub mod KeptFirst

@@ -1,5 +1,5 @@
 -- A run remembered: from one pivot to the next.
-use Rattle.context.proofs.Words.{◌≡◌, ◌∙◌, refl, ap, sym, ℕ, ◌+◌, ◌<◌, arith, List, [], ◌∷◌, ◌++◌, length, map, get_or, drop, Bool, true, false, flat_map, if◌then◌else◌, drop_more, all_fit, Row, row_at, form_row, pivot, eliminated, eliminated_listed, Work, Outcome, Done, Refused, Overflow, Counted, ◌>>◌, go_on, give, listed, count_pivot, run_from, point_setting, TableauRows, node_of, turned, replayed}
+use Rattle.context.proofs.Words.{◌≡◌, ◌∙◌, refl, ap, sym, ℕ, ◌+◌, ◌<◌, arith, List, [], ◌∷◌, ◌++◌, length, map, get_or, drop, Bool, true, false, flat_map, if◌then◌else◌, drop_more, all_fit, Row, row_at, form_row, eliminated, eliminated_listed, Work, Outcome, Done, Refused, Overflow, Counted, ◌>>◌, go_on, give, listed, count_pivot, TableauRows, turned, replayed}
 
 -- the two parts of a replay
 pub replayed-append : (ps qs : List Row) (cs ds : List ℕ) (F : List Row) (w : Work) → length ps ≡ length cs

@@ -129,3 +129,13 @@ pub record IsKnown (n : ℕ) (K : List (List ℤ)) (is_known : Bool) (known : �
 abbrev pub EndsWith : List Row → Bool → Type 0
 EndsWith now found =
     (n : ℕ) (E : List Row) (v : Work) → n ≤ length E → is_end n E ≡ true → finds_point n (E ++ now) v ≡ Done found v
+
+-- a run that ends after a pivot, which is counted
+abbrev pub counted_end : Bool → Counted Bool
+counted_end found = do
+  count_pivot
+  give found
+
+-- where a run shows a point, with these rows behind its own it ends after one pivot, with a point or without one
+abbrev pub EndsByPivot : ℕ → List Row → List Row → Bool → Type 0
+EndsByPivot n E now found = (w : Work) → is_end n E ≡ true → finds_point n (E ++ now) w ≡ counted_end found w

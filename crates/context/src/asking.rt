@@ -5,7 +5,7 @@ ghost use Rattle.pip_model.specs.Rows.{form_row};
 ghost use Rattle.pip_problem.specs.Faults.{run_fault};
 ghost use Rattle.run_counts.specs.Counts.{IsCountedRun};
 ghost use Rattle.context.specs.Stops.{stop_fault};
-ghost use Rattle.context.specs.Remembered.{IsFormed, IsStopped, asked, finds_point, form_rows, first_rows, EndsWith};
+ghost use Rattle.context.specs.Remembered.{IsFormed, IsStopped, asked, counted_end, finds_point, form_rows, first_rows, EndsWith, EndsByPivot};
 
 use crate::behind::{put_behind, rows_behind};
 use crate::point_run::run_on;
@@ -50,8 +50,32 @@ fn ends_at(rows: &ShortTableau) -> Option<bool>
     Some(false)
 }
 
+// Whether a point is found, where a run that shows one ends, with this row behind its own, after the pivot on that row.
+// None where it is not known to end there.
+fn ends_by_pivot(m: &Replay, row: &ShortTableau) -> Option<bool>
+    requires formed { IsFormed m.now }
+    requires unknowns { row.now.unknowns ≡ m.now.end.unknowns }
+    ensures { IfSome result (EndsByPivot m.now.end.unknowns m.now.end.rows row.now.rows) }
+{
+    if row.rows() != 1 || !row.is_below(0) {
+        return None;
+    }
+    let Some(c) = m.end.entering_behind(row, 0) else {
+        return None;
+    };
+    m.end.ends_after(row, 0, c)
+}
+
+// Counts the pivot after which a run ends.
+fn count_end(found: bool, work: &mut Work) -> Result<bool, Stop>
+    ensures gives { IsCountedRun (λ b. b) stop_fault result work.old work.new (counted_end found) }
+{
+    work.count_pivot()?;
+    Ok(found)
+}
+
 // Whether a remembered run with the forms' rows behind it finds a point: they are turned by the remembered pivots, and
-// the run goes on where it does not end there.
+// the run goes on where it does not end there, nor after one pivot.
 fn ask(
     m: &Remembered,
     question: &mut Question,
@@ -67,6 +91,9 @@ fn ask(
     if m.at_end {
         if let Some(found) = ends_at(&question.row) {
             return Ok(found);
+        }
+        if let Some(found) = ends_by_pivot(&m.run, &question.row) {
+            return count_end(found, work);
         }
     }
     go_on(&m.run, &question.row, &mut question.run, work)

@@ -7,3 +7,4 @@ pub mod ShortParts
 pub mod UnitNumbers
 pub mod Cutting
 pub mod Entries
+pub mod Ended

@@ -129,7 +129,7 @@ long_row f rows i h e =
 
 -- ---- the pivot
 
-pivot_sides : (A B : List Row) (p : Row) (r c n : ℕ) → length A ≡ r → length p.coefs ≡ n → length p.constant ≡ 1
+pub pivot_sides : (A B : List Row) (p : Row) (r c n : ℕ) → length A ≡ r → length p.coefs ≡ n → length p.constant ≡ 1
     → pivot (A ++ p ∷ B) r c ≡ map (eliminated p c) A ++ unit_row n 0 c ∷ map (eliminated p c) B
 pivot_sides A B p r c n e f g =
     let at : row_at (A ++ p ∷ B) r ≡ p = get_or_at A p B (form_row 0 []) r e in

@@ -1,4 +1,4 @@
-ghost use Rattle.std.specs.Prelude.{◌≡◌, ◌+◌, ◌<◌, ◌≤◌, pos, ◌≤ℤ◌, length, take, IfSome, IsTrue};
+ghost use Rattle.std.specs.Prelude.{◌≡◌, ◌+◌, ◌<◌, ◌≤◌, pos, ◌≤ℤ◌, ◌++◌, length, take, IfSome, IsTrue};
 ghost use Rattle.std.specs.List.{list_any};
 ghost use Rattle.pip_model.specs.Numbers.{is_positive};
 ghost use Rattle.pip_model.specs.Listed.{all_fit};
@@ -97,6 +97,22 @@ impl ShortTableau {
         any_above(self.row(i).coefs)
     }
 
+    // The column that enters where row p is below 0.
+    #[inline(always)]
+    fn entering_by(&self, p: &ShortRow<'_>) -> Option<usize>
+        requires rows { self.now.unknowns ≤ length self.now.rows }
+        requires p { IsShortReduced self.now.unknowns (row_of p.now) }
+        ensures value { result ≡ model.entering_of (take self.now.unknowns self.now.rows) (row_of p.now)
+            (model.candidates (row_of p.now)) }
+        ensures candidate { IfSome result (IsCandidate self.now.unknowns (row_of p.now)) }
+    {
+        let mut best = None;
+        for k in 0..self.columns() {
+            best = self.next_best(p, best, k);
+        }
+        best
+    }
+
     /// The column that enters at row r: of the columns in which the row is positive the one whose list of quotients
     /// `a_ik / a_rk` over the unknowns' rows is lexicographically least, the lowest on a tie; none where the row has no
     /// positive coefficient. All listed numbers fit.
@@ -108,11 +124,26 @@ impl ShortTableau {
         ensures candidate { IfSome result (IsCandidate self.now.unknowns (model.row_at self.now.rows r)) }
         ensures row { IsRow self.now.unknowns 0 (model.row_at self.now.rows r) }
     {
+        let _ = self.columns();
         let p = self.row(r);
-        let mut best = None;
-        for k in 0..self.columns() {
-            best = self.next_best(&p, best, k);
-        }
-        best
+        self.entering_by(&p)
+    }
+
+    /// The column that enters at row i of a tableau over the same columns, where its rows stand behind these. All
+    /// listed numbers fit.
+    pub fn entering_behind(&self, t: &ShortTableau, i: usize) -> Option<usize>
+        requires unknowns { t.now.unknowns ≡ self.now.unknowns }
+        requires row { i < length t.now.rows }
+        requires rows { self.now.unknowns ≤ length self.now.rows }
+        ensures listed { IsTrue (all_fit
+            (model.entering_listed (self.now.rows ++ t.now.rows) (length self.now.rows + i))) }
+        ensures value { result ≡ model.entering (self.now.rows ++ t.now.rows) (length self.now.rows + i) }
+        ensures candidate { IfSome result (IsCandidate self.now.unknowns (model.row_at t.now.rows i)) }
+        ensures row { IsRow self.now.unknowns 0 (model.row_at t.now.rows i) }
+    {
+        let _ = self.columns();
+        let _ = t.columns();
+        let p = t.row(i);
+        self.entering_by(&p)
     }
 }

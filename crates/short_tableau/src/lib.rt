@@ -5,6 +5,7 @@
 mod begun;
 mod choice;
 mod cuts;
+mod ending;
 mod fractions;
 mod halves;
 mod numbers;

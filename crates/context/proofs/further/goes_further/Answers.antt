@@ -1,4 +1,4 @@
-use Rattle.context.proofs.Words.{rules, IsTrue}
+use Rattle.context.proofs.Words.{rules}
 use Rattle.context.proofs.further.goes_further.Goals as goal
 
 pub go_further-requires-clause-narrow : goal.go_further-requires-clause-narrow
