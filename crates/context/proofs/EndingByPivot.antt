@@ -1,5 +1,5 @@
 -- Where a run shows a point, it may end after one pivot, at a row behind its own.
-use Rattle.context.proofs.Words.{◌≡◌, ◌∙◌, refl, ap, sym, ℕ, suc, ◌+◌, ◌<◌, ◌≤◌, arith, Bool, true, false, Option, Some, None, is_none, is_some, IsTrue, IfSome, List, [], ◌∷◌, ◌++◌, length, drop, flat_map, if◌then◌else◌, append-nil, length-append, length-map, drop_all, is_nonneg, is_positive, constant, list_any, all_fit, Row, row_at, form_row, unit_row, other_rows, candidates, entering, entering_listed, pivot, eliminated_listed, first_fraction, Work, Outcome, Done, Refused, Again, turn, go_on, give, count_pivot, numbers_of, point_setting, again_run, refused_run_from, falls-constant_class, both, negative_from, node_of, is_end, finds_point, replayed, asked, IsStopped, Remembered}
+use Rattle.context.proofs.Words.{◌≡◌, ◌∙◌, refl, ap, sym, ℕ, suc, ◌+◌, ◌<◌, ◌≤◌, arith, Bool, true, false, Option, Some, None, is_none, is_some, IsTrue, IfSome, List, [], ◌∷◌, ◌++◌, length, drop, flat_map, if◌then◌else◌, append-nil, length-append, length-map, drop_all, is_nonneg, is_positive, constant, list_any, all_fit, Row, row_at, form_row, unit_row, other_rows, candidates, entering, entering_listed, eliminated_listed, first_fraction, Work, Outcome, Done, Refused, Again, turn, go_on, give, count_pivot, numbers_of, point_setting, again_run, refused_run_from, falls-constant_class, both, negative_from, node_of, is_end, finds_point, replayed, asked, IsStopped, Remembered}
 use Rattle.std.proofs.lemmas.List.{take_at, get_or_at}
 use Rattle.tableau.specs.Tableaus.{IsRow}
 use Rattle.short_tableau.specs.Ended.{IsEndedBy, turned_by}
@@ -7,7 +7,7 @@ use Rattle.short_tableau.proofs.Places.{pivot_sides}
 use Rattle.context.specs.Remembered.{counted_end, EndsByPivot}
 use Rattle.context.proofs.Ending.{none_of, no_candidates, finds_here, finds_none}
 use Rattle.context.proofs.EndingBehind.{negative-behind}
-use Rattle.context.proofs.FurtherRows.{IsStep, turn-behind, negative-front, row_at-front}
+use Rattle.context.proofs.FurtherRows.{IsStep, turn-alone, negative-front, row_at-front}
 
 negative-within : (S : List Row) (i r : ℕ) → negative_from i S ≡ Some r → r < i + length S
 negative-within [] i r e = absurd cc
@@ -80,10 +80,8 @@ module _ (n : ℕ) (E : List Row) (R : Row) (c : ℕ) (is : IsBehind n E R c) wh
 
   turns : (w : Work) → turn (point_setting n) (node_of (E ++ R ∷ [])) w ≡ go_on (count_pivot w) (λ counted. give (Again (node_of (turned_by R c E ++ unit_row n 0 c ∷ []))))
   turns w =
-      ap (λ (rows : List Row). turn (point_setting n) (node_of rows) w) (sym (append-nil (E ++ R ∷ [])))
-      ∙ turn-behind n (E ++ R ∷ []) [] (length E) c w step
-      ∙ ap (λ (rows : List Row). go_on (count_pivot w) (λ counted. give (Again (node_of rows))))
-      (append-nil (pivot (E ++ R ∷ []) (length E) c) ∙ pivot_sides E [] R (length E) c n refl is.coefs is.one)
+      turn-alone n (E ++ R ∷ []) (length E) c w step
+      ∙ ap (λ (rows : List Row). go_on (count_pivot w) (λ counted. give (Again (node_of rows)))) (pivot_sides E [] R (length E) c n refl is.coefs is.one)
 
   ends_by : (found : Bool) → IsEndedBy n (turned_by R c E) found → EndsByPivot n E (R ∷ []) found
   ends_by found ended w shown = by (count_pivot w) refl

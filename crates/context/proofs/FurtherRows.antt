@@ -1,5 +1,5 @@
 -- Rows behind all others: while another is below 0 they are not chosen, so the pivots are the same with them and without them.
-use Rattle.context.proofs.Words.{◌≡◌, ◌∙◌, refl, ap, sym, ℕ, zero, suc, ◌+◌, ◌<◌, ◌≤◌, ℤ, arith, List, [], ◌∷◌, ◌++◌, length, map, take, drop, Bool, true, false, ◌&&◌, Some, flat_map, if◌then◌else◌, map-append, append_assoc, take-append-le, drop-append-le, flat_map-append, fits, is_nonneg, constant, all_fit, Row, row_at, other_rows, pivot, pivot_listed, entering, entering_listed, eliminated, eliminated_listed, Setting, Node, Again, MinusAt, Work, go_on, give, listed, turn, turn_by, count_pivot, point_setting, negative_from, node_of}
+use Rattle.context.proofs.Words.{◌≡◌, ◌∙◌, refl, ap, sym, ℕ, zero, suc, ◌+◌, ◌<◌, ◌≤◌, ℤ, arith, List, [], ◌∷◌, ◌++◌, length, map, take, drop, Bool, true, false, ◌&&◌, Some, flat_map, if◌then◌else◌, map-append, append_assoc, take-append-le, drop-append-le, append-nil, flat_map-append, fits, is_nonneg, constant, all_fit, Row, row_at, other_rows, pivot, pivot_listed, entering, entering_listed, eliminated, eliminated_listed, Setting, Node, Again, MinusAt, Work, go_on, give, listed, turn, turn_by, count_pivot, point_setting, negative_from, node_of}
 use Rattle.std.specs.Prelude.{slice_set}
 use Rattle.context.proofs.Turning.{signs_of, turn_is}
 
@@ -87,3 +87,11 @@ turn-behind n R F r c w is =
     turn_is n (R ++ F) w
     ∙ ap (λ o. turn_by (point_setting n) (node_of (R ++ F)) (signs_of o) w) (negative-front R F 0 r is.below)
     ∙ turn-front (point_setting n) (node_of []) R F r c w is.within is.columns is.enters is.compared is.fits
+
+-- so without any behind
+pub turn-alone : (n : ℕ) (R : List Row) (r c : ℕ) (w : Work) → IsStep R r c
+    → turn (point_setting n) (node_of R) w ≡ go_on (count_pivot w) (λ counted. give (Again (node_of (pivot R r c))))
+turn-alone n R r c w is =
+    ap (λ (rows : List Row). turn (point_setting n) (node_of rows) w) (sym (append-nil R))
+    ∙ turn-behind n R [] r c w is
+    ∙ ap (λ (rows : List Row). go_on (count_pivot w) (λ counted. give (Again (node_of rows)))) (append-nil (pivot R r c))

@@ -14,6 +14,7 @@ pub mod OneFormMore
 pub mod Ending
 pub mod EndingBehind
 pub mod EndingByPivot
+pub mod QuestionTurns
 pub mod AtOnce
 pub mod PointMeaning
 pub mod KeptFirst

@@ -1,5 +1,5 @@
 -- The run without parameters, from one turn to the next, and what it answers.
-use Rattle.context.proofs.Words.{◌≡◌, refl, ap, sym, ◌∙◌, ℕ, zero, suc, ◌<◌, ◌≤◌, ℤ, Bool, Option, Some, None, List, [], ◌∷◌, length, arith, length-append, IfSome, Ok, Err, length-map, Tree, Row, start, Work, Outcome, Done, Refused, Refusal, Counted, Turn, Again, Closed, left, turn, run_from, point, point_run, point_setting, length-count, again_less, again_run, closed_run_from, refused_run_from, falls-constant_class, TableauRows, IsCountedRun, HasCounted, counted_none, counted_on, node_of, HasSameScope, ended}
+use Rattle.context.proofs.Words.{◌≡◌, refl, ap, sym, ◌∙◌, ℕ, zero, suc, ◌<◌, ◌≤◌, ℤ, Bool, Option, Some, None, List, [], ◌∷◌, length, arith, length-append, IfSome, Ok, Err, length-map, Tree, Row, start, Work, Outcome, Done, Refused, Refusal, Counted, Turn, Again, Closed, left, turn, run_from, point, point_run, point_setting, length-count, again_less, again_run, closed_run_from, refused_run_from, falls-constant_class, TableauRows, IsCountedRun, HasCounted, counted_none, counted_on, node_of, HasSameScope, ended, is_some, go_on, give, numbers_of, finds_point}
 use Rattle.context.proofs.Leaving.{scope_none, scope_on}
 
 -- ---- the run from its first rows
@@ -59,3 +59,20 @@ module _ (first rows : TableauRows) (before w v : Work) (is : IsOneRun first row
   pub run_refused : {E : Type 0} (fault : E → Option Refusal) (next : List Row) (f : E) → IfSome (fault f) (λ e. one_turn ≡ Refused e v)
       → IsCountedRun (ended first.unknowns next) fault (Err f) before v whole
   run_refused fault next f e = record { agrees = refused (fault f) e; counted = counted_on before w v is.counted counted }
+
+  -- so of whether a point is found
+  finds_same : finds_point first.unknowns first.rows before ≡ finds_point rows.unknowns rows.rows w
+  finds_same = ap (λ o. go_on o (λ t. give (is_some (numbers_of t)))) (sym is.same)
+
+  pub finds_closed : {E : Type 0} (fault : E → Option Refusal) (found : Bool) → finds_point rows.unknowns rows.rows w ≡ Done found v
+      → IsCountedRun (λ (b : Bool). b) fault (Ok found) before v (finds_point first.unknowns first.rows)
+  finds_closed fault found e = record { agrees = finds_same ∙ e; counted = counted_on before w v is.counted counted }
+
+  finds_refusal : (o : Option Refusal) → IfSome o (λ f. one_turn ≡ Refused f v) → IfSome o (λ f. finds_point first.unknowns first.rows before ≡ Refused f v)
+  finds_refusal None e = e
+  finds_refusal (Some f) e =
+      finds_same ∙ ap (λ o. go_on o (λ t. give (is_some (numbers_of t)))) (refused_run_from (point_setting rows.unknowns) falls-constant_class (node_of rows.rows) w v f e)
+
+  pub finds_refused : {E : Type 0} (fault : E → Option Refusal) (f : E) → IfSome (fault f) (λ e. one_turn ≡ Refused e v)
+      → IsCountedRun (λ (b : Bool). b) fault (Err f) before v (finds_point first.unknowns first.rows)
+  finds_refused fault f e = record { agrees = finds_refusal (fault f) e; counted = counted_on before w v is.counted counted }

@@ -1,10 +1,10 @@
 -- The run without parameters of some rows, remembered, and what it makes of further rows behind them.
-use Rattle.std.specs.Prelude.{◌≡◌, ℕ, ◌<◌, ◌≤◌, ℤ, Bool, true, false, ◌&&◌, is_none, is_some, IsTrue, List, [], ◌∷◌, ◌++◌, length, take, map, flat_map, get_or}
+use Rattle.std.specs.Prelude.{◌≡◌, ℕ, ◌<◌, ◌≤◌, ℤ, Bool, true, false, Option, Some, None, ◌&&◌, is_none, is_some, IsTrue, List, [], ◌∷◌, ◌++◌, length, take, map, flat_map, get_or}
 use Rattle.pip_model.specs.Contexts.{IsContext}
 use Rattle.pip_model.specs.Forms.{widen_to}
 use Rattle.pip_model.specs.Tree.{Tree, Bottom}
 use Rattle.pip_model.specs.Rows.{Row, row_at, form_row, start, eliminated, eliminated_listed, first_fraction}
-use Rattle.pip_model.specs.Run.{Work, Counted, Node, Done, ◌>>=◌, ◌>>◌, go_on, give, listed, count_pivot, leaf, run_from, numbers_of, point, point_setting}
+use Rattle.pip_model.specs.Run.{Work, Counted, Node, Done, ◌>>=◌, ◌>>◌, go_on, give, Again, turn, listed, count_pivot, leaf, run_from, numbers_of, point, point_setting}
 use Rattle.pip_model.specs.Refuting.{Trace, refute_from}
 use Rattle.dual_pivot.specs.Choices.{IsCandidate}
 use Rattle.context.specs.Traces.{exchanges}
@@ -139,3 +139,8 @@ counted_end found = do
 -- where a run shows a point, with these rows behind its own it ends after one pivot, with a point or without one
 abbrev pub EndsByPivot : ℕ → List Row → List Row → Bool → Type 0
 EndsByPivot n E now found = (w : Work) → is_end n E ≡ true → finds_point n (E ++ now) w ≡ counted_end found w
+
+-- what a turn of a question's run made of these rows: it ends the run, with a point or without one, or goes on
+abbrev pub IsTurnOf : ℕ → List Row → List Row → Work → Work → Option Bool → Type 0
+IsTurnOf n rows now w v None = turn (point_setting n) (node_of rows) w ≡ Done (Again (node_of now)) v
+IsTurnOf n rows now w v (Some found) = finds_point n rows w ≡ Done found v

@@ -8,3 +8,4 @@ pub mod UnitNumbers
 pub mod Cutting
 pub mod Entries
 pub mod Ended
+pub mod EndedPivot
