@@ -19,13 +19,14 @@ use crate::point_run::find_point;
 use crate::question::Question;
 use crate::refute::refute_forms;
 use crate::remembered::{Remembered, remember};
+use crate::spares::Spares;
 use affine_forms::{Form, WantOfMemory};
 use certificate_parts::Refutation;
 use pip_problem::Refusal;
 use run_counts::Work;
 use std::alloc::Global;
 use std::marker::Model;
-use std::mem::{replace, swap};
+use std::mem::swap;
 use std::slice::from_ref;
 
 /// A context: forms over the parameters and quotients in scope, which it takes to be at least 0. Its width is their
@@ -52,8 +53,7 @@ pub struct Context {
     // Whether it was tried to make the run of all forms.
     is_tried: bool,
     question: Question,
-    // Room for the form of a question. What it holds tells nothing.
-    entries: Vec<i128>,
+    spares: Spares,
 }
 
 /// How many forms a context had, and its width: where it can go back to.
@@ -102,8 +102,21 @@ impl Context {
             earlier_known: 0,
             is_tried: false,
             question: Question::new(alloc),
-            entries: Vec::new(alloc),
+            spares: Spares::new(alloc),
         })
+    }
+
+    /// No forms over so many places from now on. The room of forms and of runs stays.
+    pub fn restart(&mut self, width: usize)
+        ensures width { self.new.width ≡ width }
+        ensures forms { self.new.forms ≡ [] }
+    {
+        self.spares.keep_from(&mut self.forms, 0);
+        self.width = width;
+        self.is_known = false;
+        self.known = 0;
+        self.is_earlier = false;
+        self.is_tried = false;
     }
 
     /// Makes room for at least n more forms. The context stays as it was, and so does the room after a refusal.
@@ -162,7 +175,7 @@ impl Context {
         ensures forms { self.new.forms ≡ take mark.forms self.old.forms }
         ensures spare { self.old.spare + (length self.old.forms - mark.forms) ≤ self.new.spare }
     {
-        self.forms.truncate(mark.forms);
+        self.spares.keep_from(&mut self.forms, mark.forms);
         self.is_known = stays(self.is_known, self.known, self.width, mark);
         self.is_earlier = stays(self.is_earlier, self.earlier_known, mark.width, mark);
         self.width = mark.width;
@@ -223,9 +236,7 @@ impl Context {
         ensures value { IfOk result (λ form. form ≡ entries.now) }
         ensures kept { IsKeptContext self.old self.new }
     {
-        let none = Vec::new(*self.forms.allocator());
-        let mut copy = replace(&mut self.entries, none);
-        copy.clear();
+        let mut copy = self.spares.take();
         copy.extend_from_slice(entries)?;
         Ok(Form::from_entries(copy))
     }
@@ -234,7 +245,7 @@ impl Context {
     pub fn keep_room(&mut self, form: Form)
         ensures { IsKeptContext self.old self.new }
     {
-        self.entries = form.into_entries();
+        self.spares.keep(form);
     }
 
     // Keeps a copy of the run, where it is one of fewer forms than there are.

@@ -20,6 +20,7 @@ mod rows;
 mod short_refute;
 mod short_rows;
 mod short_run;
+mod spares;
 mod steps;
 mod stop;
 mod trace;

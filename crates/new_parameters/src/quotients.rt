@@ -39,6 +39,14 @@ impl Quotients {
         })
     }
 
+    /// No quotients, behind so many parameters from now on. It takes no memory, and the room stays.
+    pub fn restart(&mut self, np: usize)
+        ensures { self.new ≡ record { params = np; quotients = [] } }
+    {
+        self.set.truncate(0);
+        self.params = np;
+    }
+
     /// The place of the quotient that equals k. It takes no memory.
     pub fn find(&self, k: &Quotient) -> Option<usize>
         ensures value { result ≡ model.find_from self.now.params self.now.quotients k.now }

@@ -1,5 +1,5 @@
 -- What is in hand keeps what the run needs of it.
-use Rattle.pip_solve.proofs.Words.{◌≡◌, refl, sym, ap, subst, ◌∙◌, ℕ, ◌+◌, ◌-◌, ◌*◌, ◌<◌, ◌≤◌, ◌++◌, ◌∷◌, [], Bool, Option, Some, None, List, ℤ, length, arith, IfSome, length-append, length-take-le, opposite, most_nesting, Tree, If, nesting, Quotient, Work, Budget, Setting, Node, Done, Refused, Refusal, ◌>>=◌, give, go_on, turn, run_from, class, left, Falls, AtMost, Progress, falls-class, falls-turn, refused_run_from, TableauRows, ContextMark, Scope, size, ScopedTree, Path, Frame, node_of, setting_of, IsNode, IsKept, IsBelow, IsBack, IsCondition, turn_of, after, IsNewParameter, TurnIs, Waiting, node_run, gone_back, path_under, finished, whole_run, turned_run, HasRoom, AreMarks, Waits, IsRunning, IsTurned, IsNextNode, weight, dues}
+use Rattle.pip_solve.proofs.Words.{◌≡◌, refl, sym, ap, subst, ◌∙◌, ℕ, ◌+◌, ◌-◌, ◌*◌, ◌<◌, ◌≤◌, ◌++◌, ◌∷◌, [], Bool, Option, Some, None, List, ℤ, length, arith, IfSome, length-append, length-take-le, opposite, most_nesting, Tree, If, nesting, Quotient, Work, Budget, Setting, Node, Done, Refused, Refusal, ◌>>=◌, give, go_on, turn, run_from, class, left, AtMost, Progress, falls-class, falls-turn, refused_run_from, TableauRows, ContextMark, Scope, size, ScopedTree, Path, Frame, node_of, setting_of, IsNode, IsKept, IsBelow, IsBack, IsCondition, turn_of, after, IsNewParameter, TurnIs, Waiting, node_run, gone_back, path_under, finished, whole_run, turned_run, HasRoom, AreMarks, Waits, IsRunning, IsTurned, IsNextNode, weight, dues}
 use Rattle.pip_model.specs.Contexts.{IsContext}
 use Rattle.pip_model.proofs.Fuel as fuel
 use Rattle.pip_solve.specs.declared.pending.Frame.TheVariants as frame

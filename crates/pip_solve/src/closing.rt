@@ -1,14 +1,12 @@
-ghost use Rattle.std.specs.Prelude.{◌≡◌, ◌≤◌, length, IfOk, IsTrue};
-ghost use Rattle.pip_model.specs.Forms as model;
-ghost use Rattle.pip_model.specs.Listed.{all_fit, opposite_listed};
+ghost use Rattle.std.specs.Prelude.{◌≡◌, IfOk};
 ghost use Rattle.pip_model.specs.Run.{Work as Counts};
 ghost use Rattle.pip_solve.specs.Frames.{finished, next_run, HasNextRoom, IsClosing, IsNext};
 
 use crate::path::Path;
 use crate::pending::{Frame, Pending};
-use affine_forms::{Form, WantOfMemory};
+use affine_forms::WantOfMemory;
 use quast::Quast;
-use std::alloc::Global;
+use std::mem::replace;
 use tableau::Tableau;
 
 // What is in hand next: the node of the rows, or the whole tree.
@@ -18,18 +16,12 @@ pub(crate) enum Next {
     Tree(Quast),
 }
 
-// The opposite of a condition, -c - 1.
-fn opposite(alloc: Global, condition: &Form) -> Result<Form, WantOfMemory>
-    requires some { 1 ≤ length condition.now }
-    requires fits { IsTrue (all_fit (opposite_listed condition.now)) }
-    ensures value { IfOk result (λ form. form ≡ model.opposite condition.now) }
-    ensures length { IfOk result (λ form. length form ≡ length condition.now) }
+// The rows become these, and the tableau that held them before is kept.
+fn take_rows(rows: &mut Tableau, due: Tableau, pending: &mut Pending)
+    ensures rows { rows.new ≡ due }
+    ensures kept { pending.new ≡ pending.old }
 {
-    let mut form = condition.try_clone(alloc)?;
-    match form.opposite() {
-        Ok(()) => Ok(form),
-        Err(_) => unreachable!(),
-    }
+    pending.keep(replace(rows, due));
 }
 
 // The frames that wait for a tree are closed over it, up to an if whose second tree is due: the rows are those of its
@@ -57,14 +49,13 @@ pub(crate) fn close(
                 context,
                 quotients,
             } => {
-                let fails = opposite(alloc, &condition)?;
                 path.back_to(context, quotients);
-                path.enter(fails);
+                path.enter_opposite(&condition)?;
                 pending.push(Frame::FirstMade {
                     condition,
                     first: tree,
                 });
-                *rows = due;
+                take_rows(rows, due, pending);
                 return Ok(Next::Node);
             }
             Frame::FirstMade { condition, first } => {

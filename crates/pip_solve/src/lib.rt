@@ -7,9 +7,13 @@ mod known;
 mod node;
 mod path;
 mod pending;
+mod rooms;
 mod scan;
+mod solver;
 mod solving;
+mod starting;
 mod turn;
 
 pub use pending::{Frame, Pending};
+pub use solver::Solver;
 pub use solving::{answer_from, context_point, solve};

@@ -14,9 +14,9 @@ ghost use Rattle.pip_solve.specs.Frames.{whole_run, turned_run, next_run, HasRoo
 ghost use Rattle.pip_solve.specs.declared.turn.Turn.TheVariants as turned;
 
 use crate::closing::{Next, close};
-use crate::known::KnownForms;
 use crate::path::Path;
 use crate::pending::{Frame, Pending};
+use crate::rooms::Rooms;
 use crate::turn::{Turn, take_turn};
 use affine_forms::{Form, WantOfMemory};
 use context::Work;
@@ -71,6 +71,16 @@ fn add_quotient(alloc: Global, path: &mut Path, key: Quotient) -> Result<(), Wan
     Ok(())
 }
 
+// A copy of the rows, in the room of a tableau that was kept if there is one.
+fn copy_rows(rows: &Tableau, pending: &mut Pending) -> Result<Tableau, WantOfMemory>
+    ensures value { IfOk result (λ t. t ≡ rows.now) }
+    ensures kept { pending.new ≡ pending.old }
+{
+    let mut copy = pending.spare(rows.allocator());
+    copy.copy_from(rows)?;
+    Ok(copy)
+}
+
 // An if of a condition: the node of its first tree is next, that of its second is due.
 fn split(
     rows: &Tableau,
@@ -87,16 +97,16 @@ fn split(
     ensures next { IfOk result (IsNext 2 path.old pending.old rows.now path.new pending.new) }
     ensures room { IfOk result (HasNextRoom pending.new.most path.new) }
 {
-    let alloc = rows.allocator();
-    let holds = condition.try_clone(alloc)?;
-    let later = rows.try_clone(alloc)?;
+    let later = copy_rows(rows, pending)?;
+    let context = path.context.mark();
+    let quotients = path.quotients.mark();
+    path.enter_copy(&condition)?;
     pending.push(Frame::SecondDue {
         condition,
         rows: later,
-        context: path.context.mark(),
-        quotients: path.quotients.mark(),
+        context,
+        quotients,
     });
-    path.enter(holds);
     Ok(Next::Node)
 }
 
@@ -158,58 +168,58 @@ fn follow(
 fn run(
     rows: &mut Tableau,
     path: &mut Path,
-    pending: &mut Pending,
+    rooms: &mut Rooms,
     work: &mut Work,
 ) -> Result<Quast, Refusal>
-    requires running { IsRunning rows.old path.old pending.old }
-    requires room { HasRoom pending.old.most path.old }
-    requires budget { pending.old.most ≡ work.old.budget.nesting }
+    requires running { IsRunning rows.old path.old rooms.old.pending }
+    requires room { HasRoom rooms.old.pending.most path.old }
+    requires budget { rooms.old.pending.most ≡ work.old.budget.nesting }
     ensures gives { AgreesCounted tree_in run_fault result work.new
-        (whole_run rows.old path.old pending.old.frames work.old) }
+        (whole_run rows.old path.old rooms.old.pending.frames work.old) }
     ensures width { IfOk result (λ tree. tree.width ≡ path.old.quotients.params) }
 {
-    let mut known = KnownForms::new(rows.allocator());
+    rooms.known.forget();
     loop {
-        let turn = take_turn(rows, path, &mut known, work)?;
+        let turn = take_turn(rows, path, &mut rooms.known, work)?;
         if let Turn::Again = turn {
             continue;
         }
-        known.forget();
-        match follow(turn, rows, path, pending)? {
+        rooms.known.forget();
+        match follow(turn, rows, path, &mut rooms.pending)? {
             Next::Node => {}
             Next::Tree(tree) => return Ok(tree),
         }
     }
 }
 
-// Makes room in the context for the forms of so many levels: at most two for each.
-fn make_room(path: &mut Path, levels: usize) -> Result<(), WantOfMemory>
+// Makes room in the context for the forms of so many levels, at most two for each, and for their frames.
+fn make_room(path: &mut Path, pending: &mut Pending, levels: usize) -> Result<(), WantOfMemory>
     requires few { levels ≤ most_nesting }
     ensures kept { OnOk result (IsKept path.old path.new) }
     ensures room { OnOk result (HasRoom levels path.new) }
+    ensures empty { OnOk result (pending.new ≡ record { frames = []; most = levels }) }
 {
     path.context.reserve(2 * levels + 1)?;
-    Ok(())
+    pending.restart(levels)
 }
 
-// The tree of a problem's first node after a turn that leaves it for a node below. From here on there is room for the
-// frames of so many levels.
+// The tree of a problem's first node after a turn that leaves it for a node below.
 fn run_below(
     turn: Turn,
     rows: &mut Tableau,
     path: &mut Path,
-    levels: usize,
+    rooms: &mut Rooms,
     work: &mut Work,
 ) -> Result<Quast, Refusal>
-    requires turned { IsTurned rows.old path.old (record { frames = []; most = levels }) turn }
-    requires room { HasRoom levels path.old }
-    requires budget { levels ≡ work.old.budget.nesting }
-    ensures gives { AgreesCounted tree_in run_fault result work.new (turned_run rows.old path.old [] turn work.old) }
+    requires turned { IsTurned rows.old path.old rooms.old.pending turn }
+    requires room { HasRoom rooms.old.pending.most path.old }
+    requires budget { rooms.old.pending.most ≡ work.old.budget.nesting }
+    ensures gives { AgreesCounted tree_in run_fault result work.new
+        (turned_run rows.old path.old rooms.old.pending.frames turn work.old) }
     ensures width { IfOk result (λ tree. tree.width ≡ path.old.quotients.params) }
 {
-    let mut pending = Pending::reserve(rows.allocator(), levels)?;
-    match follow(turn, rows, path, &mut pending)? {
-        Next::Node => run(rows, path, &mut pending, work),
+    match follow(turn, rows, path, &mut rooms.pending)? {
+        Next::Node => run(rows, path, rooms, work),
         Next::Tree(tree) => Ok(tree),
     }
 }
@@ -219,6 +229,7 @@ fn run_below(
 pub(crate) fn run_first(
     rows: &mut Tableau,
     path: &mut Path,
+    rooms: &mut Rooms,
     levels: usize,
     work: &mut Work,
 ) -> Result<Quast, Refusal>
@@ -227,15 +238,15 @@ pub(crate) fn run_first(
     ensures gives { AgreesCounted tree_in run_fault result work.new (whole_run rows.old path.old [] work.old) }
     ensures width { IfOk result (λ tree. tree.width ≡ path.old.quotients.params) }
 {
-    let mut known = KnownForms::new(rows.allocator());
+    rooms.known.forget();
     loop {
-        let turn = take_turn(rows, path, &mut known, work)?;
+        let turn = take_turn(rows, path, &mut rooms.known, work)?;
         match turn {
             Turn::Again => {}
             Turn::Closed(tree) => return Ok(tree),
             turn => {
-                make_room(path, levels)?;
-                return run_below(turn, rows, path, levels, work);
+                make_room(path, &mut rooms.pending, levels)?;
+                return run_below(turn, rows, path, rooms, work);
             }
         }
     }

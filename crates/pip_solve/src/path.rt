@@ -1,10 +1,14 @@
-ghost use Rattle.std.specs.Prelude.{◌^◌, ◌+◌, ◌-◌, ◌<◌, ◌≤◌, [], ◌∷◌, length, take};
+ghost use Rattle.std.specs.Prelude.{◌≡◌, ◌^◌, ◌+◌, ◌-◌, ◌<◌, ◌≤◌, [], ◌∷◌, length, take, IfOk, OnOk, IsTrue};
 ghost use Rattle.pip_model.specs.Contexts.{IsContext};
+ghost use Rattle.pip_model.specs.Forms as model;
+ghost use Rattle.pip_model.specs.Listed.{all_fit, opposite_listed};
+ghost use Rattle.context.specs.Scoped.{IsKeptContext};
 ghost use Rattle.pip_solve.specs.Nodes.{IsBelow, IsBack};
 
-use affine_forms::Form;
+use affine_forms::{Form, WantOfMemory};
 use context::{Context, ContextMark};
 use new_parameters::Quotients;
+use std::alloc::Global;
 
 // Where a run stands: the mode of its problem, how many if and newparm nodes are above, and the context and the
 // quotients of the path to here.
@@ -16,9 +20,36 @@ pub(crate) struct Path {
     pub quotients: Quotients,
 }
 
+// The opposite of a condition, -c - 1.
+fn opposite(context: &mut Context, condition: &Form) -> Result<Form, WantOfMemory>
+    requires some { 1 ≤ length condition.now }
+    requires fits { IsTrue (all_fit (opposite_listed condition.now)) }
+    ensures value { IfOk result (λ form. form ≡ model.opposite condition.now) }
+    ensures length { IfOk result (λ form. length form ≡ length condition.now) }
+    ensures kept { IsKeptContext context.old context.new }
+{
+    let mut form = context.copy_form(condition.as_slice())?;
+    match form.opposite() {
+        Ok(()) => Ok(form),
+        Err(_) => unreachable!(),
+    }
+}
+
 impl Path {
+    // A path to no node. It takes no memory.
+    pub(crate) fn try_new(alloc: Global) -> Result<Path, WantOfMemory> {
+        let quotients = Quotients::try_new(alloc, 0)?;
+        let context = Context::try_new(alloc, 0)?;
+        Ok(Path {
+            integer: false,
+            depth: 0,
+            context,
+            quotients,
+        })
+    }
+
     // Goes one level down, with one more form in the context. Takes no memory.
-    pub(crate) fn enter(&mut self, form: Form)
+    fn enter(&mut self, form: Form)
         requires room { 1 ≤ self.old.context.spare }
         requires narrow { length form ≤ self.old.context.width + 1 }
         requires depth { self.old.depth < 2 ^ 64 - 1 }
@@ -26,6 +57,32 @@ impl Path {
     {
         self.context.add(form);
         self.depth += 1;
+    }
+
+    // Goes one level down, with a copy of a form in the context.
+    pub(crate) fn enter_copy(&mut self, form: &Form) -> Result<(), WantOfMemory>
+        requires room { 1 ≤ self.old.context.spare }
+        requires narrow { length form.now ≤ self.old.context.width + 1 }
+        requires depth { self.old.depth < 2 ^ 64 - 1 }
+        ensures { OnOk result (IsBelow self.old (form.now ∷ []) [] self.new) }
+    {
+        let copy = self.context.copy_form(form.as_slice())?;
+        self.enter(copy);
+        Ok(())
+    }
+
+    // Goes one level down, with the opposite of a form in the context.
+    pub(crate) fn enter_opposite(&mut self, form: &Form) -> Result<(), WantOfMemory>
+        requires some { 1 ≤ length form.now }
+        requires fits { IsTrue (all_fit (opposite_listed form.now)) }
+        requires room { 1 ≤ self.old.context.spare }
+        requires narrow { length form.now ≤ self.old.context.width + 1 }
+        requires depth { self.old.depth < 2 ^ 64 - 1 }
+        ensures { OnOk result (IsBelow self.old (model.opposite form.now ∷ []) [] self.new) }
+    {
+        let fails = opposite(&mut self.context, form)?;
+        self.enter(fails);
+        Ok(())
     }
 
     // Goes back to marks of the context and of the quotients. The depth stays.

@@ -1,4 +1,4 @@
-ghost use Rattle.std.specs.Prelude.{◌≡◌, ◌<◌, ◌≤◌, [], ◌∷◌, length, IfSome, IsTrue, ◌↔◌, IfOk, None};
+ghost use Rattle.std.specs.Prelude.{◌≡◌, ◌<◌, ◌≤◌, [], ◌∷◌, length, IfSome, IsTrue, ◌↔◌, OnOk, None};
 
 use affine_forms::{Form, WantOfMemory};
 use context::ContextMark;
@@ -34,6 +34,8 @@ pub enum Frame {
 pub struct Pending {
     most: usize,
     stack: Vec<Frame>,
+    // Tableaus that are done with.
+    spares: Vec<Tableau>,
 }
 
 impl Model for Pending {
@@ -53,12 +55,43 @@ impl Model for Pending {
 }
 
 impl Pending {
-    /// Nothing waits, and n frames may, for which there is room.
-    pub fn reserve(alloc: Global, n: usize) -> Result<Pending, WantOfMemory>
-        ensures { IfOk result (λ p. p ≡ record { frames = []; most = n }) }
+    /// Nothing waits, and nothing may. It takes no memory.
+    pub fn new(alloc: Global) -> Pending
+        ensures { result ≡ record { frames = []; most = 0 } }
     {
-        let stack = Vec::with_capacity(alloc, n)?;
-        Ok(Pending { most: n, stack })
+        Pending {
+            most: 0,
+            stack: Vec::new(alloc),
+            spares: Vec::new(alloc),
+        }
+    }
+
+    /// Nothing waits, and n frames may, for which there is room from now on.
+    pub fn restart(&mut self, n: usize) -> Result<(), WantOfMemory>
+        ensures { OnOk result (self.new ≡ record { frames = []; most = n }) }
+    {
+        self.stack.clear();
+        self.most = 0;
+        self.stack.reserve(n)?;
+        self.most = n;
+        Ok(())
+    }
+
+    /// A tableau that was kept, or a new one.
+    pub(crate) fn spare(&mut self, alloc: Global) -> Tableau
+        ensures { self.new ≡ self.old }
+    {
+        match self.spares.pop() {
+            Some(spare) => spare,
+            None => Tableau::new(alloc, 0, 0),
+        }
+    }
+
+    /// Keeps a tableau.
+    pub(crate) fn keep(&mut self, spare: Tableau)
+        ensures { self.new ≡ self.old }
+    {
+        let _ = self.spares.push(spare);
     }
 
     /// Whether nothing waits.

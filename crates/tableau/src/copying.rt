@@ -76,7 +76,7 @@ pub(crate) fn copy_kept(next: &mut FlatRows, lent: &Lent<'_>, one: Kept)
 
 impl FlatRows {
     // Makes of the rows these.
-    fn copy(&self, copy: &mut FlatRows)
+    pub(crate) fn copy(&self, copy: &mut FlatRows)
         requires unknowns { copy.old.unknowns ≡ self.now.unknowns }
         requires width { copy.old.width ≡ self.now.width }
         requires room { length self.now.rows ≤ copy.old.most }

@@ -179,6 +179,17 @@ impl FlatRows {
         Ok(())
     }
 
+    // No rows over so many columns and places from now on, and no room is told of any. That of the vectors stays.
+    pub(crate) fn reshape(&mut self, unknowns: usize, width: usize)
+        ensures { self.new ≡ record { unknowns = unknowns; width = width; most = 0; rows = [] } }
+    {
+        self.kept.clear();
+        self.numbers.clear();
+        self.unknowns = unknowns;
+        self.width = width;
+        self.most = 0;
+    }
+
     // No rows, and room for so many.
     pub(crate) fn with_room(
         alloc: Global,

@@ -121,6 +121,15 @@ impl Tableau {
         }
     }
 
+    /// No rows over so many columns and places from now on. It takes no memory, and the room stays.
+    pub fn reshape(&mut self, unknowns: usize, width: usize)
+        ensures { self.new ≡ record { unknowns = unknowns; width = width; rows = [] } }
+    {
+        self.rows.reshape(unknowns, width);
+        self.next.reshape(unknowns, width);
+        self.units.clear();
+    }
+
     /// Makes of the rows those that `start` gives of these forms.
     pub fn restart(&mut self, forms: &[Form]) -> Result<(), WantOfMemory>
         requires { All (λ form. length form ≡ self.old.unknowns + self.old.width + 1) forms.now }
@@ -197,6 +206,17 @@ impl Tableau {
         let next = FlatRows::with_room(alloc, rows.unknowns(), rows.width(), rows.len() + 2)?;
         let units = Vec::from_slice(alloc, self.units.as_slice())?;
         Ok(Tableau { rows, next, units })
+    }
+
+    /// Becomes the same as another, in the room that there is where it is enough.
+    pub fn copy_from(&mut self, t: &Tableau) -> Result<(), WantOfMemory>
+        ensures { OnOk result (self.new ≡ t.now) }
+    {
+        self.reshape(t.rows.unknowns(), t.rows.width());
+        let most = t.rows.len() + 2;
+        make_rooms(&mut self.rows, &mut self.next, &mut self.units, most)?;
+        t.rows.copy(&mut self.rows);
+        Ok(())
     }
 
     /// Adds a row, divided by the greatest common divisor of all its numbers.

@@ -1,22 +1,28 @@
-ghost use Rattle.std.specs.Prelude.{◌≡◌, ◌<◌, length, IfOk, OnOk};
+ghost use Rattle.std.specs.Prelude.{◌≡◌, ◌+◌, ◌<◌, [], length, max, IfOk, OnOk, OnErr};
 ghost use Rattle.tableau.specs.KeptRows as model;
 
 use affine_forms::WantOfMemory;
-use std::alloc::Global;
 use std::cmp::max;
 
-// The run from which the rows of columns are lent.
-fn unit_run(alloc: Global, unknowns: usize, width: usize) -> Result<Vec<i128>, WantOfMemory>
-    ensures { IfOk result (λ v. v.items ≡ model.unit_run unknowns width) }
+// How long the run is from which the rows of columns are lent.
+fn run_length(unknowns: usize, width: usize) -> Result<usize, WantOfMemory>
+    ensures { IfOk result (λ l. l ≡ unknowns + 1 + max unknowns (width + 1)) }
 {
     let places = width.checked_add(1).ok_or(WantOfMemory)?;
     let front = unknowns.checked_add(1).ok_or(WantOfMemory)?;
-    let all = front
-        .checked_add(max(unknowns, places))
-        .ok_or(WantOfMemory)?;
-    let mut run = vec![in alloc; 0; all]?;
-    run[unknowns] = 1;
-    Ok(run)
+    front.checked_add(max(unknowns, places)).ok_or(WantOfMemory)
+}
+
+// Makes the run of nothing. A refusal leaves nothing.
+fn fill_run(units: &mut Vec<i128>, unknowns: usize, width: usize) -> Result<(), WantOfMemory>
+    requires { units.old.items ≡ [] }
+    ensures ok { OnOk result (units.new.items ≡ model.unit_run unknowns width) }
+    ensures err { OnErr result (units.new.items ≡ []) }
+{
+    let all = run_length(unknowns, width)?;
+    units.resize(all, 0)?;
+    units[unknowns] = 1;
+    Ok(())
 }
 
 // Makes the run, where there is none yet.
@@ -31,7 +37,7 @@ pub(crate) fn make_run(
     ensures kept { 0 < length units.old.items → 0 < length units.new.items }
 {
     if units.is_empty() {
-        *units = unit_run(*units.allocator(), unknowns, width)?;
+        fill_run(units, unknowns, width)?;
     }
     Ok(())
 }

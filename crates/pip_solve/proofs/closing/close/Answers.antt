@@ -1,4 +1,4 @@
-use Rattle.pip_solve.proofs.Words.{rules, arith, ap, subst, ◌≡◌, ◌+◌, ◌-◌, ◌∷◌, [], common_steps, to_z-of_z, NewParm, IsBelow, Waiting}
+use Rattle.pip_solve.proofs.Words.{rules, arith, ap, ◌≡◌, ◌+◌, ◌-◌, ◌∷◌, common_steps, to_z-of_z, NewParm, Waiting}
 use Rattle.pip_solve.specs.declared.pending.Frame.TheVariants as frame
 use Rattle.pip_solve.proofs.Popping.{popped, selected, defined, second_enters, second_room, second_next, second_same}
 use Rattle.pip_solve.proofs.closing.close.Goals as goal
@@ -8,12 +8,12 @@ returns-in-SecondDue-clause-gives c =
     let due = frame.SecondDue c.in-SecondDue.condition c.in-SecondDue.due c.in-SecondDue.context c.in-SecondDue.quotients in
     let e : c.loop-frame.pending ≡ record c.pop.new.self { frames = due ∷ c.pop.new.self.frames } = search rules in
     let h = popped c.args.tree c.args.path.now c.args.pending.now c.loop-frame.tree c.loop-frame.path c.loop-frame.pending c.pop.new.self due c.loop-frame.invariant e in
-    let entered = subst (λ f. IsBelow c.back_to.new.self (f ∷ []) [] c.enter.new.self) c.in_ok-fails-in-SecondDue.ensures.value c.enter.ensures in
+    let entered = c.in_ok-enter_opposite-in-SecondDue.ensures in
     let deep : c.loop-frame.path.depth - 1 + 1 ≡ c.loop-frame.path.depth = omega (arith, h.closing.depth) in
-    second_same c.args.tree c.args.path.now c.args.pending.now c.loop-frame.tree c.loop-frame.path c.pop.new.self (c.loop-frame.path.depth - 1) c.in-SecondDue.condition c.in-SecondDue.due c.in-SecondDue.context c.in-SecondDue.quotients h c.back_to.new.self c.enter.new.self c.push.new.self deep c.back_to.ensures entered c.push.ensures
+    rw (c.take_rows.ensures.rows, c.take_rows.ensures.kept) (second_same c.args.tree c.args.path.now c.args.pending.now c.loop-frame.tree c.loop-frame.path c.pop.new.self (c.loop-frame.path.depth - 1) c.in-SecondDue.condition c.in-SecondDue.due c.in-SecondDue.context c.in-SecondDue.quotients h c.back_to.new.self c.enter_opposite.new.self c.push.new.self deep c.back_to.ensures entered c.push.ensures)
 
-pub enter-requires-clause-room : goal.enter-requires-clause-room
-enter-requires-clause-room c =
+pub enter_opposite-requires-clause-room : goal.enter_opposite-requires-clause-room
+enter_opposite-requires-clause-room c =
     let due = frame.SecondDue c.in-SecondDue.condition c.in-SecondDue.due c.in-SecondDue.context c.in-SecondDue.quotients in
     let e : c.loop-frame.pending ≡ record c.pop.new.self { frames = due ∷ c.pop.new.self.frames } = search rules in
     let h = popped c.args.tree c.args.path.now c.args.pending.now c.loop-frame.tree c.loop-frame.path c.loop-frame.pending c.pop.new.self due c.loop-frame.invariant e in
@@ -25,20 +25,21 @@ returns-in-SecondDue-clause-room c =
     let due = frame.SecondDue c.in-SecondDue.condition c.in-SecondDue.due c.in-SecondDue.context c.in-SecondDue.quotients in
     let e : c.loop-frame.pending ≡ record c.pop.new.self { frames = due ∷ c.pop.new.self.frames } = search rules in
     let h = popped c.args.tree c.args.path.now c.args.pending.now c.loop-frame.tree c.loop-frame.path c.loop-frame.pending c.pop.new.self due c.loop-frame.invariant e in
-    let entered = subst (λ f. IsBelow c.back_to.new.self (f ∷ []) [] c.enter.new.self) c.in_ok-fails-in-SecondDue.ensures.value c.enter.ensures in
+    let entered = c.in_ok-enter_opposite-in-SecondDue.ensures in
     let deep : c.loop-frame.path.depth - 1 + 1 ≡ c.loop-frame.path.depth = omega (arith, h.closing.depth) in
     let most = ap (λ (p : Waiting). p.most) c.push.ensures in
-    let room = second_room c.args.tree c.args.path.now c.args.pending.now c.loop-frame.tree c.loop-frame.path c.pop.new.self (c.loop-frame.path.depth - 1) c.in-SecondDue.condition c.in-SecondDue.due c.in-SecondDue.context c.in-SecondDue.quotients h c.back_to.new.self c.enter.new.self deep c.back_to.ensures entered in
-    omega (arith, most, room)
+    let room = second_room c.args.tree c.args.path.now c.args.pending.now c.loop-frame.tree c.loop-frame.path c.pop.new.self (c.loop-frame.path.depth - 1) c.in-SecondDue.condition c.in-SecondDue.due c.in-SecondDue.context c.in-SecondDue.quotients h c.back_to.new.self c.enter_opposite.new.self deep c.back_to.ensures entered in
+    let kept = ap (λ (p : Waiting). p.most) c.take_rows.ensures.kept in
+    omega (arith, most, room, kept)
 
 pub returns-in-SecondDue-clause-next : goal.returns-in-SecondDue-clause-next
 returns-in-SecondDue-clause-next c =
     let due = frame.SecondDue c.in-SecondDue.condition c.in-SecondDue.due c.in-SecondDue.context c.in-SecondDue.quotients in
     let e : c.loop-frame.pending ≡ record c.pop.new.self { frames = due ∷ c.pop.new.self.frames } = search rules in
     let h = popped c.args.tree c.args.path.now c.args.pending.now c.loop-frame.tree c.loop-frame.path c.loop-frame.pending c.pop.new.self due c.loop-frame.invariant e in
-    let entered = subst (λ f. IsBelow c.back_to.new.self (f ∷ []) [] c.enter.new.self) c.in_ok-fails-in-SecondDue.ensures.value c.enter.ensures in
+    let entered = c.in_ok-enter_opposite-in-SecondDue.ensures in
     let deep : c.loop-frame.path.depth - 1 + 1 ≡ c.loop-frame.path.depth = omega (arith, h.closing.depth) in
-    second_next c.args.tree c.args.path.now c.args.pending.now c.loop-frame.tree c.loop-frame.path c.pop.new.self (c.loop-frame.path.depth - 1) c.in-SecondDue.condition c.in-SecondDue.due c.in-SecondDue.context c.in-SecondDue.quotients h c.back_to.new.self c.enter.new.self c.push.new.self deep c.back_to.ensures entered c.push.ensures
+    rw (c.take_rows.ensures.rows, c.take_rows.ensures.kept) (second_next c.args.tree c.args.path.now c.args.pending.now c.loop-frame.tree c.loop-frame.path c.pop.new.self (c.loop-frame.path.depth - 1) c.in-SecondDue.condition c.in-SecondDue.due c.in-SecondDue.context c.in-SecondDue.quotients h c.back_to.new.self c.enter_opposite.new.self c.push.new.self deep c.back_to.ensures entered c.push.ensures)
 
 pub loop-frame-preserved-in-FirstMade : goal.loop-frame-preserved-in-FirstMade
 loop-frame-preserved-in-FirstMade c =

@@ -1,6 +1,6 @@
 use Rattle.pip_solve.proofs.Words.{rules, arith, ◌≡◌, true, common_steps, Done, run_fault, has_point}
 use Rattle.pip_solve.proofs.Begun.{answer-made, answer-refused}
-use Rattle.pip_solve.proofs.solving.answer_on.Goals as goal
+use Rattle.pip_solve.proofs.solver.Solver.answer_on.Goals as goal
 
 pub returns-in_err-tree-clause-gives : goal.returns-in_err-tree-clause-gives
 returns-in_err-tree-clause-gives c =

@@ -1,5 +1,5 @@
 use Rattle.pip_solve.proofs.Words.{◌≡◌, ◌+◌, ◌≤◌, length, take}
-use Rattle.pip_solve.proofs.solving.add_forms.Given as goal
+use Rattle.pip_solve.proofs.starting.add_forms.Given as goal
 
 abbrev pub invariant-loop-form : goal.invariant-loop-form
 invariant-loop-form l =

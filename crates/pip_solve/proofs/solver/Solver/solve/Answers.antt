@@ -1,5 +1,5 @@
 use Rattle.pip_solve.proofs.Answered.{is_right, is_reached, is_well_formed}
-use Rattle.pip_solve.proofs.solving.solve.Goals as goal
+use Rattle.pip_solve.proofs.solver.Solver.solve.Goals as goal
 
 pub returns-clause-right : goal.returns-clause-right
 returns-clause-right c = is_right c.args.problem.now c.args.limits.now c.answer_from_start-answer.result c.answer_from_start-answer.ensures.gives c.answer_from_start-answer.ensures.problem

@@ -1,5 +1,5 @@
 use Rattle.pip_solve.proofs.Words.{rules, ◌≡◌, opposite, length-opposite}
-use Rattle.pip_solve.proofs.closing.opposite.Goals as goal
+use Rattle.pip_solve.proofs.path.opposite.Goals as goal
 
 pub returns-clause-length : goal.returns-clause-length
 returns-clause-length c =

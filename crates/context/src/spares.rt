@@ -1,0 +1,64 @@
+ghost use Rattle.std.specs.Prelude.{◌≡◌, ◌-◌, ◌≤◌, [], length, take, vec_len, vec_capacity};
+
+use affine_forms::Form;
+use std::alloc::Global;
+
+// How many forms are kept, at most.
+const MOST_SPARES: usize = 64;
+
+// Forms that are done with, as room for others. What they hold tells nothing.
+#[derive(Drop)]
+pub(crate) struct Spares {
+    forms: Vec<Form>,
+}
+
+impl Spares {
+    // No room yet. It takes no memory.
+    pub(crate) fn new(alloc: Global) -> Spares {
+        Spares {
+            forms: Vec::new(alloc),
+        }
+    }
+
+    // No numbers, in the room of a form where one is kept.
+    pub(crate) fn take(&mut self) -> Vec<i128>
+        ensures { result.items ≡ [] }
+    {
+        match self.forms.pop() {
+            Some(form) => {
+                let mut room = form.into_entries();
+                room.clear();
+                room
+            }
+            None => Vec::new(*self.forms.allocator()),
+        }
+    }
+
+    // Keeps a form, unless many are kept, or memory is wanting.
+    pub(crate) fn keep(&mut self, form: Form) {
+        if self.forms.len() < MOST_SPARES {
+            let _ = self.forms.push(form);
+        }
+    }
+
+    // Keeps the last of some forms, which leaves them.
+    fn keep_last(&mut self, forms: &mut Vec<Form>)
+        ensures forms { forms.new.items ≡ take (vec_len forms.old - 1) forms.old.items }
+        ensures room { vec_capacity forms.new ≡ vec_capacity forms.old }
+    {
+        if let Some(form) = forms.pop() {
+            self.keep(form);
+        }
+    }
+
+    // Keeps all but the first so many of some forms, which leave them.
+    pub(crate) fn keep_from(&mut self, forms: &mut Vec<Form>, first: usize)
+        requires { first ≤ length forms.old.items }
+        ensures forms { forms.new.items ≡ take first forms.old.items }
+        ensures room { vec_capacity forms.new ≡ vec_capacity forms.old }
+    {
+        for _ in first..forms.len() {
+            self.keep_last(forms);
+        }
+    }
+}

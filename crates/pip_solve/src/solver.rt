@@ -1,0 +1,149 @@
+ghost use Rattle.std.specs.Prelude.{◌≡◌, ◌≤◌, IfOk};
+ghost use Rattle.pip_model.specs.Leaves.{IsReached};
+ghost use Rattle.pip_model.specs.Limits.{most_nesting};
+ghost use Rattle.pip_model.specs.Right.{IsRight};
+ghost use Rattle.pip_model.specs.Run as model;
+ghost use Rattle.pip_model.specs.Run.{IsBudget, answered, first_node, run_from, setting};
+ghost use Rattle.pip_model.specs.Agreement.{Agrees, AgreesCounted};
+ghost use Rattle.pip_model.specs.WellFormed.{IsProblem, IsWellFormedAnswer};
+ghost use Rattle.pip_problem.specs.Faults.{run_fault};
+ghost use Rattle.quast.specs.Answers.{answer_of, IsOver};
+ghost use Rattle.pip_solve.specs.Turns.{tree_in};
+ghost use Rattle.pip_solve.specs.Starts.{IsFirstPath};
+
+use crate::node::run_first;
+use crate::path::Path;
+use crate::rooms::Rooms;
+use crate::starting::{start_path, start_rows};
+use affine_forms::WantOfMemory;
+use context::Work;
+use pip_problem::{Limits, Problem, Refusal};
+use quast::{Answer, Quast};
+use std::alloc::Global;
+use tableau::Tableau;
+
+/// The room of a run, which is used again from problem to problem. What was solved before changes no answer, and a
+/// refusal leaves the room for the next problem.
+#[derive(Drop)]
+pub struct Solver {
+    rows: Tableau,
+    path: Path,
+    rooms: Rooms,
+}
+
+impl Solver {
+    /// No room yet. It takes no memory.
+    pub fn try_new(alloc: Global) -> Result<Solver, WantOfMemory> {
+        let path = Path::try_new(alloc)?;
+        Ok(Solver {
+            rows: Tableau::new(alloc, 0, 0),
+            path,
+            rooms: Rooms::new(alloc),
+        })
+    }
+
+    /// The allocator that the room is taken from.
+    pub fn allocator(&self) -> Global {
+        self.rows.allocator()
+    }
+
+    // The tree of a problem whose context has a point, from the path to its first node.
+    fn tree(&mut self, problem: &Problem, levels: usize, work: &mut Work) -> Result<Quast, Refusal>
+        requires path { IsFirstPath problem.now self.old.path }
+        requires nesting { levels ≡ work.old.budget.nesting }
+        requires few { levels ≤ most_nesting }
+        ensures gives { AgreesCounted tree_in run_fault result work.new
+            (run_from (setting problem.now) (first_node problem.now) work.old) }
+        ensures width { IfOk result (λ tree. tree.width ≡ problem.now.params) }
+    {
+        let alloc = self.rows.allocator();
+        self.rows.reshape(problem.unknowns(), problem.params());
+        start_rows(alloc, problem, &mut self.rows)?;
+        run_first(
+            &mut self.rows,
+            &mut self.path,
+            &mut self.rooms,
+            levels,
+            work,
+        )
+    }
+
+    // The tree of a problem whose context has a point.
+    pub(crate) fn tree_of(
+        &mut self,
+        problem: &Problem,
+        levels: usize,
+        work: &mut Work,
+    ) -> Result<Quast, Refusal>
+        requires nesting { levels ≡ work.old.budget.nesting }
+        requires few { levels ≤ most_nesting }
+        ensures gives { AgreesCounted tree_in run_fault result work.new
+            (run_from (setting problem.now) (first_node problem.now) work.old) }
+        ensures width { IfOk result (λ tree. tree.width ≡ problem.now.params) }
+    {
+        start_path(problem, &mut self.path)?;
+        self.tree(problem, levels, work)
+    }
+
+    // The answer of the run from the path to the problem's first node.
+    fn answer_on(
+        &mut self,
+        problem: &Problem,
+        levels: usize,
+        work: &mut Work,
+    ) -> Result<Answer, Refusal>
+        requires path { IsFirstPath problem.now self.old.path }
+        requires nesting { levels ≡ work.old.budget.nesting }
+        requires few { levels ≤ most_nesting }
+        ensures gives { AgreesCounted answer_of run_fault result work.new (model.answer problem.now work.old) }
+        ensures scope { IfOk result (IsOver problem.now.params) }
+    {
+        let alloc = self.rows.allocator();
+        if !self.path.context.has_point(alloc, work)? {
+            return Ok(Answer::Void);
+        }
+        let tree = self.tree(problem, levels, work)?;
+        Ok(Answer::Tree(tree))
+    }
+
+    // The answer of the run from its start, in which nothing is counted yet.
+    fn answer(
+        &mut self,
+        problem: &Problem,
+        limits: &Limits,
+        work: &mut Work,
+    ) -> Result<Answer, Refusal>
+        requires budget { work.old.budget ≡ limits.now }
+        ensures gives { AgreesCounted answer_of run_fault result work.new (model.answer problem.now work.old) }
+        ensures scope { IfOk result (IsOver problem.now.params) }
+    {
+        let levels = limits.nesting() as usize;
+        start_path(problem, &mut self.path)?;
+        self.answer_on(problem, levels, work)
+    }
+
+    // The answer of the run from its start.
+    fn answer_from_start(&mut self, problem: &Problem, limits: &Limits) -> Result<Answer, Refusal>
+        ensures gives { Agrees answer_of run_fault result (answered (model.solve limits.now problem.now)) }
+        ensures scope { IfOk result (IsOver problem.now.params) }
+        ensures problem { IsProblem problem.now }
+        ensures budget { IsBudget limits.now }
+    {
+        let _ = problem.unknowns();
+        let _ = limits.nesting();
+        let mut work = Work::start(limits);
+        self.answer(problem, limits, &mut work)
+    }
+
+    /// The answer that `solve` gives, in the room that is kept.
+    pub fn solve(&mut self, problem: &Problem, limits: &Limits) -> Result<Answer, Refusal>
+        ensures gives { Agrees answer_of run_fault result (answered (model.solve limits.now problem.now)) }
+        ensures right { IfOk result (λ a. IsRight problem.now (answer_of a)) }
+        ensures reached { IfOk result (λ a. IsReached problem.now (answer_of a)) }
+        ensures well_formed { IfOk result (λ a. IsWellFormedAnswer problem.now.params (answer_of a)) }
+        ensures scope { IfOk result (IsOver problem.now.params) }
+    {
+        let answer = self.answer_from_start(problem, limits);
+        answer
+    }
+}

@@ -1,0 +1,97 @@
+ghost use Rattle.std.specs.Prelude.{◌≡◌, ◌≤◌, [], IfOk, OnOk, IsTrue, map};
+ghost use Rattle.pip_model.specs.Forms.{tighten};
+ghost use Rattle.pip_model.specs.Rows.{started, start};
+ghost use Rattle.pip_model.specs.WellFormed.{IsProblem};
+ghost use Rattle.pip_solve.specs.Starts.{IsFirstPath};
+
+use crate::path::Path;
+use affine_forms::{Form, WantOfMemory};
+use context::Context;
+use pip_problem::Problem;
+use std::alloc::Global;
+use tableau::Tableau;
+
+// Adds the forms of a problem's context to an empty one.
+pub(crate) fn add_forms(problem: &Problem, context: &mut Context) -> Result<(), WantOfMemory>
+    requires width { context.old.width ≡ problem.now.params }
+    requires empty { context.old.forms ≡ [] }
+    ensures width { OnOk result (context.new.width ≡ problem.now.params) }
+    ensures forms { OnOk result (context.new.forms ≡ problem.now.context) }
+{
+    let forms = problem.context();
+    context.reserve(forms.len())?;
+    for form in forms {
+        let copy = context.copy_form(form.as_slice())?;
+        context.add(copy);
+    }
+    Ok(())
+}
+
+// Makes of a path that to a problem's first node, but for the forms of its context.
+fn restart_path(problem: &Problem, path: &mut Path)
+    ensures { IsFirstPath (record problem.now { context = [] }) path.new }
+{
+    path.integer = problem.integer();
+    path.depth = 0;
+    path.quotients.restart(problem.params());
+    path.context.restart(problem.params());
+}
+
+// Makes of a path that to a problem's first node.
+pub(crate) fn start_path(problem: &Problem, path: &mut Path) -> Result<(), WantOfMemory>
+    ensures { OnOk result (IsFirstPath problem.now path.new) }
+{
+    restart_path(problem, path);
+    add_forms(problem, &mut path.context)
+}
+
+// Tightened copies of the rows.
+fn tighten_rows(alloc: Global, rows: &[Form]) -> Result<Vec<Form>, WantOfMemory>
+    ensures { IfOk result (λ forms. forms.items ≡ map tighten rows.now) }
+{
+    let mut forms = Vec::with_capacity(alloc, rows.len())?;
+    for row in rows {
+        let mut form = row.try_clone(alloc)?;
+        form.tighten();
+        forms.push(form)?;
+    }
+    Ok(forms)
+}
+
+// Whether tightening leaves each row as it is.
+fn are_tight(rows: &[Form]) -> bool
+    ensures { IsTrue result → map tighten rows.now ≡ rows.now }
+{
+    for row in rows {
+        if !row.is_tight() {
+            return false;
+        }
+    }
+    true
+}
+
+// Makes of a tableau over a problem's unknowns and parameters its first one; in integer mode its rows are tightened.
+// Where they are tight, no copies are made.
+pub(crate) fn start_rows(
+    alloc: Global,
+    problem: &Problem,
+    rows: &mut Tableau,
+) -> Result<(), WantOfMemory>
+    requires unknowns { rows.old.unknowns ≡ problem.now.unknowns }
+    requires width { rows.old.width ≡ problem.now.params }
+    ensures rows { OnOk result (rows.new
+        ≡ record {
+          unknowns = problem.now.unknowns;
+          width = problem.now.params;
+          rows = start problem.now.unknowns problem.now.params
+              (started problem.now.integer problem.now.rows);
+        }) }
+    ensures problem { IsProblem problem.now }
+{
+    if problem.integer() && !are_tight(problem.rows()) {
+        let forms = tighten_rows(alloc, problem.rows())?;
+        rows.restart(&forms)
+    } else {
+        rows.restart(problem.rows())
+    }
+}
