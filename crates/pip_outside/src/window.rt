@@ -1,4 +1,5 @@
-ghost use Rattle.std.specs.Prelude.{◌≡◌, ◌+◌, ◌-◌, ◌<◌, ◌≤◌, ◌^◌, [], length, drop, take, IfOk, IfSome, IsErrOf};
+ghost use Rattle.std.specs.Prelude.{◌≡◌, ◌+◌, ◌-◌, ◌<◌, ◌≤◌, ◌^◌, [], length, drop, take, IfOk, IfSome, IsErr, IsErrOf};
+ghost use Rattle.std.specs.Io.KnownBytes.{ReadConsumes};
 ghost use Rattle.pip_outside.specs.Bytes.{count_of};
 ghost use Rattle.pip_outside.specs.Calls.{CallsOnce};
 ghost use Rattle.pip_outside.specs.Faults.{CountsFaults};
@@ -52,6 +53,20 @@ fn move_to_front(bytes: &mut [u8], start: usize)
     target.copy_from_slice(moved);
 }
 
+// Asks the source for at most `most` bytes, and for no more than 4,096, which come into the front of these.
+fn read_piece<S: Source>(piece: &mut [u8], source: &mut S, most: usize) -> Result<usize, Failed>
+    requires room { length piece.old ≡ 4096 }
+    requires most { 1 ≤ most }
+    ensures bound { IfOk result (λ n. (n ≤ most) × (n ≤ 4096)) }
+    ensures bytes { ReadConsumes (S.left source.old) (S.left source.new) result piece.new }
+    ensures counted { IfSome (S.left source.old) (λ _. S.taken source.new ≡ S.taken source.old + count_of result) }
+    ensures faults { CountsFaults (IsErr result) (S.faults source.old) (S.faults source.new) }
+    ensures step { S.calls source.old source.new }
+{
+    let (buf, _) = piece.split_at_mut(most.min(PIECE));
+    source.read(buf)
+}
+
 /// The bytes of an input that are held: those that came behind the ones that were dropped.
 ///
 /// Contracts see the held bytes, how many were dropped before them, and the most that were held at once since the last
@@ -60,13 +75,15 @@ fn move_to_front(bytes: &mut [u8], start: usize)
 pub struct Window {
     // the held bytes stand behind the first `start` of these
     bytes: Vec<u8>,
+    // where a source puts what it is asked for
+    piece: Vec<u8>,
     start: usize,
     base: usize,
     peak: usize,
 }
 
 impl Model for Window {
-    ghost use Rattle.std.specs.Prelude.{◌≤◌, ◌+◌, drop, vec_len};
+    ghost use Rattle.std.specs.Prelude.{◌≡◌, ◌≤◌, ◌+◌, drop, vec_len};
     ghost use Rattle.pip_outside.specs.Windows.{HeldBytes};
 
     ghost Value = { HeldBytes };
@@ -74,7 +91,8 @@ impl Model for Window {
     ghost view = { λ w. record { held = drop w.start w.bytes.items; base = w.base; peak = w.peak } };
 
     // the dropped bytes that still stand are no more than the held ones: twice what is held bounds the memory
-    ghost invariant = { λ w. (w.start + w.start ≤ vec_len w.bytes) × (vec_len w.bytes ≤ w.peak + w.start) };
+    ghost invariant = { λ w. (w.start + w.start ≤ vec_len w.bytes) × (vec_len w.bytes ≤ w.peak + w.start)
+        × (vec_len w.piece ≡ 4096) };
 }
 
 impl Window {
@@ -83,8 +101,10 @@ impl Window {
         ensures { IfOk result (λ w. w ≡ record { held = []; base = 0; peak = 0 }) }
     {
         let bytes = Vec::with_capacity(alloc, PIECE)?;
+        let piece = Vec::from_elem(alloc, 0, PIECE)?;
         Ok(Window {
             bytes,
+            piece,
             start: 0,
             base: 0,
             peak: 0,
@@ -144,10 +164,8 @@ impl Window {
         ensures asked { CallsOnce S.calls source.old source.new result }
     {
         self.bytes.reserve(PIECE)?;
-        let mut piece = [0; PIECE];
-        let (buf, _) = piece.split_at_mut(most.min(PIECE));
-        let count = source.read(buf)?;
-        self.bytes.extend_from_slice(&buf[..count])?;
+        let count = read_piece(&mut self.piece, source, most)?;
+        self.bytes.extend_from_slice(&self.piece[..count])?;
         self.peak = self.peak.max(self.bytes.len() - self.start);
         Ok(count)
     }
