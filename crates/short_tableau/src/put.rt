@@ -25,6 +25,13 @@ pub(crate) struct Put {
     pub made: usize,
 }
 
+// The column of such a row, and how many of its numbers are made.
+#[derive(Clone, Copy)]
+pub(crate) struct Reached {
+    pub column: usize,
+    pub made: usize,
+}
+
 // Makes the further numbers up to the first that is not short; how many are made then.
 fn extend(row: &mut [i64], unknowns: usize, p: &[i64], put: &Put) -> usize
     requires { IsPut unknowns put.now p.now row.old }
@@ -110,21 +117,23 @@ fn coefs_of(made: usize, unknowns: usize) -> usize
 
 // Ends a row by 128 bits. Whether its numbers are short.
 #[inline(never)]
-fn finish_put(row: &mut [i64], unknowns: usize, p: &[i64], put: &Put) -> bool
-    requires { IsPut unknowns put.now p.now row.old }
-    ensures { IsTurned unknowns (model.divided (put_row unknowns put.now p.now row.old)) result row.new }
+fn finish_put(row: &mut [i64], unknowns: usize, p: &[i64], by: Factors, at: Reached) -> bool
+    requires { IsPut unknowns (record { by = by; column = at.column; made = at.made }) p.now row.old }
+    ensures { IsTurned unknowns
+        (model.divided (put_row unknowns (record { by = by; column = at.column; made = at.made }) p.now row.old))
+        result row.new }
 {
     let pivot = view_of(p, unknowns);
-    let coefs_made = coefs_of(put.made, unknowns);
+    let coefs_made = coefs_of(at.made, unknowns);
     let (den, rest) = row.split_at_mut(1);
     let (coefs, constant) = rest.split_at_mut(unknowns);
     let begun = Begun {
-        by: put.by,
-        column: put.column,
-        den: product(den[0], put.by.of_row),
-        entry: product(put.by.of_pivot, pivot.den),
+        by,
+        column: at.column,
+        den: product(den[0], by.of_row),
+        entry: product(by.of_pivot, pivot.den),
         coefs: coefs_made,
-        constant: put.made - coefs_made,
+        constant: at.made - coefs_made,
     };
     match finish(&pivot, &begun, coefs, constant) {
         Some(now) => {
@@ -137,18 +146,28 @@ fn finish_put(row: &mut [i64], unknowns: usize, p: &[i64], put: &Put) -> bool
 
 // Ends a row. Whether its numbers are short.
 #[inline(never)]
-pub(crate) fn put_rest(row: &mut [i64], unknowns: usize, p: &[i64], put: Put) -> bool
-    requires { IsPut unknowns put p.now row.old }
-    ensures { IsTurned unknowns (model.divided (put_row unknowns put p.now row.old)) result row.new }
+pub(crate) fn put_rest(
+    row: &mut [i64],
+    unknowns: usize,
+    p: &[i64],
+    by: Factors,
+    at: Reached,
+) -> bool
+    requires { IsPut unknowns (record { by = by; column = at.column; made = at.made }) p.now row.old }
+    ensures { IsTurned unknowns
+        (model.divided (put_row unknowns (record { by = by; column = at.column; made = at.made }) p.now row.old))
+        result row.new }
 {
-    let made = extend(row, unknowns, p, &put);
-    let now = Put {
-        by: put.by,
-        column: put.column,
-        made,
+    let column = at.column;
+    let put = Put {
+        by,
+        column,
+        made: at.made,
     };
+    let made = extend(row, unknowns, p, &put);
+    let now = Put { by, column, made };
     if made == unknowns + 1 && close(row, unknowns, p, &now) {
         return true;
     }
-    finish_put(row, unknowns, p, &now)
+    finish_put(row, unknowns, p, by, Reached { column, made })
 }

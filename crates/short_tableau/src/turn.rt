@@ -10,7 +10,7 @@ ghost use Rattle.short_tableau.specs.Terms.{AreTerms, IsShortDivisor};
 ghost use Rattle.short_tableau.specs.Turned.{IsTurned};
 
 use crate::halves::combine_halves;
-use crate::put::{Put, put_rest};
+use crate::put::{Reached, put_rest};
 use crate::wide::Factors;
 use short_numbers::{short_floor_div, short_gcd};
 
@@ -60,16 +60,7 @@ fn turn_lowest(row: &mut [i64], unknowns: usize, p: &[i64], c: usize) -> bool
 {
     let by = lowest(p[c + 1], row[c + 1]);
     let made = put_halves(by, row, p);
-    put_rest(
-        row,
-        unknowns,
-        p,
-        Put {
-            by,
-            column: c,
-            made,
-        },
-    )
+    put_rest(row, unknowns, p, by, Reached { column: c, made })
 }
 
 // The same where the pivot is 1: where its row has the denominator 1 too, nothing is to be divided.
@@ -88,16 +79,7 @@ fn turn_unit(row: &mut [i64], unknowns: usize, p: &[i64], c: usize) -> bool
         row[c + 1] = by.of_pivot;
         return true;
     }
-    put_rest(
-        row,
-        unknowns,
-        p,
-        Put {
-            by,
-            column: c,
-            made,
-        },
-    )
+    put_rest(row, unknowns, p, by, Reached { column: c, made })
 }
 
 // Makes of the numbers of a row those after the pivot on row p and column c; whether they are short.
