@@ -13,8 +13,9 @@ pub mod FurtherForms
 pub mod OneFormMore
 pub mod Ending
 pub mod EndingBehind
-pub mod EndingByPivot
+pub mod EndedRows
 pub mod QuestionTurns
+pub mod PivotBehind
 pub mod AtOnce
 pub mod PointMeaning
 pub mod KeptFirst

@@ -3,7 +3,7 @@ use Rattle.context.proofs.Words.{◌≡◌, false, ◌∙◌, refl, ap, sym, ℕ
 use Rattle.short_tableau.specs.Ended.{IsEndedBy}
 use Rattle.tableau.specs.Tableaus.{IsRow}
 use Rattle.context.proofs.Ending.{finds_here, finds_none}
-use Rattle.context.proofs.EndingByPivot.{finds_ended}
+use Rattle.context.proofs.EndedRows.{finds_ended}
 use Rattle.context.proofs.FurtherRows.{IsStep, turn-alone}
 use Rattle.context.proofs.Turning.{signs_of, turn_is, cut_again, cut_refused}
 

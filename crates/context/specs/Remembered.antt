@@ -1,12 +1,15 @@
 -- The run without parameters of some rows, remembered, and what it makes of further rows behind them.
-use Rattle.std.specs.Prelude.{◌≡◌, ℕ, ◌<◌, ◌≤◌, ℤ, Bool, true, false, Option, Some, None, ◌&&◌, is_none, is_some, IsTrue, List, [], ◌∷◌, ◌++◌, length, take, map, flat_map, get_or}
+use Rattle.std.specs.Prelude.{◌≡◌, ℕ, ◌+◌, ◌<◌, ◌≤◌, ℤ, Bool, true, false, Option, Some, None, ◌&&◌, is_none, is_some, IsTrue, List, [], ◌∷◌, ◌++◌, length, take, map, flat_map, get_or}
 use Rattle.pip_model.specs.Contexts.{IsContext}
-use Rattle.pip_model.specs.Forms.{widen_to}
+use Rattle.pip_model.specs.Forms.{constant, widen_to}
+use Rattle.pip_model.specs.Listed.{all_fit}
+use Rattle.pip_model.specs.Numbers.{is_nonneg}
 use Rattle.pip_model.specs.Tree.{Tree, Bottom}
-use Rattle.pip_model.specs.Rows.{Row, row_at, form_row, start, eliminated, eliminated_listed, first_fraction}
+use Rattle.pip_model.specs.Rows.{Row, row_at, form_row, start, eliminated, eliminated_listed, first_fraction, entering, entering_listed}
 use Rattle.pip_model.specs.Run.{Work, Counted, Node, Done, ◌>>=◌, ◌>>◌, go_on, give, Again, turn, listed, count_pivot, leaf, run_from, numbers_of, point, point_setting}
 use Rattle.pip_model.specs.Refuting.{Trace, refute_from}
 use Rattle.dual_pivot.specs.Choices.{IsCandidate}
+use Rattle.tableau.specs.Tableaus.{IsRow}
 use Rattle.context.specs.Traces.{exchanges}
 use Rattle.context.specs.Turns.{negative_from, node_of}
 use Rattle.context.specs.declared.remembered.Replay.{Replay}
@@ -130,15 +133,14 @@ abbrev pub EndsWith : List Row → Bool → Type 0
 EndsWith now found =
     (n : ℕ) (E : List Row) (v : Work) → n ≤ length E → is_end n E ≡ true → finds_point n (E ++ now) v ≡ Done found v
 
--- a run that ends after a pivot, which is counted
-abbrev pub counted_end : Bool → Counted Bool
-counted_end found = do
-  count_pivot
-  give found
-
--- where a run shows a point, with these rows behind its own it ends after one pivot, with a point or without one
-abbrev pub EndsByPivot : ℕ → List Row → List Row → Bool → Type 0
-EndsByPivot n E now found = (w : Work) → is_end n E ≡ true → finds_point n (E ++ now) w ≡ counted_end found w
+-- one row behind a run's own is below 0, and this column enters there
+pub record IsPivotBehind (n : ℕ) (E now : List Row) (c : ℕ) : Type 0 where
+  pub one : length now ≡ 1
+  pub row : IsRow n 0 (row_at now 0)
+  pub below : is_nonneg (constant (row_at now 0).constant) ≡ false
+  pub enters : entering (E ++ now) (length E + 0) ≡ Some c
+  pub compared : IsTrue (all_fit (entering_listed (E ++ now) (length E + 0)))
+  pub candidate : IsCandidate n (row_at now 0) c
 
 -- what a turn of a question's run made of these rows: it ends the run, with a point or without one, or goes on
 abbrev pub IsTurnOf : ℕ → List Row → List Row → Work → Work → Option Bool → Type 0

@@ -1,11 +1,11 @@
-ghost use Rattle.std.specs.Prelude.{◌≡◌, ◌+◌, ◌≤◌, [], ◌∷◌, ◌++◌, length, IfSome, IfNone};
+ghost use Rattle.std.specs.Prelude.{◌≡◌, ◌+◌, ◌≤◌, [], ◌∷◌, ◌++◌, true, length, IfSome, IfNone};
 ghost use Rattle.pip_model.specs.Contexts.{IsContext};
 ghost use Rattle.pip_model.specs.Forms.{widen_to};
 ghost use Rattle.pip_model.specs.Rows.{form_row};
 ghost use Rattle.pip_problem.specs.Faults.{run_fault};
 ghost use Rattle.run_counts.specs.Counts.{IsCountedRun};
 ghost use Rattle.context.specs.Stops.{stop_fault};
-ghost use Rattle.context.specs.Remembered.{IsFormed, IsStopped, asked, counted_end, finds_point, form_rows, first_rows, EndsWith, EndsByPivot};
+ghost use Rattle.context.specs.Remembered.{IsFormed, IsStopped, asked, is_end, finds_point, form_rows, first_rows, EndsWith, IsPivotBehind};
 
 use crate::behind::{put_behind, rows_behind};
 use crate::point_run::run_on;
@@ -50,32 +50,47 @@ fn ends_at(rows: &ShortTableau) -> Option<bool>
     Some(false)
 }
 
-// Whether a point is found, where a run that shows one ends, with this row behind its own, after the pivot on that row.
-// None where it is not known to end there.
-fn ends_by_pivot(m: &Replay, row: &ShortTableau) -> Option<bool>
+// The column that enters where this row stands alone behind a run's own and is below 0. None elsewhere.
+fn column_behind(m: &Replay, row: &ShortTableau) -> Option<usize>
     requires formed { IsFormed m.now }
     requires unknowns { row.now.unknowns ≡ m.now.end.unknowns }
-    ensures { IfSome result (EndsByPivot m.now.end.unknowns m.now.end.rows row.now.rows) }
+    ensures { IfSome result (IsPivotBehind m.now.end.unknowns m.now.end.rows row.now.rows) }
 {
     if row.rows() != 1 || !row.is_below(0) {
         return None;
     }
-    let Some(c) = m.end.entering_behind(row, 0) else {
-        return None;
-    };
-    m.end.ends_after(row, 0, c)
+    m.end.entering_behind(row, 0)
 }
 
-// Counts the pivot after which a run ends.
-fn count_end(found: bool, work: &mut Work) -> Result<bool, Stop>
-    ensures gives { IsCountedRun (λ b. b) stop_fault result work.old work.new (counted_end found) }
+// Goes on with the pivot on the row behind the last rows of a run that shows a point: it is counted, and made in the
+// room of these rows where the run is not known to end after it.
+fn pivot_behind(
+    m: &Replay,
+    row: &ShortTableau,
+    rows: &mut ShortTableau,
+    work: &mut Work,
+    c: usize,
+) -> Result<bool, Stop>
+    requires formed { IsFormed m.now }
+    requires unknowns { row.now.unknowns ≡ m.now.end.unknowns }
+    requires shows { is_end m.now.end.unknowns m.now.end.rows ≡ true }
+    requires column { IsPivotBehind m.now.end.unknowns m.now.end.rows row.now.rows c }
+    ensures gives { IsCountedRun (λ b. b) stop_fault result work.old work.new
+        (finds_point m.now.end.unknowns (m.now.end.rows ++ row.now.rows)) }
 {
     work.count_pivot()?;
-    Ok(found)
+    if let Some(found) = m.end.ends_after(row, 0, c) {
+        return Ok(found);
+    }
+    put_behind(m, row, rows)?;
+    if !rows.pivot(m.end.rows(), c) {
+        return Err(Stop::Long);
+    }
+    run_short(rows, work)
 }
 
 // Whether a remembered run with the forms' rows behind it finds a point: they are turned by the remembered pivots, and
-// the run goes on where it does not end there, nor after one pivot.
+// the run goes on where it does not end there.
 fn ask(
     m: &Remembered,
     question: &mut Question,
@@ -92,8 +107,8 @@ fn ask(
         if let Some(found) = ends_at(&question.row) {
             return Ok(found);
         }
-        if let Some(found) = ends_by_pivot(&m.run, &question.row) {
-            return count_end(found, work);
+        if let Some(c) = column_behind(&m.run, &question.row) {
+            return pivot_behind(&m.run, &question.row, &mut question.run, work, c);
         }
     }
     go_on(&m.run, &question.row, &mut question.run, work)

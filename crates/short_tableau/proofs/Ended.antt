@@ -1,5 +1,5 @@
 -- The signs of a row's numbers after a pivot, read off before it is divided.
-use Rattle.short_tableau.proofs.Words.{◌≡◌, refl, ap, sym, ◌∙◌, ℕ, zero, suc, ◌+◌, ◌<◌, ◌≤◌, ℤ, pos, negsuc, ◌≤ℤ◌, ◌*ℤ◌, ◌-ℤ◌, true, false, List, [], ◌∷◌, length, map, arith, ints, entry, constant, Row, divided, substituted, eliminated, gcd, gcd_of, floor_div, floor_mod, floor_divided, gcd_between, is_positive, get_or-map, get_or-set_same, combine, length-combine, entry-combine, length-map, length-set, quotient_positive, IsPivot, IsShortReduced, Some, row_at, form_row, drop, drop_more, take, get_or-take, length-take-le, negative_from, fraction_from}
+use Rattle.short_tableau.proofs.Words.{◌≡◌, refl, ap, sym, ◌∙◌, ℕ, zero, suc, ◌+◌, ◌<◌, ◌≤◌, ℤ, pos, negsuc, ◌≤ℤ◌, ◌*ℤ◌, ◌-ℤ◌, true, false, List, [], ◌∷◌, length, map, arith, ints, entry, constant, Row, divided, substituted, eliminated, gcd, gcd_of, floor_div, floor_mod, floor_divided, gcd_between, is_positive, get_or-map, get_or-set_same, combine, length-combine, entry-combine, length-map, length-set, eliminated_none, quotient_positive, IsPivot, IsShortReduced, Some, row_at, form_row, drop, drop_more, take, get_or-take, length-take-le, negative_from, fraction_from}
 use Rattle.std.specs.Prelude.{◌+ℤ◌, ◌≢◌}
 use Rattle.std.proofs.lemmas.List.{get_or-set_other}
 use Rattle.pip_model.proofs.RingLaws.{*ℤ_assoc}
@@ -155,6 +155,15 @@ module _ (n : ℕ) (p : Row) (c : ℕ) (i : Row) (pivot : IsPivot n p c) (row : 
 
   pub whole_after : divides (substituted p c i).den (constant (substituted p c i).constant) ≡ true → is_whole (eliminated p c i).den (eliminated p c i).constant ≡ true
   whole_after = whole_divided (substituted p c i) den_put_in one_put_in
+
+  stays : entry i.coefs c ≡ pos 0 → eliminated p c i ≡ i
+  stays none = sym (eliminated_none n 0 p c i pivot.row.row row.row pivot.candidate.positive none row.reduced)
+
+  pub nonneg_stays : entry i.coefs c ≡ pos 0 → is_nonneg (constant (eliminated p c i).constant) ≡ is_nonneg (constant i.constant)
+  nonneg_stays none = ap (λ (r : Row). is_nonneg (constant r.constant)) (stays none)
+
+  pub whole_stays : entry i.coefs c ≡ pos 0 → is_whole (eliminated p c i).den (eliminated p c i).constant ≡ is_whole i.den i.constant
+  whole_stays none = ap (λ (r : Row). is_whole r.den r.constant) (stays none)
 
   pub coefs_after : length (eliminated p c i).coefs ≡ n
   coefs_after = mapped_length (λ x. floor_div x (divisor (substituted p c i))) (substituted p c i).coefs ∙ coefs_put_in

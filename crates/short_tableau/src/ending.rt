@@ -75,12 +75,16 @@ impl ShortTableau {
         product(self.row(i).den, p.coefs[c])
     }
 
-    // Whether row i is below 0 after the pivot on row p and column c.
+    // Whether row i is below 0 after the pivot on row p and column c. A row that is 0 in the column stays.
     fn is_below_after(&self, i: usize, p: &ShortRow<'_>, c: usize) -> bool
         requires row { i < length self.now.rows }
         requires pivot { IsPivot self.now.unknowns (row_of p.now) c }
         ensures { result ≡ not (is_nonneg (constant (eliminated (row_of p.now) c (row_at self.now.rows i)).constant)) }
     {
+        let _ = self.columns();
+        if self.coef(i, c) == 0 {
+            return self.is_below(i);
+        }
         self.constant_after(i, p, c) < 0
     }
 
@@ -119,6 +123,10 @@ impl ShortTableau {
         ensures { IsTrue result → model.is_whole (eliminated (row_of p.now) c (row_at self.now.rows i)).den
             (eliminated (row_of p.now) c (row_at self.now.rows i)).constant ≡ true }
     {
+        let _ = self.columns();
+        if self.coef(i, c) == 0 {
+            return self.is_whole_at(i);
+        }
         divides_shortly(self.den_after(i, p, c), self.constant_after(i, p, c))
     }
 

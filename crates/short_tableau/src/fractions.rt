@@ -16,7 +16,7 @@ fn is_whole(d: i64, numbers: &[i64]) -> bool
 
 impl ShortTableau {
     // Whether row i's denominator divides its constant form.
-    fn is_whole_at(&self, i: usize) -> bool
+    pub(crate) fn is_whole_at(&self, i: usize) -> bool
         requires { i < length self.now.rows }
         ensures value { result
             ≡ model.is_whole (model.row_at self.now.rows i).den (model.row_at self.now.rows i).constant }
