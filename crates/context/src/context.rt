@@ -86,12 +86,12 @@ impl Model for Context {
 }
 
 impl Context {
-    /// The context of no forms over so many places.
-    pub fn try_new(alloc: Global, width: usize) -> Result<Context, WantOfMemory>
-        ensures width { IfOk result (λ k. k.width ≡ width) }
-        ensures forms { IfOk result (λ k. k.forms ≡ []) }
+    /// The context of no forms over so many places. It takes no memory.
+    pub fn new(alloc: Global, width: usize) -> Context
+        ensures width { result.width ≡ width }
+        ensures forms { result.forms ≡ [] }
     {
-        Ok(Context {
+        Context {
             width,
             forms: Vec::new(alloc),
             run: Remembered::new(alloc),
@@ -103,7 +103,15 @@ impl Context {
             is_tried: false,
             question: Question::new(alloc),
             spares: Spares::new(alloc),
-        })
+        }
+    }
+
+    /// The same as `new`.
+    pub fn try_new(alloc: Global, width: usize) -> Result<Context, WantOfMemory>
+        ensures width { IfOk result (λ k. k.width ≡ width) }
+        ensures forms { IfOk result (λ k. k.forms ≡ []) }
+    {
+        Ok(Context::new(alloc, width))
     }
 
     /// No forms over so many places from now on. The room of forms and of runs stays.

@@ -29,14 +29,21 @@ impl Model for Quotients {
 }
 
 impl Quotients {
-    /// No quotients, behind so many parameters.
+    /// No quotients, behind so many parameters. It takes no memory.
+    pub fn new(alloc: Global, np: usize) -> Quotients
+        ensures { result ≡ record { params = np; quotients = [] } }
+    {
+        Quotients {
+            params: np,
+            set: IndexSet::new(alloc),
+        }
+    }
+
+    /// The same as `new`.
     pub fn try_new(alloc: Global, np: usize) -> Result<Quotients, WantOfMemory>
         ensures { IfOk result (λ s. s ≡ record { params = np; quotients = [] }) }
     {
-        Ok(Quotients {
-            params: np,
-            set: IndexSet::new(alloc),
-        })
+        Ok(Quotients::new(alloc, np))
     }
 
     /// No quotients, behind so many parameters from now on. It takes no memory, and the room stays.

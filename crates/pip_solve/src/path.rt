@@ -37,15 +37,13 @@ fn opposite(context: &mut Context, condition: &Form) -> Result<Form, WantOfMemor
 
 impl Path {
     // A path to no node. It takes no memory.
-    pub(crate) fn try_new(alloc: Global) -> Result<Path, WantOfMemory> {
-        let quotients = Quotients::try_new(alloc, 0)?;
-        let context = Context::try_new(alloc, 0)?;
-        Ok(Path {
+    pub(crate) fn new(alloc: Global) -> Path {
+        Path {
             integer: false,
             depth: 0,
-            context,
-            quotients,
-        })
+            context: Context::new(alloc, 0),
+            quotients: Quotients::new(alloc, 0),
+        }
     }
 
     // Goes one level down, with one more form in the context. Takes no memory.

@@ -15,7 +15,6 @@ use crate::node::run_first;
 use crate::path::Path;
 use crate::rooms::Rooms;
 use crate::starting::{start_path, start_rows};
-use affine_forms::WantOfMemory;
 use context::Work;
 use pip_problem::{Limits, Problem, Refusal};
 use quast::{Answer, Quast};
@@ -33,13 +32,12 @@ pub struct Solver {
 
 impl Solver {
     /// No room yet. It takes no memory.
-    pub fn try_new(alloc: Global) -> Result<Solver, WantOfMemory> {
-        let path = Path::try_new(alloc)?;
-        Ok(Solver {
+    pub fn new(alloc: Global) -> Solver {
+        Solver {
             rows: Tableau::new(alloc, 0, 0),
-            path,
+            path: Path::new(alloc),
             rooms: Rooms::new(alloc),
-        })
+        }
     }
 
     /// The allocator that the room is taken from.

@@ -25,7 +25,7 @@ pub fn context_point(
     ensures gives { IsCountedRun (λ o. o) run_fault result work.old work.new
         (model.point problem.now.params problem.now.context) }
 {
-    let mut context = Context::try_new(alloc, problem.params())?;
+    let mut context = Context::new(alloc, problem.params());
     add_forms(problem, &mut context)?;
     context.point(alloc, work)
 }
@@ -47,7 +47,7 @@ pub fn answer_from(
     match point {
         None => Ok(Answer::Void),
         Some(_) => {
-            let mut solver = Solver::try_new(alloc)?;
+            let mut solver = Solver::new(alloc);
             let tree = solver.tree_of(problem, levels, work)?;
             Ok(Answer::Tree(tree))
         }
@@ -65,6 +65,6 @@ pub fn solve(alloc: Global, problem: &Problem, limits: &Limits) -> Result<Answer
     ensures well_formed { IfOk result (λ a. IsWellFormedAnswer problem.now.params (answer_of a)) }
     ensures scope { IfOk result (IsOver problem.now.params) }
 {
-    let mut solver = Solver::try_new(alloc)?;
+    let mut solver = Solver::new(alloc);
     solver.solve(problem, limits)
 }
