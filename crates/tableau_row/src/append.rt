@@ -236,7 +236,7 @@ pub fn append_eliminated(
         (numbers_of (model.eliminated (row_of p.now) c (row_of row.now))) }
     ensures made { IsMadeReduced (row_of row.now) result (model.eliminated (row_of p.now) c (row_of row.now)) }
 {
-    if both(p.short, row.short) && p.coefs[c] != 1 {
+    if both(p.short, row.short) {
         return append_made(numbers, p, c, row);
     }
     append_in_place(numbers, p, c, row, run)
