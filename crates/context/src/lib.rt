@@ -30,4 +30,4 @@ pub use point::Point;
 pub use positive_terms::push_positive;
 pub use refuter::Refuter;
 pub use run_counts::{Counts, Work};
-pub use steps::{count_and_cut, enter_and_pivot};
+pub use steps::{count_and_cut, enter, enter_and_pivot};

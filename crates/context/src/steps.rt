@@ -13,8 +13,9 @@ use pip_problem::Refusal;
 use run_counts::Work;
 use tableau::Tableau;
 
-// The step at a row below 0: which column enters. Where one does, a pivot is counted and then made.
-pub(crate) fn enter(rows: &mut Tableau, r: usize, work: &mut Work) -> Result<Option<usize>, Refusal>
+/// The step at a row below 0: which column enters. Where one does, a pivot is counted and then made. A refusal leaves
+/// the rows as they were, and the counts at what was counted.
+pub fn enter(rows: &mut Tableau, r: usize, work: &mut Work) -> Result<Option<usize>, Refusal>
     requires rows { rows.old.unknowns ≤ length rows.old.rows }
     requires row { r < length rows.old.rows }
     ensures gives { (S : Setting) (N : Node) → IsCountedRun (λ c. pivoted N rows.new.rows (is_some c)) run_fault result

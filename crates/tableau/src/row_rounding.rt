@@ -1,14 +1,15 @@
-ghost use Rattle.std.specs.Prelude.{◌≡◌, ◌+◌, ◌<◌, ◌≤◌, length, slice_set, OnOk};
+ghost use Rattle.std.specs.Prelude.{◌≡◌, ◌+◌, ◌<◌, ◌≤◌, length, slice_set, take, IfOk, OnOk};
 ghost use Rattle.pip_model.specs.Rows as model;
 ghost use Rattle.pip_model.specs.Cuts.{rounded, rounded_listed};
 ghost use Rattle.pip_model.specs.Agreement.{IsChecked};
 ghost use Rattle.affine_forms.specs.Checks.{is_overflow};
-ghost use Rattle.tableau.specs.KeptRows.{IsOver, IsSpare, AreLent, lent_rows, with_rows};
+ghost use Rattle.tableau.specs.KeptRows.{IsOver, IsSpare, AreLent, lent_rows, with_rows, SameRows, unit_run};
 
 use crate::copying::copy_kept;
 use crate::flat_rows::FlatRows;
 use crate::kept::{Kept, Lent};
-use affine_forms::Overflow;
+use affine_forms::{Overflow, WantOfMemory};
+use std::alloc::Global;
 
 // Adds the kept rows.
 fn copy_rows(next: &mut FlatRows, lent: &Lent<'_>, kept: &[Kept])
@@ -23,6 +24,26 @@ fn copy_rows(next: &mut FlatRows, lent: &Lent<'_>, kept: &[Kept])
 }
 
 impl FlatRows {
+    // The first so many rows, with room for two more.
+    pub(crate) fn front(
+        &self,
+        alloc: Global,
+        units: &[i128],
+        count: usize,
+    ) -> Result<FlatRows, WantOfMemory>
+        requires count { count ≤ length self.now.rows }
+        requires units { 0 < length self.now.rows → units.now ≡ unit_run self.now.unknowns self.now.width }
+        ensures { IfOk result (λ t. SameRows t (record self.now { rows = take count self.now.rows })) }
+    {
+        let mut rows = FlatRows::with_room(alloc, self.unknowns, self.width, count + 2)?;
+        if count > 0 {
+            let (lent, kept) = self.lent(units);
+            let (front, _) = kept.split_at(count);
+            copy_rows(&mut rows, &lent, front);
+        }
+        Ok(rows)
+    }
+
     // Makes of the next rows these, but for row r rounded by the quotient at place q; they may then change places.
     pub(crate) fn round(
         &self,

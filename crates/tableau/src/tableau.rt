@@ -1,4 +1,4 @@
-ghost use Rattle.std.specs.Prelude.{◌≡◌, ◌+◌, ◌-◌, ◌^◌, ◌<◌, ◌≤◌, pos, ◌≤ℤ◌, false, All, map, not, filter, flat_map, [], length, IfOk, IfSome, IfNone, OnOk, OnErr};
+ghost use Rattle.std.specs.Prelude.{◌≡◌, ◌+◌, ◌-◌, ◌^◌, ◌<◌, ◌≤◌, pos, ◌≤ℤ◌, false, All, map, not, filter, flat_map, [], length, take, IfOk, IfSome, IfNone, OnOk, OnErr};
 ghost use Rattle.pip_model.specs.Forms.{entry};
 ghost use Rattle.pip_model.specs.Rows as model;
 ghost use Rattle.pip_model.specs.Cuts.{rounded_listed};
@@ -217,6 +217,17 @@ impl Tableau {
         make_rooms(&mut self.rows, &mut self.next, &mut self.units, most)?;
         t.rows.copy(&mut self.rows);
         Ok(())
+    }
+
+    /// The tableau of the first so many rows.
+    pub fn first_rows(&self, alloc: Global, count: usize) -> Result<Tableau, WantOfMemory>
+        requires { count ≤ length self.now.rows }
+        ensures { IfOk result (λ t. t ≡ record self.now { rows = take count self.now.rows }) }
+    {
+        let rows = self.rows.front(alloc, self.units.as_slice(), count)?;
+        let next = FlatRows::with_room(alloc, rows.unknowns(), rows.width(), rows.len() + 2)?;
+        let units = Vec::from_slice(alloc, self.units.as_slice())?;
+        Ok(Tableau { rows, next, units })
     }
 
     /// Adds a row, divided by the greatest common divisor of all its numbers.
