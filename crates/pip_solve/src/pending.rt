@@ -1,4 +1,4 @@
-ghost use Rattle.std.specs.Prelude.{◌≡◌, ◌<◌, ◌≤◌, [], ◌∷◌, length, IfSome, IsTrue, ◌↔◌, OnOk, None};
+ghost use Rattle.std.specs.Prelude.{◌≡◌, ◌<◌, ◌≤◌, [], ◌∷◌, length, IfOk, IfSome, IsTrue, ◌↔◌, OnOk, None};
 
 use affine_forms::{Form, WantOfMemory};
 use context::ContextMark;
@@ -29,17 +29,17 @@ pub enum Frame {
 }
 
 /// The frames that wait, on a stack with room for all that may. Contracts see them as a list, the one pushed last
-/// first, and how many may wait.
+/// first, and how many may wait. Tableaus that are done with are kept as room for others, with the frames no more than
+/// may wait.
 #[derive(Drop)]
 pub struct Pending {
     most: usize,
     stack: Vec<Frame>,
-    // Tableaus that are done with.
     spares: Vec<Tableau>,
 }
 
 impl Model for Pending {
-    ghost use Rattle.std.specs.Prelude.{◌≤◌, reverse, length};
+    ghost use Rattle.std.specs.Prelude.{◌+◌, ◌≤◌, reverse, length};
     ghost use Rattle.std.specs.Vec.{vec_capacity};
     ghost use Rattle.std.specs.Coded.{codes};
     ghost use Rattle.quast.specs.Trees.{scoped_code};
@@ -51,7 +51,8 @@ impl Model for Pending {
 
     ghost view = { λ p. record { frames = reverse p.stack.items; most = p.most } };
 
-    ghost invariant = { λ p. (length p.stack.items ≤ p.most) × (p.most ≤ vec_capacity p.stack) };
+    ghost invariant = { λ p.
+        (length p.stack.items + length p.spares.items ≤ p.most) × (p.most ≤ vec_capacity p.stack) };
 }
 
 impl Pending {
@@ -66,18 +67,27 @@ impl Pending {
         }
     }
 
+    /// Nothing waits, and n frames may, for which there is room.
+    pub fn reserve(alloc: Global, n: usize) -> Result<Pending, WantOfMemory>
+        ensures { IfOk result (λ p. p ≡ record { frames = []; most = n }) }
+    {
+        let mut made = Pending::new(alloc);
+        made.restart(n)?;
+        Ok(made)
+    }
+
     /// Nothing waits, and n frames may, for which there is room from now on.
     pub fn restart(&mut self, n: usize) -> Result<(), WantOfMemory>
         ensures { OnOk result (self.new ≡ record { frames = []; most = n }) }
     {
         self.stack.clear();
-        self.most = 0;
         self.stack.reserve(n)?;
+        self.spares.truncate(n);
         self.most = n;
         Ok(())
     }
 
-    /// A tableau that was kept, or a new one.
+    // A tableau that was kept, or a new one.
     pub(crate) fn spare(&mut self, alloc: Global) -> Tableau
         ensures { self.new ≡ self.old }
     {
@@ -87,11 +97,13 @@ impl Pending {
         }
     }
 
-    /// Keeps a tableau.
+    // Keeps a tableau, where there is a place for it.
     pub(crate) fn keep(&mut self, spare: Tableau)
         ensures { self.new ≡ self.old }
     {
-        let _ = self.spares.push(spare);
+        if self.stack.len() + self.spares.len() < self.most {
+            let _ = self.spares.push(spare);
+        }
     }
 
     /// Whether nothing waits.
@@ -106,6 +118,9 @@ impl Pending {
         requires { length self.old.frames < self.old.most }
         ensures { self.new ≡ record self.old { frames = f ∷ self.old.frames } }
     {
+        if self.stack.len() + self.spares.len() >= self.most {
+            let _ = self.spares.pop();
+        }
         self.stack.push(f).unwrap();
     }
 
