@@ -12,7 +12,7 @@ use super::certified::write_certified;
 use crate::items::Items;
 use pip_endings::Ending;
 use pip_problem::Problem;
-use pip_solve::solve;
+use pip_solve::Solver;
 use pip_words::SolveOptions;
 use polylib_reader::read_matrices;
 use quast::Answer;
@@ -33,7 +33,7 @@ fn simplify_if(simplify: bool, answer: Answer) -> Answer
 
 // Puts the text of a problem's answer into `text`.
 fn write_answer(
-    alloc: Global,
+    solver: &mut Solver,
     options: &SolveOptions,
     problem: &Problem,
     text: &mut Vec<u8>,
@@ -43,7 +43,7 @@ fn write_answer(
     ensures text { IsTextOfItem (solved_text options.now.simplify options.now.limits problem.now)
         result text.new.items }
 {
-    let answer = solve(alloc, problem, &options.limits)?;
+    let answer = solver.solve(problem, &options.limits)?;
     let answer = simplify_if(options.simplify, answer);
     print_answer(problem.comment(), &answer, text)?;
     Ok(())
@@ -51,7 +51,7 @@ fn write_answer(
 
 // Puts the text of a problem's answer into `text`, with its certificate where that is asked for.
 pub(crate) fn write_solution(
-    alloc: Global,
+    solver: &mut Solver,
     options: &SolveOptions,
     problem: &Problem,
     text: &mut Vec<u8>,
@@ -61,9 +61,9 @@ pub(crate) fn write_solution(
     ensures text { IsTextOfItem (text_of (Solve (options_of options.now)) problem.now) result text.new.items }
 {
     if options.certificate {
-        write_certified(alloc, &options.limits, problem, text)
+        write_certified(solver.allocator(), &options.limits, problem, text)
     } else {
-        write_answer(alloc, options, problem, text)
+        write_answer(solver, options, problem, text)
     }
 }
 
@@ -99,6 +99,7 @@ impl Items for Matrices<'_> {
     }
 
     fn put(&self, alloc: Global, problem: Problem, text: &mut Vec<u8>) -> Result<(), Ending> {
-        write_solution(alloc, self.options, &problem, text)
+        let mut solver = Solver::new(alloc);
+        write_solution(&mut solver, self.options, &problem, text)
     }
 }

@@ -1,7 +1,7 @@
 use Rattle.pip_items.proofs.Words.{refl, ap, arith, true, false, err_from_is_err_and, Ok, Appends, AppendsFront, options_of}
 use Rattle.pip_items.proofs.ByProblem.{unread-told, unanswered-told, answers-told, next-limit, own-limit, own-not_long, next-words, own-words, err-not_ok, faults-none, faults-next, faults-own, faults-write}
 use Rattle.pip_items.proofs.Turns.{calls-refused}
-use Rattle.pip_items.proofs.problems.answer_next.Goals as goal
+use Rattle.pip_items.proofs.problems.answer_next_in.Goals as goal
 
 pub next_problem-requires : goal.next_problem-requires
 next_problem-requires g c = record { few = c.requires.held; within = c.requires.taken }

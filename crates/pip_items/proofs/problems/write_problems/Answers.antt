@@ -35,18 +35,18 @@ loop-window-init g c =
 
 -- ---- a problem is not answered
 
-pub answer_next-requires : goal.answer_next-requires
-answer_next-requires g c = record { held = c.loop-window.invariant.ready.few; taken = c.loop-window.invariant.ready.within }
+pub answer_next_in-requires : goal.answer_next_in-requires
+answer_next_in-requires g c = record { held = c.loop-window.invariant.ready.few; taken = c.loop-window.invariant.ready.within }
 
-pub returns-in_err-answer_next : goal.returns-in_err-answer_next
-returns-in_err-answer_next g c =
-    let p = err_from_is_err_and c.from_residual-in_err-answer_next.result c.from_residual-in_err-answer_next.ensures.1 in
+pub returns-in_err-answer_next_in : goal.returns-in_err-answer_next_in
+returns-in_err-answer_next_in g c =
+    let p = err_from_is_err_and c.from_residual-in_err-answer_next_in.result c.from_residual-in_err-answer_next_in.ensures.1 in
     record {
-      output = rw (p.1, p.2) (err-output g.S.Source.calls g.S.Source.taken g.S.Source.left (options_of c.args.options.now) c.requires c.args.source.now c.loop-window.source c.answer_next.new.source c.loop-window.window c.answer_next.new.window (g.K.Sink.written c.args.sink.now) (g.K.Sink.written c.loop-window.sink) (is_found c.answer_next.result) c.loop-window.invariant.reached c.answer_next.ensures.calls (g.K.Sink.written c.answer_next.new.sink) _ c.loop-window.invariant.ready (λ q. ap g.K.Sink.written (c.in_err-answer_next.ensures.kept (λ h. cc) (λ h. q (err-same _ _ h)))) (err-limit _ _ c.in_err-answer_next.ensures.limit) c.in_err-answer_next.ensures.answers);
-      words = rw (p.1, p.2) (λ h. c.in_err-answer_next.ensures.words (ap (λ x. Err x) (err-same _ _ h)));
+      output = rw (p.1, p.2) (err-output g.S.Source.calls g.S.Source.taken g.S.Source.left (options_of c.args.options.now) c.requires c.args.source.now c.loop-window.source c.answer_next_in.new.source c.loop-window.window c.answer_next_in.new.window (g.K.Sink.written c.args.sink.now) (g.K.Sink.written c.loop-window.sink) (is_found c.answer_next_in.result) c.loop-window.invariant.reached c.answer_next_in.ensures.calls (g.K.Sink.written c.answer_next_in.new.sink) _ c.loop-window.invariant.ready (λ q. ap g.K.Sink.written (c.in_err-answer_next_in.ensures.kept (λ h. cc) (λ h. q (err-same _ _ h)))) (err-limit _ _ c.in_err-answer_next_in.ensures.limit) c.in_err-answer_next_in.ensures.answers);
+      words = rw (p.1, p.2) (λ h. c.in_err-answer_next_in.ensures.words (ap (λ x. Err x) (err-same _ _ h)));
       end = λ h. err-not_ok _ _ tt p.1 h;
-      calls = calls-by g.S.Source.calls g.S.Source.taken g.S.Source.left (options_of c.args.options.now) c.requires c.args.source.now c.loop-window.source c.answer_next.new.source c.loop-window.window c.answer_next.new.window (g.K.Sink.written c.args.sink.now) (g.K.Sink.written c.loop-window.sink) (is_found c.answer_next.result) c.loop-window.invariant.reached c.answer_next.ensures.calls c.answer_next.ensures.bound;
-      faults = rw (p.1, p.2) (faults-after _ _ _ _ _ _ c.loop-window.invariant.read_quiet c.loop-window.invariant.write_quiet _ c.in_err-answer_next.ensures.faults);
+      calls = calls-by g.S.Source.calls g.S.Source.taken g.S.Source.left (options_of c.args.options.now) c.requires c.args.source.now c.loop-window.source c.answer_next_in.new.source c.loop-window.window c.answer_next_in.new.window (g.K.Sink.written c.args.sink.now) (g.K.Sink.written c.loop-window.sink) (is_found c.answer_next_in.result) c.loop-window.invariant.reached c.answer_next_in.ensures.calls c.answer_next_in.ensures.bound;
+      faults = rw (p.1, p.2) (faults-after _ _ _ _ _ _ c.loop-window.invariant.read_quiet c.loop-window.invariant.write_quiet _ c.in_err-answer_next_in.ensures.faults);
     }
 
 -- ---- once more
@@ -56,16 +56,16 @@ same-window g c = search rules
 
 pub loop-window-smaller : goal.loop-window-smaller
 loop-window-smaller g c =
-    let more = c.in_ok-answer_next.ensures.dropped (ap (λ x. Ok x) c.if-branch.true) in
-    let ready = c.in_ok-answer_next.ensures.ready in
+    let more = c.in_ok-answer_next_in.ensures.dropped (ap (λ x. Ok x) c.if-branch.true) in
+    let ready = c.in_ok-answer_next_in.ensures.ready in
     omega (arith, more, ready.within)
 
 pub loop-window-preserved : goal.loop-window-preserved
 loop-window-preserved g c =
-    let done = faults-ok _ _ _ _ _ c.in_ok-answer_next.ensures.faults in
+    let done = faults-ok _ _ _ _ _ c.in_ok-answer_next_in.ensures.faults in
     record {
-      ready = c.in_ok-answer_next.ensures.ready;
-      reached = reaches g.S.Source.calls g.S.Source.taken g.S.Source.left (options_of c.args.options.now) c.requires c.args.source.now c.loop-window.source c.answer_next.new.source c.loop-window.window c.answer_next.new.window (g.K.Sink.written c.args.sink.now) (g.K.Sink.written c.loop-window.sink) true c.loop-window.invariant.reached (rw c.if-branch.true at c.in_ok-answer_next.ensures.calls) refl (g.K.Sink.written c.answer_next.new.sink) (rw c.if-branch.true at c.in_ok-answer_next.ensures.answers);
+      ready = c.in_ok-answer_next_in.ensures.ready;
+      reached = reaches g.S.Source.calls g.S.Source.taken g.S.Source.left (options_of c.args.options.now) c.requires c.args.source.now c.loop-window.source c.answer_next_in.new.source c.loop-window.window c.answer_next_in.new.window (g.K.Sink.written c.args.sink.now) (g.K.Sink.written c.loop-window.sink) true c.loop-window.invariant.reached (rw c.if-branch.true at c.in_ok-answer_next_in.ensures.calls) refl (g.K.Sink.written c.answer_next_in.new.sink) (rw c.if-branch.true at c.in_ok-answer_next_in.ensures.answers);
       read_quiet = done.0 ∙ c.loop-window.invariant.read_quiet;
       write_quiet = done.1 ∙ c.loop-window.invariant.write_quiet;
     }
@@ -75,11 +75,11 @@ loop-window-preserved g c =
 pub returns : goal.returns
 returns g c =
     record {
-      output = none-output g.S.Source.calls g.S.Source.taken g.S.Source.left (options_of c.args.options.now) c.requires c.args.source.now c.loop-window.source c.answer_next.new.source c.loop-window.window c.answer_next.new.window (g.K.Sink.written c.args.sink.now) (g.K.Sink.written c.loop-window.sink) (is_found c.answer_next.result) c.loop-window.invariant.reached c.answer_next.ensures.calls (g.K.Sink.written c.answer_next.new.sink) (ap g.K.Sink.written (c.in_ok-answer_next.ensures.kept (λ h. absurd (let t = h in let f = c.if-branch.false in cc)) (λ h. cc))) c.in_ok-answer_next.ensures.ready.within (rw c.if-branch.false at c.in_ok-answer_next.ensures.answers);
+      output = none-output g.S.Source.calls g.S.Source.taken g.S.Source.left (options_of c.args.options.now) c.requires c.args.source.now c.loop-window.source c.answer_next_in.new.source c.loop-window.window c.answer_next_in.new.window (g.K.Sink.written c.args.sink.now) (g.K.Sink.written c.loop-window.sink) (is_found c.answer_next_in.result) c.loop-window.invariant.reached c.answer_next_in.ensures.calls (g.K.Sink.written c.answer_next_in.new.sink) (ap g.K.Sink.written (c.in_ok-answer_next_in.ensures.kept (λ h. absurd (let t = h in let f = c.if-branch.false in cc)) (λ h. cc))) c.in_ok-answer_next_in.ensures.ready.within (rw c.if-branch.false at c.in_ok-answer_next_in.ensures.answers);
       words = λ h. cc;
-      end = λ h. c.in_ok-answer_next.ensures.end (ap (λ x. Ok x) c.if-branch.false);
-      calls = calls-by g.S.Source.calls g.S.Source.taken g.S.Source.left (options_of c.args.options.now) c.requires c.args.source.now c.loop-window.source c.answer_next.new.source c.loop-window.window c.answer_next.new.window (g.K.Sink.written c.args.sink.now) (g.K.Sink.written c.loop-window.sink) (is_found c.answer_next.result) c.loop-window.invariant.reached c.answer_next.ensures.calls c.answer_next.ensures.bound;
+      end = λ h. c.in_ok-answer_next_in.ensures.end (ap (λ x. Ok x) c.if-branch.false);
+      calls = calls-by g.S.Source.calls g.S.Source.taken g.S.Source.left (options_of c.args.options.now) c.requires c.args.source.now c.loop-window.source c.answer_next_in.new.source c.loop-window.window c.answer_next_in.new.window (g.K.Sink.written c.args.sink.now) (g.K.Sink.written c.loop-window.sink) (is_found c.answer_next_in.result) c.loop-window.invariant.reached c.answer_next_in.ensures.calls c.answer_next_in.ensures.bound;
       faults =
-          let done = faults-ok _ _ _ _ _ c.in_ok-answer_next.ensures.faults in
+          let done = faults-ok _ _ _ _ _ c.in_ok-answer_next_in.ensures.faults in
           faults-none _ _ 0 _ _ 0 (done.0 ∙ c.loop-window.invariant.read_quiet) (done.1 ∙ c.loop-window.invariant.write_quiet) tt;
     }
