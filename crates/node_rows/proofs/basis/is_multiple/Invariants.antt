@@ -1,0 +1,6 @@
+use Rattle.std.proofs.Common.{take, All}
+use Rattle.form_laws.specs.Columns.{IsScaled}
+use Rattle.node_rows.proofs.basis.is_multiple.Given as goal
+
+abbrev pub invariant-loop-j : goal.invariant-loop-j
+invariant-loop-j l = All (IsScaled l.rows.unknowns l.rows.width l.scale) (take l.j l.rows.rows)

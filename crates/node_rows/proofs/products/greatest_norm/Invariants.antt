@@ -1,0 +1,6 @@
+use Rattle.std.proofs.Common.{◌≤◌, take, All}
+use Rattle.form_laws.specs.Bounds as bounds
+use Rattle.node_rows.proofs.products.greatest_norm.Given as goal
+
+abbrev pub invariant-loop-form : goal.invariant-loop-form
+invariant-loop-form l = All (λ f. bounds.norm f ≤ l.greatest) (take l.form-index l.forms)

@@ -1,0 +1,7 @@
+use Rattle.std.proofs.Common.{◌≡◌, map}
+use Rattle.pip_model.specs.Rows.{count_from}
+use Rattle.node_rows.specs.ReadRows.{summed}
+use Rattle.node_rows.proofs.reading.coefficients.Given as goal
+
+abbrev pub invariant-loop-k : goal.invariant-loop-k
+invariant-loop-k l = l.made.items ≡ map (summed l.rows l.basis l.form) (count_from 0 l.k)
