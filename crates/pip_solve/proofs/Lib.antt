@@ -6,6 +6,7 @@ pub mod Handing
 pub mod Popping
 pub mod Turned
 pub mod Scanning
+pub mod FirstRows
 pub mod Knowing
 pub mod KnownPlaces
 pub mod Cutting

@@ -5,9 +5,9 @@ ghost use Rattle.pip_solve.specs.Frames.{finished, next_run, HasNextRoom, IsClos
 use crate::path::Path;
 use crate::pending::{Frame, Pending};
 use affine_forms::WantOfMemory;
+use node_rows::NodeRows;
 use quast::Quast;
 use std::mem::replace;
-use tableau::Tableau;
 
 // What is in hand next: the node of the rows, or the whole tree.
 #[derive(Drop)]
@@ -16,8 +16,8 @@ pub(crate) enum Next {
     Tree(Quast),
 }
 
-// The rows become these, and the tableau that held them before is kept.
-fn take_rows(rows: &mut Tableau, due: Tableau, pending: &mut Pending)
+// The rows become these, and those that held them before are kept as room.
+fn take_rows(rows: &mut NodeRows, due: NodeRows, pending: &mut Pending)
     ensures rows { rows.new ≡ due }
     ensures kept { pending.new ≡ pending.old }
 {
@@ -28,7 +28,7 @@ fn take_rows(rows: &mut Tableau, due: Tableau, pending: &mut Pending)
 // node, the path goes back there, and the opposite condition joins the context.
 pub(crate) fn close(
     tree: Quast,
-    rows: &mut Tableau,
+    rows: &mut NodeRows,
     path: &mut Path,
     pending: &mut Pending,
 ) -> Result<Next, WantOfMemory>

@@ -22,14 +22,15 @@ use affine_forms::{Form, WantOfMemory};
 use context::Work;
 use gomory_cut::parametric_cut_by;
 use new_parameters::Quotient;
+use node_rows::NodeRows;
 use pip_problem::Refusal;
 use quast::Quast;
 use std::alloc::Global;
 use tableau::Tableau;
 
-// Makes the rows below a new parameter: each is over one place more, and the cut of row i by it is added. The residue
-// is the row's.
-fn cut_below(rows: &mut Tableau, i: usize, residue: &Form) -> Result<(), WantOfMemory>
+// Makes the rows of a tableau below a new parameter: each is over one place more, and the cut of row i by it is added.
+// The residue is the row's.
+fn cut_made_below(rows: &mut Tableau, i: usize, residue: &Form) -> Result<(), WantOfMemory>
     requires within { i < length rows.old.rows }
     requires row { IsRow rows.old.unknowns rows.old.width (row_at rows.old.rows i) }
     requires width { rows.old.width < 2 ^ 64 - 1 }
@@ -47,6 +48,26 @@ fn cut_below(rows: &mut Tableau, i: usize, residue: &Form) -> Result<(), WantOfM
     let mut widened = residue.try_clone(rows.allocator())?;
     widened.widen(1)?;
     parametric_cut_by(rows, i, &widened, place)?;
+    Ok(())
+}
+
+// Makes the rows below a new parameter, once each row is made.
+fn cut_below(rows: &mut NodeRows, i: usize, residue: &Form) -> Result<(), WantOfMemory>
+    requires within { i < length rows.old.rows }
+    requires row { IsRow rows.old.unknowns rows.old.width (row_at rows.old.rows i) }
+    requires width { rows.old.width < 2 ^ 64 - 1 }
+    requires residue { residue.now ≡ (cuts.residue_of (row_at rows.old.rows i)).form }
+    ensures { OnOk result (rows.new
+        ≡ record {
+          unknowns = rows.old.unknowns;
+          width = rows.old.width + 1;
+          rows = map widened rows.old.rows
+              ++ cuts.parametric_cut (widened (row_at rows.old.rows i)) rows.old.width ∷ [];
+        }) }
+{
+    let mut made = rows.take_made()?;
+    cut_made_below(&mut made, i, residue)?;
+    rows.put(made);
     Ok(())
 }
 
@@ -71,8 +92,8 @@ fn add_quotient(alloc: Global, path: &mut Path, key: Quotient) -> Result<(), Wan
     Ok(())
 }
 
-// A copy of the rows, in the room of a tableau that was kept if there is one.
-fn copy_rows(rows: &Tableau, pending: &mut Pending) -> Result<Tableau, WantOfMemory>
+// A copy of the rows, in the room of rows that were kept if there are any.
+fn copy_rows(rows: &NodeRows, pending: &mut Pending) -> Result<NodeRows, WantOfMemory>
     ensures value { IfOk result (λ t. t ≡ rows.now) }
     ensures kept { pending.new ≡ pending.old }
 {
@@ -83,7 +104,7 @@ fn copy_rows(rows: &Tableau, pending: &mut Pending) -> Result<Tableau, WantOfMem
 
 // An if of a condition: the node of its first tree is next, that of its second is due.
 fn split(
-    rows: &Tableau,
+    rows: &NodeRows,
     condition: Form,
     path: &mut Path,
     pending: &mut Pending,
@@ -112,7 +133,7 @@ fn split(
 
 // The new parameter of the quotient that cuts row i: the node below it is next.
 fn define_below(
-    rows: &mut Tableau,
+    rows: &mut NodeRows,
     i: usize,
     key: Quotient,
     path: &mut Path,
@@ -138,7 +159,7 @@ fn define_below(
 // What is in hand after a turn.
 fn follow(
     turn: Turn,
-    rows: &mut Tableau,
+    rows: &mut NodeRows,
     path: &mut Path,
     pending: &mut Pending,
 ) -> Result<Next, WantOfMemory>
@@ -166,7 +187,7 @@ fn follow(
 // The tree of a node and of the frames that wait for it: the run from it, turn by turn. A node that goes on stays where
 // it is, and so do the forms that are known on its context.
 fn run(
-    rows: &mut Tableau,
+    rows: &mut NodeRows,
     path: &mut Path,
     rooms: &mut Rooms,
     work: &mut Work,
@@ -206,7 +227,7 @@ fn make_room(path: &mut Path, pending: &mut Pending, levels: usize) -> Result<()
 // The tree of a problem's first node after a turn that leaves it for a node below.
 fn run_below(
     turn: Turn,
-    rows: &mut Tableau,
+    rows: &mut NodeRows,
     path: &mut Path,
     rooms: &mut Rooms,
     work: &mut Work,
@@ -227,7 +248,7 @@ fn run_below(
 // The tree of a problem's first node, with at most so many levels below it. Where no turn leaves the node, no frame
 // ever waits, and no room is taken for any, nor for the forms of levels below.
 pub(crate) fn run_first(
-    rows: &mut Tableau,
+    rows: &mut NodeRows,
     path: &mut Path,
     rooms: &mut Rooms,
     levels: usize,

@@ -2,10 +2,10 @@ ghost use Rattle.std.specs.Prelude.{◌≡◌, ◌<◌, ◌≤◌, [], ◌∷◌
 
 use affine_forms::{Form, WantOfMemory};
 use context::ContextMark;
+use node_rows::NodeRows;
 use quast::Quast;
 use std::alloc::Global;
 use std::marker::Model;
-use tableau::Tableau;
 
 /// What waits for a tree: an if whose second tree is due, from these rows and back at these marks, once its first is
 /// made; an if whose first tree is made, and which waits for its second; a new parameter, which waits for the tree
@@ -14,7 +14,7 @@ use tableau::Tableau;
 pub enum Frame {
     SecondDue {
         condition: Form,
-        rows: Tableau,
+        rows: NodeRows,
         context: ContextMark,
         quotients: usize,
     },
@@ -29,13 +29,13 @@ pub enum Frame {
 }
 
 /// The frames that wait, on a stack with room for all that may. Contracts see them as a list, the one pushed last
-/// first, and how many may wait. Tableaus that are done with are kept as room for others, with the frames no more than
-/// may wait.
+/// first, and how many may wait. Rows that are done with are kept as room for others, with the frames no more than may
+/// wait.
 #[derive(Drop)]
 pub struct Pending {
     most: usize,
     stack: Vec<Frame>,
-    spares: Vec<Tableau>,
+    spares: Vec<NodeRows>,
 }
 
 impl Model for Pending {
@@ -87,18 +87,18 @@ impl Pending {
         Ok(())
     }
 
-    // A tableau that was kept, or a new one.
-    pub(crate) fn spare(&mut self, alloc: Global) -> Tableau
+    // Rows that were kept, or new ones.
+    pub(crate) fn spare(&mut self, alloc: Global) -> NodeRows
         ensures { self.new ≡ self.old }
     {
         match self.spares.pop() {
             Some(spare) => spare,
-            None => Tableau::new(alloc, 0, 0),
+            None => NodeRows::new(alloc, 0, 0),
         }
     }
 
-    // Keeps a tableau, where there is a place for it.
-    pub(crate) fn keep(&mut self, spare: Tableau)
+    // Keeps rows, where there is a place for them.
+    pub(crate) fn keep(&mut self, spare: NodeRows)
         ensures { self.new ≡ self.old }
     {
         if self.stack.len() + self.spares.len() < self.most {

@@ -1,4 +1,6 @@
-ghost use Rattle.std.specs.Prelude.{◌≡◌, ℕ, ℤ, ◌+◌, ◌<◌, ◌≤◌, List, IfOk, IfSome, IsTrue, false, length};
+ghost use Rattle.std.specs.Prelude.{◌≡◌, ℕ, ℤ, ◌+◌, ◌<◌, ◌≤◌, List, IfOk, IfSome, IsTrue, false, true, length};
+ghost use Rattle.std.specs.List.{list_all};
+ghost use Rattle.pip_model.specs.Numbers.{is_nonneg};
 ghost use Rattle.pip_model.specs.Rows.{row_at};
 ghost use Rattle.pip_model.specs.Run as model;
 ghost use Rattle.pip_model.specs.Run.{AllPlus, Done, Plus};
@@ -13,6 +15,7 @@ ghost use Rattle.pip_solve.specs.Signs.{signs_of, kept_signs, keep_class, scanne
 use crate::known::KnownForms;
 use affine_forms::Form;
 use context::{Context, Work};
+use node_rows::NodeRows;
 use pip_problem::Refusal;
 use sign_split::{Class, class_of_entries, is_nowhere_below};
 use std::alloc::Global;
@@ -68,8 +71,59 @@ fn class_anew(
     }
 }
 
-// The class of the constant form of row i. A row that is a column's own row is at least 0 everywhere.
-fn class_of_row(
+// The class of the form of these entries, which may be known.
+#[inline(always)]
+fn class_of_form(
+    alloc: Global,
+    context: &mut Context,
+    known: &mut KnownForms,
+    entries: &[i128],
+    work: &mut Work,
+) -> Result<Class, Refusal>
+    requires form { IsForm entries.now }
+    requires narrow { length entries.now ≤ context.old.width + 1 }
+    requires known { AreKnown context.old.forms context.old.width work.old.budget known.old }
+    ensures gives { IsCountedRun class_of run_fault result work.old work.new
+        (model.class context.old.forms context.old.width entries.now) }
+    ensures condition { IfOk result (ConditionIs (length entries.now)) }
+    ensures kept { IsKeptContext context.old context.new }
+    ensures known { AreKnown context.old.forms context.old.width work.old.budget known.new }
+{
+    if is_known_again(known, entries, work) {
+        return Ok(Class::Plus);
+    }
+    class_anew(alloc, context, known, entries, work)
+}
+
+// Whether no entry of the constant form of row i of a tableau is below 0. A row that is a column's own row is 0
+// everywhere.
+#[inline(always)]
+fn is_made_above(rows: &Tableau, i: usize) -> bool
+    requires { i < length rows.now.rows }
+    ensures { IsTrue result → list_all is_nonneg (row_at rows.now.rows i).constant ≡ true }
+{
+    if let Some(_) = rows.column_of(i) {
+        return true;
+    }
+    is_nowhere_below(rows.row(i).constant)
+}
+
+// Whether it is seen at once that no entry of the constant form of row i is below 0.
+#[inline(always)]
+fn is_above(rows: &NodeRows, i: usize) -> bool
+    requires { i < length rows.now.rows }
+    ensures { IsTrue result → list_all is_nonneg (row_at rows.now.rows i).constant ≡ true }
+{
+    let made = rows.made();
+    if i < made.rows() {
+        is_made_above(made, i)
+    } else {
+        rows.is_nowhere_below(i)
+    }
+}
+
+// The class of the constant form of row i of a tableau.
+fn class_of_made(
     rows: &Tableau,
     i: usize,
     context: &mut Context,
@@ -85,17 +139,78 @@ fn class_of_row(
     ensures kept { IsKeptContext context.old context.new }
     ensures known { AreKnown context.old.forms context.old.width work.old.budget known.new }
 {
-    if let Some(_) = rows.column_of(i) {
-        return Ok(Class::Plus);
-    }
     let row = rows.row(i);
-    if is_nowhere_below(row.constant) {
+    class_of_form(rows.allocator(), context, known, row.constant, work)
+}
+
+// The class of the constant form of row i, which is read off its form.
+fn class_by_form(
+    rows: &NodeRows,
+    i: usize,
+    context: &mut Context,
+    known: &mut KnownForms,
+    work: &mut Work,
+) -> Result<Class, Refusal>
+    requires row { i < length rows.now.rows }
+    requires scope { context.old.width ≡ rows.now.width }
+    requires known { AreKnown context.old.forms context.old.width work.old.budget known.old }
+    ensures gives { IsCountedRun class_of run_fault result work.old work.new
+        (model.class context.old.forms context.old.width (row_at rows.now.rows i).constant) }
+    ensures class { IfOk result (ClassIs rows.now.width) }
+    ensures kept { IsKeptContext context.old context.new }
+    ensures known { AreKnown context.old.forms context.old.width work.old.budget known.new }
+{
+    let constant = rows.constant(i)?;
+    class_of_form(rows.allocator(), context, known, constant.as_slice(), work)
+}
+
+// The class of the constant form of row i, where it is not seen at once.
+fn class_of_constant(
+    rows: &NodeRows,
+    i: usize,
+    context: &mut Context,
+    known: &mut KnownForms,
+    work: &mut Work,
+) -> Result<Class, Refusal>
+    requires row { i < length rows.now.rows }
+    requires scope { context.old.width ≡ rows.now.width }
+    requires known { AreKnown context.old.forms context.old.width work.old.budget known.old }
+    ensures gives { IsCountedRun class_of run_fault result work.old work.new
+        (model.class context.old.forms context.old.width (row_at rows.now.rows i).constant) }
+    ensures class { IfOk result (ClassIs rows.now.width) }
+    ensures kept { IsKeptContext context.old context.new }
+    ensures known { AreKnown context.old.forms context.old.width work.old.budget known.new }
+{
+    let made = rows.made();
+    if i < made.rows() {
+        class_of_made(made, i, context, known, work)
+    } else {
+        class_by_form(rows, i, context, known, work)
+    }
+}
+
+// The class of the constant form of row i.
+#[inline(always)]
+fn class_of_row(
+    rows: &NodeRows,
+    i: usize,
+    context: &mut Context,
+    known: &mut KnownForms,
+    work: &mut Work,
+) -> Result<Class, Refusal>
+    requires row { i < length rows.now.rows }
+    requires scope { context.old.width ≡ rows.now.width }
+    requires known { AreKnown context.old.forms context.old.width work.old.budget known.old }
+    ensures gives { IsCountedRun class_of run_fault result work.old work.new
+        (model.class context.old.forms context.old.width (row_at rows.now.rows i).constant) }
+    ensures class { IfOk result (ClassIs rows.now.width) }
+    ensures kept { IsKeptContext context.old context.new }
+    ensures known { AreKnown context.old.forms context.old.width work.old.budget known.new }
+{
+    if is_above(rows, i) {
         return Ok(Class::Plus);
     }
-    if is_known_again(known, row.constant, work) {
-        return Ok(Class::Plus);
-    }
-    class_anew(rows.allocator(), context, known, row.constant, work)
+    class_of_constant(rows, i, context, known, work)
 }
 
 // The condition kept, which is the first of an unknown sign.
@@ -112,7 +227,7 @@ fn with_class(kept: Option<Form>, class: Class) -> Option<Form>
 // The rows are classed in order; of a known form only the counts are made again. The scan ends at the first row below
 // 0, and the condition of the first of both signs is kept.
 pub(crate) fn scan(
-    rows: &Tableau,
+    rows: &NodeRows,
     context: &mut Context,
     known: &mut KnownForms,
     work: &mut Work,

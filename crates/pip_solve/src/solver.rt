@@ -16,16 +16,16 @@ use crate::path::Path;
 use crate::rooms::Rooms;
 use crate::starting::{start_path, start_rows};
 use context::Work;
+use node_rows::NodeRows;
 use pip_problem::{Limits, Problem, Refusal};
 use quast::{Answer, Quast};
 use std::alloc::Global;
-use tableau::Tableau;
 
 /// The room of a run, which is used again from problem to problem. What was solved before changes no answer, and a
 /// refusal leaves the room for the next problem.
 #[derive(Drop)]
 pub struct Solver {
-    rows: Tableau,
+    rows: NodeRows,
     path: Path,
     rooms: Rooms,
 }
@@ -34,7 +34,7 @@ impl Solver {
     /// No room yet. It takes no memory.
     pub fn new(alloc: Global) -> Solver {
         Solver {
-            rows: Tableau::new(alloc, 0, 0),
+            rows: NodeRows::new(alloc, 0, 0),
             path: Path::new(alloc),
             rooms: Rooms::new(alloc),
         }

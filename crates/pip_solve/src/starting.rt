@@ -7,9 +7,9 @@ ghost use Rattle.pip_solve.specs.Starts.{IsFirstPath};
 use crate::path::Path;
 use affine_forms::{Form, WantOfMemory};
 use context::Context;
+use node_rows::NodeRows;
 use pip_problem::Problem;
 use std::alloc::Global;
-use tableau::Tableau;
 
 // Adds the forms of a problem's context to an empty one.
 pub(crate) fn add_forms(problem: &Problem, context: &mut Context) -> Result<(), WantOfMemory>
@@ -70,12 +70,12 @@ fn are_tight(rows: &[Form]) -> bool
     true
 }
 
-// Makes of a tableau over a problem's unknowns and parameters its first one; in integer mode its rows are tightened.
+// Makes of rows over a problem's unknowns and parameters its first ones; in integer mode they are tightened.
 // Where they are tight, no copies are made.
 pub(crate) fn start_rows(
     alloc: Global,
     problem: &Problem,
-    rows: &mut Tableau,
+    rows: &mut NodeRows,
 ) -> Result<(), WantOfMemory>
     requires unknowns { rows.old.unknowns ≡ problem.now.unknowns }
     requires width { rows.old.width ≡ problem.now.params }

@@ -18,9 +18,10 @@ use crate::known::KnownForms;
 use crate::path::Path;
 use crate::scan::{Signs, scan};
 use affine_forms::{Form, WantOfMemory};
-use context::{Work, enter_and_pivot};
+use context::Work;
 use gomory_cut::{FractionRow, find_fraction};
 use new_parameters::Quotient;
+use node_rows::{NodeRows, enter_and_pivot};
 use pip_problem::Refusal;
 use quast::{Component, Quast};
 use std::alloc::Global;
@@ -37,7 +38,7 @@ pub(crate) enum Turn {
 }
 
 // At a row below 0: bottom where no column enters, else a pivot.
-fn pivot_turn(rows: &mut Tableau, r: usize, work: &mut Work) -> Result<Turn, Refusal>
+fn pivot_turn(rows: &mut NodeRows, r: usize, work: &mut Work) -> Result<Turn, Refusal>
     requires rows { rows.old.unknowns ≤ length rows.old.rows }
     requires row { r < length rows.old.rows }
     ensures gives { (path : Path) → IsCountedRun (turn_of rows.new path) run_fault result work.old work.new
@@ -110,18 +111,40 @@ fn fraction(rows: &Tableau, integer: bool) -> Option<FractionRow>
     if integer { find_fraction(rows) } else { None }
 }
 
+// The cut of a row whose constant form is not whole, once each row is made.
+fn cut_made(
+    rows: &mut NodeRows,
+    fraction: FractionRow,
+    path: &mut Path,
+    work: &mut Work,
+) -> Result<Turn, Refusal>
+    requires node { IsNode rows.old path.old }
+    requires row { fraction.row < length rows.old.rows }
+    requires constant { IsFractionOf rows.old.rows fraction }
+    ensures gives { IsCountedRun (turn_of rows.new path.old) run_fault result work.old work.new
+        (model.cut_turn (setting_of rows.old path.old) (node_of rows.old path.old) fraction.row
+        (row_at rows.old.rows fraction.row)) }
+    ensures turn { IfOk result (TurnIs rows.old rows.new path.old work.new.budget.nesting) }
+    ensures path { IsKept path.old path.new }
+{
+    let mut made = rows.take_made()?;
+    let turn = cut_turn(&mut made, fraction, path, work)?;
+    rows.put(made);
+    Ok(turn)
+}
+
 // Where no row is below 0: a cut where integer mode finds a fraction, else a list.
-fn last_turn(rows: &mut Tableau, path: &mut Path, work: &mut Work) -> Result<Turn, Refusal>
+fn last_turn(rows: &mut NodeRows, path: &mut Path, work: &mut Work) -> Result<Turn, Refusal>
     requires { IsNode rows.old path.old }
     ensures gives { IsCountedRun (turn_of rows.new path.old) run_fault result work.old work.new
         (turn_by (setting_of rows.old path.old) (node_of rows.old path.old) AllPlus) }
     ensures turn { IfOk result (TurnIs rows.old rows.new path.old work.new.budget.nesting) }
     ensures path { IsKept path.old path.new }
 {
-    match fraction(rows, path.integer) {
-        Some(fraction) => cut_turn(rows, fraction, path, work),
+    match fraction(rows.made(), path.integer) {
+        Some(fraction) => cut_made(rows, fraction, path, work),
         None => {
-            let leaf = leaf(rows.allocator(), rows)?;
+            let leaf = leaf(rows.allocator(), rows.made())?;
             Ok(Turn::Closed(leaf))
         }
     }
@@ -129,7 +152,7 @@ fn last_turn(rows: &mut Tableau, path: &mut Path, work: &mut Work) -> Result<Tur
 
 // What the signs of the rows ask for: a pivot or bottom at a row below 0, an if at one of both signs, else a cut or a
 // list.
-fn act(signs: Signs, rows: &mut Tableau, path: &mut Path, work: &mut Work) -> Result<Turn, Refusal>
+fn act(signs: Signs, rows: &mut NodeRows, path: &mut Path, work: &mut Work) -> Result<Turn, Refusal>
     requires node { IsNode rows.old path.old }
     requires signs { SignsAre (length rows.old.rows) rows.old.width signs }
     ensures gives { IsCountedRun (turn_of rows.new path.old) run_fault result work.old work.new
@@ -146,7 +169,7 @@ fn act(signs: Signs, rows: &mut Tableau, path: &mut Path, work: &mut Work) -> Re
 
 // One turn of a node, by the signs of its rows' constant forms on its context.
 pub(crate) fn take_turn(
-    rows: &mut Tableau,
+    rows: &mut NodeRows,
     path: &mut Path,
     known: &mut KnownForms,
     work: &mut Work,

@@ -2,7 +2,7 @@ use Rattle.pip_solve.proofs.Words.{rules, ap, List, ℤ, ◌≡◌, ◌∙◌, m
 use Rattle.pip_model.specs.Cuts as cuts
 use Rattle.gomory_cut.proofs.Residues.{widened_free, widened_residue}
 use Rattle.pip_solve.proofs.Paths.{row_at-widened}
-use Rattle.pip_solve.proofs.node.cut_below.Goals as goal
+use Rattle.pip_solve.proofs.node.cut_made_below.Goals as goal
 
 pub parametric_cut_by-requires-clause-residue : goal.parametric_cut_by-requires-clause-residue
 parametric_cut_by-requires-clause-residue c =
