@@ -1,6 +1,6 @@
 -- What the numbers of a basis tell.
-use Rattle.std.proofs.Common.{◌≡◌, ◌∙◌, refl, ap, sym, subst, ℕ, zero, suc, ◌+◌, ◌-◌, ◌*◌, ◌^◌, ◌<◌, ◌≤◌, ℤ, pos, ◌+ℤ◌, ◌*ℤ◌, ◌≤ℤ◌, ◌<ℤ◌, unsigned_abs, arith, rules, nat_lt, Bool, true, false, List, [], ◌∷◌, ◌++◌, length, take, drop, map, get_or, append_assoc, append-nil}
-use Rattle.std.specs.Prelude.{All, flat_map, if◌then◌else◌, IsTrue}
+use Rattle.std.proofs.Common.{◌≡◌, ◌∙◌, refl, ap, sym, subst, ℕ, zero, suc, ◌+◌, ◌-◌, ◌*◌, ◌^◌, ◌<◌, ◌≤◌, ℤ, pos, ◌+ℤ◌, ◌*ℤ◌, unsigned_abs, arith, rules, nat_lt, true, false, List, [], ◌∷◌, ◌++◌, length, take, drop, get_or, append_assoc, append-nil}
+use Rattle.std.specs.Prelude.{All, flat_map}
 use Rattle.std.proofs.lemmas.Int.{ints, unsigned_abs-mul}
 use Rattle.std.proofs.lemmas.Nat.{mul-le}
 use Rattle.std.proofs.lemmas.Grind.{common_steps}
@@ -9,9 +9,9 @@ use Rattle.std.proofs.lemmas.List.Elements.{All-more, All-push, All-weaker}
 use Rattle.pip_model.specs.Numbers.{floor_div}
 use Rattle.pip_model.specs.Forms.{entry, dot}
 use Rattle.pip_model.specs.Rows.{Row, count_from, row_at, form_row}
-use Rattle.form_laws.specs.ByForm.{coef, place, over, combination, by_form, IsWide, AllWide, IsOver}
-use Rattle.form_laws.specs.Bounds.{norm, RowWithin, AllWithin, IsBounded}
-use Rattle.form_laws.specs.Columns.{part, columns_of, IsScaled, IsBasis, IsSummable}
+use Rattle.form_laws.specs.ByForm.{coef, place, over}
+use Rattle.form_laws.specs.Bounds.{norm}
+use Rattle.form_laws.specs.Columns.{part, columns_of, IsScaled, IsSummable}
 use Rattle.form_laws.proofs.Sizes.{size_sum}
 
 -- ---- sums, number after number

@@ -1,18 +1,18 @@
 -- The rows of a basis are wide, over its multiple, and within its bound.
-use Rattle.std.proofs.Common.{◌≡◌, ◌∙◌, refl, ap, sym, subst, ℕ, zero, suc, ◌+◌, ◌*◌, ◌^◌, ◌<◌, ◌≤◌, ℤ, pos, ◌*ℤ◌, ◌≤ℤ◌, ◌<ℤ◌, unsigned_abs, arith, ◌⊎◌, inl, inr, true, List, [], ◌∷◌, ◌++◌, length, map, take, drop, append-nil, All}
+use Rattle.std.proofs.Common.{◌≡◌, ◌∙◌, refl, ap, sym, subst, ℕ, zero, suc, ◌+◌, ◌*◌, ◌^◌, ◌<◌, ◌≤◌, ℤ, pos, ◌*ℤ◌, ◌<ℤ◌, unsigned_abs, arith, ◌⊎◌, inl, inr, true, List, [], ◌∷◌, ◌++◌, length, map, take, drop, append-nil, All}
 use Rattle.std.proofs.lemmas.Int.{ints, unsigned_abs-mul}
 use Rattle.pip_model.specs.Numbers.{floor_div}
 use Rattle.pip_model.specs.Forms.{entry}
 use Rattle.pip_model.specs.Listed.{all_fit}
-use Rattle.pip_model.specs.Rows.{Row, row_at, form_row, eliminated, pivot, pivot_listed, start, unit_row, count_from}
+use Rattle.pip_model.specs.Rows.{Row, pivot_listed, start, unit_row, count_from}
 use Rattle.tableau_row.specs.Short.{IsShortRow}
-use Rattle.form_laws.specs.ByForm.{coef, place, over, by_form, Kept, Form, made, rows_by, turned, IsWide, AllWide, KeptWide, IsOver, MadeBy, AllForms}
-use Rattle.form_laws.specs.Bounds.{norm, RowWithin, AllWithin, IsBounded, AllShort, KeptShort}
-use Rattle.form_laws.specs.Columns.{part, columns_of, IsScaled, IsBasis}
+use Rattle.form_laws.specs.ByForm.{coef, place, over, by_form, Form, made, IsWide, AllWide, KeptWide, IsOver, MadeBy, AllForms}
+use Rattle.form_laws.specs.Bounds.{norm, AllWithin, IsBounded, AllShort, KeptShort}
+use Rattle.form_laws.specs.Columns.{part, IsScaled, IsBasis}
 use Rattle.form_laws.proofs.Columns.{column_at, part_coef, part_place}
 use Rattle.form_laws.proofs.Listed.{basis_short, pivot_refuses_none}
 use Rattle.form_laws.proofs.Sizes.{short_by_form}
-use Rattle.form_laws.proofs.Invariant.{rows_any, wide_by_form, start_made}
+use Rattle.form_laws.proofs.Invariant.{rows_any, start_made}
 use Rattle.std.proofs.lemmas.List.Elements.{All-take, All-drop}
 
 all_behind : {X : Type 0} (P : X → Type 0) (x : X) (xs : List X) → All P (x ∷ xs) → All P xs

@@ -1,10 +1,9 @@
 -- The numbers of rows over a common multiple of their denominators, column after column.
-use Rattle.std.specs.Prelude.{◌≡◌, ℕ, ◌+◌, ◌-◌, ◌*◌, ◌^◌, ◌<◌, ◌≤◌, ℤ, pos, ◌*ℤ◌, ◌≤ℤ◌, unsigned_abs, nat_lt, List, length, take, map, flat_map, All, if◌then◌else◌}
+use Rattle.std.specs.Prelude.{◌≡◌, ℕ, ◌+◌, ◌-◌, ◌^◌, ◌<◌, ◌≤◌, ℤ, pos, ◌*ℤ◌, ◌≤ℤ◌, unsigned_abs, nat_lt, List, length, take, flat_map, All, if◌then◌else◌}
 use Rattle.pip_model.specs.Numbers.{floor_div}
 use Rattle.pip_model.specs.Forms.{entry, dot}
 use Rattle.pip_model.specs.Rows.{Row, count_from}
 use Rattle.form_laws.specs.ByForm.{coef, place, over, IsWide}
-use Rattle.form_laws.specs.Bounds.{norm}
 
 -- number k of a row over n columns: a coefficient, or behind these an entry of the constant form
 abbrev pub part : ℕ → ℕ → Row → ℤ

@@ -1,16 +1,15 @@
 -- Pivots of rows that are read off their forms.
-use Rattle.std.proofs.Common.{◌≡◌, ◌∙◌, refl, ap, sym, subst, ℕ, zero, suc, ◌+◌, ◌-◌, ◌*◌, ◌^◌, ◌<◌, ◌≤◌, ℤ, pos, ◌≤ℤ◌, ◌<ℤ◌, arith, true, List, [], ◌∷◌, ◌++◌, length, map, take, drop, get_or, append-nil, All}
+use Rattle.std.proofs.Common.{◌≡◌, ◌∙◌, refl, ap, sym, subst, ℕ, zero, suc, ◌+◌, ◌-◌, ◌*◌, ◌^◌, ◌<◌, ◌≤◌, ℤ, pos, ◌≤ℤ◌, ◌<ℤ◌, arith, true, List, [], ◌∷◌, ◌++◌, length, map, take, get_or, append-nil, All}
 use Rattle.std.proofs.lemmas.Int.{ints}
 use Rattle.std.proofs.lemmas.Nat.{mul-le}
 use Rattle.std.proofs.lemmas.List.{map-append, take-append-le, take_all, length-map}
-use Rattle.std.proofs.lemmas.List.Elements.{All-weaker}
 use Rattle.pip_model.specs.Forms.{entry}
 use Rattle.pip_model.specs.Listed.{all_fit}
 use Rattle.pip_model.proofs.Forms.{length-count}
 use Rattle.pip_model.specs.Rows.{Row, row_at, form_row, eliminated, pivot, pivot_listed, entering, entering_of, entering_listed, entering_of_listed, candidates, start, unit_row, count_from}
 use Rattle.tableau_row.specs.Short.{IsShortRow}
 use Rattle.tableau.specs.Tableaus.{TableauRows}
-use Rattle.form_laws.specs.ByForm.{by_form, Kept, Form, turned, IsWide, MadeBy, rows_by}
+use Rattle.form_laws.specs.ByForm.{by_form, Kept, Form, turned, IsWide, rows_by}
 use Rattle.form_laws.specs.Bounds.{norm, AllShort}
 use Rattle.form_laws.specs.Columns.{IsScaled, IsBasis}
 use Rattle.form_laws.proofs.Sizes.{pivot_fits}

@@ -1,10 +1,10 @@
 -- What is read of a form's row is the row.
-use Rattle.std.proofs.Common.{◌≡◌, ◌∙◌, refl, ap, sym, subst, ℕ, zero, suc, ◌+◌, ◌*◌, ◌^◌, ◌<◌, ◌≤◌, ℤ, pos, negsuc, ◌+ℤ◌, ◌*ℤ◌, ◌≤ℤ◌, ◌<ℤ◌, unsigned_abs, arith, rules, true, List, [], ◌∷◌, length, take, drop, map, get_or, All}
+use Rattle.std.proofs.Common.{◌≡◌, ◌∙◌, refl, ap, sym, subst, ℕ, zero, suc, ◌+◌, ◌*◌, ◌^◌, ◌<◌, ◌≤◌, ℤ, pos, negsuc, ◌*ℤ◌, ◌≤ℤ◌, unsigned_abs, arith, true, List, [], ◌∷◌, length, take, drop, map, get_or, All}
 use Rattle.std.specs.List.{list_all}
 use Rattle.std.proofs.lemmas.Int.{ints}
 use Rattle.std.proofs.lemmas.List.{take_all}
 use Rattle.std.proofs.lemmas.List.Elements.{All-take, All-drop}
-use Rattle.pip_model.specs.Numbers.{is_nonneg, fits}
+use Rattle.pip_model.specs.Numbers.{is_nonneg}
 use Rattle.pip_model.specs.Forms.{entry, dot}
 use Rattle.pip_model.specs.Rows.{Row, count_from}
 use Rattle.pip_model.proofs.Forms.{entry-scale}
@@ -14,9 +14,9 @@ use Rattle.tableau_row.specs.Short.{IsShort, IsShortRow}
 use Rattle.tableau_row.specs.Rows.{IsRow}
 use Rattle.tableau_row.proofs.ShortRows.{fits_short}
 use Rattle.tableau.specs.Tableaus.{TableauRows}
-use Rattle.form_laws.specs.ByForm.{coef, place, over, combination, by_form, IsWide, AllWide, IsOver}
+use Rattle.form_laws.specs.ByForm.{coef, place, over}
 use Rattle.form_laws.specs.Bounds.{norm}
-use Rattle.form_laws.specs.Columns.{part, columns_of, IsBasis, IsSummable}
+use Rattle.form_laws.specs.Columns.{part, IsSummable}
 use Rattle.form_laws.proofs.Divided.{undivided}
 use Rattle.form_laws.proofs.Turning.{entry_first, length_counted}
 use Rattle.form_laws.proofs.Sizes.{all_short}

@@ -1,9 +1,8 @@
 use Rattle.std.proofs.lemmas.Grind.{common_steps}
-use Rattle.std.proofs.Common.{arith, ◌≡◌, ◌∙◌, sym, ap, List, [], ◌++◌, map}
+use Rattle.std.proofs.Common.{arith, ◌≡◌, ◌∙◌, sym, ap, [], ◌++◌, map}
 use Rattle.std.proofs.lemmas.List.{append-nil}
-use Rattle.pip_model.specs.Rows.{Row}
 use Rattle.tableau.specs.Tableaus.{TableauRows}
-use Rattle.node_rows.specs.ReadRows.{read, all_rows}
+use Rattle.node_rows.specs.ReadRows.{read}
 use Rattle.node_rows.proofs.stepping.enter_and_pivot.Goals as goal
 
 pub returns-then-is_empty-clause-gives : goal.returns-then-is_empty-clause-gives

@@ -1,6 +1,4 @@
-use Rattle.std.proofs.Common.{rules, ◌≡◌}
-use Rattle.pip_model.specs.Rows.{row_at}
-use Rattle.node_rows.specs.ReadRows.{read, all_rows}
+use Rattle.std.proofs.Common.{rules}
 use Rattle.node_rows.proofs.Pivoting.{read_at}
 use Rattle.node_rows.proofs.node_rows.NodeRows.is_nowhere_below.Goals as goal
 
