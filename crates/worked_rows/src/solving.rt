@@ -189,6 +189,12 @@ const SOLVED: &[Answered] = &[
         input: "((h) 1 0 1 0 -1 1 (#[2 -3]) ())",
         output: "((h)\n(list\n#[ 2]\n)\n)\n",
     },
+    Answered {
+        name: "sixteen bounds of one unknown",
+        words: "pip solve",
+        input: "((the least x from 1, 2, .., 15 and half of p on) 1 1 16 0 -1 1\n(#[1 -1 0]\n #[1 -2 0]\n #[1 -3 0]\n #[1 -4 0]\n #[1 -5 0]\n #[1 -6 0]\n #[1 -7 0]\n #[1 -8 0]\n #[1 -9 0]\n #[1 -10 0]\n #[1 -11 0]\n #[1 -12 0]\n #[1 -13 0]\n #[1 -14 0]\n #[1 -15 0]\n #[2 0 -1])\n())\n",
+        output: "((the least x from 1, 2, .., 15 and half of p on)\n(if #[ -1 30]\n(list\n#[ 0 15]\n)\n(newparm 1 (div #[ 1 0] 2))\n(if #[ -1 2 0]\n(list\n#[ 1 -1 0]\n)\n(list\n#[ 1 -1 0]\n)\n)\n)\n)\n",
+    },
 ];
 
 #[test]
