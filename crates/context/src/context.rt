@@ -114,7 +114,7 @@ impl Context {
         Ok(Context::new(alloc, width))
     }
 
-    /// No forms over so many places from now on. The room of forms and of runs stays.
+    /// No forms over so many places from now on. The room of forms, where there is memory to keep it, and of runs stays.
     pub fn restart(&mut self, width: usize)
         ensures width { self.new.width ≡ width }
         ensures forms { self.new.forms ≡ [] }
@@ -175,7 +175,8 @@ impl Context {
     }
 
     /// Goes back to a mark: keeps as many of the first forms as it says, none of them wider than its width, which
-    /// becomes the context's. The room of the others is free again. Takes no memory.
+    /// becomes the context's. The room of the others is free again. It is not refused: the forms that leave are kept, as
+    /// room for copies, where there is memory for that.
     pub fn back_to(&mut self, mark: ContextMark)
         requires forms { mark.forms ≤ length self.old.forms }
         requires narrow { IsContext mark.width (take mark.forms self.old.forms) }
