@@ -1,29 +1,26 @@
-#!/usr/bin/env python3
 """Draws answers: reads the text of `pip solve` and writes each tree as a graph for Graphviz, or for Mermaid.
 
-    tools/draw [--parameters NAMES] [--unknowns NAMES] [--mermaid] [FILE]
+    lexmin draw [--parameters NAMES] [--unknowns NAMES] [--mermaid] [--merge] [--across] [FILE]
 
-    ./pip solve <examples/tile-of-iteration.pip | tools/draw --parameters i,N --unknowns tile,place | dot -Tpng >tree.png
+    $ ./pip solve <examples/tile-of-iteration.pip | lexmin draw --parameters i,N --unknowns tile,place | dot -Tpng >tree.png
 
 NAMES stand apart by commas, in the order of the problem. Without them parameters are p0, p1, .. and points are bare.
 Unknowns behind the last one that is named are left out. New parameters are called q, or q1, q2, .. along their path.
 Without a FILE the text is standard input. Several answers make several graphs, one behind the other (`dot -O` makes a
 picture of each).
 
-Diamonds are choices with their two branches, rounded boxes the new parameters as floors, and boxes points.
+Diamonds are choices with their two branches, rounded boxes the new parameters as floors, and boxes points. Of a great tree
+--merge draws equal parts once, and --across draws from left to right with low boxes, the branch of `no` dashed.
 """
+from __future__ import annotations
+
 import argparse
 import pathlib
 import sys
-from typing import Iterator, List, Optional, Sequence, Tuple
+from typing import Dict, Iterator, List, Optional, Sequence, Tuple
 
-TOP = pathlib.Path(__file__).resolve().parent.parent
-sys.dont_write_bytecode = True
-sys.path.insert(0, str(TOP / "clients/python"))
-
-from pip_client import (  # noqa: E402
-    Bottom, Choice, Form, NewParameter, Point, Row, Tree, Void, form_of, groups, new_parameter_names, parameter_count,
-    parse_answer)
+from .forms import Form
+from .trees import Choice, NewParameter, Point, Row, Tree, Void, form_of, groups, new_parameter_names, parameter_count, parse_answer
 
 Node = Tuple[str, str, str]  # its name, its shape (choice, floor, point, nothing), what it says
 Arrow = Tuple[str, str, str]  # from a node, to a node, and what it says
@@ -32,29 +29,39 @@ Arrow = Tuple[str, str, str]  # from a node, to a node, and what it says
 class Drawing:
     """The nodes and arrows of a tree, from the root down."""
 
-    def __init__(self, tree: Tree, parameters: Sequence[str], unknowns: Optional[Sequence[str]]) -> None:
-        self.unknowns = unknowns
+    def __init__(self, tree: Tree, parameters: Sequence[str], unknowns: Optional[Sequence[str]], merge: bool = False) -> None:
+        self.unknowns, self.merge = unknowns, merge
         self.first_new = len(parameters)
         self.new = new_parameter_names(tree, parameters)
         self.nodes: List[Node] = []
         self.arrows: List[Arrow] = []
+        self.drawn: Dict[Tuple[object, ...], str] = {}  # the node of each part, by what it says and the nodes below it
         self.draw(tree, list(parameters))
 
     def draw(self, tree: Tree, scope: List[str]) -> str:
-        """Adds the nodes and arrows of a tree; its first node."""
-        place = len(self.nodes)
+        """Adds the nodes and arrows of a tree; its first node. What the names in a part stand for goes by their number alone,
+        so equal parts say the same."""
+        place, arrows = len(self.nodes), len(self.arrows)
         own = f"n{place}"
-        self.nodes.append((own, *self.say(tree, scope)))
+        said = self.say(tree, scope)
+        self.nodes.append((own, *said))
         below: List[Tuple[str, Tree, List[str]]] = []
         if isinstance(tree, Choice):
             below = [("yes", tree.yes, scope), ("no", tree.no, scope)]
         elif isinstance(tree, NewParameter):
             below = [("", tree.below, [*scope, self.new[tree.number - self.first_new]])]
+        made: List[Arrow] = []
         for label, child, inner in below:
             arrow = len(self.arrows)
             self.arrows.append((own, "", label))
-            self.arrows[arrow] = (own, self.draw(child, inner), label)
-        return own
+            made.append((own, self.draw(child, inner), label))
+            self.arrows[arrow] = made[-1]
+        if not self.merge:
+            return own
+        key = (said, tuple(end for _, end, _ in made))
+        if key in self.drawn:  # its nodes below were drawn before, so nothing but the node itself came of it
+            del self.nodes[place], self.arrows[arrows:]
+        return self.drawn.setdefault(key, own)
 
     def say(self, tree: Tree, scope: Sequence[str]) -> Tuple[str, str]:
         """The shape of a node, and its words."""
@@ -83,15 +90,20 @@ def over(tree: NewParameter, scope: Sequence[str]) -> str:
     return f"({text}) / {tree.divisor}" if " " in text else f"{text} / {tree.divisor}"
 
 
-def graphviz(drawing: Drawing, comment: str) -> Iterator[str]:
+def graphviz(drawing: Drawing, comment: str, across: bool = False) -> Iterator[str]:
     shapes = {"choice": "diamond", "floor": "box, style=rounded", "point": "box", "nothing": "plaintext"}
     yield "digraph answer {"
+    if across:
+        shapes.update(choice='box, style="rounded,bold"', floor="plaintext")
+        yield "    rankdir=LR; ranksep=0.25; nodesep=0.08; edge [arrowsize=0.5];"
+        yield '    node [fontsize=10, height=0.2, margin="0.06,0.03"];'
     if comment:
         yield f"    label={quoted(comment)}; labelloc=t;"
     for name, shape, words in drawing.nodes:
         yield f"    {name} [shape={shapes[shape]}, label={quoted(words)}];"
     for start, end, label in drawing.arrows:
-        yield f"    {start} -> {end} [label={quoted(label)}];" if label else f"    {start} -> {end};"
+        look = f"label={quoted(label)}" if label and not across else "style=dashed" if label == "no" else ""
+        yield f"    {start} -> {end} [{look}];" if look else f"    {start} -> {end};"
     yield "}"
 
 
@@ -100,9 +112,9 @@ def quoted(text: str) -> str:
     return f'"{escaped}"'
 
 
-def mermaid(drawing: Drawing) -> Iterator[str]:
+def mermaid(drawing: Drawing, across: bool = False) -> Iterator[str]:
     shapes = {"choice": ("{", "}"), "floor": ("(", ")"), "point": ("[", "]"), "nothing": ("[", "]")}
-    yield "graph TD"
+    yield "graph LR" if across else "graph TD"
     for name, shape, words in drawing.nodes:
         opened, closed = shapes[shape]
         yield f'    {name}{opened}"{words}"{closed}'
@@ -114,7 +126,8 @@ def names_of(text: Optional[str]) -> Optional[List[str]]:
     return None if text is None else [name.strip() for name in text.split(",") if name.strip()]
 
 
-def draw(text: str, parameters: Optional[Sequence[str]], unknowns: Optional[Sequence[str]], as_mermaid: bool) -> str:
+def draw(text: str, parameters: Optional[Sequence[str]] = None, unknowns: Optional[Sequence[str]] = None, *,
+         as_mermaid: bool = False, merge: bool = False, across: bool = False) -> str:
     """One answer as a graph."""
     comment, tree = parse_answer(text)
     count = parameter_count(tree)
@@ -122,30 +135,28 @@ def draw(text: str, parameters: Optional[Sequence[str]], unknowns: Optional[Sequ
         parameters = [f"p{place}" for place in range(count or 0)]
     if count is not None and len(parameters) != count:
         raise ValueError(f"{len(parameters)} names of parameters for an answer over {count}")
-    drawing = Drawing(tree, parameters, unknowns)
-    return "\n".join(mermaid(drawing) if as_mermaid else graphviz(drawing, comment))
+    drawing = Drawing(tree, parameters, unknowns, merge)
+    return "\n".join(mermaid(drawing, across) if as_mermaid else graphviz(drawing, comment, across))
 
 
-def main() -> int:
-    words = argparse.ArgumentParser(description=__doc__, formatter_class=argparse.RawDescriptionHelpFormatter)
-    words.add_argument("--parameters", metavar="NAMES", help="the names of the parameters, apart by commas")
-    words.add_argument("--unknowns", metavar="NAMES", help="the names of the unknowns, apart by commas")
-    words.add_argument("--mermaid", action="store_true", help="a graph for Mermaid in place of Graphviz")
-    words.add_argument("file", nargs="?", type=pathlib.Path, help="the answers; standard input where none is named")
-    chosen = words.parse_args()
-    data = chosen.file.read_bytes() if chosen.file else sys.stdin.buffer.read()
+def main(words: Sequence[str]) -> int:
+    parser = argparse.ArgumentParser(prog="lexmin draw", description=__doc__, formatter_class=argparse.RawDescriptionHelpFormatter)
+    parser.add_argument("--parameters", metavar="NAMES", help="the names of the parameters, apart by commas")
+    parser.add_argument("--unknowns", metavar="NAMES", help="the names of the unknowns, apart by commas")
+    parser.add_argument("--mermaid", action="store_true", help="a graph for Mermaid in place of Graphviz")
+    parser.add_argument("--merge", action="store_true", help="equal parts of the tree are drawn once")
+    parser.add_argument("--across", action="store_true", help="from left to right, with low boxes")
+    parser.add_argument("file", nargs="?", type=pathlib.Path, help="the answers; standard input where none is named")
+    chosen = parser.parse_args(words)
     try:
+        data = chosen.file.read_bytes() if chosen.file else sys.stdin.buffer.read()
         answers = groups(data.decode(errors="replace"))
         if not answers:
             raise ValueError("no answer in the text")
         parameters, unknowns = names_of(chosen.parameters), names_of(chosen.unknowns)
         for answer in answers:
-            print(draw(answer, parameters, unknowns, chosen.mermaid))
-    except ValueError as error:
-        print(f"tools/draw: {error}", file=sys.stderr)
+            print(draw(answer, parameters, unknowns, as_mermaid=chosen.mermaid, merge=chosen.merge, across=chosen.across))
+    except (OSError, ValueError) as error:
+        print(f"lexmin draw: {error}", file=sys.stderr)
         return 1
     return 0
-
-
-if __name__ == "__main__":
-    sys.exit(main())

@@ -1,0 +1,88 @@
+"""Makes a wheel of the package, with nothing but the standard library: what `pip install ./clients/python` calls.
+
+A wheel is an archive of the package's files and of what is said about them. The same sources make the same bytes."""
+import base64
+import hashlib
+import pathlib
+import re
+import tarfile
+import zipfile
+from typing import Any, Dict, Optional
+
+HERE = pathlib.Path(__file__).resolve().parent
+PACKAGE = "lexmin"
+
+
+def _said(name: str) -> str:
+    """What pyproject.toml says of the project under a name."""
+    found = re.search(rf'^{name} = "(.*)"$', (HERE / "pyproject.toml").read_text(), re.MULTILINE)
+    assert found, name
+    return found.group(1)
+
+
+def _version() -> str:
+    found = re.search(r'^__version__ = "(.*)"$', (HERE / PACKAGE / "__init__.py").read_text(), re.MULTILINE)
+    assert found
+    return found.group(1)
+
+
+def _metadata() -> str:
+    return "\n".join([
+        "Metadata-Version: 2.1", f"Name: {PACKAGE}", f"Version: {_version()}", f"Summary: {_said('description')}",
+        f"Requires-Python: {_said('requires-python')}", "Description-Content-Type: text/markdown", "",
+        (HERE / "README.md").read_text()])
+
+
+def _about() -> Dict[str, str]:
+    return {
+        "METADATA": _metadata(),
+        "WHEEL": "Wheel-Version: 1.0\nGenerator: build_backend\nRoot-Is-Purelib: true\nTag: py3-none-any\n",
+        "entry_points.txt": f"[console_scripts]\n{PACKAGE} = {_said(PACKAGE)}\n",
+    }
+
+
+def _wheel(folder: str, files: Dict[str, bytes]) -> str:
+    name = f"{PACKAGE}-{_version()}"
+    about = f"{name}.dist-info"
+    files = {**files, **{f"{about}/{file}": text.encode() for file, text in _about().items()}}
+    record = ""
+    for file, data in files.items():
+        digest = base64.urlsafe_b64encode(hashlib.sha256(data).digest()).rstrip(b"=").decode()
+        record += f"{file},sha256={digest},{len(data)}\n"
+    files[f"{about}/RECORD"] = (record + f"{about}/RECORD,,\n").encode()
+    made = f"{name}-py3-none-any.whl"
+    with zipfile.ZipFile(pathlib.Path(folder) / made, "w", zipfile.ZIP_DEFLATED) as archive:
+        for file, data in files.items():
+            entry = zipfile.ZipInfo(file, (2020, 1, 1, 0, 0, 0))
+            entry.external_attr = 0o644 << 16
+            entry.compress_type = zipfile.ZIP_DEFLATED
+            archive.writestr(entry, data)
+    return made
+
+
+def _sources() -> Dict[str, bytes]:
+    found = sorted(it for it in (HERE / PACKAGE).iterdir() if it.suffix == ".py" or it.name == "py.typed")
+    return {f"{PACKAGE}/{it.name}": it.read_bytes() for it in found}
+
+
+def build_wheel(wheel_directory: str, config_settings: Optional[Dict[str, Any]] = None,
+                metadata_directory: Optional[str] = None) -> str:
+    return _wheel(wheel_directory, _sources())
+
+
+def build_editable(wheel_directory: str, config_settings: Optional[Dict[str, Any]] = None,
+                   metadata_directory: Optional[str] = None) -> str:
+    return _wheel(wheel_directory, {f"{PACKAGE}.pth": f"{HERE}\n".encode()})
+
+
+def build_sdist(sdist_directory: str, config_settings: Optional[Dict[str, Any]] = None) -> str:
+    name = f"{PACKAGE}-{_version()}"
+    with tarfile.open(pathlib.Path(sdist_directory) / f"{name}.tar.gz", "w:gz", format=tarfile.PAX_FORMAT) as archive:
+        for file in ("pyproject.toml", "README.md", "build_backend.py", *_sources()):
+            archive.add(HERE / file, f"{name}/{file}")
+        # what is said of the package stands beside it too
+        about = pathlib.Path(sdist_directory) / "PKG-INFO"
+        about.write_text(_metadata())
+        archive.add(about, f"{name}/PKG-INFO")
+        about.unlink()
+    return f"{name}.tar.gz"

@@ -1,0 +1,31 @@
+"""The commands of the package: `python -m lexmin COMMAND ..`, or `lexmin COMMAND ..` where it is installed."""
+from __future__ import annotations
+
+import sys
+from typing import Optional, Sequence
+
+from . import __version__, drawing, explain
+
+# Of each command its module, whose `main` takes the words behind the command and gives the status.
+COMMANDS = {"draw": drawing.main, "explain": explain.main}
+USAGE = """usage: lexmin draw [--parameters NAMES] [--unknowns NAMES] [--mermaid] [--merge] [--across] [FILE]
+       lexmin explain [--polylib] [--parameters NAMES] [--unknowns NAMES] [FILE]
+       lexmin COMMAND --help"""
+
+
+def main(words: Optional[Sequence[str]] = None) -> int:
+    words = sys.argv[1:] if words is None else words
+    if words[:1] == ["--version"]:
+        print(__version__)
+        return 0
+    if words[:1] in (["--help"], ["-h"]):
+        print(USAGE)
+        return 0
+    if not words or words[0] not in COMMANDS:
+        print(USAGE, file=sys.stderr)
+        return 2
+    return COMMANDS[words[0]](words[1:])
+
+
+if __name__ == "__main__":
+    sys.exit(main())

@@ -1,0 +1,330 @@
+"""Answers: valued and printed by the names of their problem, and what the program's commands make of them."""
+from __future__ import annotations
+
+from dataclasses import dataclass
+from typing import TYPE_CHECKING, Callable, Dict, Iterator, List, Mapping, NoReturn, Optional, Sequence, Tuple, Union
+
+from .forms import Atom, Column, Floor, Form, FormLike, Number, Relation, as_form, checked_name, divided
+from .problems import Space, numbers_over, replaced
+from .trees import (
+    Bottom, Choice, NewParameter, Point, Row, Tree, Void, answer_text, form_of, leaves, new_parameter_names, parse_answer,
+    parse_pieces, value_at)
+
+if TYPE_CHECKING:
+    from .solver import Solver
+
+Found = Optional[Dict[str, Number]]  # a point by names, or none
+
+
+class OutsideContext(ValueError):
+    """An answer was valued at parameters of which it says nothing."""
+
+
+@dataclass(frozen=True)
+class Piece:
+    """A part of an answer: where all `conditions` hold, with each quotient the floor of its form over its divisor, the value
+    is `point`, or there is none. Quotients stand in the order in which they use each other."""
+
+    conditions: Tuple[Form, ...]  # each at least 0
+    quotients: Tuple[Tuple[str, Form, int], ...]
+    point: Optional[Tuple[Tuple[str, Form], ...]]
+
+    def __str__(self) -> str:
+        held = [f"{name} = floor(({form})/{divisor})" for name, form, divisor in self.quotients]
+        held += [f"{form} >= 0" for form in self.conditions]
+        found = "no point" if self.point is None else written_point(self.point)
+        return found + (f" where {', '.join(held)}" if held else "")
+
+
+class Answer:
+    """The answer to a problem. `text` is what the program wrote and `tree` its tree, in the program's terms; `posed` says
+    what these terms stand for. Answers are equal where they are about the same parameters, context and unknowns, and have
+    the same tree. `same` asks whether they have the same values."""
+
+    def __init__(self, posed: Space, text: str, tree: Optional[Tree] = None, solver: Optional[Solver] = None) -> None:
+        self.posed, self.text, self.solver = posed, text, solver
+        self.tree: Tree = parse_answer(text)[1] if tree is None else tree
+
+    def __eq__(self, other: object) -> bool:
+        return isinstance(other, Answer) and (self.posed, self.tree) == (other.posed, other.tree)
+
+    def __hash__(self) -> int:
+        return hash((self.posed, self.tree))
+
+    def __repr__(self) -> str:
+        return (f"Answer({self.posed.comment!r}: ({', '.join(self.posed.asked)}) over ({', '.join(self.posed.parameters)}), "
+                f"{len(leaves(self.tree))} leaves)")
+
+    # Its value.
+
+    def value(self, at: Mapping[str, int] = {}, /, **named: int) -> Found:
+        """The point at parameters, each unknown by its name; none where there is no point."""
+        parameters, sent = self._sent(at, named)
+        return self._named(value_at(self.tree, sent), parameters)
+
+    def eval(self, at: Mapping[str, int] = {}, /, **named: int) -> Found:
+        """The same, by the program's `eval`."""
+        parameters, sent = self._sent(at, named)
+        found = parse_answer(self._run("eval", [], self.text, sent))[1]
+        return self._named(value_at(found, []), parameters)
+
+    def _sent(self, at: Mapping[str, int], named: Mapping[str, int]) -> Tuple[Dict[str, int], List[int]]:
+        parameters = {**at, **named}
+        names = list(self.posed.parameters)
+        if set(parameters) != set(names):
+            raise ValueError(f"the parameters are {', '.join(names) or 'none'}; given were {', '.join(parameters) or 'none'}")
+        if not all(isinstance(number, int) and not isinstance(number, bool) for number in parameters.values()):
+            raise TypeError(f"parameters are whole numbers: {parameters}")
+        if not self.posed.holds_at(parameters):
+            raise OutsideContext(f"outside the context: {parameters}")
+        return parameters, self.posed.sent_values(parameters)
+
+    def _named(self, found: Union[Bottom, Void, Tuple[Number, ...]], parameters: Mapping[str, int]) -> Found:
+        if isinstance(found, Void):
+            raise RuntimeError("the answer is `void`, but the parameters satisfy the context")
+        if isinstance(found, Bottom):
+            return None
+        point = self.posed.point([Form({}, number) for number in found])
+        return {name: form.at(parameters) for name, form in point}
+
+    # What the commands make of it. Contexts are the problem's, with what is added.
+
+    def restrict(self, *relations: Relation) -> Answer:
+        """The answer under further relations between the parameters: without choices that these decide."""
+        posed = self.posed.under(relations)
+        return self._made(posed, self._run("restrict", ["pivots", "cuts"], posed.context_text() + self.text))
+
+    def simplify(self) -> Answer:
+        """The answer without choices that choose nothing and new parameters that nothing uses."""
+        return self._made(self.posed, self._run("simplify", [], self.text))
+
+    def same(self, other: Answer, *relations: Relation) -> bool:
+        """Whether both have the same value at all parameters of both contexts, and of these relations."""
+        return self.difference(other, *relations) is None
+
+    def difference(self, other: Answer, *relations: Relation) -> Optional[Dict[str, int]]:
+        """Parameters at which the values differ; none where there are none."""
+        posed = self._with(other).under(relations)
+        texts = [self.text, other.text] if self.posed.points_key() == other.posed.points_key() else [self._turned(1), other._turned(1)]
+        found = self._run("same", ["pivots", "cuts", "splits"], posed.context_text() + "".join(texts)).strip()
+        if found == "same":
+            return None
+        return posed.values([int(number) for number in found[found.index("[") + 1:found.index("]")].split()])
+
+    def least(self, other: Answer, *, greatest: bool = False) -> Answer:
+        """The answer that has at all parameters of both contexts the lexicographically lesser of the two points, each
+        unknown by its value, or the greater of them. No point counts behind all others."""
+        sign = -1 if greatest else 1
+        posed = self._with(other)
+        text = posed.context_text() + self._turned(sign) + other._turned(sign)
+        made = self._run("least", ["pivots", "cuts", "splits", "nesting"], text)
+        return self._made(_values(posed, posed.asked, sign), made)
+
+    def pieces(self) -> List[Piece]:
+        """The answer taken apart: exactly one piece holds at each vector of whole parameters."""
+        found = parse_pieces(self._run("pieces", [], self.text))
+        names = self._quotient_names()
+        return [self._piece(list(piece.path), piece.leaf, names) for piece in found]
+
+    def put(self, forms: Mapping[str, FormLike] = {}, /, **named: FormLike) -> Answer:
+        """The answer whose points are these forms over the unknowns and the parameters, by their new names, in their order.
+        (An answer to be compared or put together with another one has the other's names in the other's order.)"""
+        given = {checked_name(name): as_form(form) for name, form in {**forms, **named}.items()}
+        if not given:
+            raise ValueError("no form is given")
+        for form in given.values():
+            unknown = [name for name in form.names() if name not in self.posed.points and name not in self.posed.parameters]
+            if unknown:
+                raise ValueError(f"{', '.join(unknown)}: neither an unknown that was asked for nor a parameter")
+        columns = {**{name: self.posed.in_columns(Form({name: 1})) for name in self.posed.parameters}, **self.posed.points}
+        points = {name: replaced(form, columns.__getitem__) for name, form in given.items()}
+        posed = _values(self.posed, list(given), 1)
+        return self._made(posed, answer_text(self.posed.comment, _Turned(self.posed, list(points.values()), 1).tree(self.tree)))
+
+    def _turned(self, sign: int) -> str:
+        """The text of the answer with the unknowns' values, times the sign, as its points."""
+        turned = _Turned(self.posed, list(self.posed.points.values()), sign)
+        return answer_text(self.posed.comment, turned.tree(self.tree))
+
+    def _with(self, other: Answer) -> Space:
+        """What both answers are about: under both contexts."""
+        own, others = self.posed, other.posed
+        if list(own.parameters.items()) != list(others.parameters.items()) or own.asked != others.asked:
+            raise ValueError("the answers are not about the same parameters and unknowns, in the same order: {} over {}, {} over {}".format(
+                own.asked, list(own.parameters), others.asked, list(others.parameters)))
+        return own.under(others.conditions)
+
+    def _made(self, posed: Space, text: str) -> Answer:
+        return Answer(posed, text, solver=self.solver)
+
+    def _run(self, command: str, budgets: Sequence[str], text: str, values: Optional[Sequence[int]] = None) -> str:
+        if self.solver is None:
+            raise ValueError("the answer was not made by a Solver: give it one, Answer(.., solver=solver)")
+        words = [str(len(self.posed.parameters))] if values is None else [str(value) for value in values]
+        return self.solver.run([command, *words, *self.solver.budget_words(budgets)], text)
+
+    # Its words.
+
+    def _quotient_names(self) -> List[str]:
+        return new_parameter_names(self.tree, [*self.posed.parameters, *self.posed.asked])
+
+    def _piece(self, path: List[Union[Row, NewParameter]], leaf: Union[Bottom, Point], names: Sequence[str]) -> Piece:
+        scope = self.posed.scope()
+        conditions: List[Form] = []
+        quotients: List[Tuple[str, Form, int]] = []
+        for step in path:
+            if isinstance(step, NewParameter):
+                name = names[step.number - len(self.posed.parameters)]
+                quotients.append((name, form_of(step.form, scope), step.divisor))
+                scope.append(Form({name: 1}))
+            else:
+                conditions.append(form_of(step, scope))
+        point = None
+        if isinstance(leaf, Point):
+            point = tuple(self.posed.point([form_of(row, scope) for row in leaf.components]))
+        return Piece(tuple(conditions), tuple(quotients), point)
+
+    def __str__(self) -> str:
+        """The tree in words: `if`, `elif` and `else`, `q = form // d` for new parameters, a point as its unknowns."""
+        return "\n".join(self._lines(self.tree, self.posed.scope(), self._quotient_names(), "", "if"))
+
+    def _lines(self, tree: Tree, scope: List[Form], quotients: Sequence[str], margin: str, word: str) -> Iterator[str]:
+        if isinstance(tree, Void):
+            yield f"{margin}void"
+        elif isinstance(tree, Bottom):
+            yield f"{margin}no point"
+        elif isinstance(tree, Point):
+            yield margin + written_point(self.posed.point([form_of(row, scope) for row in tree.components]))
+        elif isinstance(tree, NewParameter):
+            name = quotients[tree.number - len(self.posed.parameters)]
+            yield f"{margin}{name} = ({form_of(tree.form, scope)}) // {tree.divisor}"
+            yield from self._lines(tree.below, [*scope, Form({name: 1})], quotients, margin, "if")
+        else:
+            yield f"{margin}{word} {form_of(tree.form, scope)} >= 0:"
+            yield from self._lines(tree.yes, scope, quotients, margin + "    ", "if")
+            if isinstance(tree.no, Choice):
+                yield from self._lines(tree.no, scope, quotients, margin, "elif")
+            else:
+                yield f"{margin}else:"
+                yield from self._lines(tree.no, scope, quotients, margin + "    ", "if")
+
+
+def written_point(point: Sequence[Tuple[str, Form]]) -> str:
+    return ", ".join(f"{name} = {form}" for name, form in point) or "a point"
+
+
+def _values(posed: Space, asked: Sequence[str], sign: int) -> Space:
+    """What an answer is about whose components are values, times the sign."""
+    points = {name: Form({Column(False, place): sign}) for place, name in enumerate(asked)}
+    return Space(posed.comment, posed.parameters, posed.conditions, points)
+
+
+class _Turned:
+    """Makes a tree whose points are forms over the columns, times a sign, of a tree that has the columns' values."""
+
+    def __init__(self, posed: Space, points: Sequence[Form], sign: int) -> None:
+        self.points, self.sign, self.count = points, sign, len(posed.parameters)
+
+    def tree(self, tree: Tree) -> Tree:
+        return self._below(tree, self.count)
+
+    def _below(self, tree: Tree, count: int) -> Tree:
+        if isinstance(tree, Choice):
+            return Choice(tree.form, self._below(tree.yes, count), self._below(tree.no, count))
+        if isinstance(tree, NewParameter):
+            return NewParameter(tree.number, tree.form, tree.divisor, self._below(tree.below, count + 1))
+        if not isinstance(tree, Point):
+            return tree
+        scope = [Form({Column(True, place): 1}) for place in range(count)]
+        components = [form_of(row, scope) for row in tree.components]
+
+        def column(atom: Atom) -> Form:
+            if isinstance(atom, Floor):
+                return atom.form().put(column) // atom.divisor
+            assert isinstance(atom, Column)
+            return Form({atom: 1}) if atom.is_parameter else components[atom.place]
+
+        return self._leaf([form.put(column) * self.sign for form in self.points], count)
+
+    def _leaf(self, point: List[Form], count: int) -> Tree:
+        """A list of forms; floors that stand in them become new parameters first, innermost first. What is whole of a floor
+        stands beside it: all columns are from 0 on, and so is what is left."""
+        floor = next((found for form in point for found in _innermost(form)), None)
+        if floor is None:
+            return Point(tuple(tuple(numbers_over(form, count)) for form in point))
+        left, taken = divided(floor.form(), floor.divisor)
+        own = Form({Column(True, count): 1}) if left.terms else Form()
+
+        def put(atom: Atom) -> Form:
+            if atom == floor:
+                return own + taken
+            if isinstance(atom, Floor):
+                return atom.form().put(put) // atom.divisor
+            return Form({atom: 1})
+
+        point = [form.put(put) for form in point]
+        if not left.terms:
+            return self._leaf(point, count)
+        return NewParameter(count, tuple(numbers_over(left, count)), floor.divisor, self._leaf(point, count + 1))
+
+
+def _innermost(form: Form) -> Iterator[Floor]:
+    """The floors of a form that have none in them."""
+    for atom in form.terms:
+        if isinstance(atom, Floor):
+            inner = list(_innermost(atom.form()))
+            yield from inner or [atom]
+
+
+# ---- Answers by parts ----------------------------------------------------------------------------------------------
+
+
+class AnswerBySigns:
+    """The answer to a problem with parameters of either sign: an answer for each choice of their signs. In `parts` stand, with
+    each answer, the ranges of its parameters."""
+
+    def __init__(self, answers: Sequence[Answer]) -> None:
+        self.parts = tuple(answers)
+
+    def part(self, at: Mapping[str, int] = {}, /, **named: int) -> Answer:
+        """The answer for parameters of these signs."""
+        parameters = {**at, **named}
+        for answer in self.parts:
+            ranges = answer.posed.parameters
+            if set(ranges) != set(parameters) or all(parameters[name] in own for name, own in ranges.items()):
+                return answer
+        self._outside(parameters)
+
+    def value(self, at: Mapping[str, int] = {}, /, **named: int) -> Found:
+        """The point at parameters, each unknown by its name; none where there is no point."""
+        return self.part(at, **named).value(at, **named)
+
+    def map(self, function: Callable[[Answer], Answer]) -> AnswerBySigns:
+        """What a function makes of each part: `answer.map(lambda part: part.restrict(N >= 4))`."""
+        return AnswerBySigns([function(answer) for answer in self.parts])
+
+    def _outside(self, parameters: Mapping[str, int]) -> NoReturn:
+        raise OutsideContext(f"outside the context: {parameters}")
+
+    def __str__(self) -> str:
+        return "\n".join(self._lines())
+
+    def _lines(self) -> Iterator[str]:
+        for answer in self.parts:
+            held = ", ".join(f"{name} {own}" for name, own in answer.posed.parameters.items() if self._is_split(name))
+            yield f"where {held}:" if held else "everywhere:"
+            yield from ("    " + line for line in str(answer).splitlines())
+
+    def _is_split(self, name: str) -> bool:
+        return len({answer.posed.parameters[name] for answer in self.parts}) > 1
+
+    def __repr__(self) -> str:
+        return f"AnswerBySigns({len(self.parts)} parts of {self.parts[0]!r})" if self.parts else "AnswerBySigns(no parts)"
+
+    def __eq__(self, other: object) -> bool:
+        return isinstance(other, AnswerBySigns) and self.parts == other.parts
+
+    def __hash__(self) -> int:
+        return hash(self.parts)
+
+

@@ -1,0 +1,247 @@
+"""Affine forms and relations between them."""
+from __future__ import annotations
+
+import math
+import re
+from dataclasses import dataclass
+from fractions import Fraction
+from typing import Callable, Dict, Iterable, List, Mapping, NamedTuple, Optional, Sequence, Tuple, Union
+
+Number = Union[int, Fraction]
+Atom = Union[str, "Floor", "Column"]  # what a form has numbers of
+
+
+class Form:
+    """An affine form: numbers times names, and a constant. A name may also be a Floor."""
+
+    __slots__ = ("terms", "constant")
+    terms: Dict[Atom, Number]
+    constant: Number
+
+    def __init__(self, terms: Optional[Mapping[Atom, Number]] = None, constant: Number = 0) -> None:
+        self.terms = {name: plain(number) for name, number in (terms or {}).items() if number != 0}
+        self.constant = plain(constant)
+
+    def __add__(self, other: FormLike) -> Form:
+        other = as_form(other)
+        terms = dict(self.terms)
+        for name, number in other.terms.items():
+            terms[name] = terms.get(name, 0) + number
+        return Form(terms, self.constant + other.constant)
+
+    __radd__ = __add__
+
+    def __neg__(self) -> Form:
+        return self * -1
+
+    def __sub__(self, other: FormLike) -> Form:
+        return self + as_form(other) * -1
+
+    def __rsub__(self, other: FormLike) -> Form:
+        return as_form(other) - self
+
+    def __mul__(self, number: Number) -> Form:
+        if isinstance(number, Form):
+            raise TypeError("a product of two forms is not affine")
+        return Form({name: number * own for name, own in self.terms.items()}, number * self.constant)
+
+    __rmul__ = __mul__
+
+    def __truediv__(self, number: Number) -> Form:
+        return self * (1 / Fraction(number))
+
+    def __floordiv__(self, divisor: int) -> Form:
+        """The floor of the form over a whole number from 1 on."""
+        if not isinstance(divisor, int) or divisor < 1:
+            raise ValueError("a floor needs a whole divisor from 1 on")
+        scaled, common = self.whole()
+        return Form({Floor(tuple(sorted(scaled.terms.items(), key=str)), int(scaled.constant), divisor * common): 1})
+
+    def __mod__(self, divisor: int) -> Form:
+        return self - self // divisor * divisor
+
+    def __ge__(self, other: FormLike) -> Relation:
+        return Relation(self - other, ">=")
+
+    def __le__(self, other: FormLike) -> Relation:
+        return Relation(as_form(other) - self, ">=")
+
+    def __gt__(self, other: FormLike) -> Relation:
+        return Relation(self - other, ">")
+
+    def __lt__(self, other: FormLike) -> Relation:
+        return Relation(as_form(other) - self, ">")
+
+    def __eq__(self, other: object) -> Relation:  # type: ignore[override]
+        return Relation(self - other, "==")  # type: ignore[operator]
+
+    def __ne__(self, other: object) -> bool:
+        raise TypeError("a != b is no relation of a problem: ask for a < b and for a > b")
+
+    __hash__ = None  # type: ignore[assignment]
+
+    def whole(self) -> Tuple[Form, int]:
+        """The form times the least number from 1 on that makes all its numbers whole, and that number."""
+        numbers = [*self.terms.values(), self.constant]
+        common = math.lcm(*(number.denominator for number in numbers))
+        return (self if common == 1 else self * common), common
+
+    def put(self, values: Callable[[Atom], Form]) -> Form:
+        """The form with each of its names replaced."""
+        terms: Dict[Atom, Number] = {}
+        constant = self.constant
+        for name, number in self.terms.items():
+            form = values(name)
+            constant += number * form.constant
+            for inner, own in form.terms.items():
+                terms[inner] = terms.get(inner, 0) + number * own
+        return Form(terms, constant)
+
+    def numbers(self, names: Sequence[Column]) -> List[Number]:
+        """The numbers of these names."""
+        return [self.terms.get(name, 0) for name in names]
+
+    def names(self) -> List[str]:
+        """All names in the form, those in floors too, each once."""
+        found: Dict[str, None] = {}
+        for atom in self.terms:
+            if isinstance(atom, Floor):
+                found.update(dict.fromkeys(atom.form().names()))
+            elif isinstance(atom, str):
+                found[atom] = None
+        return list(found)
+
+    def at(self, values: Mapping[str, Number]) -> Number:
+        """The form's value where its names have these values."""
+        def value(name: Atom) -> Number:
+            return name.at(values) if isinstance(name, Floor) else values[str(name)]
+        return plain(sum(value(name) * number for name, number in self.terms.items()) + self.constant)
+
+    def __str__(self) -> str:
+        form, common = self.whole()
+        terms = [(number, str(name)) for name, number in form.terms.items()]
+        if form.constant != 0 or not terms:
+            terms.append((form.constant, ""))
+        text = ""
+        for number, name in sorted(terms, key=lambda term: term[0] < 0):  # positive terms first
+            size = abs(number)
+            term = f"{size}" if not name else name if size == 1 else f"{size}*{name}"
+            text += f"{' - ' if number < 0 else ' + '}{term}" if text else f"{'-' if number < 0 else ''}{term}"
+        if common == 1:
+            return text
+        return f"({text})/{common}" if len(terms) > 1 else f"{text}/{common}"
+
+    def __repr__(self) -> str:
+        return f"Form({self})"
+
+
+FormLike = Union[Form, int, Fraction]
+
+
+@dataclass(frozen=True)
+class Floor:
+    """The floor of a whole form over a divisor."""
+
+    terms: Tuple[Tuple[Atom, Number], ...]
+    constant: int
+    divisor: int
+
+    def form(self) -> Form:
+        return Form(dict(self.terms), self.constant)
+
+    def at(self, values: Mapping[str, Number]) -> int:
+        return math.floor(Fraction(self.form().at(values), self.divisor))
+
+    def __str__(self) -> str:
+        return f"floor(({self.form()})/{self.divisor})"
+
+
+class Column(NamedTuple):
+    """A parameter or an unknown of the program's, by its place."""
+
+    is_parameter: bool
+    place: int
+
+    def __str__(self) -> str:
+        return f"{'parameter' if self.is_parameter else 'unknown'}.{self.place}"
+
+
+@dataclass(frozen=True, eq=False)
+class Relation:
+    """That a form is at least 0, above 0, equal to 0, or a multiple of the modulus."""
+
+    form: Form
+    kind: str  # ">=", ">", "==" or "multiple"
+    modulus: int = 1
+
+    def __bool__(self) -> bool:
+        raise TypeError("a relation has no truth value; write `low <= x, x <= high` in place of `low <= x <= high`")
+
+    def __str__(self) -> str:
+        return f"{self.form} is a multiple of {self.modulus}" if self.kind == "multiple" else f"{self.form} {self.kind} 0"
+
+    def __repr__(self) -> str:
+        return f"Relation({self})"
+
+    def holds_at(self, values: Mapping[str, Number]) -> bool:
+        value = self.form.at(values)
+        if self.kind == "multiple":
+            return value % self.modulus == 0
+        return value == 0 if self.kind == "==" else value > 0 if self.kind == ">" else value >= 0
+
+
+_NAME = re.compile(r"[^\W\d][\w.'\[\]]*")
+_WORDS = ("if", "elif", "else", "void", "floor")
+
+
+def checked_name(name: object) -> str:
+    """A name as the texts of answers can hold it: a letter or `_`, then letters, digits and `_`, `.`, `'`, `[`, `]`."""
+    if not isinstance(name, str):
+        raise TypeError(f"a name is wanted, not {name!r}")
+    if not _NAME.fullmatch(name) or name in _WORDS:
+        raise ValueError(f"{name!r} can't be a name: a letter or `_` begins it, letters, digits and any of _.'[] follow")
+    return name
+
+
+def congruent(first: FormLike, second: FormLike, modulus: int) -> Relation:
+    """That first - second is a multiple of the modulus, a whole number from 1 on."""
+    if not isinstance(modulus, int) or modulus < 1:
+        raise ValueError("a congruence needs a whole modulus from 1 on")
+    return Relation(as_form(first) - second, "multiple", modulus)
+
+
+def as_form(value: FormLike) -> Form:
+    if isinstance(value, Form):
+        return value
+    if isinstance(value, (int, Fraction)) and not isinstance(value, bool):
+        return Form({}, value)
+    raise TypeError(f"neither a form nor an exact number: {value!r}")
+
+
+def checked_relation(relation: object) -> Relation:
+    """A relation as it is given to a problem. Python makes True or False of `3 <= 4`, and a text is none."""
+    if isinstance(relation, Relation):
+        return relation
+    if isinstance(relation, (bool, list, tuple, str)):
+        hint = {bool: "it compares numbers, not forms", str: "write it with the forms that name it"}
+        raise TypeError(f"not a relation between forms: {relation!r}; {hint.get(type(relation), 'give each by itself, as *relations')}")
+    raise TypeError(f"not a relation between forms: {relation!r}")
+
+
+def divided(form: Form, divisor: int) -> Tuple[Form, Form]:
+    """The remainders of a whole form's numbers, and the quotients."""
+    return (Form({name: number % divisor for name, number in form.terms.items()}, form.constant % divisor),
+            Form({name: number // divisor for name, number in form.terms.items()}, form.constant // divisor))
+
+
+def row_text(numbers: Iterable[Number]) -> str:
+    return "#[" + " ".join(map(str, numbers)) + "]"
+
+
+def plain(number: Number) -> Number:
+    """The number as an int where it is whole."""
+    if type(number) is int:
+        return number
+    if isinstance(number, (int, Fraction)):
+        return int(number) if number == int(number) else number
+    raise TypeError(f"not an exact number: {number!r}")

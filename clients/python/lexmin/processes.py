@@ -1,0 +1,387 @@
+"""The program as processes that are kept open: a pool of them, of which each call under way has its own."""
+from __future__ import annotations
+
+import itertools
+import os
+import re
+import selectors
+import subprocess
+import sys
+import threading
+import time
+from collections import deque
+from dataclasses import dataclass
+from typing import Deque, Iterable, Iterator, List, Optional, Sequence, Tuple, Union
+
+from .trees import is_one_group
+
+MOST_INPUT_BYTES = 16_777_216  # what one run of the program takes
+MOST_IDLE = 8  # processes that are kept for later calls
+HELD_SECONDS = 0.25  # how long a line of standard error may be the last one, a refusal's
+
+
+class Refused(Exception):
+    """The program refused a text. `status` is its status (below 0: the signal that ended it), `line` what it wrote to
+    standard error last. The place of a `syntax at byte B` counts from the first byte that its process was given, which
+    `bytes_before` says the number of."""
+
+    def __init__(self, status: int, line: str, text: str, bytes_before: int = 0) -> None:
+        super().__init__(f"status {status}: {line}")
+        self.status, self.line, self.text, self.bytes_before = status, line, text, bytes_before
+
+
+class TimedOut(Refused):
+    """The program gave no answer in time, and was ended."""
+
+
+class Notes:
+    """What a process writes to its standard error. A refusal is one line, and the process ends behind it. `./pip` writes
+    more while it builds the program: that goes on to this process' standard error, at the latest HELD_SECONDS later."""
+
+    def __init__(self) -> None:
+        self.last = ""
+        self._held = bytearray()
+        self._since = 0.0
+
+    def add(self, piece: bytes) -> None:
+        self._held += piece
+        self._since = time.monotonic()
+        self._pass_on(self._held.rstrip(b"\n").rfind(b"\n") + 1)
+
+    def wait(self) -> Optional[float]:
+        """In how many seconds what is held goes on; none where nothing is held."""
+        return max(0.0, self._since + HELD_SECONDS - time.monotonic()) if self._held else None
+
+    def pass_on_late(self) -> None:
+        if self.wait() == 0.0:
+            self._pass_on(len(self._held))
+
+    def end(self) -> str:
+        """The last line, of a process that has ended."""
+        return _last_line(self._held) or self.last
+
+    def _pass_on(self, end: int) -> None:
+        if end:
+            text = self._held[:end].decode(errors="replace")
+            self.last = _last_line(self._held[:end]) or self.last
+            del self._held[:end]
+            if sys.stderr is not None:
+                sys.stderr.write(text)
+                sys.stderr.flush()
+
+
+def _last_line(notes: bytes) -> str:
+    return notes.decode(errors="replace").strip().rpartition("\n")[2]
+
+
+def late(seconds: Optional[float], notes: Notes, text: str, what: str = "answer", bytes_before: int = 0) -> TimedOut:
+    last = notes.end()
+    said = f"; its last line was `{last}`" if last else ""
+    return TimedOut(-9, f"no {what} in {seconds} seconds{said}", text, bytes_before)
+
+
+# ---- A run of its own ----------------------------------------------------------------------------------------------
+
+
+def run_once(command: Sequence[str], text: str, timeout: Optional[float]) -> Tuple[int, bytes, str]:
+    """The status of a run over a text, what it writes, and its last line."""
+    pipe = subprocess.PIPE
+    outgoing, found, notes = memoryview(text.encode()), bytearray(), Notes()
+    end = None if timeout is None else time.monotonic() + timeout
+    with subprocess.Popen(command, stdin=pipe, stdout=pipe, stderr=pipe, bufsize=0) as process:
+        assert process.stdin and process.stdout and process.stderr
+        try:
+            with selectors.DefaultSelector() as selector:
+                os.set_blocking(process.stdin.fileno(), False)
+                for stream, kind in ((process.stdin, selectors.EVENT_WRITE), (process.stdout, selectors.EVENT_READ),
+                                     (process.stderr, selectors.EVENT_READ)):
+                    selector.register(stream, kind)
+                while selector.get_map():
+                    ready = _select(selector, end, notes)
+                    if ready is None:
+                        raise late(timeout, notes, text, "end")
+                    for key, _ in ready:
+                        if key.fileobj is process.stdin:
+                            outgoing = write_some(key.fd, outgoing)
+                            if not outgoing:
+                                selector.unregister(process.stdin)
+                                process.stdin.close()
+                            continue
+                        piece = os.read(key.fd, 1 << 16)
+                        if not piece:
+                            selector.unregister(key.fileobj)
+                        elif key.fileobj is process.stderr:
+                            notes.add(piece)
+                        else:
+                            found += piece
+        except BaseException:
+            process.kill()
+            raise
+        status = process.wait()
+    return status, bytes(found), notes.end()
+
+
+def write_some(sink: int, outgoing: memoryview) -> memoryview:
+    """Writes what the pipe takes now; what is left."""
+    try:
+        return outgoing[os.write(sink, outgoing):]
+    except BlockingIOError:
+        return outgoing
+    except BrokenPipeError:  # the process has ended, or is about to: its output tells
+        return memoryview(b"")
+
+
+_Ready = List[Tuple[selectors.SelectorKey, int]]
+
+
+def _select(selector: selectors.BaseSelector, end: Optional[float], notes: Notes) -> Optional[_Ready]:
+    """What is ready; none where it is not before the end. What notes hold goes on meanwhile."""
+    while True:
+        left = None if end is None else end - time.monotonic()
+        if left is not None and left <= 0:
+            return None
+        held = notes.wait()
+        ready = selector.select(left if held is None else held if left is None else min(held, left))
+        if ready:
+            return ready
+        notes.pass_on_late()
+
+
+# ---- Processes that are kept ---------------------------------------------------------------------------------------
+
+
+@dataclass
+class _Asked:
+    text: str
+    data: bytes
+    bytes_before: int = 0
+
+
+class Coprocess:
+    """A process that is given one group after the other and answers each with so many groups. One call at a time uses it.
+
+    Its pipes are read and written as they are ready, so neither side waits for the other. (A pipe's two ends are
+    blocking or not each by itself: the program's stay as they are.)"""
+
+    def __init__(self, command: Sequence[str], groups: int, timeout: Optional[float]) -> None:
+        self.command, self.groups, self.timeout = list(command), groups, timeout
+        self.process: Optional[subprocess.Popen[bytes]] = None
+        self.bytes_given = 0
+        self.notes = Notes()
+        self.closed = False
+
+    def answers(self, texts: Iterable[str]) -> Iterator[Union[List[str], Refused]]:
+        """What comes of each text, in order: its groups, or its refusal. A refusal ends the process; the next text gets
+        another."""
+        source = iter(texts)
+        waiting: Deque[_Asked] = deque()  # to be given (again)
+        given: Deque[_Asked] = deque()  # and not yet answered
+        try:
+            while True:
+                if not waiting:
+                    waiting.extend(_asked(text) for text in itertools.islice(source, 64))
+                if not waiting and not given:
+                    return
+                self._refuse_closed()
+                if not self._goes_on(waiting[0]):
+                    self.stop()
+                    self._start()
+                yield from self._exchange(waiting, given)
+        finally:
+            if given:  # the caller left: what is still to come must not be taken for other answers
+                self.stop()
+
+    def _goes_on(self, asked: _Asked) -> bool:
+        """Whether there is a process that can be given the text. It may have ended by itself, or taken its most."""
+        return self.process is not None and self.process.poll() is None and self._has_room(asked)
+
+    def _has_room(self, asked: _Asked) -> bool:
+        return self.bytes_given == 0 or self.bytes_given + len(asked.data) <= MOST_INPUT_BYTES
+
+    def _exchange(self, waiting: Deque[_Asked], given: Deque[_Asked]) -> Iterator[Union[List[str], Refused]]:
+        """Gives what waits to the process, as far as one run takes it, and yields what comes back, up to the end of what
+        is given or of the process."""
+        assert self.process is not None
+        sink, source, errors = self._pipes()
+        outgoing, made = memoryview(b""), _Groups()
+        found: List[str] = []
+        end = self._deadline()
+        with selectors.DefaultSelector() as selector:
+            selector.register(source, selectors.EVENT_READ)
+            selector.register(errors, selectors.EVENT_READ)
+            while True:
+                while waiting and not outgoing and self._has_room(waiting[0]):
+                    asked = waiting.popleft()
+                    asked.bytes_before = self.bytes_given
+                    self.bytes_given += len(asked.data)
+                    given.append(asked)
+                    outgoing = memoryview(asked.data)
+                    selector.register(sink, selectors.EVENT_WRITE)
+                if not given:
+                    return
+                ready = _select(selector, end, self.notes)
+                if ready is None:
+                    yield self._late(given, waiting)
+                    return
+                for key, _ in ready:
+                    if key.fd == sink:
+                        outgoing = write_some(sink, outgoing)
+                        if not outgoing:
+                            selector.unregister(sink)
+                        continue
+                    piece = os.read(key.fd, 1 << 16)
+                    if key.fd == errors:
+                        self.notes.add(piece)
+                        if not piece:
+                            selector.unregister(errors)
+                        continue
+                    if not piece:
+                        yield self._ended(given, waiting)
+                        return
+                    for group in made.add(piece):
+                        found.append(group)
+                        if len(found) == self.groups:
+                            given.popleft()
+                            yield found
+                            found = []
+                            end = self._deadline()
+
+    def _refuse_closed(self) -> None:
+        if self.closed:
+            raise RuntimeError("the Solver was closed while this call was under way")
+
+    def _ended(self, given: Deque[_Asked], waiting: Deque[_Asked]) -> Refused:
+        """The refusal of the first text that has no answer. The texts behind it wait again."""
+        self._refuse_closed()
+        assert self.process is not None and self.process.stderr is not None
+        os.set_blocking(self.process.stderr.fileno(), True)
+        self.notes.add(self.process.stderr.read())
+        status = self.process.wait()
+        line = self.notes.end()
+        self.stop()
+        refused = given.popleft()
+        _wait_again(given, waiting)
+        return Refused(status, line, refused.text, refused.bytes_before)
+
+    def _late(self, given: Deque[_Asked], waiting: Deque[_Asked]) -> TimedOut:
+        self.stop()
+        asked = given.popleft()
+        _wait_again(given, waiting)
+        return late(self.timeout, self.notes, asked.text, bytes_before=asked.bytes_before)
+
+    def _deadline(self) -> Optional[float]:
+        return None if self.timeout is None else time.monotonic() + self.timeout
+
+    def _start(self) -> None:
+        pipe = subprocess.PIPE
+        self.process = subprocess.Popen(self.command, stdin=pipe, stdout=pipe, stderr=pipe, bufsize=0)
+        self.bytes_given, self.notes = 0, Notes()
+        for end in self._pipes():
+            os.set_blocking(end, False)
+
+    def _pipes(self) -> Tuple[int, int, int]:
+        process = self.process
+        assert process and process.stdin and process.stdout and process.stderr
+        return process.stdin.fileno(), process.stdout.fileno(), process.stderr.fileno()
+
+    def interrupt(self) -> None:
+        """Ends the process of a call that is under way, perhaps in another thread: the call fails."""
+        self.closed = True
+        process = self.process
+        if process is not None:
+            process.kill()
+
+    def stop(self) -> None:
+        """Ends the process. Nothing that it still writes is wanted."""
+        process, self.process = self.process, None
+        if process is not None:
+            if process.poll() is None:
+                process.kill()
+            process.wait()
+            for end in (process.stdin, process.stdout, process.stderr):
+                if end is not None:
+                    end.close()
+
+
+class Pool:
+    """The processes of one command. Each call under way has one of its own, so that none takes another one's answers,
+    whichever threads the calls are of, and however many answers of a call have been taken. A process whose call has
+    ended, or was left, is given to the next call."""
+
+    def __init__(self, command: Sequence[str], groups: int, timeout: Optional[float]) -> None:
+        self.command, self.groups, self.timeout = list(command), groups, timeout
+        self._idle: List[Coprocess] = []
+        self._used: List[Coprocess] = []
+        self._lock = threading.Lock()
+
+    def answers(self, texts: Iterable[str]) -> Iterator[Union[List[str], Refused]]:
+        own = self._take()
+        try:
+            yield from own.answers(texts)
+        finally:
+            self._give_back(own)
+
+    def _take(self) -> Coprocess:
+        with self._lock:
+            own = self._idle.pop() if self._idle else Coprocess(self.command, self.groups, self.timeout)
+            own.timeout = self.timeout
+            self._used.append(own)
+            return own
+
+    def _give_back(self, own: Coprocess) -> None:
+        with self._lock:
+            self._used.remove(own)
+            if len(self._idle) < MOST_IDLE and not own.closed:
+                self._idle.append(own)
+                return
+        own.stop()
+
+    @property
+    def process(self) -> Optional[subprocess.Popen[bytes]]:
+        """The process that the next call goes on with; none where it begins one."""
+        return self._idle[-1].process if self._idle else None
+
+    def counts(self) -> Tuple[int, int]:
+        """How many processes are in use, and how many wait for a call."""
+        with self._lock:
+            return len(self._used), sum(own.process is not None for own in self._idle)
+
+    def stop(self) -> None:
+        """Ends all processes; a call that is under way fails. A later call begins another one."""
+        with self._lock:
+            idle, self._idle = self._idle, []
+            used = list(self._used)
+        for own in idle:
+            own.stop()
+        for own in used:
+            own.interrupt()
+
+
+def _asked(text: str) -> _Asked:
+    """A text that is to be given: one group, since the answers are told apart by their number."""
+    if not is_one_group(text):
+        raise ValueError("a text of one group of balanced brackets is wanted")
+    return _Asked(text, (text.strip() + "\n").encode())
+
+
+def _wait_again(given: Deque[_Asked], waiting: Deque[_Asked]) -> None:
+    waiting.extendleft(reversed(given))
+    given.clear()
+
+
+class _Groups:
+    """Groups of balanced brackets, put together from pieces."""
+
+    def __init__(self) -> None:
+        self.held, self.depth = bytearray(), 0
+
+    def add(self, piece: bytes) -> Iterator[str]:
+        start = 0
+        for match in re.finditer(rb"[()]", piece):
+            self.depth += 1 if match.group() == b"(" else -1
+            if self.depth == 0:
+                self.held += piece[start:match.end()]
+                start = match.end()
+                yield self.held.decode().strip()
+                self.held = bytearray()
+        self.held += piece[start:]

@@ -1,0 +1,295 @@
+"""The trees of answers: reading and writing their texts, valuing them."""
+from __future__ import annotations
+
+import math
+import re
+from dataclasses import dataclass
+from fractions import Fraction
+from typing import Iterable, List, Optional, Sequence, Tuple, Union
+
+from .forms import Form, FormLike, Number, as_form, plain, row_text
+
+Row = Tuple[Number, ...]  # the numbers of the parameters and the new parameters, and the constant last
+
+
+@dataclass(frozen=True)
+class Bottom:
+    """No point."""
+
+
+@dataclass(frozen=True)
+class Void:
+    """No parameters satisfy the context."""
+
+
+@dataclass(frozen=True)
+class Point:
+    components: Tuple[Row, ...]
+
+
+@dataclass(frozen=True)
+class Choice:
+    """`yes` where the form is at least 0, else `no`."""
+
+    form: Row
+    yes: Tree
+    no: Tree
+
+
+@dataclass(frozen=True)
+class NewParameter:
+    """Parameter `number` is the floor of the form over the divisor in the tree below."""
+
+    number: int
+    form: Row
+    divisor: int
+    below: Tree
+
+
+Tree = Union[Bottom, Void, Point, Choice, NewParameter]
+
+_TOKEN = re.compile(r"[ \t\n\f\r]*(#\[|[()\]]|[-+]?\d+(?:/\d+)?|[A-Za-z]+)")
+_BRACKET = re.compile(r"[()]")
+
+
+def groups(text: str) -> List[str]:
+    """The groups of balanced brackets of a text, one after the other. What stands between them is dropped."""
+    found, depth, start = [], 0, 0
+    for match in _BRACKET.finditer(text):
+        if match.group() == "(":
+            if depth == 0:
+                start = match.start()
+            depth += 1
+        elif depth > 0:
+            depth -= 1
+            if depth == 0:
+                found.append(text[start:match.end()])
+    if depth > 0:
+        raise ValueError("a bracket is not closed")
+    return found
+
+
+def is_one_group(text: str) -> bool:
+    try:
+        return groups(text) == [text.strip()]
+    except ValueError:
+        return False
+
+
+@dataclass(frozen=True)
+class PieceOf:
+    """A leaf with what stands on its path: forms that are at least 0, and new parameters, in their order."""
+
+    path: Tuple[Union[Row, NewParameter], ...]  # of a new parameter the tree below is the leaf
+    leaf: Union[Bottom, Point]
+
+
+def parse_pieces(text: str) -> List[PieceOf]:
+    """The pieces of an answer, as the command `pieces` writes them; none where the answer is `void`."""
+    return _Reader(text).pieces()
+
+
+def answer_text(comment: str, tree: Tree) -> str:
+    """The text of an answer, as the program prints it."""
+    return f"(({comment})\n{tree_text(tree)})\n"
+
+
+def tree_text(tree: Tree) -> str:
+    if isinstance(tree, Choice):
+        return f"(if {_form_text(tree.form)}\n{tree_text(tree.yes)}{tree_text(tree.no)})\n"
+    if isinstance(tree, NewParameter):
+        return f"(newparm {tree.number} (div {_form_text(tree.form)} {tree.divisor}))\n{tree_text(tree.below)}"
+    if isinstance(tree, Point):
+        return "(list\n{})\n".format("".join(_form_text(row) + "\n" for row in tree.components))
+    return "void\n" if isinstance(tree, Void) else "()\n"
+
+
+def _form_text(row: Row) -> str:
+    return row_text(row).replace("#[", "#[ ", 1)
+
+
+def leaves(tree: Tree) -> List[Tree]:
+    """The leaves of a tree, in the order in which they stand."""
+    if isinstance(tree, Choice):
+        return leaves(tree.yes) + leaves(tree.no)
+    return leaves(tree.below) if isinstance(tree, NewParameter) else [tree]
+
+
+def parse_answer(text: str) -> Tuple[str, Tree]:
+    """The comment of an answer, without its brackets, and its tree."""
+    return _Reader(text).answer()
+
+
+class _Reader:
+    def __init__(self, text: str) -> None:
+        self.text = text
+        self.place = 0
+
+    def answer(self) -> Tuple[str, Tree]:
+        self.expect("(")
+        comment = self.comment()
+        tree = self.tree()
+        self.end()
+        return comment, tree
+
+    def end(self) -> None:
+        self.expect(")")
+        if self.text[self.place:].strip():
+            raise ValueError(f"more than one answer, at character {self.place}")
+
+    def pieces(self) -> List[PieceOf]:
+        self.expect("(")
+        self.comment()
+        found: List[PieceOf] = []
+        token = self.token()
+        if token == "void":
+            self.end()
+            return found
+        while token == "(":
+            self.expect("piece")
+            found.append(self.piece())
+            token = self.token()
+        if token != ")" or self.text[self.place:].strip():
+            raise ValueError(f"no pieces, at character {self.place}")
+        return found
+
+    def piece(self) -> PieceOf:
+        path: List[Union[Row, NewParameter]] = []
+        while True:
+            self.expect("(")
+            word = self.token()
+            if word == "where":
+                path.append(self.row())
+                self.expect(")")
+            elif word == "newparm":
+                number, form, divisor = self.quotient()
+                path.append(NewParameter(number, form, divisor, Bottom()))
+            else:
+                leaf: Union[Bottom, Point] = Bottom() if word == ")" else self.point()
+                self.expect(")")
+                return PieceOf(tuple(path), leaf)
+
+    def token(self) -> str:
+        match = _TOKEN.match(self.text, self.place)
+        if not match:
+            raise ValueError(f"no answer, at character {self.place}")
+        self.place = match.end()
+        return match.group(1)
+
+    def expect(self, wanted: str) -> None:
+        start = self.place
+        if self.token() != wanted:
+            raise ValueError(f"no answer: `{wanted}` is missing at character {start}")
+
+    def comment(self) -> str:
+        start = self.text.find("(", self.place)
+        depth = 0
+        for match in _BRACKET.finditer(self.text, start if start >= 0 else len(self.text)):
+            depth += 1 if match.group() == "(" else -1
+            if depth == 0:
+                self.place = match.end()
+                return self.text[start + 1:match.start()]
+        raise ValueError("no answer: its comment does not end")
+
+    def row(self) -> Row:
+        self.expect("#[")
+        return self.numbers()
+
+    def numbers(self) -> Row:
+        """The numbers behind a `#[`, and its bracket."""
+        numbers: List[Number] = []
+        token = self.token()
+        while token != "]":
+            numbers.append(plain(Fraction(token)))
+            token = self.token()
+        return tuple(numbers)
+
+    def tree(self) -> Tree:
+        token = self.token()
+        if token == "void":
+            return Void()
+        if token != "(":
+            raise ValueError(f"no answer: a tree is missing at character {self.place - len(token)}")
+        word = self.token()
+        if word == ")":
+            return Bottom()
+        if word == "list":
+            return self.point()
+        if word == "if":
+            form, yes, no = self.row(), self.tree(), self.tree()
+            self.expect(")")
+            return Choice(form, yes, no)
+        if word != "newparm":
+            raise ValueError(f"no answer: unknown word {word}")
+        number, form, divisor = self.quotient()
+        return NewParameter(number, form, divisor, self.tree())
+
+    def quotient(self) -> Tuple[int, Row, int]:
+        """What stands behind `newparm`: its number, form and divisor."""
+        number = int(self.token())
+        self.expect("(")
+        self.expect("div")
+        form, divisor = self.row(), int(self.token())
+        self.expect(")")
+        self.expect(")")
+        return number, form, divisor
+
+    def point(self) -> Point:
+        components: List[Row] = []
+        token = self.token()
+        while token != ")":
+            if token != "#[":
+                raise ValueError(f"no answer: `#[` is missing at character {self.place - len(token)}")
+            components.append(self.numbers())
+            token = self.token()
+        return Point(tuple(components))
+
+
+def parameter_count(tree: Tree) -> Optional[int]:
+    """Over how many parameters a tree is; none where it has no form to tell."""
+    if isinstance(tree, NewParameter):
+        return tree.number
+    if isinstance(tree, Choice):
+        return len(tree.form) - 1
+    return len(tree.components[0]) - 1 if isinstance(tree, Point) else None
+
+
+def value_at(tree: Tree, parameters: Sequence[int]) -> Union[Bottom, Void, Tuple[Number, ...]]:
+    """A tree's value at parameters, in the program's order."""
+    scope = list(parameters)
+
+    def value(row: Row) -> Number:
+        return sum(number * own for number, own in zip(row, scope)) + row[-1]
+
+    while not isinstance(tree, (Bottom, Void)):
+        if isinstance(tree, Point):
+            return tuple(plain(value(row)) for row in tree.components)
+        if isinstance(tree, Choice):
+            tree = tree.yes if value(tree.form) >= 0 else tree.no
+        else:
+            scope.append(math.floor(value(tree.form) / Fraction(tree.divisor)))
+            tree = tree.below
+    return tree
+
+
+def form_of(row: Row, scope: Sequence[FormLike]) -> Form:
+    """A row of a tree as a form, over the parameters and new parameters in scope."""
+    total = Form({}, row[-1])
+    for number, own in zip(row, scope):
+        total += as_form(own) * number
+    return total
+
+
+def new_parameter_names(tree: Tree, taken: Iterable[str]) -> List[str]:
+    """Names for the new parameters by their place on their path: `q`, or `q1`, `q2` and so on, none of which is taken."""
+    def deepest(tree: Tree) -> int:
+        if isinstance(tree, Choice):
+            return max(deepest(tree.yes), deepest(tree.no))
+        return 1 + deepest(tree.below) if isinstance(tree, NewParameter) else 0
+
+    count, used = deepest(tree), set(taken)
+    names, letter = (["q"] if count == 1 else []), "q"
+    while len(names) < count or used & set(names):
+        names = [f"{letter}{place + 1}" for place in range(count)]
+        letter += "_"
+    return names
