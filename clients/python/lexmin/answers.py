@@ -55,6 +55,11 @@ class Answer:
         return (f"Answer({self.posed.comment!r}: ({', '.join(self.posed.asked)}) over ({', '.join(self.posed.parameters)}), "
                 f"{len(leaves(self.tree))} leaves)")
 
+    @property
+    def names(self) -> Dict[str, Form]:
+        """The parameters and the unknowns that were asked for, as forms to say relations with: `answer.names["N"] >= 3`."""
+        return {name: Form({name: 1}) for name in [*self.posed.parameters, *self.posed.asked]}
+
     # Its value.
 
     def value(self, at: Mapping[str, int] = {}, /, **named: int) -> Found:
