@@ -1,10 +1,11 @@
-/* Times isl on an integer problem: prints the processor seconds of one solving, without reading and printing.
+/* Times isl on an integer problem: prints the processor seconds of one solving, without reading and printing, and `solved`.
  *
  *     isl_pip SECONDS
  *
  * The problem is solved again and again for SECONDS. Its numbers stand on standard input, with blanks between:
  * how many unknowns, parameters, rows and context rows there are, then these rows as in docs/FORMATS.md.
- * The status is 2 where isl has found while making the set that it is empty: then nothing is left to time.
+ * Where isl finds while making the set that it is empty, nothing is left to solve: then it prints the seconds of making
+ * the set, and `made`.
  */
 #include <stdio.h>
 #include <stdlib.h>
@@ -65,36 +66,47 @@ static void solve(isl_basic_set *rows, isl_basic_set *context)
 	isl_set_free(empty);
 }
 
+/* The set of the rows over parameters and unknowns. */
+static isl_basic_set *make(isl_ctx *ctx, int unknowns, int parameters, isl_mat *rows)
+{
+	return isl_basic_set_from_constraint_matrices(
+		isl_space_set_alloc(ctx, parameters, unknowns),
+		isl_mat_alloc(ctx, 0, unknowns + 1 + parameters),
+		isl_mat_copy(rows),
+		isl_dim_set, isl_dim_cst, isl_dim_param, isl_dim_div);
+}
+
 int main(int argc, char **argv)
 {
 	isl_ctx *ctx = isl_ctx_alloc();
 	double enough = argc > 1 ? atof(argv[1]) : 0, begun, spent;
-	int unknowns, parameters, row_count, context_count, times = 0;
+	int unknowns, parameters, row_count, context_count, times = 0, is_empty;
+	isl_mat *inequalities;
 	isl_basic_set *rows, *context;
 
 	unknowns = read_size(ctx);
 	parameters = read_size(ctx);
 	row_count = read_size(ctx);
 	context_count = read_size(ctx);
-	rows = isl_basic_set_from_constraint_matrices(
-		isl_space_set_alloc(ctx, parameters, unknowns),
-		isl_mat_alloc(ctx, 0, unknowns + 1 + parameters),
-		read_rows(ctx, row_count, unknowns + 1 + parameters, unknowns),
-		isl_dim_set, isl_dim_cst, isl_dim_param, isl_dim_div);
+	inequalities = read_rows(ctx, row_count, unknowns + 1 + parameters, unknowns);
+	rows = make(ctx, unknowns, parameters, inequalities);
 	context = isl_basic_set_from_constraint_matrices(
 		isl_space_params_alloc(ctx, parameters),
 		isl_mat_alloc(ctx, 0, parameters + 1),
 		read_rows(ctx, context_count, parameters + 1, parameters),
 		isl_dim_param, isl_dim_cst, isl_dim_set, isl_dim_div);
-	if (isl_basic_set_plain_is_empty(rows))
-		return 2;
+	is_empty = isl_basic_set_plain_is_empty(rows);
 	begun = processor_seconds();
 	do {
-		solve(rows, context);
+		if (is_empty)
+			isl_basic_set_free(make(ctx, unknowns, parameters, inequalities));
+		else
+			solve(rows, context);
 		++times;
 		spent = processor_seconds() - begun;
 	} while (spent < enough);
-	printf("%.9f\n", spent / times);
+	printf("%.9f %s\n", spent / times, is_empty ? "made" : "solved");
+	isl_mat_free(inequalities);
 	isl_basic_set_free(rows);
 	isl_basic_set_free(context);
 	isl_ctx_free(ctx);
