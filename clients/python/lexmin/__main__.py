@@ -1,6 +1,7 @@
 """The commands of the package: `python -m lexmin COMMAND ..`, or `lexmin COMMAND ..` where it is installed."""
 from __future__ import annotations
 
+import os
 import sys
 from typing import Optional, Sequence
 
@@ -24,7 +25,13 @@ def main(words: Optional[Sequence[str]] = None) -> int:
     if not words or words[0] not in COMMANDS:
         print(USAGE, file=sys.stderr)
         return 2
-    return COMMANDS[words[0]](words[1:])
+    try:
+        status = COMMANDS[words[0]](words[1:])
+        sys.stdout.flush()
+        return status
+    except BrokenPipeError:  # who reads has read enough
+        os.dup2(os.open(os.devnull, os.O_WRONLY), sys.stdout.fileno())
+        return 1
 
 
 if __name__ == "__main__":

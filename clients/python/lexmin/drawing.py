@@ -156,6 +156,8 @@ def main(words: Sequence[str]) -> int:
         parameters, unknowns = names_of(chosen.parameters), names_of(chosen.unknowns)
         for answer in answers:
             print(draw(answer, parameters, unknowns, as_mermaid=chosen.mermaid, merge=chosen.merge, across=chosen.across))
+    except BrokenPipeError:
+        raise
     except (OSError, ValueError) as error:
         print(f"lexmin draw: {error}", file=sys.stderr)
         return 1

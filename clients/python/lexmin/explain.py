@@ -130,6 +130,8 @@ def main(words: Sequence[str]) -> int:
         sys.stdout.flush()
         print(f"{name}: {position(data, fault.place)}: {fault.words}\n{marked(data, fault.place)}", file=sys.stderr)
         return 1
+    except BrokenPipeError:
+        raise
     except (OSError, ValueError) as error:
         print(f"lexmin explain: {error}", file=sys.stderr)
         return 1

@@ -142,6 +142,8 @@ class Solver:
 def _texts(problems: Iterable[Problem], taken: Deque[Posed]) -> Iterator[str]:
     """The problems' texts. What is posed is kept in `taken` until its answer is there."""
     for problem in problems:
+        if not isinstance(problem, Problem):
+            raise TypeError(f"not a problem: {problem!r}")
         taken.append(problem.posed())
         yield taken[-1].text
 
