@@ -312,7 +312,9 @@ class Pool:
         self.command, self.groups, self.timeout = list(command), groups, timeout
         self._idle: List[Coprocess] = []
         self._used: List[Coprocess] = []
-        self._lock = threading.Lock()
+        # A call that was left ends where Python collects it, which may be inside of what holds the lock: so the same thread
+        # may take it again.
+        self._lock = threading.RLock()
 
     def answers(self, texts: Iterable[str]) -> Iterator[Union[List[str], Refused]]:
         own = self._take()
