@@ -54,7 +54,11 @@ class Notes:
 
     def pass_on_late(self) -> None:
         if self.wait() == 0.0:
-            self._pass_on(len(self._held))
+            self.pass_on()
+
+    def pass_on(self) -> None:
+        """Passes on what is held: no refusal, since all that was asked is answered, or nothing is waited for any more."""
+        self._pass_on(len(self._held))
 
     def end(self) -> str:
         """The last line, of a process that has ended."""
@@ -76,6 +80,7 @@ def _last_line(notes: bytes) -> str:
 
 def late(seconds: Optional[float], notes: Notes, text: str, what: str = "answer", bytes_before: int = 0) -> TimedOut:
     last = notes.end()
+    notes.pass_on()
     said = f"; its last line was `{last}`" if last else ""
     return TimedOut(-9, f"no {what} in {seconds} seconds{said}", text, bytes_before)
 
@@ -118,6 +123,8 @@ def run_once(command: Sequence[str], text: str, timeout: Optional[float]) -> Tup
             process.kill()
             raise
         status = process.wait()
+    if status == 0:
+        notes.pass_on()
     return status, bytes(found), notes.end()
 
 
@@ -218,6 +225,7 @@ class Coprocess:
                     outgoing = memoryview(asked.data)
                     selector.register(sink, selectors.EVENT_WRITE)
                 if not given:
+                    self.notes.pass_on()
                     return
                 ready = _select(selector, end, self.notes)
                 if ready is None:
