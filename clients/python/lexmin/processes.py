@@ -17,7 +17,7 @@ from .trees import is_one_group
 
 MOST_INPUT_BYTES = 16_777_216  # what one run of the program takes
 MOST_IDLE = 8  # processes that are kept for later calls
-HELD_SECONDS = 0.25  # how long a line of standard error may be the last one, a refusal's
+HELD_SECONDS = 1.0  # how long a line of standard error may be the last one, a refusal's
 
 
 class Refused(Exception):
@@ -49,8 +49,8 @@ class Notes:
         self._pass_on(self._held.rstrip(b"\n").rfind(b"\n") + 1)
 
     def wait(self) -> Optional[float]:
-        """In how many seconds what is held goes on; none where nothing is held."""
-        return max(0.0, self._since + HELD_SECONDS - time.monotonic()) if self._held else None
+        """In how many seconds the line that is held goes on; none where no whole line is held."""
+        return max(0.0, self._since + HELD_SECONDS - time.monotonic()) if self._held.endswith(b"\n") else None
 
     def pass_on_late(self) -> None:
         if self.wait() == 0.0:
