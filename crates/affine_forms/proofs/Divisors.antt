@@ -1,5 +1,5 @@
 -- The greatest common divisors of the definitions.
-use Rattle.affine_forms.proofs.Words.{◌≡◌, ℕ, zero, suc, ◌+◌, ◌<◌, ℤ, pos, negsuc, ◌≤ℤ◌, ◌+ℤ◌, ◌*ℤ◌, true, refl, arith, List, [], ◌∷◌, length, drop, get_or, ints, drop_more, All, IsTrue, All-from_recursion, recursion_from_All, gcd, gcd_of, floor_div, floor_mod, divides, is_zero, floor_divided, scale, Multiple, gcd-divides, gcd_of-divides, all_through, floor-exact}
+use Rattle.affine_forms.proofs.Words.{◌≡◌, ℕ, zero, suc, ◌+◌, ◌<◌, ℤ, pos, negsuc, ◌≤ℤ◌, ◌+ℤ◌, ◌*ℤ◌, true, refl, arith, List, [], ◌∷◌, length, drop, get_or, ints, drop_more, All, IsTrue, Fits, fits-floor, All-from_recursion, recursion_from_All, gcd, gcd_of, floor_div, floor_mod, divides, is_zero, floor_divided, scale, Multiple, gcd-divides, gcd_of-divides, all_through, floor-exact}
 use Rattle.std.specs.List.{AllByRecursion}
 pub use Rattle.pip_model.proofs.Gcd.{gcd_assoc, gcd_one, floor_divided_one}
 use Rattle.pip_model.proofs.Laws.{floor_mod-law}
@@ -54,3 +54,8 @@ gcd_divides_entries g s c is h =
 
 pub gcd_of_divides : (g : ℤ) (c : List ℤ) → g ≡ gcd_of c → pos 1 ≤ℤ g → All (λ x. IsTrue (divides g x)) c
 gcd_of_divides g c is h = rw is (divides_list (gcd_of c) c (rw is at h) (gcd_of-divides c))
+
+-- the quotient rounded down fits
+pub quotient_fits : (a d : ℤ) → pos 1 ≤ℤ d → Fits a → Fits (floor_div a d)
+quotient_fits a (pos e) h fit = fits-floor a e fit
+quotient_fits a (negsuc e) h fit = absurd (omega (arith, ints))

@@ -1,8 +1,13 @@
 -- The form of a quotient, `-g + d*q`, and the form with a number added, as they are made in place.
-use Rattle.affine_forms.proofs.Words.{◌≡◌, ℕ, ◌+◌, ◌-◌, ◌<◌, ◌≤◌, ℤ, pos, ◌+ℤ◌, neg_ℤ, List, length, ap, sym, ◌∙◌, arith, slice_set, ints, length-map, get_or-map, width, constant, entry, negate, plus, widen_to}
+use Rattle.affine_forms.proofs.Words.{◌≡◌, ℕ, ◌+◌, ◌-◌, ◌<◌, ◌≤◌, ℤ, pos, ◌+ℤ◌, neg_ℤ, List, length, [], ◌∷◌, refl, IsTrue, IsFalse, all_fit, fits, ap, sym, ◌∙◌, arith, slice_set, ints, length-map, get_or-map, width, constant, entry, negate, plus, widen_to}
 use Rattle.pip_model.specs.Cuts.{rounding}
 use Rattle.pip_model.proofs.Forms.{length-widened, entry-widened, constant-plus}
 use Rattle.affine_forms.proofs.Units.{add_unit, add_last}
+use Rattle.std.specs.Prelude.{Result, IsErr, ⊤}
+use Rattle.affine_forms.proofs.Combined.{refused}
+use Rattle.pip_model.specs.Agreement.{IsChecked}
+use Rattle.affine_forms.specs.declared.numbers.Overflow.{Overflow}
+use Rattle.affine_forms.specs.Checks.{is_overflow}
 
 from_zero : (z g : ℤ) → g ≡ pos 0 → neg_ℤ g +ℤ z ≡ z
 from_zero z g e = omega (arith, ints, e)
@@ -25,3 +30,10 @@ constant_plus c z h = constant-plus c z (omega (arith, h))
 
 pub plus_made : (c : List ℤ) (z v : ℤ) → 0 < length c → v ≡ entry c (length c - 1) +ℤ z → slice_set c (length c - 1) v ≡ plus c z
 plus_made c z v h e = ap (λ x. slice_set c (length c - 1) x) e ∙ plus_is c z h
+
+pub constant_refused : (c : List ℤ) (z : ℤ) (r : Result ⊤ Overflow) → 0 < length c → IsErr r → IsFalse (fits (entry c (length c - 1) +ℤ z))
+    → IsChecked is_overflow (constant (plus c z) ∷ []) r
+constant_refused c z r h e over = refused is_overflow r (constant (plus c z) ∷ []) e (rw (constant_plus c z h, over) refl)
+
+pub constant_fits : (c : List ℤ) (z : ℤ) → 0 < length c → IsTrue (fits (entry c (length c - 1) +ℤ z)) → IsTrue (all_fit (constant (plus c z) ∷ []))
+constant_fits c z h fit = rw (constant_plus c z h, fit) refl

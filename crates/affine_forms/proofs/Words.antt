@@ -13,6 +13,6 @@ pub use Rattle.pip_model.specs.Forms.{entry, negate, opposite, width, add, const
 pub use Rattle.pip_model.specs.Numbers.{floor_div, floor_mod, gcd, gcd_of, divides, is_zero, fits, is_nonneg}
 pub use Rattle.pip_model.proofs.Fitting.{fits-floor, fits-neg, fit_behind, fit_never}
 pub use Rattle.pip_model.proofs.Division.{Multiple, gcd-divides, gcd_of-divides, all_through, floor-exact, form-parts, tighten-sign}
-pub use Rattle.pip_model.proofs.Gcd.{floor_divided_one, gcd_between, euclid_only, euclid_below}
+pub use Rattle.pip_model.proofs.Gcd.{floor_divided_one, gcd_between, euclid_only, euclid_below, quotient_positive}
 pub use Rattle.affine_forms.specs.Checks.{Fits}
 pub use Rattle.affine_forms.specs.Forms.{raised, IsForm}

@@ -101,7 +101,6 @@ pub fn lower_bound(
 }
 
 // The form and d - 1.
-#[tactic(auto, using(crate::proofs::QuotientForms::constant_plus))]
 fn add_below(entries: &mut [i128], d: i128) -> Result<(), Overflow>
     requires form { IsForm entries.old }
     requires divisor { pos 1 ≤ℤ d }

@@ -78,7 +78,6 @@ pub fn times(a: i128, b: i128) -> Result<i128, Overflow>
 }
 
 /// The quotient of a fitting a and a d of at least 1, rounded down.
-#[tactic(auto, using(pip_model::proofs::Gcd::quotient_positive))]
 pub fn floor_div(a: i128, d: i128) -> i128
     requires positive { pos 1 ≤ℤ d }
     requires fits { Fits a }

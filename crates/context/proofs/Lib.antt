@@ -1,22 +1,4 @@
 mod Words
-pub mod Leaving
-pub mod Turning
-pub mod Pointing
-pub mod WidenedRows
-pub mod FurtherRows
-pub mod Replaying
-pub mod GoingFurther
-pub mod Positives
-pub mod Tracing
-pub mod Retracing
-pub mod FurtherForms
-pub mod OneFormMore
-pub mod Ending
-pub mod EndingBehind
-pub mod EndedRows
-pub mod QuestionTurns
-pub mod PivotBehind
 pub mod AtOnce
+pub mod Keeping
 pub mod PointMeaning
-pub mod KeptFirst
-pub mod Copying

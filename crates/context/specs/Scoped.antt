@@ -1,6 +1,5 @@
 -- A context as its forms.
-use Rattle.std.specs.Prelude.{◌≡◌, ◌≤◌, ℕ, ℤ, List, length, map, take}
-use Rattle.pip_model.specs.Made.{narrow_to}
+use Rattle.std.specs.Prelude.{◌≡◌, ◌≤◌, ℕ, ℤ, List}
 
 -- forms over the first `width` places or fewer of them, and the room that is left for more
 pub record ScopedForms : Type 0 where
@@ -13,21 +12,3 @@ pub record IsKeptContext (before now : ScopedForms) : Type 0 where
   pub width : now.width ≡ before.width
   pub forms : now.forms ≡ before.forms
   pub spare : before.spare ≤ now.spare
-
--- forms that are kept from one refutation to the next, over the first `width` places or fewer of them
-pub record KeptForms : Type 0 where
-  pub width : ℕ
-  pub forms : List (List ℤ)
-
--- the kept forms are the first of these
-pub record AreFirst (k : KeptForms) (known : List (List ℤ)) : Type 0 where
-  pub first : k.forms ≡ map (narrow_to k.width) (take (length k.forms) known)
-
--- so are they where they are no more than this number
-abbrev pub AreFirstWithin : KeptForms → List (List ℤ) → ℕ → Type 0
-AreFirstWithin k known n = length k.forms ≤ n → AreFirst k known
-
--- the kept forms are the first of these, over n places
-pub record AreFirstOver (n : ℕ) (k : KeptForms) (known : List (List ℤ)) : Type 0 where
-  pub width : k.width ≡ n
-  pub first : AreFirst k known

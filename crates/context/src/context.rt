@@ -8,21 +8,17 @@ ghost use Rattle.affine_forms.specs.Checks.{Fits};
 ghost use Rattle.affine_forms.specs.Forms.{IsForm};
 ghost use Rattle.pip_problem.specs.Faults.{run_fault};
 ghost use Rattle.run_counts.specs.Counts.{IsCountedRun};
-ghost use Rattle.context.specs.Remembered.{has_point};
+ghost use Rattle.point_run.specs.Points.{has_point};
 ghost use Rattle.context.specs.Scoped.{IsKeptContext};
 
-use crate::asking::{ask_plainly, ask_shortly};
 use crate::constants::are_nonnegative;
-use crate::further::go_further;
-use crate::point::Point;
-use crate::point_run::find_point;
-use crate::question::Question;
-use crate::refute::refute_forms;
-use crate::remembered::{Remembered, remember};
 use crate::spares::Spares;
 use affine_forms::{Form, WantOfMemory};
 use certificate_parts::Refutation;
+use kept_run::{Question, Remembered, ask_plainly, ask_shortly, go_further, remember};
 use pip_problem::Refusal;
+use point_run::{Point, find_point};
+use refutation_steps::refute_forms;
 use run_counts::Work;
 use std::alloc::Global;
 use std::marker::Model;
@@ -73,7 +69,7 @@ fn stays(is_known: bool, known: usize, width: usize, mark: ContextMark) -> bool
 impl Model for Context {
     ghost use Rattle.std.specs.Prelude.{◌-◌};
     ghost use Rattle.std.specs.Vec.{vec_len, vec_capacity};
-    ghost use Rattle.context.specs.Remembered.{IsKnown};
+    ghost use Rattle.context.specs.Known.{IsKnown};
     ghost use Rattle.context.specs.Scoped.{ScopedForms};
 
     ghost Value = { ScopedForms };
@@ -258,7 +254,7 @@ impl Context {
     }
 
     // Keeps a copy of the run, where it is one of fewer forms than there are.
-    #[tactic(auto, using(crate::proofs::Copying::earlier_kept))]
+    #[tactic(auto, using(crate::proofs::Keeping::earlier_kept))]
     fn keep_earlier(&mut self)
         ensures kept { IsKeptContext self.old self.new }
     {

@@ -6,4 +6,4 @@ pub use Rattle.pip_model.specs.Numbers.{fits, same_number, is_positive}
 pub use Rattle.pip_model.specs.Listed.{all_fit}
 pub use Rattle.pip_model.specs.Rows.{Row, row_at, form_row, cross_products, up_to_difference, is_better, count_from, entering, entering_listed}
 pub use Rattle.tableau.specs.Views.{row_of}
-pub use Rattle.dual_pivot.specs.Choices.{product_at, compared, better, better_listed, choice, choice_listed, candidates_from, IsCandidate}
+pub use Rattle.row_laws.specs.Choices.{product_at, compared, better, better_listed, choice, choice_listed, candidates_from, IsCandidate}

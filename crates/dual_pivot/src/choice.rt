@@ -4,7 +4,7 @@ ghost use Rattle.pip_model.specs.Agreement.{IsChecked};
 ghost use Rattle.pip_model.specs.Forms.{entry};
 ghost use Rattle.affine_forms.specs.Checks.{is_overflow, IsFitted};
 ghost use Rattle.tableau.specs.Views.{row_of};
-ghost use Rattle.dual_pivot.specs.Choices.{product_at, compared, better, better_listed, unit_entry, IsCandidate};
+ghost use Rattle.row_laws.specs.Choices.{product_at, compared, better, better_listed, unit_entry, IsCandidate};
 
 use affine_forms::{Overflow, positive, times};
 use tableau::{RowView, Tableau};

@@ -13,8 +13,8 @@ use Rattle.pip_model.proofs.Forms.{entry-scale}
 use Rattle.run_laws.proofs.Lengths.{length_floors}
 use Rattle.run_laws.proofs.RowsAt.{divisor}
 use Rattle.affine_forms.proofs.Short.{short_fits}
-use Rattle.tableau_row.specs.Short.{IsShort, IsShortRow}
-use Rattle.tableau_row.proofs.ShortRows.{short_eliminated}
+use Rattle.row_laws.specs.Short.{IsShort, IsShortRow}
+use Rattle.row_laws.proofs.ShortRows.{short_eliminated}
 use Rattle.form_laws.specs.ByForm.{coef, place, over, combination, by_form, Kept, Form, Whole, made, rows_by}
 use Rattle.form_laws.specs.Bounds.{norm, RowWithin, AllWithin, IsBounded, AllShort, KeptShort}
 use Rattle.form_laws.proofs.Divided.{undivided}

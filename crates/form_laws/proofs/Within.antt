@@ -5,7 +5,7 @@ use Rattle.pip_model.specs.Numbers.{floor_div}
 use Rattle.pip_model.specs.Forms.{entry}
 use Rattle.pip_model.specs.Listed.{all_fit}
 use Rattle.pip_model.specs.Rows.{Row, pivot_listed, start, unit_row, count_from}
-use Rattle.tableau_row.specs.Short.{IsShortRow}
+use Rattle.row_laws.specs.Short.{IsShortRow}
 use Rattle.form_laws.specs.ByForm.{coef, place, over, by_form, Form, made, IsWide, AllWide, KeptWide, IsOver, MadeBy, AllForms}
 use Rattle.form_laws.specs.Bounds.{norm, AllWithin, IsBounded, AllShort, KeptShort}
 use Rattle.form_laws.specs.Columns.{part, IsScaled, IsBasis}

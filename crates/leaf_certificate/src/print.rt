@@ -67,7 +67,6 @@ fn put_vector(out: &mut Vec<u8>, c: &Certificate) -> Result<(), AllocError>
     }
 }
 
-#[tactic(auto, using(std::proofs::lemmas::List::take_all, crate::proofs::Spellings::leaves_flat))]
 fn put_leaves(out: &mut Vec<u8>, shares: bool, leaves: &[LeafProofs]) -> Result<(), AllocError>
     ensures ok { Appends (spell_leaves shares leaves.now) out.old.items out.new.items result }
     ensures kept { Begins out.old.items out.new.items }
@@ -98,7 +97,6 @@ fn put_groups(out: &mut Vec<u8>, shares: bool, leaf: &LeafProofs) -> Result<(), 
     put_refutations(out, leaf.as_slice())
 }
 
-#[tactic(auto, using(std::proofs::lemmas::List::take_all, crate::proofs::Spellings::refutations_flat))]
 fn put_refutations(out: &mut Vec<u8>, refutations: &[Refutation]) -> Result<(), AllocError>
     ensures ok { Appends (spell_refutations refutations.now) out.old.items out.new.items result }
     ensures kept { Begins out.old.items out.new.items }
@@ -118,7 +116,6 @@ fn put_refutation(out: &mut Vec<u8>, refutation: &Refutation) -> Result<(), Allo
     put(out, b")\n")
 }
 
-#[tactic(auto, using(std::proofs::lemmas::List::take_all, crate::proofs::Spellings::steps_flat))]
 fn put_steps(out: &mut Vec<u8>, steps: &[Step]) -> Result<(), AllocError>
     ensures ok { Appends (spell_steps steps.now) out.old.items out.new.items result }
     ensures kept { Begins out.old.items out.new.items }

@@ -1,5 +1,4 @@
 mod Words
-pub mod Sums
 pub mod Steps
 pub mod Making
 pub mod Smaller

@@ -1,6 +1,5 @@
--- The steps of a refutation, one after another, and its last form.
+-- The last form of a refutation.
 use Rattle.leaf_check.proofs.Words.{◌≡◌, refl, ap, ◌∙◌, ℕ, suc, ◌+◌, ◌-◌, ◌<◌, ℤ, pos, List, [], ◌∷◌, ◌++◌, length, replicate, Bool, true, false, arith, Ok, Err, slice_index_or, int_le, ◌>>=◌, ◌>>◌, Step, Spot, Checks, holds, sum_of, is_divisible, derived, after_step, is_absurd, ends_absurd}
-use Rattle.leaf_check.specs.Steps.{derived_from}
 
 pub last_absurd : (known : List (List ℤ)) (d : List ℤ) → 0 < length known → is_absurd (slice_index_or known (length known - 1) d) ≡ ends_absurd known
 last_absurd [] d h = absurd (omega arith)
@@ -8,19 +7,3 @@ last_absurd (c ∷ []) d h = refl
 last_absurd (c ∷ e ∷ known) d h =
     let last : length (c ∷ e ∷ known) - 1 ≡ suc (length (e ∷ known) - 1) = omega arith in
     ap (λ (n : ℕ). is_absurd (slice_index_or (c ∷ e ∷ known) n d)) last ∙ last_absurd (e ∷ known) d (omega arith)
-
--- what a step derives comes behind the known forms
-module _ (at : Spot) (known : List (List ℤ)) where
-  behind_if : (b : Bool) (form : List ℤ) → (holds at b >> Ok (known ++ form ∷ [])) ≡ ((holds at b >> Ok form) >>= (λ f. Ok (known ++ f ∷ [])))
-  behind_if true form = refl
-  behind_if false form = refl
-
-  behind : (d : ℤ) (sum : Checks (List ℤ)) → (sum >>= (λ s. holds at (is_divisible d s) >> Ok (known ++ derived d s ∷ []))) ≡ ((sum >>= (λ s. holds at (is_divisible d s) >> Ok (derived d s))) >>= (λ f. Ok (known ++ f ∷ [])))
-  behind d (Ok s) = behind_if (is_divisible d s) (derived d s)
-  behind d (Err f) = refl
-
-pub step_derives : (at : Spot) (w : ℕ) (known : List (List ℤ)) (s : Step) → int_le (pos 1) s.divisor ≡ true
-    → after_step at w known s ≡ (derived_from at known (replicate (w + 1) (pos 0)) s >>= (λ f. Ok (known ++ f ∷ [])))
-step_derives at w known s e =
-    ap (λ (b : Bool). holds at b >> (sum_of at known (replicate (w + 1) (pos 0)) s.terms >>= (λ sum. holds at (is_divisible s.divisor sum) >> Ok (known ++ derived s.divisor sum ∷ [])))) e
-    ∙ behind at known s.divisor (sum_of at known (replicate (w + 1) (pos 0)) s.terms)

@@ -21,4 +21,4 @@ pub use Rattle.affine_forms.specs.Checks.{Fits, is_form_overflow}
 pub use Rattle.leaf_check.specs.Leaves.{nothing, goal_count, has_shape, case_of, own_premises}
 pub use Rattle.leaf_check.specs.Known.{KnownForms}
 pub use Rattle.leaf_check.specs.Goals.{without_last}
-pub use Rattle.leaf_check.specs.Faults.{fault_of, spot_of}
+pub use Rattle.derivation_steps.specs.Faults.{fault_of, spot_of}

@@ -1,5 +1,4 @@
-pub mod Faults
+pub use Rattle.derivation_steps.specs.Faults
 pub mod Goals
 pub mod Known
 pub mod Leaves
-pub mod Steps

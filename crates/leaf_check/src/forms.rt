@@ -6,8 +6,8 @@ ghost use Rattle.affine_forms.specs.Forms.{IsForm};
 ghost use Rattle.leaf_check.specs.Known.{ArePushed};
 
 use crate::known::Known;
-use crate::sum::zeros;
 use affine_forms::{Form, WantOfMemory};
+use derivation_steps::zeros;
 use std::alloc::Global;
 
 // A form over so many places that is a number at one of them.

@@ -11,8 +11,8 @@ ghost use Rattle.leaf_check.specs.Known.{ArePushed};
 
 use crate::forms::widened_entries;
 use crate::known::Known;
-use crate::sum::add_multiple;
 use affine_forms::{Form, FormRefusal, Overflow, WantOfMemory, lower_bound, rounding};
+use derivation_steps::add_multiple;
 use quast::Component;
 use std::alloc::Global;
 

@@ -3,13 +3,12 @@ ghost use Rattle.std.specs.List.{list_all};
 ghost use Rattle.pip_model.specs.Numbers.{is_zero, is_negative};
 ghost use Rattle.pip_model.specs.Agreement.{Agrees};
 ghost use Rattle.pip_model.specs.Check as model;
-ghost use Rattle.leaf_check.specs.Faults.{fault_of, spot_of};
+ghost use Rattle.derivation_steps.specs.Faults.{fault_of, spot_of};
 ghost use Rattle.leaf_check.specs.Goals.{without_last};
 
-use crate::fault::{Fault, Spot};
-use crate::step::derive;
 use affine_forms::{Form, WantOfMemory};
 use certificate_parts::Step;
+use derivation_steps::{Fault, Spot, derive};
 use std::alloc::Global;
 use std::marker::Model;
 

@@ -5,15 +5,15 @@ ghost use Rattle.pip_model.specs.Tree.{Component};
 ghost use Rattle.pip_model.specs.Agreement.{IsChecked, Agrees};
 ghost use Rattle.pip_model.specs.Check as model;
 ghost use Rattle.affine_forms.specs.Checks.{is_form_overflow};
-ghost use Rattle.leaf_check.specs.Faults.{fault_of};
+ghost use Rattle.derivation_steps.specs.Faults.{fault_of};
 ghost use Rattle.leaf_check.specs.Leaves.{case_of, own_premises, AreWide, IsLeaf, nothing, goal_count, IsGoal, AreTurned, has_shape as has_shape_of};
 ghost use Rattle.leaf_check.specs.Known.{ArePushed};
 
-use crate::fault::{Fault, Spot};
 use crate::goals::{row_goal, sign_goal};
 use crate::known::Known;
 use affine_forms::{Form, FormRefusal, WantOfMemory};
 use certificate_parts::{LeafProofs, Refutation, Step};
+use derivation_steps::{Fault, Spot};
 use pip_problem::Problem;
 use quast::Component;
 use std::alloc::Global;

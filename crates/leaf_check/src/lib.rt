@@ -1,16 +1,13 @@
 //! The check of a leaf by its proofs: the forms that a refutation starts from, and those that its steps derive.
 #![tactic(auto)]
 
-mod fault;
 mod forms;
 mod goals;
 mod known;
 mod leaf;
-mod step;
-mod sum;
 mod void;
 
-pub use fault::{Fault, Spot};
+pub use derivation_steps::{Fault, Spot};
 pub use known::Known;
 pub use leaf::{Leaf, has_shape, refutation_count};
 pub use void::{check_void, void_forms};

@@ -1,12 +1,12 @@
 ghost use Rattle.std.specs.Prelude.{◌≡◌, true, IfOk};
 ghost use Rattle.pip_model.specs.Agreement.{Agrees};
 ghost use Rattle.pip_model.specs.Check as model;
-ghost use Rattle.leaf_check.specs.Faults.{fault_of};
+ghost use Rattle.derivation_steps.specs.Faults.{fault_of};
 
-use crate::fault::{Fault, Spot};
 use crate::known::Known;
 use affine_forms::WantOfMemory;
 use certificate_parts::LeafProofs;
+use derivation_steps::{Fault, Spot};
 use pip_problem::Problem;
 use std::alloc::Global;
 

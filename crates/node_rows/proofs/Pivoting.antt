@@ -7,7 +7,7 @@ use Rattle.pip_model.specs.Forms.{entry}
 use Rattle.pip_model.specs.Listed.{all_fit}
 use Rattle.pip_model.proofs.Forms.{length-count}
 use Rattle.pip_model.specs.Rows.{Row, row_at, form_row, eliminated, pivot, pivot_listed, entering, entering_of, entering_listed, entering_of_listed, candidates, start, unit_row, count_from}
-use Rattle.tableau_row.specs.Short.{IsShortRow}
+use Rattle.row_laws.specs.Short.{IsShortRow}
 use Rattle.tableau.specs.Tableaus.{TableauRows}
 use Rattle.form_laws.specs.ByForm.{by_form, Kept, Form, turned, IsWide, rows_by}
 use Rattle.form_laws.specs.Bounds.{norm, AllShort}

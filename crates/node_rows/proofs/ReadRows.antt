@@ -10,9 +10,9 @@ use Rattle.pip_model.specs.Rows.{Row, count_from}
 use Rattle.pip_model.proofs.Forms.{entry-scale}
 use Rattle.run_laws.proofs.Sums.{length-scale}
 use Rattle.affine_forms.specs.Checks.{Fits}
-use Rattle.tableau_row.specs.Short.{IsShort, IsShortRow}
-use Rattle.tableau_row.specs.Rows.{IsRow}
-use Rattle.tableau_row.proofs.ShortRows.{fits_short}
+use Rattle.row_laws.specs.Short.{IsShort, IsShortRow}
+use Rattle.row_laws.specs.Rows.{IsRow}
+use Rattle.row_laws.proofs.ShortRows.{fits_short}
 use Rattle.tableau.specs.Tableaus.{TableauRows}
 use Rattle.form_laws.specs.ByForm.{coef, place, over}
 use Rattle.form_laws.specs.Bounds.{norm}

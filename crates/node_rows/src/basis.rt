@@ -1,8 +1,8 @@
 ghost use Rattle.std.specs.Prelude.{◌≡◌, ◌+◌, ◌*◌, ◌^◌, ◌<◌, ◌≤◌, pos, ◌≤ℤ◌, ◌*ℤ◌, unsigned_abs, [], ◌∷◌, ◌++◌, length, All, IsTrue, IfSome, OnSome};
 ghost use Rattle.pip_model.specs.Numbers as model;
 ghost use Rattle.pip_model.specs.Rows.{row_at};
-ghost use Rattle.tableau_row.specs.Rows.{IsRow};
-ghost use Rattle.tableau_row.specs.Short.{IsShort};
+ghost use Rattle.row_laws.specs.Rows.{IsRow};
+ghost use Rattle.row_laws.specs.Short.{IsShort};
 ghost use Rattle.tableau_row.specs.Views.{row_of};
 ghost use Rattle.form_laws.specs.ByForm.{over};
 ghost use Rattle.form_laws.specs.Columns.{IsBasis, IsScaled, columns_of, part};

@@ -8,7 +8,11 @@ use std::mem::replace;
 use tableau::Tableau;
 
 // Makes the rows of the forms that are left, if there are any.
-fn make_rest(rows: &mut Tableau, basis: &Basis, forms: &mut Vec<Form>) -> Result<(), WantOfMemory>
+pub(crate) fn make_rest(
+    rows: &mut Tableau,
+    basis: &Basis,
+    forms: &mut Vec<Form>,
+) -> Result<(), WantOfMemory>
     requires { All (IsRead rows.old basis.now) forms.old.items }
     ensures ok { OnOk result (rows.new ≡ all_rows rows.old basis.now forms.old.items) }
     ensures none { OnOk result (forms.new.items ≡ []) }
@@ -32,27 +36,32 @@ impl NodeRows {
 
     // Becomes rows of which some are read off forms.
     fn copy_forms(&mut self, t: &NodeRows) -> Result<(), WantOfMemory>
-        ensures { OnOk result (self.new ≡ t.now) }
+        ensures ok { OnOk result (self.new ≡ t.now) }
+        ensures err { OnErr result (self.new ≡ self.old) }
     {
         let copy = t.try_clone(t.made.allocator())?;
         *self = copy;
         Ok(())
     }
 
-    /// Becomes the same as other rows, in the room that there is where it is enough.
+    /// Becomes the same as other rows, in the room that there is where it is enough. A refusal leaves no rows, over
+    /// the columns and places of the others.
     pub fn copy_from(&mut self, t: &NodeRows) -> Result<(), WantOfMemory>
-        ensures { OnOk result (self.new ≡ t.now) }
+        ensures ok { OnOk result (self.new ≡ t.now) }
+        ensures err { OnErr result (self.new ≡ record t.now { rows = [] }) }
     {
-        if !t.forms.is_empty() {
-            return self.copy_forms(t);
+        self.reshape(t.unknowns(), t.width());
+        if t.forms.is_empty() {
+            self.made.copy_from(&t.made)
+        } else {
+            self.copy_forms(t)
         }
-        self.forms.clear();
-        self.made.copy_from(&t.made)
     }
 
-    /// All rows as they are in a tableau. No rows stay.
+    /// All rows as they are in a tableau. No rows stay. A refusal leaves the rows as they were.
     pub fn take_made(&mut self) -> Result<Tableau, WantOfMemory>
-        ensures { IfOk result (λ t. t ≡ self.old) }
+        ensures ok { IfOk result (λ t. t ≡ self.old) }
+        ensures err { OnErr result (self.new ≡ self.old) }
     {
         make_rest(&mut self.made, &self.basis, &mut self.forms)?;
         let none = Tableau::new(self.made.allocator(), 0, 0);

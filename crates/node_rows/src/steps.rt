@@ -1,4 +1,4 @@
-ghost use Rattle.std.specs.Prelude.{◌≡◌, ◌+◌, ◌<◌, ◌≤◌, pos, ◌≤ℤ◌, map, length, ◌++◌, [], ◌∷◌, All, IfOk, OnOk, IfSome, is_some};
+ghost use Rattle.std.specs.Prelude.{◌≡◌, ◌+◌, ◌<◌, ◌≤◌, pos, ◌≤ℤ◌, map, length, ◌++◌, [], ◌∷◌, All, IfOk, OnOk, OnErr, IfSome, is_some};
 ghost use Rattle.pip_model.specs.Rows as model;
 ghost use Rattle.pip_model.specs.Rows.{row_at, eliminated};
 ghost use Rattle.pip_model.specs.Forms.{entry};
@@ -9,15 +9,16 @@ ghost use Rattle.dual_pivot.specs.Choices.{IsCandidate};
 ghost use Rattle.pip_model.specs.Run.{Setting, Node, turn_by, MinusAt};
 ghost use Rattle.pip_problem.specs.Faults.{run_fault};
 ghost use Rattle.run_counts.specs.Counts.{IsCountedRun};
-ghost use Rattle.context.specs.Turns.{pivoted, HasSameScope};
+ghost use Rattle.point_run.specs.Turns.{pivoted, HasSameScope};
 ghost use Rattle.node_rows.specs.ReadRows.{IsRead, all_rows, read};
 
 use crate::basis::{Basis, measure};
-use crate::node_rows::{NodeRows, make_all};
+use crate::node_rows::NodeRows;
 use crate::reading::push_read;
+use crate::rooms::make_rest;
 use affine_forms::{Form, FormRefusal, WantOfMemory};
-use context::Work;
 use pip_problem::Refusal;
+use run_counts::Work;
 use tableau::Tableau;
 
 // The unknowns' rows after the pivot on their row r and column c, which refuses no number.
@@ -141,6 +142,7 @@ fn pivot(t: &mut NodeRows, r: usize, c: usize) -> Result<(), FormRefusal>
     requires positive { pos 1 ≤ℤ entry (row_at t.old.rows r).coefs c }
     ensures listed { IsChecked is_form_overflow (model.pivot_listed t.old.rows r c) result }
     ensures ok { OnOk result (t.new ≡ record t.old { rows = model.pivot t.old.rows r c }) }
+    ensures err { OnErr result (t.new ≡ t.old) }
 {
     t.pivot_by_forms(r, c)
 }
@@ -151,6 +153,7 @@ fn enter(rows: &mut NodeRows, r: usize, work: &mut Work) -> Result<Option<usize>
     requires row { r < length rows.old.rows }
     ensures gives { (S : Setting) (N : Node) → IsCountedRun (λ c. pivoted N rows.new.rows (is_some c)) run_fault result
         work.old work.new (turn_by S (record N { rows = rows.old.rows }) (MinusAt r)) }
+    ensures err { OnErr result (rows.new ≡ rows.old) }
     ensures scope { OnOk result (HasSameScope rows.old rows.new) }
 {
     let Some(c) = entering(rows, r)? else {
@@ -167,6 +170,7 @@ pub(crate) fn step(rows: &mut NodeRows, r: usize, work: &mut Work) -> Result<boo
     requires row { r < length rows.old.rows }
     ensures gives { (S : Setting) (N : Node) → IsCountedRun (pivoted N rows.new.rows) run_fault result work.old work.new
         (turn_by S (record N { rows = rows.old.rows }) (MinusAt r)) }
+    ensures err { OnErr result (rows.new ≡ rows.old) }
     ensures scope { OnOk result (HasSameScope rows.old rows.new) }
 {
     let column = enter(rows, r, work)?;
@@ -174,6 +178,20 @@ pub(crate) fn step(rows: &mut NodeRows, r: usize, work: &mut Work) -> Result<boo
 }
 
 impl NodeRows {
+    // The pivot where the rows of all forms are made.
+    fn pivot_made(&mut self, r: usize, c: usize) -> Result<(), FormRefusal>
+        requires row { r < length self.old.rows }
+        requires column { c < self.old.unknowns }
+        requires positive { pos 1 ≤ℤ entry (row_at self.old.rows r).coefs c }
+        ensures listed { IsChecked is_form_overflow (model.pivot_listed self.old.rows r c) result }
+        ensures ok { OnOk result (self.new ≡ record self.old { rows = model.pivot self.old.rows r c }) }
+        ensures err { OnErr result (self.new ≡ self.old) }
+    {
+        make_rest(&mut self.made, &self.basis, &mut self.forms)?;
+        self.made.exchange(r, c)?;
+        Ok(())
+    }
+
     // The pivot where the rows of forms are read off the unknowns'.
     fn pivot_by_forms(&mut self, r: usize, c: usize) -> Result<(), FormRefusal>
         requires row { r < length self.old.rows }
@@ -181,23 +199,20 @@ impl NodeRows {
         requires positive { pos 1 ≤ℤ entry (row_at self.old.rows r).coefs c }
         ensures listed { IsChecked is_form_overflow (model.pivot_listed self.old.rows r c) result }
         ensures ok { OnOk result (self.new ≡ record self.old { rows = model.pivot self.old.rows r c }) }
+        ensures err { OnErr result (self.new ≡ self.old) }
     {
         let count = self.forms.len();
         if count < 1 {
-            self.made.exchange(r, c)?;
-            return Ok(());
+            return self.pivot_made(r, c);
         }
         let rows = turned(&self.made, &self.basis, self.forms.as_slice(), r, c)?;
         match measure(&rows, self.norm) {
             Some(basis) => {
                 self.basis = basis;
                 self.made = rows;
+                Ok(())
             }
-            None => {
-                make_all(&mut self.made, &self.basis, &mut self.forms)?;
-                self.made.exchange(r, c)?;
-            }
+            None => self.pivot_made(r, c),
         }
-        Ok(())
     }
 }

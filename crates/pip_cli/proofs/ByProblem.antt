@@ -4,9 +4,10 @@ use Rattle.program_model.specs.Items.{IsItself}
 use Rattle.headline.proofs.FirstItems.{first_items-first}
 use Rattle.pip_endings.specs.declared.ending.Ending.{Ending as Refused}
 use Rattle.pip_endings.specs.declared.ending.Ending.TheVariants as ending
-use Rattle.pip_items.proofs.Outputs.{all_read}
+use Rattle.item_writing.proofs.Outputs.{all_read}
 use Rattle.pip_cli.proofs.Asked.{IsAsked}
-use Rattle.pip_cli.proofs.Ends.{gained-as, front-as, IsItemEnd, item_end, ending_from, ends-by, right-by, completes-by}
+use Rattle.item_writing.specs.ByProblem.{WritesInTime, FailsInTime, reads_by_problem}
+use Rattle.pip_cli.proofs.Ends.{fault-by, gained-as, front-as, IsItemEnd, item_end, ending_from, ends-by, right-by, completes-by}
 
 module _ (o : SolveOptions) (asked : IsAsked (Solve o)) (bytes : List ℕ) (n : ℕ) (a b : Option (List ℕ)) where
   -- what may be asked of problems is the same of each input
@@ -117,6 +118,12 @@ module _ (o : Option Command) (asked : IfSome o IsAsked) (left : Option (List �
 
   pub told-complete : s ≢ 6 → s ≢ 7 → WhereTold o left (λ c bytes. Completes c bytes a b s)
   told-complete p q = where_told (λ c bytes. Completes c bytes a b s) (λ c bytes asked h. completes-by c bytes a b (λ _. Unit {0}) s (whole-told c bytes asked h) p q)
+
+-- a write that failed was made in time
+pub told-in_time : {S : Type 0} (Calls : S → S → Type 0) (taken : S → ℕ) (old new : S) (a b : Option (List ℕ)) (r : Result (Unit {0}) Refused) (s : ℕ) → s ≡ (ending_from r).status → (o : Option Command) (left : Option (List ℕ)) → WhereTold o left (FailsInTime Calls taken old new a b r) → WhereTold o left (λ c bytes. s ≡ 7 → reads_by_problem c ≡ true → WritesInTime Calls taken old new a b c bytes)
+told-in_time Calls taken old new a b r s k None left h = tt
+told-in_time Calls taken old new a b r s k (Some c) left h =
+    where_bytes (FailsInTime Calls taken old new a b r c) (λ bytes. s ≡ 7 → reads_by_problem c ≡ true → WritesInTime Calls taken old new a b c bytes) (bytes_read c left) (λ bytes f failed by. f by ((fault-by r s k).1 failed)) h
 
 -- ---- whether the whole input was read
 

@@ -1,11 +1,11 @@
-ghost use Rattle.std.specs.Prelude.{◌≡◌, ◌≢◌, ◌⊎◌, ◌-◌, None, Ok, IsErrOf, IfSome};
+ghost use Rattle.std.specs.Prelude.{◌≡◌, ◌≢◌, ◌⊎◌, ◌-◌, None, Ok, true, IsErrOf, IfSome};
 ghost use Rattle.std.specs.Io.KnownBytes.{IsAtEnd};
 ghost use Rattle.pip_outside.specs.Calls.{AsksOn};
 ghost use Rattle.pip_outside.specs.Faults.{HasRisen};
 ghost use Rattle.program_model.specs.Endings.{all_done, wrong_words, read_failed, write_failed, memory_refused, memory_ending};
 ghost use Rattle.pip_words.specs.Words.{command_given};
-ghost use Rattle.pip_items.specs.Outputs.{TakesInput, TakesInputAtMost, IsRead, EndsByFaults};
-ghost use Rattle.pip_items.specs.ByProblem.{WritesOf, ReadsWhole, StopsAtRefused};
+ghost use Rattle.item_writing.specs.Outputs.{TakesInput, TakesInputAtMost, IsRead, EndsByFaults};
+ghost use Rattle.item_writing.specs.ByProblem.{WritesOf, ReadsWhole, StopsAtRefused, FailsInTime, WritesInTime, reads_by_problem};
 ghost use Rattle.pip_cli.specs.Runs.{IsWordsEnding, WhereTold};
 ghost use Rattle.pip_cli.specs.Ends.{GainsLine, IsNoted, IsAfterInput, EndsAs, AnswersRight, Completes};
 
@@ -36,6 +36,8 @@ fn run<S: Source, K: Sink>(
         sink.new ≡ sink.old }
     ensures asked { WhereTold (command_given words.now) (S.left source.old)
         (StopsAtRefused S.calls S.taken source.old source.new) }
+    ensures in_time { WhereTold (command_given words.now) (S.left source.old)
+        (FailsInTime S.calls S.taken source.old source.new (K.written sink.old) (K.written sink.new) result) }
     ensures output { WhereTold (command_given words.now) (S.left source.old) (λ c bytes.
         WritesOf c bytes (S.taken source.new - S.taken source.old) (K.written sink.old) (K.written sink.new) result) }
 {
@@ -71,6 +73,9 @@ pub fn pip_main<S: Source, K: Sink, N: Sink>(
     ensures turns { IfSome (S.left source.old) (λ _. AsksOn S.calls S.taken source.old source.new) }
     ensures asked { WhereTold (command_given words.now) (S.left source.old)
         (StopsAtRefused S.calls S.taken source.old source.new) }
+    ensures in_time { WhereTold (command_given words.now) (S.left source.old) (λ c bytes. result ≡ write_failed →
+        reads_by_problem c ≡ true → WritesInTime S.calls S.taken source.old source.new (K.written sink.old)
+        (K.written sink.new) c bytes) }
 
     // the causes of faults, each of which ends the run
     ensures read_fault { result ≡ read_failed → HasRisen (S.faults source.old) (S.faults source.new) }

@@ -6,13 +6,14 @@ ghost use Rattle.pip_endings.specs.Endings.{ending_of, pieces_ending};
 ghost use Rattle.pip_problem.specs.declared.refusal.Refusal.TheVariants as run;
 ghost use Rattle.pip_endings.specs.declared.ending.Ending.TheVariants as ending;
 ghost use Rattle.pip_endings.specs.Inputs.{words_ending, next_ending};
+ghost use Rattle.pip_stream.specs.Refusals.{not_filled};
 
 use crate::status::Status;
 use crate::told::{tell, write_line};
 use affine_forms::Overflow;
 use certificate_check::Spot;
 use leaf_certificate::CertificateRefusal;
-use pip_outside::{Failed, Sink};
+use pip_outside::{Failed, FillRefusal, Sink};
 use pip_problem::{ReadRefusal, Refusal};
 use pip_stream::NextRefusal;
 use pip_words::WordsRefusal;
@@ -94,6 +95,15 @@ impl From<NextRefusal> for Ending {
             NextRefusal::InputBytes => Ending::InputTooLong,
             NextRefusal::WantOfMemory => Ending::WantOfMemory,
         }
+    }
+}
+
+/// A window is not made, or not filled.
+impl From<FillRefusal> for Ending {
+    ghost from_gives = { λ e r. r ≡ next_ending (not_filled e) };
+
+    fn from(refusal: FillRefusal) -> Ending {
+        Ending::from(NextRefusal::from(refusal))
     }
 }
 

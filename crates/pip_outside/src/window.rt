@@ -1,4 +1,4 @@
-ghost use Rattle.std.specs.Prelude.{◌≡◌, ◌+◌, ◌-◌, ◌<◌, ◌≤◌, ◌^◌, [], length, drop, take, IfOk, IfSome, IsErr, IsErrOf};
+ghost use Rattle.std.specs.Prelude.{◌≡◌, ◌+◌, ◌-◌, ◌<◌, ◌≤◌, ◌^◌, [], length, drop, take, IfOk, IfErr, IfSome, IsErr, IsErrOf};
 ghost use Rattle.std.specs.Io.KnownBytes.{ReadConsumes};
 ghost use Rattle.pip_outside.specs.Bytes.{count_of};
 ghost use Rattle.pip_outside.specs.Calls.{CallsOnce};
@@ -96,9 +96,10 @@ impl Model for Window {
 }
 
 impl Window {
-    /// A window that holds nothing.
-    pub fn try_new(alloc: Global) -> Result<Window, AllocError>
-        ensures { IfOk result (λ w. w ≡ record { held = []; base = 0; peak = 0 }) }
+    /// A window that holds nothing. Nothing fails but memory.
+    pub fn try_new(alloc: Global) -> Result<Window, FillRefusal>
+        ensures fresh { IfOk result (λ w. w ≡ record { held = []; base = 0; peak = 0 }) }
+        ensures memory { IfErr result (λ e. e ≡ FillRefusal.WantOfMemory) }
     {
         let bytes = Vec::with_capacity(alloc, PIECE)?;
         let piece = Vec::from_elem(alloc, 0, PIECE)?;

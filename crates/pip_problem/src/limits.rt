@@ -45,6 +45,7 @@ impl Limits {
         Limits::new(1_000_000, 100_000, 10_000, MOST_NESTING as u64)
     }
 
+    /// The most pivots.
     pub fn pivots(&self) -> u64
         ensures value { result ≡ self.now.pivots }
         ensures budget { IsBudget self.now }
@@ -52,6 +53,7 @@ impl Limits {
         self.pivots
     }
 
+    /// The most cuts.
     pub fn cuts(&self) -> u64
         ensures value { result ≡ self.now.cuts }
         ensures budget { IsBudget self.now }
@@ -59,6 +61,7 @@ impl Limits {
         self.cuts
     }
 
+    /// The most splits.
     pub fn splits(&self) -> u64
         ensures value { result ≡ self.now.splits }
         ensures budget { IsBudget self.now }
@@ -66,6 +69,7 @@ impl Limits {
         self.splits
     }
 
+    /// The most nested nodes.
     pub fn nesting(&self) -> u64
         ensures value { result ≡ self.now.nesting }
         ensures budget { IsBudget self.now }

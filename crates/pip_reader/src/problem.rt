@@ -84,7 +84,6 @@ fn parts_at(alloc: Global, bytes: &[u8], place: usize) -> Reads<ProblemParts, Re
 }
 
 // The problem that begins at a place, and the place behind its last `)`.
-#[tactic(auto, using(crate::proofs::Stepwise::problem_is_by_steps))]
 fn problem_at(alloc: Global, bytes: &[u8], place: usize) -> Reads<Problem, ReadRefusal>
     requires { place ≤ length bytes.now }
     ensures reads { IsRead (λ p. p) read_fault bytes.now place result (problem_at_of bytes.now place) }

@@ -1,7 +1,7 @@
 -- What is in hand after a turn, and after a tree.
 use Rattle.pip_solve.proofs.Words.{◌≡◌, sym, ap, ◌∙◌, ℕ, ◌+◌, ◌++◌, ◌∷◌, [], map, take, List, ℤ, length, arith, take-append_seam, append-nil, length-append, length-take-le, opposite, If, NewParm, row_at, widened, Quotient, lower_bound, upper_bound, parametric_cut, Work, ◌>>=◌, go_on, give, run_from, TableauRows, ContextMark, Scope, size, ScopedTree, Path, Frame, node_of, setting_of, IsBelow, IsBack, under, below, node_run, gone_back, path_under, finished, whole_run, turned_run, AreMarks, Waits}
 use Rattle.pip_solve.specs.declared.pending.Frame.TheVariants as frame
-use Rattle.pip_solve.specs.declared.turn.Turn.TheVariants as code
+use Rattle.node_turn.specs.declared.turn.Turn.TheVariants as code
 use Rattle.pip_solve.proofs.Running.{grouped, same_after, node_same, Grown, finished_grown, grown_below}
 
 -- ---- an if: the second tree is due back here

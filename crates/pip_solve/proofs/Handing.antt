@@ -3,8 +3,8 @@ use Rattle.pip_solve.proofs.Words.{◌≡◌, refl, sym, ap, subst, ◌∙◌, �
 use Rattle.pip_model.specs.Contexts.{IsContext}
 use Rattle.pip_model.proofs.Fuel as fuel
 use Rattle.pip_solve.specs.declared.pending.Frame.TheVariants as frame
-use Rattle.pip_solve.specs.declared.turn.Turn as turns
-use Rattle.pip_solve.specs.declared.turn.Turn.TheVariants as code
+use Rattle.node_turn.specs.declared.turn.Turn as turns
+use Rattle.node_turn.specs.declared.turn.Turn.TheVariants as code
 use Rattle.pip_solve.proofs.Running.{same_after, by_turn, node_same, finished_grown, waits_grown, grown_kept, grown_below}
 use Rattle.pip_solve.proofs.Going.{forms_back, quotients_back, back_again, second_grown}
 

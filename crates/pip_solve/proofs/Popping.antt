@@ -1,5 +1,5 @@
 -- Frames that are closed over a tree.
-use Rattle.pip_solve.proofs.Words.{◌≡◌, refl, sym, ap, subst, ◌∙◌, ℕ, ◌+◌, ◌-◌, ◌<◌, ◌≤◌, ◌∷◌, [], List, ℤ, length, arith, max, append-nil, length-append, opposite, most_nesting, If, NewParm, nesting, Work, TableauRows, ContextMark, Scope, ScopedTree, Path, Frame, IsBelow, IsBack, IsCondition, Waiting, finished, whole_run, HasRoom, AreMarks, Waits, IsClosing, IsNextNode, dues}
+use Rattle.pip_solve.proofs.Words.{◌≡◌, refl, sym, ap, subst, ◌∙◌, ℕ, ◌+◌, ◌-◌, ◌<◌, ◌≤◌, ◌∷◌, [], List, ℤ, length, arith, max, append-nil, length-append, opposite, If, NewParm, nesting, Work, TableauRows, ContextMark, Scope, ScopedTree, Path, Frame, IsBelow, IsBack, IsCondition, Waiting, finished, whole_run, HasRoom, AreMarks, Waits, IsClosing, IsNextNode, dues}
 use Rattle.pip_solve.specs.declared.pending.Frame.TheVariants as frame
 use Rattle.pip_solve.proofs.Running.{Grown, finished_grown, waits_grown}
 use Rattle.pip_solve.proofs.Going.{second_on}
@@ -43,12 +43,6 @@ module _ (first : ScopedTree) (from : Path) (before : Waiting) (tree : ScopedTre
       pub form_width : length c ≡ made.width + 1
       form_width = omega (arith, h.closing.waits.0, h.closing.waits.1)
 
-      pub first_nested : nesting made.tree < most_nesting
-      first_nested = omega (arith, h.closing.waits.2, h.closing.few)
-
-      pub second_nested : nesting tree.tree < most_nesting
-      second_nested = omega (arith, h.closing.nested, h.closing.few)
-
       pub selected : (both : ScopedTree) → both ≡ record { width = made.width; tree = If c made.tree tree.tree } → depth + 1 ≡ path.depth → Closes first from before both (at_depth path depth) now
       selected both e deep =
           let there = waits_grown now.most tree.width path (at_depth path depth) now.frames (grown_depth path depth) h.closing.waits.3 in
@@ -67,9 +61,6 @@ module _ (first : ScopedTree) (from : Path) (before : Waiting) (tree : ScopedTre
 
     -- a new parameter
     module _ (form : List ℤ) (den : ℤ) (h : Closes first from before tree path (record now { frames = frame.NewParm form den ∷ now.frames })) where
-      pub below_nested : nesting tree.tree < most_nesting
-      below_nested = omega (arith, h.closing.nested, h.closing.few)
-
       pub defined : (made : ScopedTree) → made.width + 1 ≡ tree.width → made.tree ≡ NewParm form den tree.tree → depth + 1 ≡ path.depth → Closes first from before made (at_depth path depth) now
       defined made width e deep =
           let there = waits_grown now.most (tree.width - 1) path (at_depth path depth) now.frames (grown_depth path depth) h.closing.waits.4 in

@@ -9,15 +9,15 @@ use Rattle.affine_forms.specs.Checks.{Fits}
 use Rattle.tableau.specs.Tableaus.{TableauRows}
 use Rattle.quast.specs.Trees.{ScopedTree}
 use Rattle.context.specs.declared.context.ContextMark.{ContextMark}
-use Rattle.pip_solve.specs.Nodes.{node_of, setting_of, IsNode}
-use Rattle.pip_solve.specs.Signs.{IsCondition}
-use Rattle.pip_solve.specs.Turns.{after, turn_of, IsNewParameter}
+use Rattle.node_turn.specs.Nodes.{node_of, setting_of, IsNode}
+use Rattle.node_turn.specs.Signs.{IsCondition}
+use Rattle.node_turn.specs.Turns.{after, turn_of, IsNewParameter}
 use Rattle.pip_solve.specs.Waiting.{Waiting}
-use Rattle.pip_solve.specs.declared.path.Path.{Path}
+use Rattle.node_turn.specs.declared.path.Path.{Path}
 use Rattle.pip_solve.specs.declared.pending.Frame.{Frame}
 use Rattle.pip_solve.specs.declared.pending.Frame.TheVariants as frame
-use Rattle.pip_solve.specs.declared.turn.Turn.{Turn}
-use Rattle.pip_solve.specs.declared.turn.Turn.TheVariants as code
+use Rattle.node_turn.specs.declared.turn.Turn.{Turn}
+use Rattle.node_turn.specs.declared.turn.Turn.TheVariants as code
 use Rattle.pip_solve.specs.declared.closing.Next.{Next}
 use Rattle.pip_solve.specs.declared.closing.Next.TheVariants as next
 

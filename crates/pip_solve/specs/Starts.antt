@@ -1,7 +1,7 @@
 -- Where the run of a problem starts.
 use Rattle.std.specs.Prelude.{◌≡◌, []}
 use Rattle.pip_model.specs.Problem.{Problem}
-use Rattle.pip_solve.specs.declared.path.Path.{Path}
+use Rattle.node_turn.specs.declared.path.Path.{Path}
 
 -- the path to a problem's first node
 pub record IsFirstPath (P : Problem) (path : Path) : Type 0 where

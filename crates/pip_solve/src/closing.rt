@@ -2,10 +2,10 @@ ghost use Rattle.std.specs.Prelude.{◌≡◌, IfOk};
 ghost use Rattle.pip_model.specs.Run.{Work as Counts};
 ghost use Rattle.pip_solve.specs.Frames.{finished, next_run, HasNextRoom, IsClosing, IsNext};
 
-use crate::path::Path;
 use crate::pending::{Frame, Pending};
 use affine_forms::WantOfMemory;
 use node_rows::NodeRows;
+use node_turn::Path;
 use quast::Quast;
 use std::mem::replace;
 

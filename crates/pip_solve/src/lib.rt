@@ -2,17 +2,12 @@
 #![tactic(auto)]
 
 mod closing;
-mod cut;
-mod known;
 mod node;
-mod path;
 mod pending;
 mod rooms;
-mod scan;
 mod solver;
 mod solving;
 mod starting;
-mod turn;
 
 pub use pending::{Frame, Pending};
 pub use solver::Solver;

@@ -7,22 +7,21 @@ ghost use Rattle.pip_model.specs.Agreement.{AgreesCounted};
 ghost use Rattle.pip_problem.specs.Faults.{run_fault};
 ghost use Rattle.tableau.specs.Tableaus.{IsRow};
 ghost use Rattle.new_parameters.specs.Scopes.{size};
-ghost use Rattle.pip_solve.specs.Nodes.{IsBelow, IsKept};
-ghost use Rattle.pip_solve.specs.Signs.{IsCondition};
-ghost use Rattle.pip_solve.specs.Turns.{tree_in, IsNewParameter, IsNewQuotient};
+ghost use Rattle.node_turn.specs.Nodes.{IsBelow, IsKept};
+ghost use Rattle.node_turn.specs.Signs.{IsCondition};
+ghost use Rattle.node_turn.specs.Turns.{tree_in, IsNewParameter, IsNewQuotient};
 ghost use Rattle.pip_solve.specs.Frames.{whole_run, turned_run, next_run, HasRoom, HasNextRoom, IsRunning, IsTurned, IsNext, weight};
-ghost use Rattle.pip_solve.specs.declared.turn.Turn.TheVariants as turned;
+ghost use Rattle.node_turn.specs.declared.turn.Turn.TheVariants as turned;
 
 use crate::closing::{Next, close};
-use crate::path::Path;
 use crate::pending::{Frame, Pending};
 use crate::rooms::Rooms;
-use crate::turn::{Turn, take_turn};
 use affine_forms::{Form, WantOfMemory};
 use context::Work;
 use gomory_cut::parametric_cut_by;
 use new_parameters::Quotient;
 use node_rows::NodeRows;
+use node_turn::{Path, Turn, take_turn};
 use pip_problem::Refusal;
 use quast::Quast;
 use std::alloc::Global;
@@ -66,9 +65,9 @@ fn cut_below(rows: &mut NodeRows, i: usize, residue: &Form) -> Result<(), WantOf
         }) }
 {
     let mut made = rows.take_made()?;
-    cut_made_below(&mut made, i, residue)?;
+    let cut = cut_made_below(&mut made, i, residue);
     rows.put(made);
-    Ok(())
+    cut
 }
 
 // Goes one level down, below a new quotient: it joins the path's quotients, and its two bounds the context.

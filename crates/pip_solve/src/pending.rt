@@ -1,4 +1,4 @@
-ghost use Rattle.std.specs.Prelude.{◌≡◌, ◌<◌, ◌≤◌, [], ◌∷◌, length, IfOk, IfSome, IsTrue, ◌↔◌, OnOk, None};
+ghost use Rattle.std.specs.Prelude.{◌≡◌, ◌<◌, ◌≤◌, [], ◌∷◌, length, IfOk, IfSome, IsTrue, ◌↔◌, OnOk, OnErr, None};
 
 use affine_forms::{Form, WantOfMemory};
 use context::ContextMark;
@@ -76,12 +76,13 @@ impl Pending {
         Ok(made)
     }
 
-    /// Nothing waits, and n frames may, for which there is room from now on.
+    /// Nothing waits, and n frames may, for which there is room from now on. A refusal leaves all as it was.
     pub fn restart(&mut self, n: usize) -> Result<(), WantOfMemory>
-        ensures { OnOk result (self.new ≡ record { frames = []; most = n }) }
+        ensures ok { OnOk result (self.new ≡ record { frames = []; most = n }) }
+        ensures err { OnErr result (self.new ≡ self.old) }
     {
+        self.stack.reserve(n.saturating_sub(self.stack.len()))?;
         self.stack.clear();
-        self.stack.reserve(n)?;
         self.spares.truncate(n);
         self.most = n;
         Ok(())

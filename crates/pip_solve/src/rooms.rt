@@ -1,5 +1,5 @@
-use crate::known::KnownForms;
 use crate::pending::Pending;
+use node_turn::KnownForms;
 use std::alloc::Global;
 
 // What a run keeps beside its rows and its path: the forms that are known, and the frames that wait.

@@ -8,15 +8,15 @@ ghost use Rattle.pip_model.specs.Agreement.{Agrees, AgreesCounted};
 ghost use Rattle.pip_model.specs.WellFormed.{IsProblem, IsWellFormedAnswer};
 ghost use Rattle.pip_problem.specs.Faults.{run_fault};
 ghost use Rattle.quast.specs.Answers.{answer_of, IsOver};
-ghost use Rattle.pip_solve.specs.Turns.{tree_in};
+ghost use Rattle.node_turn.specs.Turns.{tree_in};
 ghost use Rattle.pip_solve.specs.Starts.{IsFirstPath};
 
 use crate::node::run_first;
-use crate::path::Path;
 use crate::rooms::Rooms;
 use crate::starting::{start_path, start_rows};
 use context::Work;
 use node_rows::NodeRows;
+use node_turn::Path;
 use pip_problem::{Limits, Problem, Refusal};
 use quast::{Answer, Quast};
 use std::alloc::Global;
@@ -67,7 +67,7 @@ impl Solver {
     }
 
     // The tree of a problem whose context has a point.
-    pub(crate) fn tree_of(
+    pub(crate) fn tree_anew(
         &mut self,
         problem: &Problem,
         levels: usize,
@@ -83,28 +83,7 @@ impl Solver {
         self.tree(problem, levels, work)
     }
 
-    // The answer of the run from the path to the problem's first node.
-    fn answer_on(
-        &mut self,
-        problem: &Problem,
-        levels: usize,
-        work: &mut Work,
-    ) -> Result<Answer, Refusal>
-        requires path { IsFirstPath problem.now self.old.path }
-        requires nesting { levels ≡ work.old.budget.nesting }
-        requires few { levels ≤ most_nesting }
-        ensures gives { AgreesCounted answer_of run_fault result work.new (model.answer problem.now work.old) }
-        ensures scope { IfOk result (IsOver problem.now.params) }
-    {
-        let alloc = self.rows.allocator();
-        if !self.path.context.has_point(alloc, work)? {
-            return Ok(Answer::Void);
-        }
-        let tree = self.tree(problem, levels, work)?;
-        Ok(Answer::Tree(tree))
-    }
-
-    // The answer of the run from its start, in which nothing is counted yet.
+    // The answer of the run, after what was counted.
     fn answer(
         &mut self,
         problem: &Problem,
@@ -115,12 +94,16 @@ impl Solver {
         ensures gives { AgreesCounted answer_of run_fault result work.new (model.answer problem.now work.old) }
         ensures scope { IfOk result (IsOver problem.now.params) }
     {
-        let levels = limits.nesting() as usize;
+        let alloc = self.rows.allocator();
         start_path(problem, &mut self.path)?;
-        self.answer_on(problem, levels, work)
+        if !self.path.context.has_point(alloc, work)? {
+            return Ok(Answer::Void);
+        }
+        let tree = self.tree(problem, limits.nesting() as usize, work)?;
+        Ok(Answer::Tree(tree))
     }
 
-    // The answer of the run from its start.
+    // The answer of the run from its start, in which nothing is counted yet.
     fn answer_from_start(&mut self, problem: &Problem, limits: &Limits) -> Result<Answer, Refusal>
         ensures gives { Agrees answer_of run_fault result (answered (model.solve limits.now problem.now)) }
         ensures scope { IfOk result (IsOver problem.now.params) }

@@ -1,20 +1,38 @@
-ghost use Rattle.std.specs.Prelude.{◌≡◌, IfOk};
+ghost use Rattle.std.specs.Prelude.{◌≡◌, ◌≤◌, [], IfOk};
 ghost use Rattle.pip_model.specs.Leaves.{IsReached};
+ghost use Rattle.pip_model.specs.Limits.{most_nesting};
 ghost use Rattle.pip_model.specs.Right.{IsRight};
 ghost use Rattle.pip_model.specs.Run as model;
-ghost use Rattle.pip_model.specs.Run.{answered};
+ghost use Rattle.pip_model.specs.Run.{answered, first_node, run_from, setting};
 ghost use Rattle.pip_model.specs.Agreement.{Agrees, AgreesCounted};
 ghost use Rattle.pip_model.specs.WellFormed.{IsWellFormedAnswer};
 ghost use Rattle.pip_problem.specs.Faults.{run_fault};
-ghost use Rattle.context.specs.Counts.{IsCountedRun};
+ghost use Rattle.run_counts.specs.Counts.{IsCountedRun};
 ghost use Rattle.quast.specs.Answers.{answer_of, IsOver};
+ghost use Rattle.node_turn.specs.Turns.{tree_in};
 
 use crate::solver::Solver;
 use crate::starting::add_forms;
 use context::{Context, Point, Work};
 use pip_problem::{Limits, Problem, Refusal};
-use quast::Answer;
+use quast::{Answer, Quast};
 use std::alloc::Global;
+
+// The point of a context, to which the problem's forms are added: it has none, and is over the problem's parameters.
+fn point_on(
+    alloc: Global,
+    problem: &Problem,
+    context: &mut Context,
+    work: &mut Work,
+) -> Result<Option<Point>, Refusal>
+    requires width { context.old.width ≡ problem.now.params }
+    requires empty { context.old.forms ≡ [] }
+    ensures { IsCountedRun (λ o. o) run_fault result work.old work.new
+        (model.point problem.now.params problem.now.context) }
+{
+    add_forms(problem, context)?;
+    context.point(alloc, work)
+}
 
 /// The point that the run finds for the context of a problem, before all else; None where there is none.
 pub fn context_point(
@@ -26,8 +44,24 @@ pub fn context_point(
         (model.point problem.now.params problem.now.context) }
 {
     let mut context = Context::new(alloc, problem.params());
-    add_forms(problem, &mut context)?;
-    context.point(alloc, work)
+    point_on(alloc, problem, &mut context, work)
+}
+
+// The tree of a problem whose context has a point.
+fn tree_from(
+    alloc: Global,
+    problem: &Problem,
+    levels: usize,
+    work: &mut Work,
+) -> Result<Quast, Refusal>
+    requires nesting { levels ≡ work.old.budget.nesting }
+    requires few { levels ≤ most_nesting }
+    ensures gives { AgreesCounted tree_in run_fault result work.new
+        (run_from (setting problem.now) (first_node problem.now) work.old) }
+    ensures width { IfOk result (λ tree. tree.width ≡ problem.now.params) }
+{
+    let mut solver = Solver::new(alloc);
+    solver.tree_anew(problem, levels, work)
 }
 
 /// The answer of the run, after the point that it found for the context and what was counted for it.
@@ -47,8 +81,7 @@ pub fn answer_from(
     match point {
         None => Ok(Answer::Void),
         Some(_) => {
-            let mut solver = Solver::new(alloc);
-            let tree = solver.tree_of(problem, levels, work)?;
+            let tree = tree_from(alloc, problem, levels, work)?;
             Ok(Answer::Tree(tree))
         }
     }

@@ -4,10 +4,10 @@ ghost use Rattle.pip_model.specs.Rows.{started, start};
 ghost use Rattle.pip_model.specs.WellFormed.{IsProblem};
 ghost use Rattle.pip_solve.specs.Starts.{IsFirstPath};
 
-use crate::path::Path;
 use affine_forms::{Form, WantOfMemory};
 use context::Context;
 use node_rows::NodeRows;
+use node_turn::Path;
 use pip_problem::Problem;
 use std::alloc::Global;
 

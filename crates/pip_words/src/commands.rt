@@ -1,6 +1,6 @@
-ghost use Rattle.std.specs.Prelude.{◌≡◌, IfOk};
+ghost use Rattle.std.specs.Prelude.{◌≡◌, IfOk, drop};
 ghost use Rattle.clap.specs.Words.{app_of, rows_of, found_of};
-ghost use Rattle.pip_words.specs.Words.{Gives, meaning_of, pip_app, command_named, solve_of, eval_of, trial_of};
+ghost use Rattle.pip_words.specs.Words.{Gives, meaning_of, pip_app, command_named, named_in, spellings, solve_of, eval_of, trial_of};
 
 use crate::arguments::{Argument, Entry, with_commands};
 use crate::command::{Command, PiecesOptions, SimplifyOptions, SolveOptions, TrialOptions};
@@ -111,7 +111,16 @@ pub(crate) fn command_of_name(
         Ok(Command::Check)
     } else if name == "share" {
         Ok(Command::Share)
-    } else if name == "trial" {
+    } else {
+        later_command(name, matches)
+    }
+}
+
+// The same of a name that stands behind those five.
+fn later_command(name: &str, matches: &ArgMatches<'_>) -> Result<Command, WordsRefusal>
+    ensures { Gives meaning_of (named_in name.now (rows_of (found_of matches.now)) (drop 5 spellings)) result }
+{
+    if name == "trial" {
         trial(matches)
     } else if name == "pieces" {
         let params = parameter_count(matches).ok_or(WordsRefusal::Usage)?;

@@ -16,7 +16,6 @@ use text_reading::no_big_parameter;
 /// A row whose first entry is 0 is two inequalities, the given one and then the one with all entries negated; both are
 /// counted. The first word that differs decides the refusal, which keeps the place of that word's first byte, the count
 /// or the column.
-#[tactic(auto, using(crate::proofs::Problems::read_matrices_by_steps))]
 pub fn read_matrices(alloc: Global, bytes: &[u8]) -> Result<Problem, ReadRefusal>
     ensures agrees { Agrees (λ x. x) read_fault result (read_matrices_of bytes.now) }
     ensures group { IfOk result (λ p. IsGroup p.comment) }

@@ -1,21 +1,8 @@
-//! Selection trees under a context: a tree restricted to it, whether two trees agree on it, the lesser of two.
+//! Selection trees under a context: a tree restricted to it, whether two trees agree on it, the lesser of two. Each is
+//! made in a crate of its own, which is handed on here.
 #![tactic(auto)]
 
-mod choosing;
-mod choosing_walk;
-mod comparing;
-mod finding;
-mod leaves;
-mod lesser_leaves;
-mod lesser_lists;
-mod nodes;
-mod rest;
-mod restricting;
-mod sameness;
-mod searching;
-
-pub use choosing::least;
-pub use comparing::same;
+pub use least::least;
 pub use quast_walk::ToolRefusal;
-pub use restricting::restrict;
-pub use sameness::Sameness;
+pub use restrict::restrict;
+pub use same::{Sameness, same};

@@ -1,4 +1,4 @@
-ghost use Rattle.std.specs.Prelude.{◌≡◌, ℕ, ◌+◌, ◌*◌, ◌^◌, ◌<◌, ◌≤◌, length, IfOk, IfSome};
+ghost use Rattle.std.specs.Prelude.{◌≡◌, ℕ, ◌+◌, ◌*◌, ◌^◌, ◌<◌, ◌≤◌, [], length, IfOk, OnOk, IfSome};
 ghost use Rattle.pip_model.specs.Limits.{most_components, most_nesting};
 ghost use Rattle.pip_model.specs.Printed.{IsPrintableAnswer};
 ghost use Rattle.pip_model.specs.Run.{point as point_of};
@@ -14,6 +14,29 @@ use context::{Context, Point, Work};
 use quast::Answer;
 use std::alloc::Global;
 
+// The rows' forms join a context of none, with room for two more at each of so many levels.
+fn fill(
+    alloc: Global,
+    rows: &Forms,
+    levels: usize,
+    context: &mut Context,
+) -> Result<(), WantOfMemory>
+    requires levels { levels ≤ 2 * most_nesting + most_components }
+    requires width { context.old.width ≡ rows.now.width }
+    requires none { context.old.forms ≡ [] }
+    ensures width { OnOk result (context.new.width ≡ rows.now.width) }
+    ensures forms { OnOk result (context.new.forms ≡ rows.now.forms) }
+    ensures room { OnOk result (2 * levels ≤ context.new.spare) }
+{
+    let forms = rows.as_slice();
+    context.reserve(forms.len() + 2 * levels)?;
+    for form in forms {
+        let copy = form.try_clone(alloc)?;
+        context.add(copy);
+    }
+    Ok(())
+}
+
 /// The context of the rows, with room for two more forms at each of so many levels: at most those of two trees, each
 /// nested 200 deep, and of two lists.
 pub fn context_of(alloc: Global, rows: &Forms, levels: usize) -> Result<Context, WantOfMemory>
@@ -22,13 +45,8 @@ pub fn context_of(alloc: Global, rows: &Forms, levels: usize) -> Result<Context,
     ensures forms { IfOk result (λ k. k.forms ≡ rows.now.forms) }
     ensures room { IfOk result (λ k. 2 * levels ≤ k.spare) }
 {
-    let forms = rows.as_slice();
-    let mut context = Context::try_new(alloc, rows.width())?;
-    context.reserve(forms.len() + 2 * levels)?;
-    for form in forms {
-        let copy = form.try_clone(alloc)?;
-        context.add(copy);
-    }
+    let mut context = Context::new(alloc, rows.width());
+    fill(alloc, rows, levels, &mut context)?;
     Ok(context)
 }
 

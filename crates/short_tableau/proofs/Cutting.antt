@@ -1,20 +1,20 @@
 -- The cut by a short row.
 use Rattle.short_tableau.proofs.Words.{◌≡◌, refl, ap, sym, ◌∙◌, subst, ℕ, ◌+◌, ◌-◌, ◌*◌, ◌<◌, ◌≤◌, ℤ, neg_ℤ, List, length, map, take, drop, arith, append-nil, slice_range, take_all, drop_all, length-map, constant_cut, fractional_parts, residue_of, negate, residue, floor_mod, Row, row_at, mapped, row_of_numbers, numbers_of, IsShortRow, row_from, content-divided, row_size, rows_in, IsShortReduced, IsDense}
 use Rattle.std.proofs.lemmas.Simd.{map-map}
-use Rattle.tableau.proofs.Flat.{numbers_again}
+use Rattle.row_laws.proofs.Numbers.{numbers_again}
 use Rattle.short_tableau.proofs.Places.{IsSplit, split_twice, split_read, split_row}
-use Rattle.short_tableau.proofs.ShortParts.{short_row, divided_positive}
+use Rattle.short_row.proofs.ShortParts.{short_row, divided_positive}
 
 pub ceiled : (d : ℤ) (xs : List ℤ) (i : ℕ) → length xs ≤ i → mapped (λ x. neg_ℤ (floor_mod (neg_ℤ x) d)) i xs ≡ negate (residue d xs)
 ceiled d xs i h = rw (take_all i xs h, drop_all i xs h) (append-nil (map (λ x. neg_ℤ (floor_mod (neg_ℤ x) d)) xs) ∙ sym (map-map neg_ℤ (λ x. floor_mod (neg_ℤ x) d) xs))
 
 -- the cut by a short row, where its numbers are short, is a short row
-pub cut_row : (n : ℕ) (r made : Row) → IsShortReduced n r → made ≡ constant_cut r → IsShortRow made → IsShortReduced n made
+pub cut_row : (n : ℕ) (r made : Row) → IsShortReduced n 0 r → made ≡ constant_cut r → IsShortRow made → IsShortReduced n 0 made
 cut_row n r made h e short =
     let before = row_from r.den (fractional_parts r) (negate (residue_of r).form) in
     let coefs : length (constant_cut r).coefs ≡ n = length-map (fractional_parts r) _ ∙ length-map r.coefs _ ∙ h.row.coefs in
     let constant : length (constant_cut r).constant ≡ 0 + 1 = length-map (negate (residue_of r).form) _ ∙ length-map (residue_of r).form _ ∙ length-map r.constant _ ∙ h.row.constant in
-    subst (IsShortReduced n) (sym e) (record {
+    subst (IsShortReduced n 0) (sym e) (record {
       row = short_row n 0 (constant_cut r) (divided_positive before h.row.positive) coefs constant (subst IsShortRow e short);
       reduced = content-divided before h.row.positive;
       short = subst IsShortRow e short;
@@ -40,8 +40,8 @@ module _ (n k i : ℕ) (zs : List ℤ) (dense : IsDense n k zs) (h : i < k) (pla
     pub copied_row : row_of_numbers n copied ≡ row_at (rows_in n k zs) i
     copied_row = ap (row_of_numbers n) (copy ∙ range_is) ∙ sym (split_read n k i zs (take place zs) mid (drop (row_size n) (drop place zs)) parts)
 
-    pub copied_short : IsShortReduced n (row_of_numbers n copied)
-    copied_short = subst (λ (ys : List ℤ). IsShortReduced n (row_of_numbers n ys)) (sym (copy ∙ range_is)) (split_row n k i zs (take place zs) mid (drop (row_size n) (drop place zs)) parts)
+    pub copied_short : IsShortReduced n 0 (row_of_numbers n copied)
+    copied_short = subst (λ (ys : List ℤ). IsShortReduced n 0 (row_of_numbers n ys)) (sym (copy ∙ range_is)) (split_row n k i zs (take place zs) mid (drop (row_size n) (drop place zs)) parts)
 
     -- the row that is made of them
     module _ (now : List ℤ) (size : length now ≡ length copied) (cut : row_of_numbers n now ≡ constant_cut (row_of_numbers n copied)) where

@@ -3,7 +3,7 @@ use Rattle.short_tableau.proofs.Words.{◌≡◌, refl, ap, sym, ◌∙◌, ℕ,
 use Rattle.std.specs.Prelude.{◌+ℤ◌, ◌≢◌}
 use Rattle.std.proofs.lemmas.List.{get_or-set_other}
 use Rattle.pip_model.proofs.RingLaws.{*ℤ_assoc}
-use Rattle.tableau_row.proofs.Substituting.{some_product}
+use Rattle.row_laws.proofs.Substituting.{some_product}
 use Rattle.std.specs.List.{list_any}
 use Rattle.pip_model.specs.Numbers.{is_nonneg, is_zero, divides}
 use Rattle.pip_model.specs.Rows.{is_whole}
@@ -118,7 +118,7 @@ constant_combined a (u ∷ []) b [] h k = absurd (omega arith)
 constant_combined a (u ∷ []) b (v ∷ y ∷ vs) h k = absurd (omega arith)
 constant_combined a (u ∷ []) b (v ∷ []) h k = refl
 
-module _ (n : ℕ) (p : Row) (c : ℕ) (i : Row) (pivot : IsPivot n p c) (row : IsShortReduced n i) where
+module _ (n : ℕ) (p : Row) (c : ℕ) (i : Row) (pivot : IsPivot n 0 p c) (row : IsShortReduced n 0 i) where
   abbrev a : ℤ
   a = entry p.coefs c
 
@@ -169,7 +169,7 @@ module _ (n : ℕ) (p : Row) (c : ℕ) (i : Row) (pivot : IsPivot n p c) (row : 
   coefs_after = mapped_length (λ x. floor_div x (divisor (substituted p c i))) (substituted p c i).coefs ∙ coefs_put_in
 
 -- a row with itself put in is 0
-module _ (n : ℕ) (p : Row) (c : ℕ) (pivot : IsPivot n p c) where
+module _ (n : ℕ) (p : Row) (c : ℕ) (pivot : IsPivot n 0 p c) where
   own_constant : constant (substituted p c p).constant ≡ pos 0
   own_constant = constant_put_in n p c p pivot pivot.row ∙ omega (arith, ints)
 

@@ -84,7 +84,7 @@ module _ (n : ℕ) (R : List Row) (r : ℕ) (U : Row) (h : r < length R)
 
 -- ---- the pivot
 
-module _ (n r c : ℕ) (rows : List Row) (h : r < length rows) (pivot_at : IsPivot n (row_at rows r) c) where
+module _ (n r c : ℕ) (rows : List Row) (h : r < length rows) (pivot_at : IsPivot n 0 (row_at rows r) c) where
   abbrev p : Row
   p = row_at rows r
 

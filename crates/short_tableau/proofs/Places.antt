@@ -1,6 +1,6 @@
 -- Rows in their places.
 use Rattle.short_tableau.proofs.Words.{◌≡◌, refl, ap, sym, ◌∙◌, subst, ℕ, zero, suc, ◌+◌, ◌-◌, ◌*◌, ◌<◌, ◌≤◌, ℤ, Bool, true, false, List, [], ◌∷◌, ◌++◌, length, map, take, drop, arith, append-nil, length-append, length-drop, slice_set, IsTrue, take_at, drop_at, take-append-le, drop-append-le, get_or_at, set_at, length-map, map-append, take_all, drop_all, take-append-drop, length-take-le, get_or-map, list_all-append, list_all_at, and-false, list_all, All-same, All-set, All-take, All-drop, All-push, All-append, All-cons, suc-mul, add-mul, Row, row_at, form_row, unit_row, eliminated, pivot, IsCandidate, row_of_numbers, numbers_of, mapped, TableauRows, with_row, row_size, rows_in, IsShortReduced, IsPivot, IsDense, is_short_row, AreTurned}
-use Rattle.tableau.proofs.Numbers.{row_again}
+use Rattle.row_laws.proofs.Numbers.{row_again}
 
 one_more : (i l : ℕ) → suc i * l ≡ l + i * l
 one_more i l = suc-mul i l ∙ omega arith
@@ -35,7 +35,7 @@ rows_parts n k i front mid back h =
 
 -- ---- short rows
 
-pub dense_row : (n k i : ℕ) (zs : List ℤ) → IsDense n k zs → i < k → IsShortReduced n (row_at (rows_in n k zs) i)
+pub dense_row : (n k i : ℕ) (zs : List ℤ) → IsDense n k zs → i < k → IsShortReduced n 0 (row_at (rows_in n k zs) i)
 dense_row n k i zs h lt = h.rows i (form_row 0 []) (rw (length_rows n k zs) lt)
 
 back_of : (A B : List Row) (r : Row) (i : ℕ) → length A ≡ i → drop (i + 1) (A ++ r ∷ B) ≡ B
@@ -79,15 +79,15 @@ module _ (n k i : ℕ) (zs front mid back : List ℤ) (s : IsSplit n k i zs fron
       ap (λ (rs : List Row). row_at rs i) rows_split
       ∙ get_or_at (rows_in n i front) (row_of_numbers n mid) (rows_in n (k - (i + 1)) back) (form_row 0 []) i (length_rows n i front)
 
-  pub split_row : IsShortReduced n (row_of_numbers n mid)
-  split_row = subst (IsShortReduced n) split_read (dense_row n k i zs s.dense s.parts.within)
+  pub split_row : IsShortReduced n 0 (row_of_numbers n mid)
+  split_row = subst (IsShortReduced n 0) split_read (dense_row n k i zs s.dense s.parts.within)
 
   pub split_front : IsDense n i front
   split_front = record {
     size = s.parts.front_size;
-    rows = All-same (IsShortReduced n) _ _
+    rows = All-same (IsShortReduced n 0) _ _
         (sym (ap (take i) rows_split ∙ take_at (rows_in n i front) (row_of_numbers n mid ∷ rows_in n (k - (i + 1)) back) i (length_rows n i front)))
-        (All-take (IsShortReduced n) i (rows_in n k zs) s.dense.rows);
+        (All-take (IsShortReduced n 0) i (rows_in n k zs) s.dense.rows);
   }
 
   lengths : length front + (length mid + length back) ≡ length zs
@@ -96,9 +96,9 @@ module _ (n k i : ℕ) (zs front mid back : List ℤ) (s : IsSplit n k i zs fron
   pub split_back : IsDense n (k - (i + 1)) back
   split_back = record {
     size = omega (arith, lengths, s.dense.size, s.parts.front_size, s.parts.mid_size, three_sizes (row_size n) i k s.parts.within);
-    rows = All-same (IsShortReduced n) _ _
+    rows = All-same (IsShortReduced n 0) _ _
         (sym (ap (drop (i + 1)) rows_split ∙ back_of (rows_in n i front) (rows_in n (k - (i + 1)) back) (row_of_numbers n mid) i (length_rows n i front)))
-        (All-drop (IsShortReduced n) (i + 1) (rows_in n k zs) s.dense.rows);
+        (All-drop (IsShortReduced n 0) (i + 1) (rows_in n k zs) s.dense.rows);
   }
 
   -- the row is written anew
@@ -112,10 +112,10 @@ module _ (n k i : ℕ) (zs front mid back : List ℤ) (s : IsSplit n k i zs fron
     pub split_turned : (f : Row → Row) → row_of_numbers n made ≡ f (row_of_numbers n mid) → rows_in n k (front ++ (made ++ back)) ≡ slice_set (rows_in n k zs) i (f (row_at (rows_in n k zs) i))
     split_turned f e = split_set ∙ ap (slice_set (rows_in n k zs) i) (e ∙ ap f (sym split_read))
 
-    pub split_dense : IsShortReduced n (row_of_numbers n made) → IsDense n k (front ++ (made ++ back))
+    pub split_dense : IsShortReduced n 0 (row_of_numbers n made) → IsDense n k (front ++ (made ++ back))
     split_dense row = record {
       size = length-append front (made ++ back) ∙ ap (λ j. length front + j) (length-append made back ∙ ap (λ j. j + length back) size) ∙ lengths ∙ s.dense.size;
-      rows = All-same (IsShortReduced n) _ _ split_set (All-set (IsShortReduced n) (rows_in n k zs) i (row_of_numbers n made) row s.dense.rows);
+      rows = All-same (IsShortReduced n 0) _ _ split_set (All-set (IsShortReduced n 0) (rows_in n k zs) i (row_of_numbers n made) row s.dense.rows);
     }
 
 pub mapped_all : (f : Row → Row) (old : List Row) (i : ℕ) → length old ≤ i → mapped f i old ≡ map f old
@@ -137,11 +137,11 @@ pivot_sides A B p r c n e f g =
     rw (at, map-append (eliminated p c) A (p ∷ B), none, f)
     (set_at (map (eliminated p c) A) (eliminated p c p) (map (eliminated p c) B) (unit_row n 0 c) r (simp length-map e))
 
-pub dense_made : (n k i : ℕ) (front mid back : List ℤ) → AreParts n k i front mid back → IsDense n i front → IsShortReduced n (row_of_numbers n mid) → IsDense n (k - (i + 1)) back → IsDense n k (front ++ (mid ++ back))
+pub dense_made : (n k i : ℕ) (front mid back : List ℤ) → AreParts n k i front mid back → IsDense n i front → IsShortReduced n 0 (row_of_numbers n mid) → IsDense n (k - (i + 1)) back → IsDense n k (front ++ (mid ++ back))
 dense_made n k i front mid back h one row two = record {
   size = length-append front (mid ++ back) ∙ ap (λ j. length front + j) (length-append mid back) ∙ omega (arith, h.front_size, h.mid_size, two.size, three_sizes (row_size n) i k h.within);
-  rows = All-same (IsShortReduced n) _ _ (rows_parts n k i front mid back h)
-      (All-append (IsShortReduced n) (rows_in n i front) (row_of_numbers n mid ∷ rows_in n (k - (i + 1)) back) one.rows (All-cons (IsShortReduced n) (row_of_numbers n mid) (rows_in n (k - (i + 1)) back) row two.rows));
+  rows = All-same (IsShortReduced n 0) _ _ (rows_parts n k i front mid back h)
+      (All-append (IsShortReduced n 0) (rows_in n i front) (row_of_numbers n mid ∷ rows_in n (k - (i + 1)) back) one.rows (All-cons (IsShortReduced n 0) (row_of_numbers n mid) (rows_in n (k - (i + 1)) back) row two.rows));
 }
 
 pub not_turned : (n k : ℕ) (rs : List Row) (zs : List ℤ) → list_all is_short_row rs ≡ false → AreTurned n k rs false zs
@@ -149,7 +149,7 @@ not_turned n k rs zs long = record { dense = λ all. cc; rows = λ all. cc; long
 
 -- the numbers that a pivot makes in front of row r, of it and behind it
 module _ (n k r c : ℕ) (zs front mid back : List ℤ) (s : IsSplit n k r zs front mid back) where
-  pub split_pivot : IsCandidate n (row_at (rows_in n k zs) r) c → IsPivot n (row_of_numbers n mid) c
+  pub split_pivot : IsCandidate n (row_at (rows_in n k zs) r) c → IsPivot n 0 (row_of_numbers n mid) c
   split_pivot h = record { row = split_row n k r zs front mid back s; candidate = subst (λ (q : Row). IsCandidate n q c) (split_read n k r zs front mid back s) h }
 
   abbrev before : List Row
@@ -164,14 +164,14 @@ module _ (n k r c : ℕ) (zs front mid back : List ℤ) (s : IsSplit n k r zs fr
       ap (λ (rs : List Row). pivot rs r c) (rows_split n k r zs front mid back s)
       ∙ pivot_sides (rows_in n r front) (rows_in n (k - (r + 1)) back) (row_of_numbers n mid) r c n (length_rows n r front) row.row.coefs row.row.constant
 
-  pub pivot_made : (front_now made back_now : List ℤ) (x y : Bool) → length made ≡ length mid → IsShortReduced n (unit_row n 0 c) → row_of_numbers n made ≡ unit_row n 0 c
+  pub pivot_made : (front_now made back_now : List ℤ) (x y : Bool) → length made ≡ length mid → IsShortReduced n 0 (unit_row n 0 c) → row_of_numbers n made ≡ unit_row n 0 c
       → AreTurned n r before x front_now → IsTrue x → AreTurned n (k - (r + 1)) behind y back_now → IsTrue y → AreTurned n k (pivot (rows_in n k zs) r c) true (front_now ++ (made ++ back_now))
   pivot_made front_now made back_now x y size unit is_unit one all_one two all_two =
       let first = one.dense all_one in
       let second = two.dense all_two in
       let parts : AreParts n k r front_now made back_now = record { front_size = first.size; mid_size = size ∙ s.parts.mid_size; within = s.parts.within } in
       record {
-        dense = λ all. dense_made n k r front_now made back_now parts first (subst (IsShortReduced n) (sym is_unit) unit) second;
+        dense = λ all. dense_made n k r front_now made back_now parts first (subst (IsShortReduced n 0) (sym is_unit) unit) second;
         rows = λ all. rows_parts n k r front_now made back_now parts ∙ rw (one.rows all_one, is_unit, two.rows all_two) (sym pivot_is);
         long = λ none. cc;
       }
@@ -189,24 +189,24 @@ module _ (n k r c : ℕ) (zs front mid back : List ℤ) (s : IsSplit n k r zs fr
 -- ---- one row more
 
 -- the numbers of a row that is pushed
-pub push_size : (n : ℕ) (r : Row) → IsShortReduced n r → length (numbers_of r) ≡ row_size n
+pub push_size : (n : ℕ) (r : Row) → IsShortReduced n 0 r → length (numbers_of r) ≡ row_size n
 push_size n r h = simp length-append (omega (arith, h.row.coefs, h.row.constant))
 
-pub pushed_rows : (n k : ℕ) (zs : List ℤ) (r : Row) → length zs ≡ k * row_size n → IsShortReduced n r → rows_in n (k + 1) (zs ++ numbers_of r) ≡ rows_in n k zs ++ r ∷ []
+pub pushed_rows : (n k : ℕ) (zs : List ℤ) (r : Row) → length zs ≡ k * row_size n → IsShortReduced n 0 r → rows_in n (k + 1) (zs ++ numbers_of r) ≡ rows_in n k zs ++ r ∷ []
 pushed_rows n k zs r e h =
     let all : take (row_size n) (numbers_of r) ≡ numbers_of r = take_all (row_size n) (numbers_of r) (omega (arith, push_size n r h)) in
     rows_append n k 1 zs (numbers_of r) e
     ∙ ap (λ (s : Row). rows_in n k zs ++ s ∷ []) (ap (row_of_numbers n) all ∙ row_again n r h.row.coefs)
 
-pub dense_push : (n k : ℕ) (zs now : List ℤ) (r : Row) → now ≡ zs ++ numbers_of r → IsDense n k zs → IsShortReduced n r → IsDense n (k + 1) now
+pub dense_push : (n k : ℕ) (zs now : List ℤ) (r : Row) → now ≡ zs ++ numbers_of r → IsDense n k zs → IsShortReduced n 0 r → IsDense n (k + 1) now
 dense_push n k zs now r e dense h = rw e (record {
   size = length-append zs (numbers_of r) ∙ let whole = add-mul k 1 (row_size n) in omega (arith, dense.size, push_size n r h, whole);
-  rows = All-same (IsShortReduced n) _ _ (pushed_rows n k zs r dense.size h) (All-push (IsShortReduced n) _ _ dense.rows h);
+  rows = All-same (IsShortReduced n 0) _ _ (pushed_rows n k zs r dense.size h) (All-push (IsShortReduced n 0) _ _ dense.rows h);
 })
 
 -- ---- a tableau with one row more
 
-pub pushed_view : (n k : ℕ) (zs now : List ℤ) (r : Row) (t : TableauRows) → record { unknowns = n; width = 0; rows = rows_in n k zs } ≡ t → IsDense n k zs → IsShortReduced n r → now ≡ zs ++ numbers_of r
+pub pushed_view : (n k : ℕ) (zs now : List ℤ) (r : Row) (t : TableauRows) → record { unknowns = n; width = 0; rows = rows_in n k zs } ≡ t → IsDense n k zs → IsShortReduced n 0 r → now ≡ zs ++ numbers_of r
     → record { unknowns = n; width = 0; rows = rows_in n (k + 1) now } ≡ with_row t r
 pushed_view n k zs now r t view dense h e =
     ap (λ (rs : List Row). record { unknowns = n; width = 0; rows = rs }) (ap (rows_in n (k + 1)) e ∙ pushed_rows n k zs r dense.size h)

@@ -1,27 +1,9 @@
 -- Rows that a pivot makes, where all their numbers are short.
-use Rattle.std.specs.Prelude.{◌≡◌, ℕ, ℤ, Bool, false, ◌&&◌, IsTrue, IsFalse, Option, IfSome, IfNone, List}
+use Rattle.std.specs.Prelude.{◌≡◌, ℕ, ℤ, Bool, false, IsTrue, IsFalse, List}
 use Rattle.std.specs.List.{list_all}
 use Rattle.pip_model.specs.Rows.{Row}
-use Rattle.tableau.specs.Flat.{row_of_numbers}
-use Rattle.tableau.specs.Short.{is_short, IsShortRow}
-use Rattle.tableau.specs.Tableaus.{row_from}
-use Rattle.short_tableau.specs.Dense.{rows_in, IsShortReduced, IsDense}
-
--- whether all numbers of a row are short
-abbrev pub is_short_row : Row → Bool
-is_short_row r = is_short r.den && (list_all is_short r.coefs && list_all is_short r.constant)
-
--- the denominator that makes row r of these coefficients and this constant form, none where a number of r is not short
-pub record IsDenominatorOf (r : Row) (coefs constant : List ℤ) (den : Option ℤ) : Type 0 where
-  pub value : IfSome den (λ d. row_from d coefs constant ≡ r)
-  pub short : IfSome den (λ d. IsShortRow (row_from d coefs constant))
-  pub long : IfNone den (is_short_row r ≡ false)
-
--- whether all numbers of row r are short, and then these are its numbers
-pub record IsTurned (n : ℕ) (r : Row) (short : Bool) (zs : List ℤ) : Type 0 where
-  pub value : IsTrue short → row_of_numbers n zs ≡ r
-  pub row : IsTrue short → IsShortReduced n (row_of_numbers n zs)
-  pub long : IsFalse short → is_short_row r ≡ false
+use Rattle.short_tableau.specs.Dense.{rows_in, IsDense}
+use Rattle.short_row.specs.Turned.{is_short_row}
 
 -- whether all numbers of these k rows are short, and then these are their numbers
 pub record AreTurned (n k : ℕ) (rs : List Row) (short : Bool) (zs : List ℤ) : Type 0 where

@@ -3,14 +3,13 @@ ghost use Rattle.std.specs.List.{list_any};
 ghost use Rattle.pip_model.specs.Numbers.{is_positive};
 ghost use Rattle.pip_model.specs.Listed.{all_fit};
 ghost use Rattle.pip_model.specs.Rows as model;
-ghost use Rattle.dual_pivot.specs.Choices.{product_at, better, choice, candidates_from, IsCandidate};
-ghost use Rattle.tableau.specs.Tableaus.{IsRow};
-ghost use Rattle.short_tableau.specs.Dense.{IsShortReduced};
-ghost use Rattle.short_tableau.specs.Rows.{row_of};
+ghost use Rattle.row_laws.specs.Choices.{product_at, better, choice, candidates_from, IsCandidate};
+ghost use Rattle.row_laws.specs.Rows.{IsRow};
+ghost use Rattle.short_row.specs.Sized.{IsShortReduced};
+ghost use Rattle.short_row.specs.Rows.{row_of};
 
-use crate::numbers::product;
-use crate::row::ShortRow;
 use crate::short_table::ShortTableau;
+use short_row::{ShortRow, product};
 
 // Whether the number is above 0.
 fn is_above(z: i64) -> bool
@@ -31,7 +30,7 @@ impl ShortTableau {
     // The product for column k at row i, which is compared with that for column b.
     fn product_at(&self, i: usize, p: &ShortRow<'_>, k: usize, b: usize) -> i128
         requires row { i < length self.now.rows }
-        requires p { IsShortReduced self.now.unknowns (row_of p.now) }
+        requires p { IsShortReduced self.now.unknowns 0 (row_of p.now) }
         requires k { k < self.now.unknowns }
         requires b { b < self.now.unknowns }
         ensures { result ≡ product_at self.now.rows i (row_of p.now) k b }
@@ -42,7 +41,7 @@ impl ShortTableau {
     // Whether column k has the smaller list of quotients a_ik / a_pk over the unknowns' rows than column b.
     fn is_better(&self, p: &ShortRow<'_>, k: usize, b: usize) -> bool
         requires rows { self.now.unknowns ≤ length self.now.rows }
-        requires p { IsShortReduced self.now.unknowns (row_of p.now) }
+        requires p { IsShortReduced self.now.unknowns 0 (row_of p.now) }
         requires k { k < self.now.unknowns }
         requires b { b < self.now.unknowns }
         ensures { result ≡ model.is_better (take self.now.unknowns self.now.rows) (row_of p.now) k b }
@@ -60,7 +59,7 @@ impl ShortTableau {
     // The better of the best so far and column k.
     fn better_of(&self, p: &ShortRow<'_>, best: Option<usize>, k: usize) -> usize
         requires rows { self.now.unknowns ≤ length self.now.rows }
-        requires p { IsShortReduced self.now.unknowns (row_of p.now) }
+        requires p { IsShortReduced self.now.unknowns 0 (row_of p.now) }
         requires k { IsCandidate self.now.unknowns (row_of p.now) k }
         requires best { IfSome best (IsCandidate self.now.unknowns (row_of p.now)) }
         ensures value { result ≡ better (take self.now.unknowns self.now.rows) (row_of p.now) best k }
@@ -75,7 +74,7 @@ impl ShortTableau {
     // The best so far, and then column k, where the row is positive in it.
     fn next_best(&self, p: &ShortRow<'_>, best: Option<usize>, k: usize) -> Option<usize>
         requires rows { self.now.unknowns ≤ length self.now.rows }
-        requires p { IsShortReduced self.now.unknowns (row_of p.now) }
+        requires p { IsShortReduced self.now.unknowns 0 (row_of p.now) }
         requires k { k < self.now.unknowns }
         requires best { IfSome best (IsCandidate self.now.unknowns (row_of p.now)) }
         ensures value { choice (take self.now.unknowns self.now.rows) (row_of p.now) result
@@ -101,7 +100,7 @@ impl ShortTableau {
     #[inline(always)]
     fn entering_by(&self, p: &ShortRow<'_>) -> Option<usize>
         requires rows { self.now.unknowns ≤ length self.now.rows }
-        requires p { IsShortReduced self.now.unknowns (row_of p.now) }
+        requires p { IsShortReduced self.now.unknowns 0 (row_of p.now) }
         ensures value { result ≡ model.entering_of (take self.now.unknowns self.now.rows) (row_of p.now)
             (model.candidates (row_of p.now)) }
         ensures candidate { IfSome result (IsCandidate self.now.unknowns (row_of p.now)) }

@@ -3,16 +3,16 @@ ghost use Rattle.pip_model.specs.Cuts.{constant_cut};
 ghost use Rattle.pip_model.specs.Forms.{negate, residue};
 ghost use Rattle.pip_model.specs.Numbers.{floor_mod as floor_mod_of};
 ghost use Rattle.pip_model.specs.Rows.{row_at};
-ghost use Rattle.tableau.specs.Flat.{numbers_of, row_of_numbers};
-ghost use Rattle.tableau.specs.Short.{IsShort, IsShortRow};
-ghost use Rattle.tableau.specs.Tableaus.{row_from};
-ghost use Rattle.short_tableau.specs.Dense.{IsDense, IsShortReduced, rows_in, row_size};
-ghost use Rattle.short_tableau.specs.Terms.{IsShortDivisor};
+ghost use Rattle.row_laws.specs.Flat.{numbers_of, row_of_numbers};
+ghost use Rattle.row_laws.specs.Short.{IsShort, IsShortRow};
+ghost use Rattle.row_laws.specs.Rows.{row_from};
+ghost use Rattle.short_tableau.specs.Dense.{IsDense, rows_in};
+ghost use Rattle.short_row.specs.Sized.{IsShortReduced, row_size};
+ghost use Rattle.short_row.specs.Terms.{IsShortDivisor};
 
-use crate::numbers::floor_mod;
-use crate::row::divide_parts;
 use crate::rows::place_of;
 use affine_forms::WantOfMemory;
+use short_row::{divide_parts, floor_mod};
 
 // What the quotient rounded up leaves, in `-(d - 1) .. 0`.
 fn ceil_mod(a: i64, d: i64) -> i64
@@ -63,9 +63,9 @@ fn cut_parts(den: i64, coefs: &mut [i64], constant: &mut [i64]) -> i64
 // Makes of the numbers of a row those of its cut.
 fn make_cut(row: &mut [i64], unknowns: usize)
     requires size { length row.old ≡ row_size unknowns }
-    requires row { IsShortReduced unknowns (row_of_numbers unknowns row.old) }
+    requires row { IsShortReduced unknowns 0 (row_of_numbers unknowns row.old) }
     ensures value { row_of_numbers unknowns row.new ≡ constant_cut (row_of_numbers unknowns row.old) }
-    ensures row { IsShortReduced unknowns (row_of_numbers unknowns row.new) }
+    ensures row { IsShortReduced unknowns 0 (row_of_numbers unknowns row.new) }
 {
     let (den, rest) = row.split_at_mut(1);
     let (coefs, constant) = rest.split_at_mut(unknowns);
@@ -84,7 +84,7 @@ pub(crate) fn push_cut_row(
     ensures ok { OnOk result (numbers.new.items
         ≡ numbers.old.items ++ numbers_of (constant_cut (row_at (rows_in unknowns rows numbers.old.items) i))) }
     ensures row { OnOk result
-        (IsShortReduced unknowns (constant_cut (row_at (rows_in unknowns rows numbers.old.items) i))) }
+        (IsShortReduced unknowns 0 (constant_cut (row_at (rows_in unknowns rows numbers.old.items) i))) }
     ensures err { OnErr result (numbers.new.items ≡ numbers.old.items) }
 {
     let before = numbers.len();

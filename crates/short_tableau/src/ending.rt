@@ -5,15 +5,14 @@ ghost use Rattle.pip_model.specs.Forms.{constant, entry};
 ghost use Rattle.pip_model.specs.Numbers.{is_nonneg, is_positive, divides};
 ghost use Rattle.pip_model.specs.Rows as model;
 ghost use Rattle.pip_model.specs.Rows.{row_at, substituted, eliminated, first_fraction};
-ghost use Rattle.dual_pivot.specs.Choices.{IsCandidate};
+ghost use Rattle.row_laws.specs.Choices.{IsCandidate};
 ghost use Rattle.short_tableau.specs.Below.{negative_from};
-ghost use Rattle.short_tableau.specs.Dense.{IsShortReduced, IsPivot};
+ghost use Rattle.short_row.specs.Sized.{IsShortReduced, IsPivot};
 ghost use Rattle.short_tableau.specs.Ended.{IsEndedBy, turned_by};
-ghost use Rattle.short_tableau.specs.Rows.{row_of};
+ghost use Rattle.short_row.specs.Rows.{row_of};
 
-use crate::numbers::{floor_mod, narrow, product, wide_entry};
-use crate::row::ShortRow;
 use crate::short_table::ShortTableau;
+use short_row::{ShortRow, floor_mod, narrow, product, wide_entry};
 
 // Whether the number is above 0.
 fn is_above(z: i128) -> bool
@@ -43,7 +42,7 @@ impl ShortTableau {
     // The constant of row i with row p put in, before it is divided.
     fn constant_after(&self, i: usize, p: &ShortRow<'_>, c: usize) -> i128
         requires row { i < length self.now.rows }
-        requires pivot { IsPivot self.now.unknowns (row_of p.now) c }
+        requires pivot { IsPivot self.now.unknowns 0 (row_of p.now) c }
         ensures { result ≡ constant (substituted (row_of p.now) c (row_at self.now.rows i)).constant }
     {
         let row = self.row(i);
@@ -53,7 +52,7 @@ impl ShortTableau {
     // Its coefficient in column k.
     fn coef_after(&self, i: usize, p: &ShortRow<'_>, c: usize, k: usize) -> i128
         requires row { i < length self.now.rows }
-        requires pivot { IsPivot self.now.unknowns (row_of p.now) c }
+        requires pivot { IsPivot self.now.unknowns 0 (row_of p.now) c }
         requires column { k < self.now.unknowns }
         ensures { result ≡ entry (substituted (row_of p.now) c (row_at self.now.rows i)).coefs k }
     {
@@ -67,10 +66,10 @@ impl ShortTableau {
     // Its denominator.
     fn den_after(&self, i: usize, p: &ShortRow<'_>, c: usize) -> i128
         requires row { i < length self.now.rows }
-        requires pivot { IsPivot self.now.unknowns (row_of p.now) c }
+        requires pivot { IsPivot self.now.unknowns 0 (row_of p.now) c }
         ensures value { result ≡ (substituted (row_of p.now) c (row_at self.now.rows i)).den }
         ensures positive { pos 1 ≤ℤ result }
-        ensures row { IsShortReduced self.now.unknowns (row_at self.now.rows i) }
+        ensures row { IsShortReduced self.now.unknowns 0 (row_at self.now.rows i) }
     {
         product(self.row(i).den, p.coefs[c])
     }
@@ -78,7 +77,7 @@ impl ShortTableau {
     // Whether row i is below 0 after the pivot on row p and column c. A row that is 0 in the column stays.
     fn is_below_after(&self, i: usize, p: &ShortRow<'_>, c: usize) -> bool
         requires row { i < length self.now.rows }
-        requires pivot { IsPivot self.now.unknowns (row_of p.now) c }
+        requires pivot { IsPivot self.now.unknowns 0 (row_of p.now) c }
         ensures { result ≡ not (is_nonneg (constant (eliminated (row_of p.now) c (row_at self.now.rows i)).constant)) }
     {
         let _ = self.columns();
@@ -90,7 +89,7 @@ impl ShortTableau {
 
     // The first row that is below 0 after the pivot on row p and column c.
     fn first_below_after(&self, p: &ShortRow<'_>, c: usize) -> Option<usize>
-        requires pivot { IsPivot self.now.unknowns (row_of p.now) c }
+        requires pivot { IsPivot self.now.unknowns 0 (row_of p.now) c }
         ensures value { result ≡ negative_from 0 (turned_by (row_of p.now) c self.now.rows) }
         ensures bound { IfSome result (λ r. r < length self.now.rows) }
     {
@@ -105,7 +104,7 @@ impl ShortTableau {
     // Whether row i may be positive in a column after the pivot on row p and column c.
     fn has_positive_after(&self, i: usize, p: &ShortRow<'_>, c: usize) -> bool
         requires row { i < length self.now.rows }
-        requires pivot { IsPivot self.now.unknowns (row_of p.now) c }
+        requires pivot { IsPivot self.now.unknowns 0 (row_of p.now) c }
         ensures { IsFalse result → list_any is_positive (eliminated (row_of p.now) c (row_at self.now.rows i)).coefs ≡ false }
     {
         for k in 0..self.columns() {
@@ -119,7 +118,7 @@ impl ShortTableau {
     // Whether row i is whole after the pivot on row p and column c, as far as short numbers tell.
     fn is_whole_after(&self, i: usize, p: &ShortRow<'_>, c: usize) -> bool
         requires row { i < length self.now.rows }
-        requires pivot { IsPivot self.now.unknowns (row_of p.now) c }
+        requires pivot { IsPivot self.now.unknowns 0 (row_of p.now) c }
         ensures { IsTrue result → model.is_whole (eliminated (row_of p.now) c (row_at self.now.rows i)).den
             (eliminated (row_of p.now) c (row_at self.now.rows i)).constant ≡ true }
     {
@@ -133,7 +132,7 @@ impl ShortTableau {
     // Whether all unknowns' rows are whole after the pivot on row p and column c, as far as short numbers tell.
     fn are_whole_after(&self, p: &ShortRow<'_>, c: usize) -> bool
         requires rows { self.now.unknowns ≤ length self.now.rows }
-        requires pivot { IsPivot self.now.unknowns (row_of p.now) c }
+        requires pivot { IsPivot self.now.unknowns 0 (row_of p.now) c }
         ensures { IsTrue result → first_fraction self.now.unknowns (turned_by (row_of p.now) c self.now.rows) ≡ None }
     {
         for i in 0..self.unknowns() {
@@ -147,7 +146,7 @@ impl ShortTableau {
     // Whether a point is found where a run ends after the pivot on row p and column c; none where it is not known to end.
     fn end_after(&self, p: &ShortRow<'_>, c: usize) -> Option<bool>
         requires rows { self.now.unknowns ≤ length self.now.rows }
-        requires pivot { IsPivot self.now.unknowns (row_of p.now) c }
+        requires pivot { IsPivot self.now.unknowns 0 (row_of p.now) c }
         ensures { IfSome result (IsEndedBy self.now.unknowns (turned_by (row_of p.now) c self.now.rows)) }
     {
         match self.first_below_after(p, c) {

@@ -1,10 +1,10 @@
 ghost use Rattle.std.specs.Prelude.{◌≡◌, ◌<◌, ◌≤◌, length, IfSome};
 ghost use Rattle.pip_model.specs.Rows as model;
-ghost use Rattle.tableau.specs.Tableaus.{IsRow};
-ghost use Rattle.short_tableau.specs.Terms.{IsShortDivisor};
+ghost use Rattle.row_laws.specs.Rows.{IsRow};
+ghost use Rattle.short_row.specs.Terms.{IsShortDivisor};
 
-use crate::numbers::floor_mod;
 use crate::short_table::ShortTableau;
+use short_row::floor_mod;
 
 // Whether d divides each number.
 fn is_whole(d: i64, numbers: &[i64]) -> bool

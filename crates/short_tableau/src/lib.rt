@@ -2,19 +2,12 @@
 //! the pivot and the cut (P. Feautrier, "Parametric integer programming", RAIRO 1988).
 #![tactic(auto)]
 
-mod begun;
 mod choice;
 mod cuts;
 mod ending;
 mod fractions;
-mod halves;
-mod numbers;
 mod pushing;
-mod put;
-mod row;
 mod rows;
 mod short_table;
-mod turn;
-mod wide;
 
 pub use short_table::ShortTableau;

@@ -3,15 +3,14 @@ ghost use Rattle.std.specs.List.{list_all};
 ghost use Rattle.pip_model.specs.Forms.{widen_to};
 ghost use Rattle.pip_model.specs.Rows.{form_row, unit_row};
 ghost use Rattle.affine_forms.specs.Forms.{IsForm};
-ghost use Rattle.tableau.specs.Flat.{numbers_of};
-ghost use Rattle.tableau.specs.Short.{is_short, IsShortRow};
-ghost use Rattle.short_tableau.specs.Dense.{row_size};
-ghost use Rattle.short_tableau.specs.Rows.{row_of};
-ghost use Rattle.short_tableau.specs.Terms.{AreNarrowed};
+ghost use Rattle.row_laws.specs.Flat.{numbers_of};
+ghost use Rattle.row_laws.specs.Short.{is_short, IsShortRow};
+ghost use Rattle.short_row.specs.Sized.{row_size};
+ghost use Rattle.short_row.specs.Rows.{row_of};
+ghost use Rattle.short_row.specs.Terms.{AreNarrowed};
 
-use crate::numbers::narrow;
-use crate::row::{ShortRow, make_unit};
 use affine_forms::WantOfMemory;
+use short_row::{ShortRow, make_unit, narrow};
 
 // Appends the numbers of a row, or some of them.
 fn append_row(numbers: &mut Vec<i64>, row: &ShortRow<'_>) -> Result<(), WantOfMemory>

@@ -1,16 +1,17 @@
 ghost use Rattle.std.specs.Prelude.{◌≡◌, ◌+◌, ◌*◌, ◌<◌, ◌≤◌, false, length, map, slice_set, IsTrue, IsFalse, IfSome};
 ghost use Rattle.pip_model.specs.Forms.{constant, entry};
 ghost use Rattle.pip_model.specs.Rows as model;
-ghost use Rattle.tableau.specs.Flat.{row_of_numbers};
-ghost use Rattle.tableau.specs.Short.{IsShort};
-ghost use Rattle.dual_pivot.specs.Choices.{IsCandidate};
+ghost use Rattle.row_laws.specs.Flat.{row_of_numbers};
+ghost use Rattle.row_laws.specs.Short.{IsShort};
+ghost use Rattle.row_laws.specs.Choices.{IsCandidate};
 ghost use Rattle.short_tableau.specs.Below.{negative_from};
-ghost use Rattle.short_tableau.specs.Dense.{IsDense, IsPivot, rows_in, row_size};
-ghost use Rattle.short_tableau.specs.Rows.{row_of};
-ghost use Rattle.short_tableau.specs.Turned.{is_short_row, AreTurned};
+ghost use Rattle.short_tableau.specs.Dense.{IsDense, rows_in};
+ghost use Rattle.short_row.specs.Sized.{IsPivot, row_size};
+ghost use Rattle.short_row.specs.Rows.{row_of};
+ghost use Rattle.short_row.specs.Turned.{is_short_row};
+ghost use Rattle.short_tableau.specs.Turned.{AreTurned};
 
-use crate::row::{ShortRow, make_unit, view_of};
-use crate::turn::turn;
+use short_row::{ShortRow, make_unit, turn, view_of};
 
 // Where the numbers of row i begin.
 pub(crate) fn place_of(unknowns: usize, rows: usize, i: usize, numbers: &[i64]) -> usize
@@ -84,7 +85,7 @@ fn turn_at(numbers: &mut [i64], unknowns: usize, rows: usize, i: usize, p: &[i64
     requires dense { IsDense unknowns rows numbers.old }
     requires row { i < rows }
     requires size { length p.now ≡ row_size unknowns }
-    requires pivot { IsPivot unknowns (row_of_numbers unknowns p.now) c }
+    requires pivot { IsPivot unknowns 0 (row_of_numbers unknowns p.now) c }
     ensures dense { IsTrue result → IsDense unknowns rows numbers.new }
     ensures rows { IsTrue result → rows_in unknowns rows numbers.new
         ≡ slice_set (rows_in unknowns rows numbers.old) i
@@ -113,7 +114,7 @@ pub(crate) fn turn_rows(
 ) -> bool
     requires dense { IsDense unknowns rows numbers.old }
     requires size { length p.now ≡ row_size unknowns }
-    requires pivot { IsPivot unknowns (row_of_numbers unknowns p.now) c }
+    requires pivot { IsPivot unknowns 0 (row_of_numbers unknowns p.now) c }
     ensures { AreTurned unknowns rows
         (map (model.eliminated (row_of_numbers unknowns p.now) c) (rows_in unknowns rows numbers.old))
         result numbers.new }

@@ -6,23 +6,22 @@ ghost use Rattle.pip_model.specs.Listed.{all_fit};
 ghost use Rattle.pip_model.specs.Numbers.{is_nonneg};
 ghost use Rattle.pip_model.specs.Rows as model;
 ghost use Rattle.affine_forms.specs.Forms.{IsForm};
-ghost use Rattle.tableau.specs.Flat.{row_of_numbers};
-ghost use Rattle.tableau.specs.Short.{is_short, IsShort};
-ghost use Rattle.tableau.specs.Tableaus.{with_row};
-ghost use Rattle.dual_pivot.specs.Choices.{IsCandidate};
+ghost use Rattle.row_laws.specs.Flat.{row_of_numbers};
+ghost use Rattle.row_laws.specs.Short.{is_short, IsShort};
+ghost use Rattle.row_laws.specs.Tableaus.{with_row};
+ghost use Rattle.row_laws.specs.Choices.{IsCandidate};
 ghost use Rattle.short_tableau.specs.Below.{negative_from};
-ghost use Rattle.short_tableau.specs.Dense.{IsShortReduced, row_size};
-ghost use Rattle.short_tableau.specs.Rows.{row_of};
-ghost use Rattle.short_tableau.specs.Turned.{is_short_row};
+ghost use Rattle.short_row.specs.Sized.{IsShortReduced, row_size};
+ghost use Rattle.short_row.specs.Rows.{row_of};
+ghost use Rattle.short_row.specs.Turned.{is_short_row};
 
 use crate::cuts::push_cut_row;
 use crate::pushing::{append_form, push_row, push_unit_row};
-use crate::row::ShortRow;
 use crate::rows::{
     coef_at, constant_at, first_below_in, numbers_in, pivot_rows, row_in, turn_rows,
 };
-use crate::wide::widen_numbers;
 use affine_forms::WantOfMemory;
+use short_row::{ShortRow, widen_numbers};
 use std::alloc::Global;
 use std::marker::Model;
 
@@ -37,7 +36,7 @@ pub struct ShortTableau {
 }
 
 impl Model for ShortTableau {
-    ghost use Rattle.tableau.specs.Tableaus.{TableauRows};
+    ghost use Rattle.row_laws.specs.Tableaus.{TableauRows};
     ghost use Rattle.short_tableau.specs.Dense.{IsDense, rows_in};
 
     ghost Value = { TableauRows };
@@ -107,35 +106,35 @@ impl ShortTableau {
         self.unknowns
     }
 
-    // The number of columns; the rows are short.
-    pub(crate) fn columns(&self) -> usize
+    /// The number of columns; the rows are short.
+    pub fn columns(&self) -> usize
         ensures value { result ≡ self.now.unknowns }
-        ensures rows { All (IsShortReduced self.now.unknowns) self.now.rows }
+        ensures rows { All (IsShortReduced self.now.unknowns 0) self.now.rows }
     {
         self.unknowns
     }
 
-    // Row i.
-    pub(crate) fn row(&self, i: usize) -> ShortRow<'_>
+    /// Row i.
+    pub fn row(&self, i: usize) -> ShortRow<'_>
         requires { i < length self.now.rows }
         ensures value { row_of result ≡ model.row_at self.now.rows i }
-        ensures row { IsShortReduced self.now.unknowns (row_of result) }
+        ensures row { IsShortReduced self.now.unknowns 0 (row_of result) }
     {
         row_in(&self.numbers, self.unknowns, self.count, i)
     }
 
-    // The numbers of row i.
-    pub(crate) fn row_numbers(&self, i: usize) -> &[i64]
+    /// The numbers of row i.
+    pub fn row_numbers(&self, i: usize) -> &[i64]
         requires { i < length self.now.rows }
         ensures value { row_of_numbers self.now.unknowns result.now ≡ model.row_at self.now.rows i }
         ensures length { length result.now ≡ row_size self.now.unknowns }
-        ensures row { IsShortReduced self.now.unknowns (row_of_numbers self.now.unknowns result.now) }
+        ensures row { IsShortReduced self.now.unknowns 0 (row_of_numbers self.now.unknowns result.now) }
     {
         numbers_in(&self.numbers, self.unknowns, self.count, i)
     }
 
-    // The coefficient of row i in column k.
-    pub(crate) fn coef(&self, i: usize, k: usize) -> i64
+    /// The coefficient of row i in column k.
+    pub fn coef(&self, i: usize, k: usize) -> i64
         requires row { i < length self.now.rows }
         requires column { k < self.now.unknowns }
         ensures value { result ≡ entry (model.row_at self.now.rows i).coefs k }
@@ -150,7 +149,7 @@ impl ShortTableau {
         ensures value { IfOk result (λ numbers. row_of_numbers self.now.unknowns numbers.items
             ≡ model.row_at self.now.rows i) }
         ensures length { IfOk result (λ numbers. length numbers.items ≡ row_size self.now.unknowns) }
-        ensures row { IsShortReduced self.now.unknowns (model.row_at self.now.rows i) }
+        ensures row { IsShortReduced self.now.unknowns 0 (model.row_at self.now.rows i) }
     {
         let row = numbers_in(&self.numbers, self.unknowns, self.count, i);
         widen_numbers(alloc, row)

@@ -1,7 +1,9 @@
-ghost use Rattle.std.specs.Prelude.{◌≡◌, true, ℤ, List, Option, All, IsTrue, IfOk, IfSome, option_copied};
+ghost use Rattle.std.specs.Prelude.{◌≡◌, true, false, ℤ, List, [], ◌∷◌, Option, None, All, IsTrue, IfOk, IfSome, option_copied};
 ghost use Rattle.pip_model.specs.Certificate as certificates;
+ghost use Rattle.pip_model.specs.Check as checks;
 ghost use Rattle.pip_model.specs.Leaves.{IsReached};
 ghost use Rattle.pip_model.specs.Made as model;
+ghost use Rattle.pip_model.specs.Made.{unshared};
 ghost use Rattle.pip_model.specs.Right.{IsRight};
 ghost use Rattle.pip_model.specs.Run.{IsBudget, Outcome, answered};
 ghost use Rattle.pip_model.specs.Run.{Work as Counts};
@@ -17,13 +19,14 @@ ghost use Rattle.solve_certified.specs.Walks.{are_whole, is_whole_answer};
 use crate::refutation::Scope;
 use crate::trail::Trail;
 use crate::walk::Walk;
-use affine_forms::Overflow;
-use certificate_check::void_forms;
-use certificate_parts::{Certificate, LeafProofs};
-use context::{Point, Refuter, Work};
+use affine_forms::{Overflow, WantOfMemory};
+use certificate_check::{Known, void_forms};
+use certificate_parts::{Certificate, LeafProofs, Refutation};
 use pip_problem::{Limits, Problem, Refusal};
 use pip_solve::{answer_from, context_point};
+use point_run::Point;
 use quast::{Answer, Quast};
+use run_counts::Work;
 use std::alloc::Global;
 
 /// The answer of `solve` to an integer problem, and the certificate of it: for each of its leaves, in the order of the
@@ -79,6 +82,40 @@ fn certificate_of_tree(
     Ok(made)
 }
 
+// The certificate of `void`, of the steps of its one refutation.
+fn certificate_of_steps(alloc: Global, steps: Refutation) -> Result<Certificate, WantOfMemory>
+    ensures { IfOk result (λ c. c ≡ record { shares = false; vector = None; leaves = unshared (steps ∷ []) ∷ [] }) }
+{
+    let mut proofs = LeafProofs::new(alloc);
+    proofs.push(steps)?;
+    let mut made = Certificate::try_new(alloc, None)?;
+    made.push(proofs)?;
+    Ok(made)
+}
+
+// The certificate of an empty context, of whose forms its refutation is made.
+fn certificate_by_forms(
+    alloc: Global,
+    problem: &Problem,
+    known: &Known,
+    work: &mut Work,
+) -> Result<Certificate, Refusal>
+    requires { known.now ≡ record { width = problem.now.params; forms = (checks.void_forms problem.now).known } }
+    ensures { (p : Option (List ℤ)) → AgreesCounted (λ c. c) run_fault result work.new
+        (model.run_certificate problem.now p Void work.old) }
+{
+    let scope = Scope {
+        alloc,
+        params: problem.params(),
+        front: known.len(),
+        own: known.len(),
+        quotients: &[],
+    };
+    let steps = scope.refute_once(known, work)?;
+    let made = certificate_of_steps(alloc, steps)?;
+    Ok(made)
+}
+
 // The certificate of an empty context.
 fn certificate_of_void(
     alloc: Global,
@@ -89,19 +126,7 @@ fn certificate_of_void(
         (model.run_certificate problem.now p Void work.old) }
 {
     let known = void_forms(alloc, problem)?;
-    let scope = Scope {
-        alloc,
-        params: problem.params(),
-        front: known.len(),
-        own: known.len(),
-        quotients: &[],
-    };
-    let mut refuter = Refuter::new(alloc);
-    let mut proofs = LeafProofs::new(alloc);
-    proofs.push(scope.refute(&mut refuter, &known, 0, 0, work)?)?;
-    let mut made = Certificate::try_new(alloc, None)?;
-    made.push(proofs)?;
-    Ok(made)
+    certificate_by_forms(alloc, problem, &known, work)
 }
 
 // The certificate of an answer, by the point of the context.

@@ -5,7 +5,7 @@ ghost use Rattle.affine_forms.specs.Checks.{is_form_overflow};
 ghost use Rattle.pip_problem.specs.Faults.{run_fault};
 ghost use Rattle.certificate_check.specs.Goals.{without_last};
 ghost use Rattle.certificate_check.specs.Leaves.{case_of, own_premises, goal_forms, nothing};
-ghost use Rattle.context.specs.Scoped.{AreFirst};
+ghost use Rattle.refuter.specs.KeptForms.{AreFirst};
 ghost use Rattle.solve_certified.specs.Leaves.{made_at, made_proofs, IsBefore, IsMaking};
 ghost use Rattle.solve_certified.specs.Goals.{unknowns_at};
 
@@ -13,8 +13,9 @@ use crate::refutation::Scope;
 use affine_forms::FormRefusal;
 use certificate_check::{Known, Leaf, refutation_count};
 use certificate_parts::{LeafProofs, Refutation};
-use context::{Refuter, Work};
 use pip_problem::Refusal;
+use refuter::Refuter;
+use run_counts::Work;
 
 // The refutations of a leaf are made of its known forms, over what is in scope.
 #[derive(Drop)]
@@ -94,19 +95,35 @@ impl LeafMaking<'_> {
         Ok(steps)
     }
 
+    // The refutations of the leaf, in the order of the check, of the leaf's known forms and of no kept ones.
+    fn refute_each(
+        &self,
+        refuter: &mut Refuter,
+        known: &mut Known,
+        work: &mut Work,
+    ) -> Result<LeafProofs, Refusal>
+        requires making { IsMaking self.now }
+        requires before { IsBefore self.now 0 known.old }
+        requires first { AreFirst refuter.old known.old.forms }
+        ensures { AgreesCounted (λ proofs. proofs) run_fault result work.new (made_proofs self.now.leaf.problem.now
+            (case_of self.now.leaf) self.now.scope.quotients.now work.old) }
+    {
+        let mut proofs = LeafProofs::new(self.scope.alloc);
+        for r in 0..refutation_count(self.leaf.problem, self.leaf.list) {
+            let steps = self.refute_goal(refuter, known, r, work)?;
+            proofs.push(steps)?;
+        }
+        Ok(proofs)
+    }
+
     // The refutations of the leaf, in the order of the check.
     pub(crate) fn refute_all(&self, work: &mut Work) -> Result<LeafProofs, Refusal>
         requires { IsMaking self.now }
         ensures { AgreesCounted (λ proofs. proofs) run_fault result work.new (made_proofs self.now.leaf.problem.now
             (case_of self.now.leaf) self.now.scope.quotients.now work.old) }
     {
-        let mut refuter = Refuter::new(self.scope.alloc);
         let mut known = self.leaf.start(self.scope.alloc)?;
-        let mut proofs = LeafProofs::new(self.scope.alloc);
-        for r in 0..refutation_count(self.leaf.problem, self.leaf.list) {
-            let steps = self.refute_goal(&mut refuter, &mut known, r, work)?;
-            proofs.push(steps)?;
-        }
-        Ok(proofs)
+        let mut refuter = Refuter::new(self.scope.alloc);
+        self.refute_each(&mut refuter, &mut known, work)
     }
 }

@@ -3,7 +3,7 @@ ghost use Rattle.pip_model.specs.Agreement.{AgreesCounted};
 ghost use Rattle.pip_model.specs.Made.{steps_or_none};
 ghost use Rattle.affine_forms.specs.Checks.{Fits};
 ghost use Rattle.pip_problem.specs.Faults.{run_fault};
-ghost use Rattle.context.specs.Scoped.{AreFirst, AreFirstWithin};
+ghost use Rattle.refuter.specs.KeptForms.{AreFirst, AreFirstWithin};
 ghost use Rattle.solve_certified.specs.Refutations.{refuted_by, places_of, IsScope};
 
 use crate::indices::push_indices;
@@ -11,8 +11,9 @@ use crate::quotients::{PathQuotient, quotient_steps};
 use affine_forms::WantOfMemory;
 use certificate_check::Known;
 use certificate_parts::Refutation;
-use context::{Refuter, Work};
 use pip_problem::Refusal;
+use refuter::Refuter;
+use run_counts::Work;
 use std::alloc::Global;
 
 // What is in scope at a leaf: the parameters, and then the quotients of its path. The forms of the path begin at the
@@ -94,5 +95,15 @@ impl Scope<'_> {
         let steps = quotient_steps(self.alloc, self.front, self.params, &places, self.quotients)?;
         let made = with_found(steps, found)?;
         Ok(made)
+    }
+
+    // The same over no unknowns, of known forms before which no others were refuted.
+    pub(crate) fn refute_once(&self, known: &Known, work: &mut Work) -> Result<Refutation, Refusal>
+        requires scope { IsScope self.now }
+        requires width { self.now.params + length self.now.quotients.now ≤ known.now.width }
+        ensures { AgreesCounted (λ r. r) run_fault result work.new (refuted_by self.now 0 known.now.forms work.old) }
+    {
+        let mut refuter = Refuter::new(self.alloc);
+        self.refute(&mut refuter, known, 0, 0, work)
     }
 }

@@ -10,9 +10,9 @@ use crate::refutation::Scope;
 use crate::trail::Trail;
 use certificate_check::Leaf;
 use certificate_parts::Certificate;
-use context::Work;
 use pip_problem::{Problem, Refusal};
 use quast::{Component, Node};
+use run_counts::Work;
 use std::alloc::Global;
 
 // The walk over the tree of an answer, in whose order the refutations are made.

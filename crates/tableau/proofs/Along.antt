@@ -1,7 +1,8 @@
 -- Kept rows whose numbers stand one after the other.
 use Rattle.tableau.proofs.Words.{◌≡◌, refl, ap, sym, ◌∙◌, subst, ℕ, ◌+◌, ℤ, true, List, [], ◌∷◌, ◌++◌, length, take, drop, arith, append_assoc, append-nil, length-append, take_at, drop_at, length-drop, length-take-le, take-append-drop, All-head, Row, unit_row, IsRow, IsReduced, numbers_of, row_of_numbers, unit_is, IsPlace, IsKnown, IsPlain, IsPlainRow, IsFlat, AreKept, IsRun, flat_numbers, row_length, row_kept, rows_kept, rows_along, IsMadeRow, AreAlong, Kept}
 use Rattle.tableau.specs.declared.kept.Kept.TheVariants as kept
-use Rattle.tableau.proofs.Flat.{numbers_again, with_plain, with_unit, rows_more, rows_unit}
+use Rattle.row_laws.proofs.Numbers.{numbers_again}
+use Rattle.tableau.proofs.Flat.{with_plain, with_unit, rows_more, rows_unit}
 use Rattle.tableau.proofs.Runs.{kept_behind, kept_flat}
 
 -- ---- rows that are kept in order

@@ -1,6 +1,8 @@
 -- Rows that are kept by their numbers, with one row more.
-use Rattle.tableau.proofs.Words.{◌≡◌, refl, ap, sym, ◌∙◌, subst, ℕ, ◌+◌, ◌-◌, ◌*◌, ◌<◌, ◌≤◌, ℤ, pos, true, false, not, List, [], ◌∷◌, ◌++◌, length, take, drop, replicate, arith, length-append, append-nil, IsTrue, All, filter, flat_map, take_at, drop_at, take_all, take-append-le, drop-append-le, take-append-drop, length-drop, length-replicate, map-append, length_push, length-take-le, length-set, All-head, All-tail, All-push, All-weaker, All-set, All-replicate, All-same, filter-append, flat_map-append, add-mul, ints, Fits, Row, unit_row, IsRow, IsReduced, numbers_of, row_of_numbers, is_unit_row, flat_numbers, IsShortRow, KeptRows, IsPlace, IsKnown, IsPlain, IsFlat, IsPlainRow, IsUnsealed, row_length, row_kept, rows_kept, with_more, Kept, RowPlace, content-one, row_again, unit_is}
-use Rattle.tableau_row.proofs.Solved.{unit_short}
+use Rattle.tableau.proofs.Words.{◌≡◌, refl, ap, sym, ◌∙◌, subst, ℕ, ◌+◌, ◌-◌, ◌*◌, ◌<◌, ◌≤◌, ℤ, true, false, not, List, [], ◌∷◌, ◌++◌, length, take, drop, arith, length-append, append-nil, IsTrue, All, filter, flat_map, take_at, drop_at, take_all, take-append-le, drop-append-le, take-append-drop, length-drop, map-append, length_push, length-take-le, All-head, All-tail, All-push, All-weaker, All-same, filter-append, flat_map-append, add-mul, Row, unit_row, IsRow, IsReduced, numbers_of, row_of_numbers, is_unit_row, flat_numbers, IsShortRow, KeptRows, IsPlace, IsKnown, IsPlain, IsFlat, IsPlainRow, IsUnsealed, row_length, row_kept, rows_kept, with_more, Kept, RowPlace, content-one, row_again, unit_is}
+use Rattle.row_laws.proofs.Numbers.{numbers_again}
+use Rattle.row_laws.proofs.Solved.{unit_short}
+use Rattle.row_laws.proofs.UnitFits.{unit_fits}
 use Rattle.tableau.specs.declared.kept.Kept.TheVariants as kept
 
 -- ---- numbers behind the others
@@ -50,10 +52,6 @@ rows_unit n w c zs ks = map-append (row_kept n w zs) ks (kept.Unit c ∷ [])
 
 -- ---- the numbers of the rows that are not those of columns
 
-pub numbers_again : (n : ℕ) (zs : List ℤ) → 0 < length zs → numbers_of (row_of_numbers n zs) ≡ zs
-numbers_again n [] h = absurd (omega arith)
-numbers_again n (z ∷ zs) h = ap (λ (rest : List ℤ). z ∷ rest) (take-append-drop n zs)
-
 flat_append : (rs ss : List Row) → flat_numbers (rs ++ ss) ≡ flat_numbers rs ++ flat_numbers ss
 flat_append rs ss =
     let many = λ (r : Row). not (is_unit_row r) in
@@ -88,16 +86,6 @@ with_plain n w zs more ks last h f p =
       flat = sym (ap flat_numbers rows ∙ flat_plain (rows_kept n w zs ks) (row_of_numbers n more) p.plain ∙ ap (λ (xs : List ℤ). xs ++ numbers_of (row_of_numbers n more)) (sym h.flat) ∙ ap (λ (xs : List ℤ). zs ++ xs) (numbers_again n more (omega arith)));
       few = rw (length_push ks (kept.At last), long, room_more (length ks) (row_length n w)) (omega (arith, h.few));
     }
-
-pub unit_fits : (n w c : ℕ) → c < n → IsRow n w (unit_row n w c)
-unit_fits n w c h = record {
-  positive = omega (arith, ints);
-  den_fits = refl;
-  coefs = length-set (replicate n (pos 0)) c (pos 1) ∙ length-replicate n (pos 0);
-  constant = length-replicate (w + 1) (pos 0);
-  coefs_fit = All-set Fits (replicate n (pos 0)) c (pos 1) refl (All-replicate Fits n (pos 0) refl);
-  constant_fit = All-replicate Fits (w + 1) (pos 0) refl;
-}
 
 -- the row of a column over the columns and places of a row
 pub unit_over : (n w c : ℕ) (p : Row) → IsRow n w p → unit_row (length p.coefs) (length p.constant - 1) c ≡ unit_row n w c

@@ -7,7 +7,8 @@ use Rattle.pip_model.proofs.Tests.{both, both_true, never_both}
 use Rattle.affine_forms.proofs.Divisors.{gcd_assoc}
 use Rattle.tableau.proofs.Along.{flat_along, along_flat, along_rows}
 use Rattle.tableau.proofs.Flat.{kept_rows, unit_over}
-use Rattle.tableau.proofs.Turning.{short_pivot, unit_turned}
+use Rattle.row_laws.proofs.ShortPivots.{short_pivot}
+use Rattle.tableau.proofs.Turning.{unit_turned}
 use Rattle.tableau.specs.declared.kept.Kept.TheVariants as kept
 
 -- the first kept row, and the others

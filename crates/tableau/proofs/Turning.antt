@@ -1,11 +1,12 @@
 -- The rows of a tableau in a pivot, as they are kept.
-use Rattle.tableau.proofs.Words.{◌≡◌, refl, ap, sym, ◌∙◌, subst, ℕ, zero, suc, ◌+◌, ◌-◌, ◌<◌, ◌≤◌, ◌≢◌, ℤ, pos, ◌≤ℤ◌, ◌*ℤ◌, true, ◌&&◌, List, [], ◌∷◌, ◌++◌, length, map, take, drop, replicate, arith, append_assoc, get_or, get_or-set_other, IsTrue, All, slice_set, take-append-drop, get_or-take, get_or-drop, map-append, get_or-replicate, length-map, take-map, drop-map, get_or-map, All-head, All-tail, fits, entry, scale, width, all_fit, Row, row_at, form_row, unit_row, eliminated, eliminated_listed, pivot, pivot_listed, IsSteady, row_length, row_from_place, KeptRows, IsSpare, SameShape, with_more, with_rows, IsRow, IsReduced, IsShortRow, short_eliminated, flat_map-append, content-one, eliminated_none, checked_sides, eliminated_listed-none, all_fit-append, any_zero, by_one, unit_parts, All-append, All-take, All-drop}
+use Rattle.tableau.proofs.Words.{◌≡◌, refl, ap, sym, ◌∙◌, subst, ℕ, zero, suc, ◌+◌, ◌-◌, ◌<◌, ◌≤◌, ◌≢◌, ℤ, pos, ◌≤ℤ◌, ◌*ℤ◌, true, ◌&&◌, List, [], ◌∷◌, ◌++◌, length, map, take, drop, replicate, arith, append_assoc, get_or, get_or-set_other, IsTrue, All, slice_set, take-append-drop, get_or-take, get_or-drop, map-append, get_or-replicate, length-map, take-map, drop-map, get_or-map, All-head, All-tail, fits, entry, scale, width, all_fit, Row, row_at, form_row, unit_row, eliminated, eliminated_listed, pivot, pivot_listed, IsSteady, row_length, row_from_place, KeptRows, IsSpare, SameShape, with_more, with_rows, IsRow, IsReduced, IsShortRow, short_eliminated, flat_map-append, content-one, eliminated_none, checked_sides, eliminated_listed-none, all_fit-append, any_zero, by_one, unit_parts}
 use Rattle.std.proofs.Common.{flat_map}
 use Rattle.std.proofs.lemmas.List.Folds.{flat_map-map}
 use Rattle.std.proofs.lemmas.Simd.{map-map}
-use Rattle.tableau.proofs.Flat.{unit_fits}
-use Rattle.tableau_row.proofs.Places.{set_parts}
-use Rattle.tableau_row.proofs.Unchanged.{once}
+use Rattle.row_laws.proofs.UnitFits.{unit_fits}
+use Rattle.row_laws.proofs.ShortPivots.{flat_fit}
+use Rattle.row_laws.proofs.Places.{set_parts}
+use Rattle.row_laws.proofs.Unchanged.{once}
 
 -- ---- the row of another column
 
@@ -57,13 +58,6 @@ place_entry n w c first zs h within =
 
 -- ---- rows that stay, and the rows behind them
 
-pub flat_fit : {X : Type 0} (g : X → List ℤ) (xs : List X) → All (λ x. IsTrue (all_fit (g x))) xs → IsTrue (all_fit (flat_map g xs))
-flat_fit g [] h = refl
-flat_fit {X} g (x ∷ xs) h =
-    let F : X → Type 0 = λ y. IsTrue (all_fit (g y)) in
-    let first : IsTrue (all_fit (g x)) = All-head F x xs h in
-    all_fit-append (g x) (flat_map g xs) ∙ rw (first, flat_fit g xs (All-tail F x xs h)) refl
-
 pub steady_rows : {X : Type 0} (f : X → Row) (p : Row) (c : ℕ) (xs : List X) → All (λ x. IsSteady p c (f x)) xs → map f xs ≡ map (λ x. eliminated p c (f x)) xs
 steady_rows f p c [] h = refl
 steady_rows {X} f p c (x ∷ xs) h =
@@ -83,19 +77,6 @@ rows_behind {X} f p c i xs h =
     let g : X → Row = λ x. eliminated p c (f x) in
     ap (λ (rs : List Row). rs ++ map g (drop i xs)) (steady_rows f p c (take i xs) h)
     ∙ sym (map-append g (take i xs) (drop i xs)) ∙ ap (map g) (take-append-drop i xs)
-
--- ---- short rows
-
-pub short_listed : (n w c : ℕ) (p : Row) (rows : List Row) → IsRow n w p → c < n → IsShortRow p → All (IsRow n w) rows → All IsShortRow rows → IsTrue (all_fit (flat_map (eliminated_listed p c) rows))
-short_listed n w c p rows hp column short formed shorts =
-    flat_fit (eliminated_listed p c) rows
-    (λ k d lt. short_eliminated p c (get_or rows k d) short (shorts k d lt) (omega (arith, column, hp.coefs)) ((formed k d lt).coefs ∙ sym hp.coefs))
-
-pub short_pivot : (n w c r : ℕ) (rows : List Row) → All (IsRow n w) rows → All IsShortRow rows → c < n → r < length rows → IsTrue (all_fit (pivot_listed rows r c))
-short_pivot n w c r rows h short column lt =
-    short_listed n w c (row_at rows r) (take r rows ++ drop (r + 1) rows) (h r (form_row 0 []) lt) column (short r (form_row 0 []) lt)
-    (All-append (IsRow n w) (take r rows) (drop (r + 1) rows) (All-take (IsRow n w) r rows h) (All-drop (IsRow n w) (r + 1) rows h))
-    (All-append IsShortRow (take r rows) (drop (r + 1) rows) (All-take IsShortRow r rows short) (All-drop IsShortRow (r + 1) rows short))
 
 -- ---- the first row, and the rows behind it
 

@@ -8,21 +8,21 @@ pub use Rattle.std.proofs.lemmas.Grind.{flat_map-append, common_steps}
 pub use Rattle.std.proofs.lemmas.Int.{ints}
 pub use Rattle.pip_model.specs.Listed.{all_fit}
 pub use Rattle.pip_model.specs.Rows.{Row, row_at, eliminated, eliminated_listed, unit_row, form_row, pivot, pivot_listed, divided, count_from, widened}
-pub use Rattle.tableau_row.specs.Rows.{IsRow, IsReduced}
-pub use Rattle.tableau_row.specs.Flat.{row_of_numbers, is_unit_row, numbers_of}
-pub use Rattle.tableau_row.specs.Short.{IsShortRow, IsShort, AreShortRows}
-pub use Rattle.tableau_row.proofs.UnitRows.{unit_parts, unit_is}
+pub use Rattle.row_laws.specs.Rows.{IsRow, IsReduced}
+pub use Rattle.row_laws.specs.Flat.{row_of_numbers, is_unit_row, numbers_of}
+pub use Rattle.row_laws.specs.Short.{IsShortRow, IsShort, AreShortRows}
+pub use Rattle.row_laws.proofs.UnitRows.{unit_parts, unit_is}
 pub use Rattle.affine_forms.specs.Checks.{Fits}
-pub use Rattle.tableau_row.proofs.Contents.{content-one}
-pub use Rattle.tableau_row.proofs.Numbers.{row_again}
+pub use Rattle.row_laws.proofs.Contents.{content-one}
+pub use Rattle.row_laws.proofs.Numbers.{row_again}
 pub use Rattle.pip_model.specs.Numbers.{fits, gcd_of}
 pub use Rattle.pip_model.specs.Forms.{entry, scale, width}
-pub use Rattle.tableau_row.proofs.ShortRows.{short_eliminated, widened_short}
-pub use Rattle.tableau_row.proofs.Substituting.{eliminated_none, checked_sides}
-pub use Rattle.tableau_row.proofs.Unchanged.{eliminated_listed-none, all_fit-append, any_zero, by_one, eliminated_listed_one}
-pub use Rattle.tableau_row.proofs.RowLaws.{divided_one, count_map, widened_is_row, widened_content}
-pub use Rattle.tableau_row.specs.Steps.{IsElimination, IsMadeReduced}
-pub use Rattle.tableau_row.proofs.Stepping.{elimination, pivot_row}
+pub use Rattle.row_laws.proofs.ShortRows.{short_eliminated, widened_short}
+pub use Rattle.row_laws.proofs.Substituting.{eliminated_none, checked_sides}
+pub use Rattle.row_laws.proofs.Unchanged.{eliminated_listed-none, all_fit-append, any_zero, by_one, eliminated_listed_one}
+pub use Rattle.row_laws.proofs.RowLaws.{divided_one, count_map, widened_is_row, widened_content}
+pub use Rattle.row_laws.specs.Steps.{IsElimination, IsMadeReduced}
+pub use Rattle.row_laws.proofs.Stepping.{elimination, pivot_row}
 pub use Rattle.tableau_row.specs.Views.{row_of}
 pub use Rattle.pip_model.proofs.Forms.{length-count}
 pub use Rattle.pip_model.specs.Cuts.{rounded, rounded_listed}

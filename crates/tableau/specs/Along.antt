@@ -2,9 +2,9 @@
 use Rattle.std.specs.Prelude.{◌≡◌, ℕ, zero, suc, ◌+◌, ◌<◌, ℤ, Bool, true, false, not, ◌&&◌, ◌==◌, IsTrue, List, [], ◌∷◌, length, take, drop, slice_set, map, if◌then◌else◌}
 use Rattle.std.specs.List.{list_all}
 use Rattle.pip_model.specs.Rows.{Row, row_at, unit_row, eliminated}
-use Rattle.tableau_row.specs.Rows.{IsRow, IsReduced}
-use Rattle.tableau_row.specs.Short.{IsShortRow}
-use Rattle.tableau_row.specs.Flat.{row_of_numbers, is_unit_row}
+use Rattle.row_laws.specs.Rows.{IsRow, IsReduced}
+use Rattle.row_laws.specs.Short.{IsShortRow}
+use Rattle.row_laws.specs.Flat.{row_of_numbers, is_unit_row}
 use Rattle.tableau.specs.KeptRows.{KeptRows, IsFlat, IsPivot, IsRun, row_length, rows_kept}
 use Rattle.tableau.specs.declared.kept.Kept.{Kept}
 use Rattle.tableau.specs.declared.kept.Kept.TheVariants as kept

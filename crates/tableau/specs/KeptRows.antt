@@ -3,9 +3,9 @@ use Rattle.std.specs.Prelude.{◌≡◌, ℕ, ◌+◌, ◌-◌, ◌*◌, ◌^◌
 use Rattle.pip_model.specs.Forms.{entry}
 use Rattle.pip_model.specs.Rows.{Row, row_at, unit_row, eliminated, eliminated_listed}
 use Rattle.pip_model.specs.Listed.{all_fit}
-use Rattle.tableau_row.specs.Short.{IsShortRow}
-use Rattle.tableau_row.specs.Rows.{IsRow, IsReduced}
-use Rattle.tableau_row.specs.Flat.{numbers_of, row_of_numbers, is_unit_row}
+use Rattle.row_laws.specs.Short.{IsShortRow}
+use Rattle.row_laws.specs.Rows.{IsRow, IsReduced}
+use Rattle.row_laws.specs.Flat.{numbers_of, row_of_numbers, is_unit_row}
 use Rattle.tableau.specs.declared.kept.Lent.{Lent}
 use Rattle.tableau.specs.declared.kept.Kept.{Kept}
 use Rattle.tableau.specs.declared.kept.Kept.TheVariants as kept

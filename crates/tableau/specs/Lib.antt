@@ -1,7 +1,7 @@
 pub mod Along
 pub mod KeptRows
-pub mod Tableaus
-pub use Rattle.tableau_row.specs.Flat
-pub use Rattle.tableau_row.specs.Rows
-pub use Rattle.tableau_row.specs.Short
+pub use Rattle.row_laws.specs.Flat
+pub use Rattle.row_laws.specs.Rows
+pub use Rattle.row_laws.specs.Short
+pub use Rattle.row_laws.specs.Tableaus
 pub use Rattle.tableau_row.specs.Views

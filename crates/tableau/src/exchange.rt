@@ -3,7 +3,7 @@ ghost use Rattle.pip_model.specs.Rows as model;
 ghost use Rattle.pip_model.specs.Agreement.{IsChecked};
 ghost use Rattle.affine_forms.specs.Checks.{is_overflow};
 ghost use Rattle.tableau.specs.KeptRows.{IsOver, IsLent, AreLeft, AreLent, AreSteady, IsPivot, IsRun, IsSolvable, IsSpare, IsSteady, SameShape, lent_row, row_length, turned, turned_listed, with_more, with_rows};
-ghost use Rattle.tableau_row.specs.Rows.{IsRow, IsOwnRow};
+ghost use Rattle.row_laws.specs.Rows.{IsRow, IsOwnRow};
 ghost use Rattle.tableau_row.specs.Views.{row_of};
 
 use crate::copying::copy_kept;

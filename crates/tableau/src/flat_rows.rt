@@ -1,8 +1,8 @@
 ghost use Rattle.std.specs.Prelude.{◌≡◌, ◌*◌, ◌^◌, ◌<◌, ◌≤◌, false, [], length, IfOk, IfSome, IfNone, OnOk};
 ghost use Rattle.pip_model.specs.Rows as model;
 ghost use Rattle.tableau.specs.KeptRows.{AreLentOf, AreSides, IsSpare, SameRows, flat_numbers, row_length, unit_run};
-ghost use Rattle.tableau_row.specs.Flat.{is_unit_row};
-ghost use Rattle.tableau_row.specs.Rows.{IsRow};
+ghost use Rattle.row_laws.specs.Flat.{is_unit_row};
+ghost use Rattle.row_laws.specs.Rows.{IsRow};
 ghost use Rattle.tableau_row.specs.Views.{row_of};
 
 use crate::kept::{Kept, Lent};

@@ -5,8 +5,8 @@ ghost use Rattle.pip_model.specs.Rows as model;
 ghost use Rattle.tableau.specs.Along as along;
 ghost use Rattle.tableau.specs.Along.{AreAlong, AreMade, IsMadeRow, rows_along, pivoted};
 ghost use Rattle.tableau.specs.KeptRows.{IsFlat, IsPivot, IsSolvable, IsSpare, SameRows, SameShape, row_length, with_rows};
-ghost use Rattle.tableau_row.specs.Flat.{is_unit_row, row_of_numbers};
-ghost use Rattle.tableau_row.specs.Short.{IsShortRow};
+ghost use Rattle.row_laws.specs.Flat.{is_unit_row, row_of_numbers};
+ghost use Rattle.row_laws.specs.Short.{IsShortRow};
 ghost use Rattle.tableau_row.specs.Views.{row_of};
 
 use crate::copying::copy_kept;

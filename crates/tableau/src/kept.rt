@@ -1,8 +1,8 @@
 ghost use Rattle.std.specs.Prelude.{◌≡◌, ◌+◌, ◌<◌, ◌≤◌, length, take, drop, IsTrue, IfSome};
 ghost use Rattle.pip_model.specs.Rows.{unit_row};
-ghost use Rattle.tableau_row.specs.Flat.{numbers_of};
+ghost use Rattle.row_laws.specs.Flat.{numbers_of};
 ghost use Rattle.tableau.specs.KeptRows.{IsLent, IsPlace, lent_row, place_behind, row_length, row_from_place, unit_run};
-ghost use Rattle.tableau_row.specs.Short.{IsShortRow};
+ghost use Rattle.row_laws.specs.Short.{IsShortRow};
 ghost use Rattle.tableau_row.specs.Views.{row_of};
 
 use tableau_row::{RowView, view_of};
@@ -68,7 +68,7 @@ impl<'t> Lent<'t> {
     }
 
     // The numbers of a row that is kept by them.
-    #[tactic(auto, using(crate::proofs::Flat::numbers_again))]
+    #[tactic(auto, using(row_laws::proofs::Numbers::numbers_again))]
     pub(crate) fn run(&self, kept: Kept) -> Option<&'t [i128]>
         requires { IsPlace self.now.unknowns self.now.width (length self.now.numbers.now) kept }
         ensures { IfSome result (λ s. s.now ≡ numbers_of (lent_row self.now kept)) }

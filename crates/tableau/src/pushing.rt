@@ -5,10 +5,10 @@ ghost use Rattle.pip_model.specs.Cuts.{rounded, rounded_listed};
 ghost use Rattle.pip_model.specs.Agreement.{IsChecked};
 ghost use Rattle.affine_forms.specs.Checks.{is_overflow};
 ghost use Rattle.affine_forms.specs.Forms.{IsForm};
-ghost use Rattle.tableau_row.specs.Flat.{numbers_of, row_of_numbers};
+ghost use Rattle.row_laws.specs.Flat.{numbers_of, row_of_numbers};
 ghost use Rattle.tableau.specs.KeptRows.{IsFlat, IsPlainRow, IsSolvable, IsUnsealed, rows_kept, with_more};
-ghost use Rattle.tableau_row.specs.Short.{IsShort, IsShortRow};
-ghost use Rattle.tableau_row.specs.Rows.{IsRow, IsReduced};
+ghost use Rattle.row_laws.specs.Short.{IsShort, IsShortRow};
+ghost use Rattle.row_laws.specs.Rows.{IsRow, IsReduced};
 ghost use Rattle.tableau_row.specs.Views.{row_of};
 
 use crate::flat_rows::FlatRows;

@@ -4,10 +4,10 @@ ghost use Rattle.pip_model.specs.Rows as model;
 ghost use Rattle.pip_model.specs.Cuts.{rounded_listed};
 ghost use Rattle.pip_model.specs.Agreement.{IsChecked};
 ghost use Rattle.affine_forms.specs.Checks.{is_overflow};
-ghost use Rattle.tableau_row.specs.Flat.{numbers_of, is_unit_row};
+ghost use Rattle.row_laws.specs.Flat.{numbers_of, is_unit_row};
 ghost use Rattle.tableau.specs.KeptRows.{AreReady, IsSpare, SameRows, with_rows};
-ghost use Rattle.tableau_row.specs.Rows.{IsRow, row_from};
-ghost use Rattle.tableau.specs.Tableaus.{with_row, with_rounded};
+ghost use Rattle.row_laws.specs.Rows.{IsRow, row_from};
+ghost use Rattle.row_laws.specs.Tableaus.{with_row, with_rounded};
 ghost use Rattle.tableau_row.specs.Views.{row_of};
 
 use crate::flat_rows::FlatRows;
@@ -29,7 +29,7 @@ pub struct Tableau {
 }
 
 impl Model for Tableau {
-    ghost use Rattle.tableau.specs.Tableaus.{TableauRows};
+    ghost use Rattle.row_laws.specs.Tableaus.{TableauRows};
     ghost use Rattle.tableau.specs.KeptRows.{IsSpare};
 
     ghost Value = { TableauRows };
@@ -198,6 +198,13 @@ impl Tableau {
         self.rows.allocator()
     }
 
+    /// No rows over the same columns and places. It takes no memory.
+    pub fn empty_like(&self) -> Tableau
+        ensures { result ≡ record self.now { rows = [] } }
+    {
+        Tableau::new(self.allocator(), self.unknowns(), self.width())
+    }
+
     /// The same tableau.
     pub fn try_clone(&self, alloc: Global) -> Result<Tableau, WantOfMemory>
         ensures { IfOk result (λ t. t ≡ self.now) }
@@ -208,9 +215,11 @@ impl Tableau {
         Ok(Tableau { rows, next, units })
     }
 
-    /// Becomes the same as another, in the room that there is where it is enough.
+    /// Becomes the same as another, in the room that there is where it is enough. A refusal leaves no rows, over the
+    /// columns and places of the other.
     pub fn copy_from(&mut self, t: &Tableau) -> Result<(), WantOfMemory>
-        ensures { OnOk result (self.new ≡ t.now) }
+        ensures ok { OnOk result (self.new ≡ t.now) }
+        ensures err { OnErr result (self.new ≡ record t.now { rows = [] }) }
     {
         self.reshape(t.rows.unknowns(), t.rows.width());
         let most = t.rows.len() + 2;

@@ -6,16 +6,16 @@ use Rattle.std.proofs.lemmas.Nat.Gcd.{dvd_refl, dvd_antisymm}
 use Rattle.pip_model.proofs.Gcd.{gcd_between, multiple-dvd, quotient_positive}
 use Rattle.pip_model.proofs.RingLaws.{*ℤ_assoc}
 use Rattle.std.proofs.Math.IntN.{*ℤ_comm}
-use Rattle.tableau_row.proofs.Combining.{combine_more, made_taken}
-use Rattle.tableau_row.proofs.Contents.{content-divided}
-use Rattle.tableau_row.proofs.Lowest.{eliminated-lowest, divisor-lowest, reduced-lowest}
-use Rattle.tableau_row.proofs.RowLaws.{divided_one}
-use Rattle.tableau_row.proofs.ShortRows.{short_fit, fits_short}
-use Rattle.tableau_row.proofs.Multiples.{times-multiple}
-use Rattle.tableau_row.proofs.Numbers.{row_again}
-use Rattle.tableau_row.proofs.Stepping.{made_further, reduced_by}
-use Rattle.tableau_row.proofs.Substituting.{some_product}
-use Rattle.tableau_row.specs.Lowest.{AreReduced}
+use Rattle.row_laws.proofs.Combining.{combine_more, made_taken}
+use Rattle.row_laws.proofs.Contents.{content-divided}
+use Rattle.row_laws.proofs.Lowest.{eliminated-lowest, divisor-lowest, reduced-lowest}
+use Rattle.row_laws.proofs.RowLaws.{divided_one}
+use Rattle.row_laws.proofs.ShortRows.{short_fit, fits_short}
+use Rattle.row_laws.proofs.Multiples.{times-multiple}
+use Rattle.row_laws.proofs.Numbers.{row_again}
+use Rattle.row_laws.proofs.Stepping.{made_further, reduced_by}
+use Rattle.row_laws.proofs.Substituting.{some_product}
+use Rattle.row_laws.specs.Lowest.{AreReduced}
 use Rattle.tableau_row.specs.Stepped.{IsStep}
 use Rattle.tableau_row.specs.declared.step.Step.{Step}
 
@@ -33,9 +33,6 @@ pub divided_numbers : (n : ℕ) (zs : List ℤ) (g : ℤ) → n < length zs → 
 divided_numbers n [] g h e = absurd (omega arith)
 divided_numbers n (z ∷ zs) g h e =
     rw (sym e) (ap (λ (xs : List ℤ). floor_div z g ∷ xs) (ap (floor_divided g) (sym (take-append-drop n zs)) ∙ map-append (λ x. floor_div x g) (take n zs) (drop n zs)))
-
-pub short_of_row : (r : Row) → IsShortRow r → All IsShort (numbers_of r)
-short_of_row r h = All-cons IsShort r.den (r.coefs ++ r.constant) h.den (All-append IsShort r.coefs r.constant h.coefs h.constant)
 
 pub short_of_numbers : (n : ℕ) (zs : List ℤ) → n < length zs → IsShortRow (row_of_numbers n zs) → All IsShort zs
 short_of_numbers n [] h short = absurd (omega arith)

@@ -1,33 +1,28 @@
 -- The words of other modules that the proofs of this crate cite, passed on from one place. Declares nothing.
-pub use Rattle.std.proofs.Common.{◌≡◌, refl, sym, subst, ◌∙◌, ℕ, ◌-◌, ◌<◌, pos, ◌≤ℤ◌, Bool, length, arith, ◌+◌, ◌^◌, ℤ, unsigned_abs, List, [], ◌∷◌, ◌++◌, replicate, take, drop, get_or, to_z, of_z, ap, flat_map, zero, suc, negsuc, ◌*ℤ◌, true, false, ◌&&◌, length-set, ◌≤◌, append-nil, append_assoc, map, length-append, ◌-ℤ◌, set, ◌+ℤ◌, neg_ℤ, vec_len, vec_capacity, ◌*◌, rules}
+pub use Rattle.std.proofs.Common.{◌≡◌, refl, sym, subst, ◌∙◌, ℕ, ◌-◌, ◌<◌, pos, ◌≤ℤ◌, length, arith, ◌+◌, ℤ, unsigned_abs, List, [], ◌∷◌, ◌++◌, replicate, take, drop, get_or, to_z, of_z, ap, suc, negsuc, ◌*ℤ◌, true, false, length-set, ◌≤◌, append-nil, append_assoc, map, length-append, ◌-ℤ◌, vec_len, vec_capacity, rules}
 pub use Rattle.std.specs.Prelude.{IsTrue, All, slice_set, Vec}
-pub use Rattle.std.specs.List.{list_all, AllByRecursion}
-pub use Rattle.std.proofs.lemmas.Bool.{ltb-true, lt-ltb, eqb-true}
-pub use Rattle.std.proofs.lemmas.List.Sums.{AllPass-from_list_all, list_all-from_AllPass}
-pub use Rattle.std.proofs.lemmas.List.Elements.{All-append, All-take, All-drop, All-replicate, All-cons, All-nil, All-get_or, All-map, All-set, All-push}
+pub use Rattle.std.proofs.lemmas.List.Elements.{All-append, All-take, All-drop, All-cons, All-set, All-push}
 pub use Rattle.std.specs.Int.{w128, w64}
-pub use Rattle.std.proofs.lemmas.Int.{to_z-of_z, fits_signed_from_abs, ints, unsigned_abs-mul}
-pub use Rattle.std.proofs.lemmas.List.{take_at, drop_at, drop-replicate, take-replicate, length-replicate, length-drop, take-append-drop, take_all, get_or-drop, take_more, replicate_more, length-take, map-append, drop_more, set_at, get_or_at, drop_all, length-map, get_or-map, take-map, drop-map, set-append_right, set-get_or}
-pub use Rattle.std.proofs.lemmas.Grind.{flat_map-append, common_steps}
-pub use Rattle.std.proofs.lemmas.List.Folds.{list_all-append}
-pub use Rattle.pip_model.specs.Forms.{entry, width, coefficients, constant, combine, remove, floor_divided, negate, residue, unit_form, add, scale}
-pub use Rattle.pip_model.specs.Rows.{Row, divided, eliminated, widened, eliminated_listed, substituted, pivot_listed, row_at, unit_row, count_from}
+pub use Rattle.std.proofs.lemmas.Int.{to_z-of_z, ints}
+pub use Rattle.std.proofs.lemmas.List.{take_at, drop_at, take-append-drop, take_all, length-take, map-append, drop_all, length-map}
+pub use Rattle.std.proofs.lemmas.Grind.{common_steps}
+pub use Rattle.pip_model.specs.Forms.{entry, width, combine, floor_divided, negate, add}
+pub use Rattle.pip_model.specs.Rows.{Row, divided, eliminated, widened, eliminated_listed, substituted}
 pub use Rattle.pip_model.specs.Listed.{all_fit, combine_listed}
 pub use Rattle.affine_forms.specs.Checks.{Fits}
-pub use Rattle.affine_forms.proofs.Short.{short_fits, product_fits}
-pub use Rattle.pip_model.proofs.Forms.{length-combine, entry-negate}
-pub use Rattle.pip_model.specs.Numbers.{fits, is_zero, same_number, gcd, gcd_of, floor_div, euclid}
-pub use Rattle.pip_model.proofs.Tests.{both, is_zero_is, same_number_is}
+pub use Rattle.pip_model.proofs.Forms.{length-combine}
+pub use Rattle.pip_model.specs.Numbers.{fits, is_zero, gcd, gcd_of, floor_div}
 pub use Rattle.affine_forms.proofs.Divisors.{gcd_assoc, floor_divided_one, gcd_step}
-pub use Rattle.affine_forms.proofs.Combined.{listed_at, listed_step, listed_refused, listed_end}
+pub use Rattle.affine_forms.proofs.Combined.{listed_step, listed_refused, listed_end}
 pub use Rattle.pip_model.specs.Cuts.{residue_of, rounding, rounded_listed, rounded}
 pub use Rattle.affine_forms.specs.Forms.{raised}
-pub use Rattle.pip_model.proofs.Division.{floor-unique, floor-exact, gcd-divides, gcd_of-divides, all_through, through, Multiple}
-pub use Rattle.pip_model.proofs.Gcd.{common, common-scaled, gcd-greatest, gcd_of-greatest, common-IsGcd, times-one, size-divided, size-gcd_of, gcd_one, gcd_zero, size_opposite, gcd_opposite, gcd_of_negate, gcd_exchanged}
+pub use Rattle.pip_model.proofs.Division.{floor-unique, floor-exact, gcd-divides, Multiple}
+pub use Rattle.pip_model.proofs.Gcd.{gcd-greatest, gcd_of-greatest, common-IsGcd, gcd_one, gcd_zero}
 pub use Rattle.affine_forms.proofs.Mapped.{mapped, mapped_step}
-pub use Rattle.tableau_row.specs.Lowest.{AreLowest, substituted_by}
-pub use Rattle.tableau_row.specs.Rows.{IsRow, IsOwnRow, IsReduced, row_from, content}
-pub use Rattle.tableau_row.specs.Short.{IsShortRow, is_short, IsShort, AreShortRows}
-pub use Rattle.tableau_row.specs.Steps.{IsPivotRow, IsElimination, MakesRow, IsMadeReduced, Appends}
-pub use Rattle.tableau_row.specs.Flat.{numbers_of, row_of_numbers, is_unit, is_unit_row}
+pub use Rattle.row_laws.specs.Lowest.{AreLowest, substituted_by}
+pub use Rattle.row_laws.specs.Rows.{IsRow, IsOwnRow, IsReduced, row_from, content}
+pub use Rattle.row_laws.specs.Short.{IsShortRow, is_short, IsShort, AreShortRows}
+pub use Rattle.row_laws.specs.Steps.{IsElimination, MakesRow, IsMadeReduced}
+pub use Rattle.tableau_row.specs.Room.{Appends}
+pub use Rattle.row_laws.specs.Flat.{numbers_of, row_of_numbers}
 pub use Rattle.tableau_row.specs.Views.{row_of}

@@ -1,7 +1,3 @@
-pub mod Flat
-pub mod Lowest
-pub mod Rows
-pub mod Short
+pub mod Room
 pub mod Stepped
-pub mod Steps
 pub mod Views

@@ -1,9 +1,9 @@
--- The step of a row in a pivot.
+-- A step of a row.
 use Rattle.std.specs.Prelude.{◌≡◌, ℕ}
 use Rattle.pip_model.specs.Numbers.{gcd}
 use Rattle.pip_model.specs.Forms.{entry}
 use Rattle.pip_model.specs.Rows.{Row}
-use Rattle.tableau_row.specs.Lowest.{AreLowest}
+use Rattle.row_laws.specs.Lowest.{AreLowest}
 use Rattle.tableau_row.specs.declared.step.Step.{Step}
 
 -- the step of row r in the pivot on row p and column c

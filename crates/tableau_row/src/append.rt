@@ -5,12 +5,13 @@ ghost use Rattle.pip_model.specs.Rows as model;
 ghost use Rattle.pip_model.specs.Cuts.{rounded, rounded_listed};
 ghost use Rattle.pip_model.specs.Agreement.{IsChecked};
 ghost use Rattle.affine_forms.specs.Checks.{Fits, is_overflow};
-ghost use Rattle.tableau_row.specs.Flat.{numbers_of};
-ghost use Rattle.tableau_row.specs.Short.{IsShort, IsShortRow, AreShort, AreShortLists, AreShortRows};
-ghost use Rattle.tableau_row.specs.Lowest.{AreReduced, substituted_by};
-ghost use Rattle.tableau_row.specs.Rows.{IsOwnRow, IsReduced};
+ghost use Rattle.row_laws.specs.Flat.{numbers_of};
+ghost use Rattle.row_laws.specs.Short.{IsShort, IsShortRow, AreShort, AreShortLists, AreShortRows};
+ghost use Rattle.row_laws.specs.Lowest.{AreReduced, substituted_by};
+ghost use Rattle.row_laws.specs.Rows.{IsOwnRow, IsReduced};
 ghost use Rattle.tableau_row.specs.Stepped.{IsStep};
-ghost use Rattle.tableau_row.specs.Steps.{IsPivotRow, IsElimination, IsMadeReduced, MakesRow, Appends, Leaves, column_row};
+ghost use Rattle.row_laws.specs.Steps.{IsPivotRow, IsElimination, IsMadeReduced, MakesRow, column_row};
+ghost use Rattle.tableau_row.specs.Room.{Appends, Leaves};
 ghost use Rattle.tableau_row.specs.Views.{row_of};
 
 use crate::quotients::append_tried;

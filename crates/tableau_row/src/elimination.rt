@@ -4,9 +4,9 @@ ghost use Rattle.pip_model.specs.Listed.{all_fit, combine_listed};
 ghost use Rattle.pip_model.specs.Rows as model;
 ghost use Rattle.pip_model.specs.Agreement.{IsChecked};
 ghost use Rattle.affine_forms.specs.Checks.{Fits, is_overflow};
-ghost use Rattle.tableau_row.specs.Short.{IsShortRow};
-ghost use Rattle.tableau_row.specs.Rows.{IsRow, IsOwnRow, row_from};
-ghost use Rattle.tableau_row.specs.Steps.{IsElimination, MakesRow};
+ghost use Rattle.row_laws.specs.Short.{IsShortRow};
+ghost use Rattle.row_laws.specs.Rows.{IsRow, IsOwnRow, row_from};
+ghost use Rattle.row_laws.specs.Steps.{IsElimination, MakesRow};
 ghost use Rattle.tableau_row.specs.Views.{row_of};
 
 use crate::narrow::{divide_all_short, short_divisor_with, short_quotient};
@@ -27,7 +27,7 @@ fn check_each(a: i128, r: &[i128], b: i128, s: &[i128]) -> Result<(), Overflow>
 }
 
 // Checks `a*r - b*s`; short numbers need no product for that.
-#[tactic(auto, using(crate::proofs::Combining::short_listed))]
+#[tactic(auto, using(row_laws::proofs::Combining::short_listed))]
 fn check_combined(a: i128, r: &[i128], b: i128, s: &[i128]) -> Result<(), Overflow>
     requires { length r.now ≡ length s.now }
     ensures { IsChecked is_overflow (combine_listed a r.now b s.now) result }
@@ -39,7 +39,7 @@ fn check_combined(a: i128, r: &[i128], b: i128, s: &[i128]) -> Result<(), Overfl
 }
 
 // Checks `a*r - b*s` but for place c.
-#[tactic(auto, using(crate::proofs::Places::listed_but, crate::proofs::Places::drop_two))]
+#[tactic(auto, using(row_laws::proofs::Places::listed_but, row_laws::proofs::Places::drop_two))]
 fn check_but(a: i128, r: &[i128], b: i128, s: &[i128], c: usize) -> Result<(), Overflow>
     requires lengths { length r.now ≡ length s.now }
     requires place { c < length r.now }
@@ -128,7 +128,7 @@ fn combine_but(a: i128, r: &mut [i128], b: i128, s: &[i128], c: usize, entry: i1
 }
 
 // Divides a row of short numbers by their greatest common divisor; the new denominator.
-#[tactic(auto, using(crate::proofs::ShortRows::fits_short, crate::proofs::ShortRows::short_fit))]
+#[tactic(auto, using(row_laws::proofs::ShortRows::fits_short, row_laws::proofs::ShortRows::short_fit))]
 #[inline(always)]
 fn divide_short_parts(den: i128, coefs: &mut [i128], constant: &mut [i128]) -> i128
     requires row { IsOwnRow (row_from den coefs.old constant.old) }

@@ -1,7 +1,7 @@
 ghost use Rattle.std.specs.Prelude.{◌≡◌, ◌<◌, pos, ◌≤ℤ◌, length, drop, All};
 ghost use Rattle.pip_model.specs.Forms.{floor_divided};
 ghost use Rattle.pip_model.specs.Numbers.{gcd as gcd_of_two, gcd_of, floor_div as floor_div_of};
-ghost use Rattle.tableau_row.specs.Short.{IsShort};
+ghost use Rattle.row_laws.specs.Short.{IsShort};
 
 use short_numbers::{narrow, short_floor_div, short_gcd};
 

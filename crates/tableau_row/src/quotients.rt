@@ -2,11 +2,12 @@ ghost use Rattle.std.specs.Prelude.{◌≡◌, ◌+◌, ◌≤◌, length, All, 
 ghost use Rattle.pip_model.specs.Forms.{combine, floor_divided};
 ghost use Rattle.pip_model.specs.Rows as model;
 ghost use Rattle.pip_model.proofs.Division.{Multiple};
-ghost use Rattle.tableau_row.specs.Flat.{numbers_of};
-ghost use Rattle.tableau_row.specs.Lowest.{AreReduced};
-ghost use Rattle.tableau_row.specs.Short.{IsShort, AreHalf, AreShortLists, AreShortRows};
+ghost use Rattle.row_laws.specs.Flat.{numbers_of};
+ghost use Rattle.row_laws.specs.Lowest.{AreReduced};
+ghost use Rattle.row_laws.specs.Short.{IsShort, AreHalf, AreShortLists, AreShortRows};
 ghost use Rattle.tableau_row.specs.Stepped.{IsStep};
-ghost use Rattle.tableau_row.specs.Steps.{IsElimination, Appends, Keeps, WasTried};
+ghost use Rattle.row_laws.specs.Steps.{IsElimination};
+ghost use Rattle.tableau_row.specs.Room.{Appends, Keeps, WasTried};
 ghost use Rattle.tableau_row.specs.Views.{row_of};
 
 use crate::append::append_one;

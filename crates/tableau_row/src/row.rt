@@ -7,11 +7,11 @@ ghost use Rattle.pip_model.specs.Rows as model;
 ghost use Rattle.pip_model.specs.Cuts.{rounded, rounded_listed};
 ghost use Rattle.pip_model.specs.Agreement.{IsChecked};
 ghost use Rattle.affine_forms.specs.Checks.{is_overflow};
-ghost use Rattle.tableau_row.specs.Flat.{numbers_of, row_of_numbers, is_unit, is_unit_row};
-ghost use Rattle.tableau_row.specs.Lowest.{AreReduced, substituted_by};
-ghost use Rattle.tableau_row.specs.Short.{IsShort, IsShortRow, AreShort, AreShortRows};
-ghost use Rattle.tableau_row.specs.Rows.{IsRow, IsOwnRow, IsReduced, content, row_from};
-ghost use Rattle.tableau_row.specs.Steps.{IsElimination, IsMadeReduced, MakesRow};
+ghost use Rattle.row_laws.specs.Flat.{numbers_of, row_of_numbers, is_unit, is_unit_row};
+ghost use Rattle.row_laws.specs.Lowest.{AreReduced, substituted_by};
+ghost use Rattle.row_laws.specs.Short.{IsShort, IsShortRow, AreShort, AreShortRows};
+ghost use Rattle.row_laws.specs.Rows.{IsRow, IsOwnRow, IsReduced, content, row_from};
+ghost use Rattle.row_laws.specs.Steps.{IsElimination, IsMadeReduced, MakesRow};
 ghost use Rattle.tableau_row.specs.Views.{row_of};
 
 use crate::elimination::{divide_parts, eliminate_parts};

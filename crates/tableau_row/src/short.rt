@@ -1,8 +1,8 @@
 ghost use Rattle.std.specs.Prelude.{◌≡◌, pos, ◌*ℤ◌, ◌-ℤ◌, neg_ℤ, ◌&&◌, IsTrue, IsFalse};
 ghost use Rattle.std.specs.List.{list_all};
 ghost use Rattle.affine_forms.specs.Checks.{Fits};
-ghost use Rattle.tableau_row.specs.Short.{is_short as is_short_number, IsShort, IsShortRow, AreShort, AreHalf, AreShortLists, IsCombined};
-ghost use Rattle.tableau_row.specs.Rows.{row_from};
+ghost use Rattle.row_laws.specs.Short.{is_short as is_short_number, IsShort, IsShortRow, AreShort, AreHalf, AreShortLists, IsCombined};
+ghost use Rattle.row_laws.specs.Rows.{row_from};
 
 use short_numbers::{half_difference, is_half, narrow, short_difference};
 
@@ -21,7 +21,7 @@ pub(crate) fn all_short(entries: &[i128]) -> bool
 }
 
 /// Whether all numbers of a row lie from `-(2^63 - 1)` to `2^63 - 1`.
-#[tactic(auto, using(crate::proofs::ShortRows::short_list, crate::proofs::Combining::short_bound))]
+#[tactic(auto, using(row_laws::proofs::ShortRows::short_list, row_laws::proofs::Combining::short_bound))]
 pub fn is_short_row(den: i128, coefs: &[i128], constant: &[i128]) -> bool
     ensures value { result ≡ (is_short_number den
         && (list_all is_short_number coefs.now && list_all is_short_number constant.now)) }
@@ -83,7 +83,7 @@ fn changes(a: i64, entry: i64) -> bool
 
 // Makes `a*r - b*s` of r, entry by entry, for short numbers, a and b of 32 bits as is known; whether those are short
 // too. Under an a of 1 the entries of r stay at which s is 0.
-#[tactic(auto, using(crate::proofs::ShortRows::fits_short))]
+#[tactic(auto, using(row_laws::proofs::ShortRows::fits_short))]
 fn combine_by(half: bool, a: i64, r: &mut [i128], b: i64, s: &[i128]) -> bool
     requires half { IsTrue half → AreHalf a b }
     requires factors { AreShort a b }

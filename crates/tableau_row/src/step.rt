@@ -1,8 +1,8 @@
 ghost use Rattle.std.specs.Prelude.{◌≡◌, ◌<◌, pos, ◌*ℤ◌, ◌-ℤ◌, ◌≤ℤ◌, length, IsTrue, IfSome};
 ghost use Rattle.pip_model.specs.Forms.{entry as entry_of};
 ghost use Rattle.pip_model.specs.Numbers.{gcd as gcd_of_two, floor_div as floor_div_of};
-ghost use Rattle.tableau_row.specs.Lowest.{AreLowest};
-ghost use Rattle.tableau_row.specs.Short.{IsShort, IsShortRow, AreHalf, AreShort};
+ghost use Rattle.row_laws.specs.Lowest.{AreLowest};
+ghost use Rattle.row_laws.specs.Short.{IsShort, IsShortRow, AreHalf, AreShort};
 ghost use Rattle.tableau_row.specs.Views.{row_of};
 
 use crate::narrow::short_quotient;
@@ -23,7 +23,7 @@ pub(crate) struct Step {
 }
 
 // The greatest common divisor of two denominators.
-#[tactic(auto, using(pip_model::proofs::Gcd::gcd_one, crate::proofs::Lowest::gcd_with_one))]
+#[tactic(auto, using(pip_model::proofs::Gcd::gcd_one, row_laws::proofs::Lowest::gcd_with_one))]
 fn shared_divisor(first: i64, second: i64) -> i64
     requires first { pos 1 ≤ℤ first }
     requires short { AreShort first second }

@@ -1,8 +1,8 @@
 ghost use Rattle.std.specs.Prelude.{◌≡◌, ◌<◌, ◌*ℤ◌, length, IsTrue};
 ghost use Rattle.pip_model.specs.Forms.{entry};
 ghost use Rattle.affine_forms.specs.Checks.{IsFitted};
-ghost use Rattle.tableau_row.specs.Short.{IsShortRow};
-ghost use Rattle.tableau_row.specs.Rows.{row_from};
+ghost use Rattle.row_laws.specs.Short.{IsShortRow};
+ghost use Rattle.row_laws.specs.Rows.{row_from};
 
 use affine_forms::{Overflow, times};
 use short_numbers::short_product;

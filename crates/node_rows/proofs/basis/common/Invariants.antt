@@ -1,5 +1,5 @@
 use Rattle.std.proofs.Common.{pos, ◌≤ℤ◌}
-use Rattle.tableau_row.specs.Short.{IsShort}
+use Rattle.row_laws.specs.Short.{IsShort}
 use Rattle.node_rows.proofs.basis.common.Given as goal
 
 abbrev pub invariant-loop-j : goal.invariant-loop-j

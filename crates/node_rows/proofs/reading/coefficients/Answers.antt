@@ -1,5 +1,5 @@
 use Rattle.std.proofs.Common.{rules}
-use Rattle.tableau_row.proofs.RowLaws.{count_map}
+use Rattle.row_laws.proofs.RowLaws.{count_map}
 use Rattle.node_rows.specs.ReadRows.{summed}
 use Rattle.node_rows.proofs.reading.coefficients.Goals as goal
 

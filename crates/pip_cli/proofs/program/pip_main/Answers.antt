@@ -2,7 +2,7 @@ use Rattle.pip_cli.proofs.Words.{inl, ◌∙◌, ◌-◌, map, string_bytes, Ok,
 use Rattle.std.proofs.KnownBytes.{Appends-nil}
 use Rattle.pip_cli.proofs.Asked.{command-asked}
 use Rattle.pip_cli.proofs.Ends.{fault-by, line-gained, is-noted}
-use Rattle.pip_cli.proofs.ByProblem.{told-ends, told-right, told-complete, is-read}
+use Rattle.pip_cli.proofs.ByProblem.{told-ends, told-right, told-complete, told-in_time, is-read}
 use Rattle.pip_cli.proofs.program.pip_main.Goals as goal
 
 pub returns-in-Ok-clause-right : goal.returns-in-Ok-clause-right
@@ -16,6 +16,14 @@ returns-in-Ok-clause-output g c =
 pub returns-in-Ok-clause-complete : goal.returns-in-Ok-clause-complete
 returns-in-Ok-clause-complete g c read_well written_well =
     told-complete _ (command-asked (map string_bytes c.args.words.now.items)) (g.S.Source.left c.args.source.now) (g.S.Source.taken c.run.new.source - g.S.Source.taken c.args.source.now) (g.K.Sink.written c.args.sink.now) (g.K.Sink.written c.run.new.sink) (Ok c.in-Ok.field-0) c.number.result c.number.ensures c.in-Ok.ensures.output (λ p. let zero = c.number.ensures in cc) (λ p. let zero = c.number.ensures in cc)
+
+pub returns-in-Ok-clause-in_time : goal.returns-in-Ok-clause-in_time
+returns-in-Ok-clause-in_time g c =
+    told-in_time g.S.Source.calls g.S.Source.taken c.args.source.now c.run.new.source (g.K.Sink.written c.args.sink.now) (g.K.Sink.written c.run.new.sink) (Ok c.in-Ok.field-0) c.number.result c.number.ensures _ (g.S.Source.left c.args.source.now) c.in-Ok.ensures.in_time
+
+pub returns-in-Err-clause-in_time : goal.returns-in-Err-clause-in_time
+returns-in-Err-clause-in_time g c =
+    told-in_time g.S.Source.calls g.S.Source.taken c.args.source.now c.run.new.source (g.K.Sink.written c.args.sink.now) (g.K.Sink.written c.run.new.sink) (Err c.in-Err.ending) c.number-in-Err.result (c.number-in-Err.ensures ∙ c.status.ensures) _ (g.S.Source.left c.args.source.now) c.in-Err.ensures.in_time
 
 pub returns-in-Err-clause-right : goal.returns-in-Err-clause-right
 returns-in-Err-clause-right g c =

@@ -1,8 +1,8 @@
 use Rattle.pip_items.proofs.Words.{refl, [], Some, Trial}
-use Rattle.pip_items.proofs.ByProblem.{faults-items}
-use Rattle.pip_items.proofs.Asked.{stops-whole}
-use Rattle.pip_items.proofs.Turns.{asks-start}
-use Rattle.pip_items.proofs.Outputs.{written}
+use Rattle.item_writing.proofs.Faults.{faults-items}
+use Rattle.item_writing.proofs.Calls.{stops-whole, in_time-whole}
+use Rattle.item_writing.proofs.Turns.{asks-start}
+use Rattle.item_writing.proofs.Outputs.{written}
 use Rattle.pip_items.proofs.output.write_output.Goals as goal
 
 pub returns-in-Trial-clause-output : goal.returns-in-Trial-clause-output
@@ -12,6 +12,14 @@ returns-in-Trial-clause-output g c =
 pub returns-else-options-clause-asked : goal.returns-else-options-clause-asked
 returns-else-options-clause-asked g c =
     rw c.in-Solve.is c.write_problems.ensures.calls.asked
+
+pub returns-else-options-clause-in_time : goal.returns-else-options-clause-in_time
+returns-else-options-clause-in_time g c =
+    rw c.in-Solve.is c.write_problems.ensures.in_time
+
+pub returns-in-Trial-clause-in_time : goal.returns-in-Trial-clause-in_time
+returns-in-Trial-clause-in_time g c =
+    rw c.in-Trial.is (in_time-whole g.S.Source.calls g.S.Source.taken c.args.source.now c.args.source.now (g.K.Sink.written c.args.sink.now) _ c.write_items.result (Trial c.in-Trial.options.seed c.in-Trial.options.count) (Some []) refl)
 
 pub returns-in-Trial-clause-asked : goal.returns-in-Trial-clause-asked
 returns-in-Trial-clause-asked g c =

@@ -1,6 +1,6 @@
 use Rattle.pip_solve.proofs.Words.{rules, refl, ◌≡◌, Work, give, turned_run, whole_run, IsNextNode, weight}
 use Rattle.pip_solve.proofs.Handing.{follows, kept_room, goes_on, smaller, goes_on_again, smaller_again, ends}
-use Rattle.pip_solve.proofs.Knowing.{known_none, known_on}
+use Rattle.node_turn.proofs.Knowing.{known_none, known_on}
 use Rattle.pip_solve.proofs.node.run.Goals as goal
 
 pub loop-turn-init : goal.loop-turn-init

@@ -1,6 +1,6 @@
 use Rattle.pip_solve.proofs.Words.{refl, sym, subst, ◌≡◌, ◌∙◌, [], arith, IfOk, Work, give, AgreesCounted, run_fault, Waiting, tree_in, turned_run}
 use Rattle.pip_solve.proofs.Handing.{follows, smaller_again, goes_on_again, kept_kept, leaves, leaves_params, leaves_budget, ends}
-use Rattle.pip_solve.proofs.Knowing.{known_none, known_on}
+use Rattle.node_turn.proofs.Knowing.{known_none, known_on}
 use Rattle.pip_solve.proofs.node.run_first.Goals as goal
 
 pub loop-turn-init : goal.loop-turn-init

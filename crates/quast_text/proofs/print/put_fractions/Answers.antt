@@ -1,4 +1,4 @@
-use Rattle.quast_text.proofs.Words.{◌++◌, ◌∙◌, ap, arith, spell_fractions, spell_term, written}
+use Rattle.quast_text.proofs.Words.{◌≡◌, ◌++◌, ◌∙◌, ap, append_assoc, arith, flat_map, take, spell_fractions, spell_term, written}
 use Rattle.quast_text.proofs.Spellings.{fractions_flat}
 use Rattle.quast_text.proofs.print.put_fractions.Goals as goal
 
@@ -8,3 +8,18 @@ returns-clause-ok c =
     let same = c.as_slice-entry-items.ensures.value ∙ c.form.ensures in
     let d = c.args.component.now.den in
     c.loop-entry.invariant ∙ ap (λ t. c.args.out.now.items ++ t) (written (spell_term d) entries c.loop-entry.entry-index (spell_fractions d entries) (omega arith) (fractions_flat d entries) ∙ ap (spell_fractions d) same)
+
+pub returns-clause-kept : goal.returns-clause-kept
+returns-clause-kept c = record {
+  rest = flat_map (spell_term c.args.component.now.den) (take c.loop-entry.entry-index c.as_slice-entry-items.result.now);
+  is = c.loop-entry.invariant;
+}
+
+pub returns-in_err-put_term-clause-kept : goal.returns-in_err-put_term-clause-kept
+returns-in_err-put_term-clause-kept c =
+    let before = flat_map (spell_term c.args.component.now.den) (take c.loop-entry.entry-index c.as_slice-entry-items.result.now) in
+    let k = c.in_err-put_term.ensures.kept in
+    record {
+      rest = before ++ k.rest;
+      is = k.is ∙ ap (λ t. t ++ k.rest) c.loop-entry.invariant ∙ append_assoc c.args.out.now.items before k.rest;
+    }

@@ -32,6 +32,6 @@ returns c =
       ok = take_at (c.split_at_mut-row.result.0.now ++ c.make_cut.new.row) _ c.extend_from_within.new.self.len size
           ∙ ap (λ (xs : List ℤ). xs ++ c.make_cut.new.row) front
           ∙ ap (λ (xs : List ℤ). c.args.numbers.now.items ++ xs) made;
-      row = subst (IsShortReduced c.args.unknowns) row c.make_cut.ensures.row;
+      row = subst (IsShortReduced c.args.unknowns 0) row c.make_cut.ensures.row;
       err = search rules;
     }

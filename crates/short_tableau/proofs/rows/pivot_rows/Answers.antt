@@ -1,6 +1,7 @@
 use Rattle.short_tableau.proofs.Words.{rules}
 use Rattle.short_tableau.proofs.Places.{split_twice, split_front, split_back, split_pivot, pivot_made, long_before, long_behind}
-use Rattle.short_tableau.proofs.ShortParts.{unit_reduced}
+use Rattle.short_row.proofs.ShortParts.{unit_reduced}
+use Rattle.short_tableau.proofs.OneRow.{unit_made}
 use Rattle.short_tableau.proofs.rows.pivot_rows.Goals as goal
 
 pub turn_rows-requires : goal.turn_rows-requires
@@ -31,5 +32,5 @@ pub returns : goal.returns
 returns c =
     let split = split_twice c.args.unknowns c.args.rows c.args.r c.place_of-place.result c.args.numbers.now c.split_at_mut-front.result.0.now c.split_at_mut-front.result.1.now c.split_at_mut-row.result.0.now c.split_at_mut-row.result.1.now
     c.requires.dense c.requires.row (search rules) (search rules) c.split_at_mut-front.ensures.front c.split_at_mut-front.ensures.back c.split_at_mut-row.ensures.front c.split_at_mut-row.ensures.back in
-    pivot_made _ _ _ _ _ _ _ _ split c.turn_rows.new.numbers c.make_unit.new.row c.turn_rows-2.new.numbers _ _ c.make_unit.auto.row (unit_reduced c.args.unknowns c.args.c c.requires.candidate.column) c.make_unit.ensures
+    pivot_made _ _ _ _ _ _ _ _ split c.turn_rows.new.numbers c.make_unit.new.row c.turn_rows-2.new.numbers _ _ c.make_unit.auto.row (unit_reduced c.args.unknowns 0 c.args.c c.requires.candidate.column) (unit_made c.args.unknowns c.args.c c.split_at_mut-row.result.0.now _ split.parts.mid_size c.make_unit.ensures)
     c.turn_rows.ensures (search rules) c.turn_rows-2.ensures (search rules)

@@ -1,20 +1,21 @@
 use Rattle.short_tableau.proofs.Words.{rules, ◌≡◌, ◌∙◌, ap, sym, pos, [], set-get_or, entry, Row, row_at, form_row, eliminated, eliminated_none, rows_in, row_of_numbers, is_short_row}
 use Rattle.std.proofs.Common.{slice_set}
 use Rattle.short_tableau.proofs.Places.{dense_row, split_twice, split_read, split_row, split_turned, split_dense}
+use Rattle.short_tableau.proofs.OneRow.{is_turning, over_no_places}
 use Rattle.short_tableau.proofs.rows.turn_at.Goals as goal
 
 pub turn-requires : goal.turn-requires
 turn-requires c =
     let split = split_twice c.args.unknowns c.args.rows c.args.i c.place_of-place.result c.args.numbers.now c.split_at_mut-behind.result.0.now c.split_at_mut-behind.result.1.now c.split_at_mut-row.result.0.now c.split_at_mut-row.result.1.now
     c.requires.dense c.requires.row (search rules) (search rules) c.split_at_mut-behind.ensures.front c.split_at_mut-behind.ensures.back c.split_at_mut-row.ensures.front c.split_at_mut-row.ensures.back in
-    record { size = split.parts.mid_size; row = split_row _ _ _ _ _ _ _ split; pivot_size = c.requires.size; pivot = c.requires.pivot }
+    is_turning c.args.unknowns c.args.p.now c.args.c c.split_at_mut-row.result.0.now c.requires.size split.parts.mid_size (split_row _ _ _ _ _ _ _ split) c.requires.pivot
 
 pub returns : goal.returns
 returns c =
     let split = split_twice c.args.unknowns c.args.rows c.args.i c.place_of-place.result c.args.numbers.now c.split_at_mut-behind.result.0.now c.split_at_mut-behind.result.1.now c.split_at_mut-row.result.0.now c.split_at_mut-row.result.1.now
     c.requires.dense c.requires.row (search rules) (search rules) c.split_at_mut-behind.ensures.front c.split_at_mut-behind.ensures.back c.split_at_mut-row.ensures.front c.split_at_mut-row.ensures.back in
     record {
-      dense = λ all. split_dense _ _ _ _ _ _ _ split c.turn.new.row c.turn.auto.row (c.turn.ensures.row all);
+      dense = λ all. split_dense _ _ _ _ _ _ _ split c.turn.new.row c.turn.auto.row (over_no_places c.args.unknowns c.turn.new.row _ (c.turn.auto.row ∙ split.parts.mid_size) (c.turn.ensures.row all));
       rows = λ all. split_turned _ _ _ _ _ _ _ split c.turn.new.row c.turn.auto.row (eliminated (row_of_numbers c.args.unknowns c.args.p.now) c.args.c) (c.turn.ensures.value all);
       long = λ none. ap (λ (r : Row). is_short_row (eliminated (row_of_numbers c.args.unknowns c.args.p.now) c.args.c r)) (split_read _ _ _ _ _ _ _ split) ∙ c.turn.ensures.long none;
     }

@@ -1,6 +1,6 @@
 use Rattle.tableau_row.proofs.Words.{arith, rules, ◌≡◌, pos, to_z, of_z, ◌*ℤ◌, ◌-ℤ◌, ◌++◌, get_or, ℤ, List, w64, All, to_z-of_z, Fits, combine, IsShort}
 use Rattle.tableau_row.proofs.Lent.{appends}
-use Rattle.tableau_row.proofs.Combining.{made_taken, made_step, combine_whole}
+use Rattle.row_laws.proofs.Combining.{made_taken, made_step, combine_whole}
 use Rattle.tableau_row.proofs.append.append_combined.Goals as goal
 
 pub loop-i-preserved : goal.loop-i-preserved

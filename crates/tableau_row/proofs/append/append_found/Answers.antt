@@ -1,7 +1,7 @@
 use Rattle.tableau_row.proofs.Words.{rules, ◌≡◌, ◌∙◌, sym, subst, refl, length, to_z, of_z, w64, eliminated, substituted_by, IsOwnRow, IsShortRow, row_of}
 use Rattle.tableau_row.proofs.Found.{found_again, divided_again, reduced_again}
 use Rattle.tableau_row.proofs.Lent.{lent, written_last}
-use Rattle.tableau_row.proofs.Stepping.{own_row}
+use Rattle.row_laws.proofs.Stepping.{own_row}
 use Rattle.tableau_row.proofs.append.append_found.Goals as goal
 
 pub divide_from-requires-clause-divisor : goal.divide_from-requires-clause-divisor

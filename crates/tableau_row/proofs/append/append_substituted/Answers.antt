@@ -1,7 +1,7 @@
 use Rattle.tableau_row.proofs.Words.{rules, ◌≡◌, ◌∙◌, ◌++◌, row_from, substituted_by, ◌*ℤ◌, ◌+◌, ap, subst, refl, to_z, of_z, w64, slice_set, combine, fits, IsTrue, All, Fits, IsShort, numbers_of, row_of}
 use Rattle.tableau_row.proofs.Found.{made_by, by_same}
 use Rattle.tableau_row.proofs.Lent.{appends}
-use Rattle.tableau_row.proofs.Substituting.{substituted_numbers}
+use Rattle.row_laws.proofs.Substituting.{substituted_numbers}
 use Rattle.tableau_row.proofs.append.append_substituted.Goals as goal
 
 pub append_combined-coefs_short-requires-clause-lists : goal.append_combined-coefs_short-requires-clause-lists

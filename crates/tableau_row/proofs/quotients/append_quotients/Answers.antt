@@ -1,5 +1,5 @@
 use Rattle.tableau_row.proofs.Words.{arith, rules, ◌≡◌, pos, ◌*ℤ◌, ◌-ℤ◌, ◌++◌, ◌∷◌, [], subst, get_or, All, Multiple}
-use Rattle.tableau_row.proofs.Combining.{combine_taken}
+use Rattle.row_laws.proofs.Combining.{combine_taken}
 use Rattle.tableau_row.proofs.Found.{quotients_step, quotients_short, quotients_whole}
 use Rattle.tableau_row.proofs.quotients.append_quotients.Goals as goal
 

@@ -1,7 +1,7 @@
 use Rattle.tableau_row.proofs.Words.{rules, ◌≡◌, ◌∙◌, ◌+◌, ◌++◌, ◌∷◌, [], ◌*ℤ◌, sym, ap, subst, refl, IsTrue, IsShortRow, Row, slice_set, floor_div, floor_divided, combine, numbers_of, row_of, row_from, eliminated}
 use Rattle.tableau_row.proofs.Found.{shared, shared_is, shared_short, kept_one, kept_all}
 use Rattle.tableau_row.proofs.Lent.{appends}
-use Rattle.tableau_row.proofs.Substituting.{substituted_numbers}
+use Rattle.row_laws.proofs.Substituting.{substituted_numbers}
 use Rattle.tableau_row.proofs.quotients.append_tried.Goals as goal
 
 pub returns-then-not-append_quotients : goal.returns-then-not-append_quotients

@@ -1,6 +1,6 @@
 use Rattle.tableau_row.proofs.Words.{rules, divided, row_of_numbers}
-use Rattle.tableau_row.proofs.Contents.{content-divided}
-use Rattle.tableau_row.proofs.Stepping.{made_reduced}
+use Rattle.row_laws.proofs.Contents.{content-divided}
+use Rattle.row_laws.proofs.Stepping.{made_reduced}
 use Rattle.tableau_row.proofs.row.divide.Goals as goal
 
 pub returns-clause-made : goal.returns-clause-made

@@ -1,5 +1,5 @@
 use Rattle.tableau_row.proofs.Words.{rules, arith, ◌≡◌, ◌∙◌, ◌+◌, sym, ap, to_z, of_z, w64, w128, get_or, pos, length, numbers_of, row_of, row_of_numbers}
-use Rattle.tableau_row.proofs.ShortHeld.{short_entry_held}
+use Rattle.row_laws.proofs.ShortHeld.{short_entry_held}
 use Rattle.tableau_row.proofs.Found.{stepped, short_of_numbers, eliminated_whole, whole_made, found_again, divided_again, reduced_again}
 use Rattle.tableau_row.proofs.row.eliminate_short.Goals as goal
 

@@ -1,6 +1,6 @@
 use Rattle.tableau_row.proofs.Words.{rules, refl, ◌≡◌, add, negate, width, rounded, rounding, residue_of, row_of_numbers, row_from}
-use Rattle.tableau_row.proofs.Contents.{content-divided}
-use Rattle.tableau_row.proofs.Numbers.{row_over}
+use Rattle.row_laws.proofs.Contents.{content-divided}
+use Rattle.row_laws.proofs.Numbers.{row_over}
 use Rattle.tableau_row.proofs.row.round.Goals as goal
 
 pub returns-in_err-made-clause-listed : goal.returns-in_err-made-clause-listed

@@ -1,7 +1,7 @@
 use Rattle.tableau_row.proofs.Words.{rules, ◌≡◌, ◌-◌, ◌-ℤ◌, arith, refl, sym, ap, ◌∙◌, map, List, ℤ, length, slice_set, to_z-of_z, entry, all_fit, divided, raised, add, negate, width, rounding, residue_of, content, row_from}
-use Rattle.tableau_row.proofs.Contents.{content-divided}
-use Rattle.tableau_row.proofs.RowLaws.{divided_row}
-use Rattle.tableau_row.proofs.Rounding.{rounded_listed_is, rounded_form}
+use Rattle.row_laws.proofs.Contents.{content-divided}
+use Rattle.row_laws.proofs.RowLaws.{divided_row}
+use Rattle.row_laws.proofs.Rounding.{rounded_listed_is, rounded_form}
 use Rattle.tableau_row.proofs.row.round_parts.Goals as goal
 
 pub returns-in_err-round_form-clause-listed : goal.returns-in_err-round_form-clause-listed

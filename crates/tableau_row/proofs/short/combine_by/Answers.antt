@@ -1,5 +1,5 @@
 use Rattle.tableau_row.proofs.Words.{arith, rules, subst, IsTrue, All-set, Fits, IsShort}
-use Rattle.tableau_row.proofs.Combining.{combined_step, combined_all, kept_at, kept_step}
+use Rattle.row_laws.proofs.Combining.{combined_step, combined_all, kept_at, kept_step}
 use Rattle.tableau_row.proofs.short.combine_by.Goals as goal
 use Rattle.tableau_row.proofs.short.combine_by.Goals.{then-changes, else-changes}
 

@@ -1,5 +1,5 @@
 use Rattle.tableau_row.proofs.Words.{ap, sym, ◌∙◌, w128, to_z-of_z, is_short}
-use Rattle.tableau_row.proofs.Combining.{short_bound}
+use Rattle.row_laws.proofs.Combining.{short_bound}
 use Rattle.tableau_row.proofs.short.with_entry.Goals as goal
 
 pub returns-then-short-clause-so_far : goal.returns-then-short-clause-so_far

@@ -1,5 +1,5 @@
 use Rattle.context.proofs.Words.{rules, arith, ◌≡◌, ◌+◌, ◌≤◌, [], ◌∷◌, ◌++◌, length}
-use Rattle.context.proofs.Copying.{known_longer}
+use Rattle.context.proofs.Keeping.{known_longer}
 use Rattle.context.proofs.context.Context.add.Goals as goal
 
 pub invariant_of-self : goal.invariant_of-self

@@ -1,5 +1,5 @@
 use Rattle.context.proofs.Words.{rules, ◌≡◌, subst, ◌≤◌, ℤ, List, length, take, take_all, IsRemembered}
-use Rattle.context.proofs.OneFormMore.{known_tells}
+use Rattle.kept_run.proofs.OneFormMore.{known_tells}
 use Rattle.context.proofs.context.Context.ask_known.Goals as goal
 
 pub returns-clause-gives : goal.returns-clause-gives

@@ -1,5 +1,5 @@
 use Rattle.context.proofs.Words.{rules, ◌≡◌, ◌≤◌, length, take, IsContext}
-use Rattle.context.proofs.Copying.{known_front}
+use Rattle.context.proofs.Keeping.{known_front}
 use Rattle.context.proofs.context.Context.back_to.Goals as goal
 
 pub invariant_of-self : goal.invariant_of-self

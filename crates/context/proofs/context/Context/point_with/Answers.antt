@@ -1,6 +1,6 @@
 use Rattle.context.proofs.Words.{rules, arith, ◌≡◌, sym, [], ◌∷◌}
-use Rattle.context.proofs.Leaving.{run_same}
-use Rattle.context.proofs.OneFormMore.{has_point_is}
+use Rattle.point_run.proofs.Leaving.{run_same}
+use Rattle.kept_run.proofs.OneFormMore.{has_point_is}
 use Rattle.context.proofs.context.Context.point_with.Goals as goal
 
 pub ask_known-requires : goal.ask_known-requires

@@ -1,7 +1,7 @@
 use Rattle.context.proofs.Words.{◌≡◌, ◌∙◌, ap, sym, length}
 use Rattle.std.specs.Vec.{vec_len}
 use Rattle.context.specs.declared.context.Context.TheInside.{Inside}
-use Rattle.context.proofs.GoingFurther.{known_all, of_all, ok_tells}
+use Rattle.context.proofs.Keeping.{known_all, of_all, ok_tells}
 use Rattle.context.proofs.context.Context.recall.Goals.{then-self, else-self}
 use Rattle.context.proofs.context.Context.recall.Goals as goal
 

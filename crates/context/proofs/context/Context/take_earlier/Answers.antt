@@ -1,5 +1,5 @@
 use Rattle.context.proofs.Words.{rules, ◌≡◌}
-use Rattle.context.proofs.Copying.{earlier_taken}
+use Rattle.context.proofs.Keeping.{earlier_taken}
 use Rattle.context.proofs.context.Context.take_earlier.Goals as goal
 
 pub invariant_of-self : goal.invariant_of-self

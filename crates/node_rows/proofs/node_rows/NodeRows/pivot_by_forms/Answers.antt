@@ -16,16 +16,13 @@ measure-requires c =
     let count = length-map t.rows (eliminated (row_at all.rows c.args.r) c.args.c) ∙ long t c.self.inside.basis c.self.inside.forms.items c.self.invariant.0 some in
     subst (λ (s : TableauRows). length s.rows ≡ s.unknowns) (sym e) count
 
-pub invariant_of-self-in-Some : goal.invariant_of-self-in-Some
-invariant_of-self-in-Some c =
+pub invariant_of-self : goal.invariant_of-self
+invariant_of-self c =
     let some : 0 < length c.self.inside.forms.items = omega (arith, c.if-count-lt1.false, c.len-count.ensures) in (
       read_after c.self.inside.made c.self.inside.basis c.self.inside.forms.items c.self.invariant.0 some c.in_ok-rows.rows c.in-Some.basis c.self.inside.norm
           (ap (λ (s : TableauRows). s.unknowns) c.in_ok-rows.ensures) (ap (λ (s : TableauRows). s.width) c.in_ok-rows.ensures) c.in-Some.ensures.basis c.self.invariant.1 c.in-Some.ensures.bound,
       c.self.invariant.1,
     )
-
-pub invariant_of-self-in_err-make_all-in-None : goal.invariant_of-self-in_err-make_all-in-None
-invariant_of-self-in_err-make_all-in-None c = rw (c.in_err-make_all-in-None.ensures.err, c.in_err-make_all-in-None.ensures.kept) c.self.invariant
 
 pub returns-in-Some-clause-listed : goal.returns-in-Some-clause-listed
 returns-in-Some-clause-listed c =

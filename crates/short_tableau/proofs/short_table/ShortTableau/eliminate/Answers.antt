@@ -10,7 +10,7 @@ turn_rows-requires-clause-size c =
 pub turn_rows-requires-clause-pivot : goal.turn_rows-requires-clause-pivot
 turn_rows-requires-clause-pivot c =
     let n : c.args.t.now.unknowns ≡ c.self.inside.unknowns = c.requires.unknowns ∙ sym (ap (λ (t : TableauRows). t.unknowns) c.self.view_is) in
-    subst (λ (k : ℕ). IsPivot k (row_of_numbers k c.row_numbers-row.result.now) c.args.c) n (record {
+    subst (λ (k : ℕ). IsPivot k 0 (row_of_numbers k c.row_numbers-row.result.now) c.args.c) n (record {
       row = c.row_numbers-row.ensures.row;
       candidate =
           subst (λ (k : ℕ). IsCandidate k (row_of_numbers c.args.t.now.unknowns c.row_numbers-row.result.now) c.args.c) (sym c.requires.unknowns)
@@ -21,7 +21,7 @@ pub returns-then-not-turn_rows-clause-listed : goal.returns-then-not-turn_rows-c
 returns-then-not-turn_rows-clause-listed c =
     let s = c.self.inside in
     let n : c.args.t.now.unknowns ≡ c.self.inside.unknowns = c.requires.unknowns ∙ sym (ap (λ (t : TableauRows). t.unknowns) c.self.view_is) in
-    let row = subst (IsShortReduced s.unknowns) c.row_numbers-row.ensures.value (subst (λ (k : ℕ). IsShortReduced k (row_of_numbers c.args.t.now.unknowns c.row_numbers-row.result.now)) n c.row_numbers-row.ensures.row) in
+    let row = subst (IsShortReduced s.unknowns 0) c.row_numbers-row.ensures.value (subst (λ (k : ℕ). IsShortReduced k 0 (row_of_numbers c.args.t.now.unknowns c.row_numbers-row.result.now)) n c.row_numbers-row.ensures.row) in
     subst (λ (t : TableauRows). IsTrue (all_fit (flat_map (eliminated_listed (row_at c.args.t.now.rows c.args.i) c.args.c) t.rows))) c.self.view_is
     (flat_fit s.unknowns (row_at c.args.t.now.rows c.args.i) c.args.c (rows_in s.unknowns s.count s.numbers.items) row (omega (arith, n, c.requires.unknowns, c.requires.candidate.column)) c.self.invariant.rows)
 
@@ -29,7 +29,7 @@ pub returns-clause-listed : goal.returns-clause-listed
 returns-clause-listed c =
     let s = c.self.inside in
     let n : c.args.t.now.unknowns ≡ c.self.inside.unknowns = c.requires.unknowns ∙ sym (ap (λ (t : TableauRows). t.unknowns) c.self.view_is) in
-    let row = subst (IsShortReduced s.unknowns) c.row_numbers-row.ensures.value (subst (λ (k : ℕ). IsShortReduced k (row_of_numbers c.args.t.now.unknowns c.row_numbers-row.result.now)) n c.row_numbers-row.ensures.row) in
+    let row = subst (IsShortReduced s.unknowns 0) c.row_numbers-row.ensures.value (subst (λ (k : ℕ). IsShortReduced k 0 (row_of_numbers c.args.t.now.unknowns c.row_numbers-row.result.now)) n c.row_numbers-row.ensures.row) in
     subst (λ (t : TableauRows). IsTrue (all_fit (flat_map (eliminated_listed (row_at c.args.t.now.rows c.args.i) c.args.c) t.rows))) c.self.view_is
     (flat_fit s.unknowns (row_at c.args.t.now.rows c.args.i) c.args.c (rows_in s.unknowns s.count s.numbers.items) row (omega (arith, n, c.requires.unknowns, c.requires.candidate.column)) c.self.invariant.rows)
 

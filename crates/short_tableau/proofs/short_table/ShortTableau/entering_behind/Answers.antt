@@ -7,5 +7,5 @@ returns-clause-listed c =
     let n = c.args.self.now.unknowns in
     let rows = c.args.self.now.rows in
     let more = c.args.t.now.rows in
-    let behind = subst (λ (k : ℕ). All (IsShortReduced k) c.args.t.now.rows) c.requires.unknowns c.columns-2.ensures.rows in
-    entering_fits n (length rows + c.args.i) (rows ++ more) (All-append (IsShortReduced n) rows more c.columns.ensures.rows behind) (omega (arith, length-append rows more, c.requires.row))
+    let behind = subst (λ (k : ℕ). All (IsShortReduced k 0) c.args.t.now.rows) c.requires.unknowns c.columns-2.ensures.rows in
+    entering_fits n (length rows + c.args.i) (rows ++ more) (All-append (IsShortReduced n 0) rows more c.columns.ensures.rows behind) (omega (arith, length-append rows more, c.requires.row))

@@ -1,5 +1,5 @@
 use Rattle.short_tableau.proofs.Words.{rules, arith, sym, ◌∙◌, ◌≡◌, to_z, of_z, int_lt, w128, row_of, product_at}
-use Rattle.dual_pivot.proofs.Comparisons.{better_same, better_differ}
+use Rattle.row_laws.proofs.Comparisons.{better_same, better_differ}
 use Rattle.short_tableau.proofs.short_table.ShortTableau.is_better.Goals as goal
 
 pub returns-then-of_k-of_b : goal.returns-then-of_k-of_b

@@ -1,6 +1,6 @@
 use Rattle.short_tableau.proofs.Words.{rules, ◌≡◌, ◌∙◌, ap, sym, arith, ◌<◌, ◌+◌, length, take, ℕ, List, true, false, entry, is_positive, choice, candidates_from, row_of}
 use Rattle.std.proofs.Common.{Some}
-use Rattle.dual_pivot.proofs.Choosing.{candidate_more, candidate_less, choice_step}
+use Rattle.row_laws.proofs.Choosing.{candidate_more, candidate_less, choice_step}
 use Rattle.short_tableau.proofs.short_table.ShortTableau.next_best.Goals as goal
 
 pub returns-then-not-is_above-clause-value : goal.returns-then-not-is_above-clause-value

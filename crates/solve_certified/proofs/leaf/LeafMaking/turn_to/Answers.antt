@@ -1,5 +1,5 @@
 use Rattle.solve_certified.proofs.Words.{arith, ◌∙◌, ◌≡◌, ◌-◌, length, take, slice_index_or, without_last, own_premises, nothing}
-use Rattle.context.proofs.KeptFirst.{on_ok}
+use Rattle.refuter.proofs.KeptFirst.{on_ok}
 use Rattle.solve_certified.proofs.GoalsBefore.{before_later, pushed_still}
 use Rattle.solve_certified.proofs.leaf.LeafMaking.turn_to.Goals as goal
 

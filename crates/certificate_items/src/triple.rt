@@ -1,0 +1,80 @@
+ghost use Rattle.std.specs.Prelude.{◌≤◌, length, IfErr, Some};
+ghost use Rattle.pip_model.specs.Check as model;
+ghost use Rattle.program_model.specs.ItemKinds as kinds;
+ghost use Rattle.quast.specs.Answers.{answer_of};
+ghost use Rattle.pip_endings.specs.Endings.{IsOfItem};
+ghost use Rattle.item_writing.specs.Items.{Finds, FindsItem};
+ghost use Rattle.certificate_items.specs.Triples.{IsTriple, triple_of, IsFound};
+
+use crate::needed::needed_certificate;
+use certificate_check::{CheckRefusal, Verdict, check};
+use certificate_parts::Certificate;
+use item_writing::needed_answer;
+use pip_endings::Ending;
+use pip_problem::Problem;
+use pip_reader::read_problem;
+use quast::Answer;
+use std::alloc::Global;
+
+/// An integer problem, an answer over its parameters, and a certificate.
+#[derive(Drop)]
+pub struct Triple {
+    pub(crate) problem: Problem,
+    pub(crate) answer: Answer,
+    pub(crate) certificate: Certificate,
+}
+
+// What stands behind a problem, and the place behind that. A rational problem is refused before its answer is read.
+fn rest_of_triple(
+    alloc: Global,
+    bytes: &[u8],
+    problem: Problem,
+    at: usize,
+) -> Result<(Triple, usize), Ending>
+    requires { at ≤ length bytes.now }
+    ensures { Finds (λ x. Some (triple_of x.0, x.1)) IsTriple (kinds.rest_of_triple bytes.now (problem, at)) at
+        (length bytes.now) result }
+{
+    if !problem.integer() {
+        return Err(Ending::RationalCertificate);
+    }
+    let (commented, at) = needed_answer(alloc, bytes, at, problem.params())?;
+    let (certificate, at) = needed_certificate(alloc, bytes, at)?;
+    let triple = Triple {
+        problem,
+        answer: commented.answer,
+        certificate,
+    };
+    Ok((triple, at))
+}
+
+/// The triple that begins with the first `(` at or behind a place, and the place behind it; none exactly where there is
+/// no `(`.
+pub(crate) fn triple_at(
+    alloc: Global,
+    bytes: &[u8],
+    at: usize,
+) -> Result<Option<(Triple, usize)>, Ending>
+    requires { at ≤ length bytes.now }
+    ensures { FindsItem triple_of IsTriple (kinds.triple bytes.now at) at (length bytes.now) result }
+{
+    match read_problem(alloc, bytes, at)? {
+        Some((problem, after)) => Ok(Some(rest_of_triple(alloc, bytes, problem, after)?)),
+        None => Ok(None),
+    }
+}
+
+/// Nothing where the certificate is accepted, else its first fault.
+pub(crate) fn accept(alloc: Global, triple: &Triple) -> Result<(), Ending>
+    requires { IsTriple triple.now }
+    ensures own { IfErr result IsOfItem }
+    ensures found { IsFound result
+        (model.check triple.now.problem (answer_of triple.now.answer) triple.now.certificate) }
+{
+    match check(alloc, &triple.problem, &triple.answer, &triple.certificate) {
+        Ok(Verdict::Accepted) => Ok(()),
+        Ok(Verdict::Rejected(spot)) => Err(Ending::Rejected(spot)),
+        Err(CheckRefusal::Overflow(spot)) => Err(Ending::OverflowAt(spot)),
+        Err(CheckRefusal::WantOfMemory) => Err(Ending::WantOfMemory),
+    }
+}

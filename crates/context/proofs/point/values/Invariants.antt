@@ -1,5 +1,0 @@
-use Rattle.context.proofs.Words.{◌≡◌, map, take, constant, Component, row_component}
-use Rattle.context.proofs.point.values.Given as goal
-
-abbrev pub invariant-loop-i : goal.invariant-loop-i
-invariant-loop-i l = l.values.items ≡ map (λ (c : Component). constant c.form) (map row_component (take l.i l.rows.rows))

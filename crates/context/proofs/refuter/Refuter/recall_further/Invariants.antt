@@ -1,8 +1,0 @@
-use Rattle.context.proofs.Words.{◌≡◌, ◌++◌, map, take, narrow_to}
-use Rattle.context.proofs.refuter.Refuter.recall_further.Given as goal
-
-abbrev pub invariant-loop-form : goal.invariant-loop-form
-invariant-loop-form l = record {
-  width : l.self.width ≡ l.fn.self.width;
-  forms : l.self.forms ≡ l.fn.self.forms ++ map (narrow_to l.fn.self.width) (take l.form-index l.more);
-}

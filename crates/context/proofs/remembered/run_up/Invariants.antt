@@ -1,9 +1,0 @@
-use Rattle.context.proofs.Words.{◌≡◌, List, Row, IsFormed, IsReplay}
-use Rattle.context.proofs.remembered.run_up.Given as goal
-
-abbrev pub invariant-loop : goal.invariant-loop
-invariant-loop l = record {
-  formed : IsFormed l.m;
-  unknowns : l.m.end.unknowns ≡ l.fn.m.end.unknowns;
-  replay : (first : List Row) → IsReplay first l.fn.m → IsReplay first l.m;
-}

@@ -1,9 +1,0 @@
-use Rattle.context.proofs.Words.{left}
-use Rattle.context.proofs.Pointing.{IsOneRun}
-use Rattle.context.proofs.short_run.run_short.Given as goal
-
-abbrev pub invariant-loop-found : goal.invariant-loop-found
-invariant-loop-found l = IsOneRun l.fn.rows l.rows l.fn.work l.work
-
-abbrev pub decreases-loop-found : goal.decreases-loop-found
-decreases-loop-found l = left l.work

@@ -1,8 +1,0 @@
-use Rattle.context.proofs.Words.{◌≡◌, ◌++◌, All, indices, Fits}
-use Rattle.context.proofs.trace.with_forms.Given as goal
-
-abbrev pub invariant-loop-i : goal.invariant-loop-i
-invariant-loop-i l = record {
-  value : l.made.items ≡ l.places ++ indices 0 l.i;
-  fits : All Fits l.made.items;
-}

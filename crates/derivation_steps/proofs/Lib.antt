@@ -1,0 +1,3 @@
+mod Words
+pub mod Sums
+pub mod Steps

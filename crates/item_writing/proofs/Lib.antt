@@ -1,0 +1,6 @@
+mod Words
+pub mod Written
+pub mod Outputs
+pub mod Faults
+pub mod Calls
+pub mod Turns

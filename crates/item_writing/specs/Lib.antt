@@ -1,0 +1,5 @@
+pub mod Inputs
+pub mod Items
+pub mod Outputs
+pub mod ByProblem
+pub mod Needed

@@ -1,0 +1,70 @@
+-- Where a run shows a point, the first row behind its own that is below 0 ends it where no column enters there.
+use Rattle.kept_run.proofs.Words.{◌≡◌, ◌∙◌, refl, ap, sym, ℕ, suc, ◌+◌, ◌-◌, arith, Bool, true, false, Option, Some, None, is_none, List, [], ◌∷◌, ◌++◌, length, if◌then◌else◌, get_or-append_right, is_nonneg, constant, entry, Row, row_at, form_row, candidates, first_fraction, Bottom, Work, Done, Trace, refute_from, with_step, last_step, refute-closed, both, negative_from, node_of, is_end, EndsWith, IsClosing, go_on, replayed, finds_point, asked, IsStopped, Remembered}
+use Rattle.short_run.proofs.Ending.{none_of, no_candidates, no_column, closes, finds_none}
+use Rattle.refutation_steps.proofs.Tracing.{next-bottom}
+
+-- so many places later
+abbrev later : ℕ → Option ℕ → Option ℕ
+later j None = None
+later j (Some r) = Some (j + r)
+
+later-later : (j : ℕ) (o : Option ℕ) → later (j + 1) o ≡ later j (later 1 o)
+later-later j None = refl
+later-later j (Some r) = let e : j + 1 + r ≡ j + (1 + r) = omega arith in ap Some e
+
+negative-later : (S : List Row) (j : ℕ) → negative_from j S ≡ later j (negative_from 0 S)
+negative-later [] j = refl
+negative-later (x ∷ S) j = by (is_nonneg (constant x.constant)) (negative-later S (j + 1)) (negative-later S 1)
+  where
+    by : (t : Bool) → negative_from (j + 1) S ≡ later (j + 1) (negative_from 0 S) → negative_from 1 S ≡ later 1 (negative_from 0 S)
+        → (if t then negative_from (j + 1) S else Some j) ≡ later j (if t then negative_from 1 S else Some 0)
+    by true a b = a ∙ later-later j (negative_from 0 S) ∙ ap (later j) (sym b)
+    by false a b = let e : j ≡ j + 0 = omega arith in ap Some e
+
+pub negative-behind : (E S : List Row) (i r : ℕ) → negative_from i E ≡ None → negative_from 0 S ≡ Some r → negative_from i (E ++ S) ≡ Some (i + (length E + r))
+negative-behind [] S i r e f = negative-later S i ∙ ap (later i) f ∙ (let g : i + r ≡ i + (0 + r) = omega arith in ap Some g)
+negative-behind (x ∷ E) S i r e f = by (is_nonneg (constant x.constant)) e (λ h. negative-behind E S (i + 1) r h f)
+  where
+    by : (t : Bool) → (if t then negative_from (i + 1) E else Some i) ≡ None → (negative_from (i + 1) E ≡ None → negative_from (i + 1) (E ++ S) ≡ Some (i + 1 + (length E + r)))
+        → (if t then negative_from (i + 1) (E ++ S) else Some i) ≡ Some (i + (suc (length E) + r))
+    by true e more = let g : i + 1 + (length E + r) ≡ i + (suc (length E) + r) = omega arith in more e ∙ ap Some g
+    by false e more = absurd cc
+
+module _ (n : ℕ) (E S : List Row) (r : ℕ) (is : IsClosing S r) (end : is_end n E ≡ true) where
+  abbrev rows : List Row
+  rows = E ++ S
+
+  abbrev k : ℕ
+  k = length E + r
+
+  row_here : row_at (E ++ S) (length E + r) ≡ row_at S r
+  row_here =
+      let back : length E + r - length E ≡ r = omega arith in
+      get_or-append_right E S (length E) (length E + r) (form_row 0 []) refl (omega arith) ∙ ap (λ (i : ℕ). row_at S i) back
+
+  below_here : negative_from 0 (E ++ S) ≡ Some (length E + r)
+  below_here =
+      let none = none_of (negative_from 0 E) (both (is_none (negative_from 0 E)) (is_none (first_fraction n E)) end).0 in
+      let e : 0 + (length E + r) ≡ length E + r = omega arith in
+      negative-behind E S 0 r none is.below ∙ ap Some e
+
+  free_here : candidates (row_at (E ++ S) (length E + r)) ≡ []
+  free_here = ap candidates row_here ∙ no_candidates (row_at S r) is.none
+
+  pub refuted-behind : (T : Trace) (v : Work)
+      → refute_from n T (node_of (E ++ S)) v ≡ Done (Some (with_step T (last_step (row_at S r) (entry T.rows (length E + r)) T.columns)).steps) v
+  refuted-behind T v =
+      refute-closed n T (node_of rows) Bottom v v (closes n rows k below_here free_here v)
+      ∙ ap (λ (X : Trace). Done (Some X.steps) v)
+      (next-bottom n rows T k below_here (no_column n rows k below_here free_here)
+      ∙ ap (λ (R : Row). with_step T (last_step R (entry T.rows (length E + r)) T.columns)) row_here)
+
+pub ends_below : (now : List Row) (r : ℕ) → IsClosing now r → EndsWith now false
+ends_below now r is n E v h e = finds_none n (E ++ now) (length E + r) (below_here n E now r is e) (free_here n E now r is e) v
+
+-- so no copy of the last rows is needed
+pub asked_end : (m : Remembered) (rows now : List Row) (w v : Work) (found : Bool) → IsStopped m → m.at_end ≡ true → replayed m.run.pivots.rows m.run.columns.items rows w ≡ Done now v → EndsWith now found
+    → asked m rows w ≡ Done found v
+asked_end m rows now w v found is at_end made ends =
+    ap (λ o. go_on o (λ now. finds_point m.run.end.unknowns (m.run.end.rows ++ now))) made
+    ∙ ends m.run.end.unknowns m.run.end.rows v is.formed.rows (sym is.at_end ∙ at_end)

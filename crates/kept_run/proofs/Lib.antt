@@ -1,0 +1,8 @@
+mod Words
+pub mod Copying
+pub mod EndingBehind
+pub mod GoingFurther
+pub mod OneFormMore
+pub mod PivotBehind
+pub mod Replaying
+pub mod Retracing

@@ -1,0 +1,82 @@
+ghost use Rattle.std.specs.Prelude.{◌≡◌, ◌+◌, ◌<◌, ◌++◌, length, IfSome, OnOk};
+ghost use Rattle.pip_model.specs.Forms.{entry};
+ghost use Rattle.pip_model.specs.Refuting.{refute_from, with_step, last_step};
+ghost use Rattle.pip_model.specs.Rows.{row_at};
+ghost use Rattle.run_counts.specs.Counts.{IsCountedRun};
+ghost use Rattle.kept_run.specs.Remembered.{IsStopped};
+ghost use Rattle.short_run.specs.Stops.{stop_fault};
+ghost use Rattle.refutation_steps.specs.Traces.{IsTraced, IsClosing};
+ghost use Rattle.point_run.specs.Turns.{node_of};
+
+use crate::behind::put_behind;
+use crate::question::Question;
+use crate::remembered::Remembered;
+use affine_forms::WantOfMemory;
+use certificate_parts::Refutation;
+use refutation_steps::{Trace, refute_on};
+use run_counts::Work;
+use short_run::Stop;
+use short_tableau::ShortTableau;
+use std::alloc::Global;
+use tableau_row::view_of;
+
+// The first row below 0, where no column enters there.
+fn closing_row(rows: &ShortTableau) -> Option<usize>
+    ensures { IfSome result (IsClosing rows.now.rows) }
+{
+    match rows.first_below() {
+        None => None,
+        Some(r) => {
+            if rows.has_positive(r) {
+                return None;
+            }
+            Some(r)
+        }
+    }
+}
+
+// The step at row r, behind so many others, which is below 0 and has no positive coefficient.
+fn trace_behind(
+    alloc: Global,
+    front: usize,
+    rows: &ShortTableau,
+    r: usize,
+    trace: &mut Trace,
+) -> Result<(), WantOfMemory>
+    requires row { r < length rows.now.rows }
+    requires index { front + r < length trace.old.rows }
+    requires columns { length trace.old.columns ≡ rows.now.unknowns }
+    ensures { OnOk result (trace.new ≡ with_step trace.old
+        (last_step (row_at rows.now.rows r) (entry trace.old.rows (front + r)) trace.old.columns)) }
+{
+    let Some(at) = front.checked_add(r) else {
+        return Err(WantOfMemory);
+    };
+    let numbers = rows.wide_row(alloc, r)?;
+    trace.close(alloc, at, &view_of(&numbers, rows.unknowns(), true))
+}
+
+/// Goes on from a remembered run with the question's rows behind its own, with its trace: the steps, none where it finds
+/// a point. Where the run shows a point and ends at the first row below 0, no rows are copied.
+pub fn refute_with(
+    alloc: Global,
+    m: &Remembered,
+    question: &mut Question,
+    mut trace: Trace,
+    work: &mut Work,
+) -> Result<Option<Refutation>, Stop>
+    requires stopped { IsStopped m.now }
+    requires unknowns { question.old.row.unknowns ≡ m.now.run.end.unknowns }
+    requires traced { IsTraced m.now.run.end.unknowns (m.now.run.end.rows ++ question.old.row.rows) trace }
+    ensures gives { IsCountedRun (λ o. o) stop_fault result work.old work.new
+        (refute_from m.now.run.end.unknowns trace (node_of (m.now.run.end.rows ++ question.old.row.rows))) }
+{
+    if m.at_end {
+        if let Some(r) = closing_row(&question.row) {
+            trace_behind(alloc, m.run.end.rows(), &question.row, r, &mut trace)?;
+            return Ok(Some(trace.into_steps()));
+        }
+    }
+    put_behind(&m.run, &question.row, &mut question.run)?;
+    refute_on(alloc, &mut question.run, trace, work)
+}

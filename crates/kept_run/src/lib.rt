@@ -1,0 +1,16 @@
+//! The run of some forms that is kept: how it goes on where forms are added, and what it answers of further ones.
+#![tactic(auto)]
+
+mod asking;
+mod behind;
+mod closing;
+mod further;
+mod question;
+mod remembered;
+
+pub use asking::{ask_plainly, ask_shortly};
+pub use behind::{exchange_all, rows_behind};
+pub use closing::refute_with;
+pub use further::{go_further, goes_further};
+pub use question::Question;
+pub use remembered::{Remembered, Replay, remember};

@@ -1,0 +1,3 @@
+mod Words
+pub mod Lists
+pub mod GivenRows

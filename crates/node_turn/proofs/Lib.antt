@@ -1,0 +1,7 @@
+mod Words
+pub mod Turned
+pub mod Scanning
+pub mod FirstRows
+pub mod Knowing
+pub mod KnownPlaces
+pub mod Cutting

@@ -1,0 +1,115 @@
+ghost use Rattle.std.specs.Prelude.{◌≡◌, ◌⊎◌, [], ◌∷◌, ◌++◌, Contains, IfSome};
+
+use context::Counts;
+use std::alloc::Global;
+use std::marker::Model;
+
+// More forms are not remembered, so that the search for one stays short.
+const MOST_KNOWN: usize = 64;
+
+// How many have room from the first on.
+const FIRST_ROOM: usize = 8;
+
+// Where the entries of a form that was found at least 0 on a context stand among the numbers, the last of them, by which
+// most others are told from it, and what was counted for that.
+#[derive(Clone, Copy)]
+struct KnownPlace {
+    start: usize,
+    end: usize,
+    last: i128,
+    counts: Counts,
+}
+
+// The last entry, 0 where there is none.
+fn last_of(entries: &[i128]) -> i128 {
+    match entries.last() {
+        Some(entry) => *entry,
+        None => 0,
+    }
+}
+
+/// The forms that were found at least 0 on a context, up to some number: their entries behind one another.
+///
+/// Contracts see the forms in order, each with what was counted for it.
+#[derive(Drop)]
+pub struct KnownForms {
+    numbers: Vec<i128>,
+    places: Vec<KnownPlace>,
+}
+
+impl Model for KnownForms {
+    ghost use Rattle.std.specs.Prelude.{List, All, map};
+    ghost use Rattle.node_turn.specs.Known.{KnownForm};
+    ghost use Rattle.node_turn.specs.KnownPlaces.{form_at, IsPlaceIn};
+
+    ghost Value = { List KnownForm };
+
+    ghost view = { λ known. map (form_at known.numbers.items) known.places.items };
+
+    ghost invariant = { λ known. All (IsPlaceIn known.numbers.items) known.places.items };
+}
+
+// Makes room for some forms of so many entries before the first, where there is memory for it.
+fn make_room(numbers: &mut Vec<i128>, places: &mut Vec<KnownPlace>, entries: usize)
+    ensures numbers { numbers.new.items ≡ numbers.old.items }
+    ensures places { places.new.items ≡ places.old.items }
+{
+    if places.is_empty() {
+        let _ = numbers.reserve(entries.saturating_mul(FIRST_ROOM));
+        let _ = places.reserve(FIRST_ROOM);
+    }
+}
+
+impl KnownForms {
+    /// None is known. It takes no memory.
+    pub fn new(alloc: Global) -> KnownForms
+        ensures { result ≡ [] }
+    {
+        KnownForms {
+            numbers: Vec::new(alloc),
+            places: Vec::new(alloc),
+        }
+    }
+
+    // What was counted for the form of these entries, where it is known.
+    pub(crate) fn find(&self, entries: &[i128]) -> Option<Counts>
+        ensures { IfSome result (λ counts. Contains self.now (record { form = entries.now; counts = counts })) }
+    {
+        let last = last_of(entries);
+        for place in &self.places {
+            if place.last == last && &self.numbers[place.start..place.end] == entries {
+                return Some(place.counts);
+            }
+        }
+        None
+    }
+
+    // The form of these entries is known from then on, with what was counted for it, or nothing changes: where many are
+    // known, or memory is wanting.
+    pub(crate) fn add(&mut self, entries: &[i128], counts: Counts)
+        ensures { (self.new ≡ self.old ++ record { form = entries.now; counts = counts } ∷ []) ⊎ (self.new ≡ self.old) }
+    {
+        if self.places.len() >= MOST_KNOWN {
+            return;
+        }
+        make_room(&mut self.numbers, &mut self.places, entries.len());
+        let start = self.numbers.len();
+        if self.numbers.extend_from_slice(entries).is_ok() {
+            let end = self.numbers.len();
+            let _ = self.places.push(KnownPlace {
+                start,
+                end,
+                last: last_of(entries),
+                counts,
+            });
+        }
+    }
+
+    /// None is known any more.
+    pub fn forget(&mut self)
+        ensures { self.new ≡ [] }
+    {
+        self.places.clear();
+        self.numbers.clear();
+    }
+}

@@ -1,0 +1,13 @@
+//! One turn of a node of the run: its rows' signs on the context of its path, and then a pivot, a cut, an if, a new
+//! parameter, a list or bottom.
+#![tactic(auto)]
+
+mod cut;
+mod known;
+mod path;
+mod scan;
+mod turn;
+
+pub use known::KnownForms;
+pub use path::Path;
+pub use turn::{Turn, take_turn};

@@ -1,8 +1,0 @@
-use Rattle.pip_items.proofs.Words.{err_from_is_err_and}
-use Rattle.pip_items.proofs.Triples.{share_refused}
-use Rattle.pip_items.proofs.commands.share.ShareItems.put.Goals as goal
-
-pub returns-in_err-accept-clause-text : goal.returns-in_err-accept-clause-text
-returns-in_err-accept-clause-text c =
-    let p = err_from_is_err_and c.from_residual.result c.from_residual.ensures.1 in
-    rw (p.1, p.2) (share_refused _ _ _ c.in_err-accept.ensures.found)

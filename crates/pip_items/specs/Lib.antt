@@ -1,9 +1,0 @@
-pub mod Inputs
-pub mod Items
-pub mod Outputs
-pub mod ByProblem
-pub mod Answered
-pub mod Values
-pub mod Needed
-pub mod Triples
-pub mod Pairs

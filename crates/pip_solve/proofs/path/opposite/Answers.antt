@@ -1,7 +1,0 @@
-use Rattle.pip_solve.proofs.Words.{rules, ◌≡◌, opposite, length-opposite}
-use Rattle.pip_solve.proofs.path.opposite.Goals as goal
-
-pub returns-clause-length : goal.returns-clause-length
-returns-clause-length c =
-    let made : c.opposite.new.self ≡ opposite c.args.condition.now = search rules in
-    rw made (length-opposite c.args.condition.now c.requires.some)

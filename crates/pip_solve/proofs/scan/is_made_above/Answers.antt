@@ -1,8 +1,0 @@
-use Rattle.pip_solve.proofs.Words.{rules, ◌≡◌, ◌+◌, replicate, pos, row_at}
-use Rattle.pip_solve.proofs.Scanning.{zeros_nonneg}
-use Rattle.pip_solve.proofs.scan.is_made_above.Goals as goal
-
-pub returns-in-Some : goal.returns-in-Some
-returns-in-Some c = λ _.
-    let unit : (row_at c.args.rows.now.rows c.args.i).constant ≡ replicate (c.args.rows.now.width + 1) (pos 0) = search rules in
-    rw unit (zeros_nonneg (c.args.rows.now.width + 1))

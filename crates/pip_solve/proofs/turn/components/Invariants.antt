@@ -1,5 +1,0 @@
-use Rattle.pip_solve.proofs.Words.{◌≡◌, map, take, All, row_component, IsComponent}
-use Rattle.pip_solve.proofs.turn.components.Given as goal
-
-abbrev pub invariant-loop-i : goal.invariant-loop-i
-invariant-loop-i l = (l.made.items ≡ map row_component (take l.i l.rows.rows)) × All (IsComponent l.rows.width) l.made.items

@@ -1,0 +1,3 @@
+pub use Rattle.point_turns.specs.Points
+pub use Rattle.point_turns.specs.TurnAt
+pub use Rattle.point_turns.specs.Turns

@@ -1,0 +1,15 @@
+//! The run without parameters, which finds a whole point of forms: its steps, its turns and its end.
+#![tactic(auto)]
+
+mod point;
+mod point_run;
+mod point_turn;
+mod rows;
+mod steps;
+
+pub use point::Point;
+pub use point_run::{find_point, run_on};
+pub use point_turn::take_turn;
+pub use point_turns::PointTurn;
+pub use rows::{push_form, start_rows};
+pub use steps::{count_and_cut, enter, enter_and_pivot};

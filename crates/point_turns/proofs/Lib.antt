@@ -1,0 +1,4 @@
+mod Words
+pub mod Leaving
+pub mod Pointing
+pub mod Turning

@@ -1,0 +1,45 @@
+-- The turns of the run without parameters.
+use Rattle.point_turns.proofs.Words.{◌≡◌, refl, ap, ℕ, ◌+◌, ℤ, Bool, true, false, Option, Some, None, List, [], ◌∷◌, ◌++◌, length, if◌then◌else◌, IfSome, is_nonneg, constant, coefficients, Row, row_at, first_fraction, is_whole, constant_cut, Work, Outcome, Done, Refused, Refusal, Node, Setting, Plus, Minus, Signs, AllPlus, MinusAt, go_on, scan, scan_on, turn, turn_by, last_turn, cut_turn, count_cut, give, Again, point_setting, negative_from, node_of, counted_cut}
+use Rattle.point_turns.proofs.Leaving.{passes_refusal}
+
+abbrev pub signs_of : Option ℕ → Signs
+signs_of None = AllPlus
+signs_of (Some r) = MinusAt r
+
+scan_is : (n : ℕ) (N : Node) (i : ℕ) (rows : List Row) (w : Work) → scan (point_setting n) N i AllPlus rows w ≡ Done (signs_of (negative_from i rows)) w
+scan_is n N i [] w = refl
+scan_is n N i (r ∷ rs) w = by (is_nonneg (constant r.constant)) (scan_is n N (i + 1) rs w)
+  where
+    by : (t : Bool) → scan (point_setting n) N (i + 1) AllPlus rs w ≡ Done (signs_of (negative_from (i + 1) rs)) w → scan_on (if t then Plus else Minus) i AllPlus (λ now. scan (point_setting n) N (i + 1) now rs) w ≡ Done (signs_of (if t then negative_from (i + 1) rs else Some i)) w
+    by true e = e
+    by false e = refl
+
+-- a turn, by the first row below 0
+pub turn_is : (n : ℕ) (rows : List Row) (w : Work) → turn (point_setting n) (node_of rows) w ≡ turn_by (point_setting n) (node_of rows) (signs_of (negative_from 0 rows)) w
+turn_is n rows w = ap (λ o. go_on o (λ signs. turn_by (point_setting n) (node_of rows) signs)) (scan_is n (node_of rows) 0 rows w)
+
+-- ---- a cut
+
+no_coefficients : (c : List ℤ) → length c ≡ 1 → coefficients c ≡ []
+no_coefficients c e = rw e refl
+
+-- a cut that leaves no parameter in it: it is counted, and the node goes on with it
+pub counted_again : (S : Setting) (N : Node) (i : ℕ) (w : Work) → is_whole (row_at N.rows i).den (coefficients (row_at N.rows i).constant) ≡ true
+    → cut_turn S N i (row_at N.rows i) w ≡ go_on (counted_cut N.rows i w) (λ rows. give (Again (record N { rows = rows })))
+counted_again S N i w whole = rw whole (by (count_cut w))
+  where
+    by : (o : Outcome (Unit {0})) → go_on o (λ done. give (Again (record N { rows = N.rows ++ constant_cut (row_at N.rows i) ∷ [] }))) ≡ go_on (go_on o (λ done. give (N.rows ++ constant_cut (row_at N.rows i) ∷ []))) (λ rows. give (Again (record N { rows = rows })))
+    by (Done x u) = refl
+    by (Refused f u) = refl
+
+-- so a point's run cuts
+pub cut_again : (n : ℕ) (rows : List Row) (i : ℕ) (w : Work) → first_fraction n rows ≡ Some i → length (row_at rows i).constant ≡ 1
+    → last_turn (point_setting n) (node_of rows) (first_fraction n rows) w ≡ go_on (counted_cut rows i w) (λ now. give (Again (node_of now)))
+cut_again n rows i w e one =
+    let none = no_coefficients (row_at rows i).constant one in
+    let whole : is_whole (row_at rows i).den (coefficients (row_at rows i).constant) ≡ true = rw none refl in
+    rw e (counted_again (point_setting n) (node_of rows) i w whole)
+
+pub cut_refused : (n : ℕ) (rows : List Row) (i : ℕ) (w u : Work) → first_fraction n rows ≡ Some i → length (row_at rows i).constant ≡ 1
+    → (o : Option Refusal) → IfSome o (λ f. counted_cut rows i w ≡ Refused f u) → IfSome o (λ f. last_turn (point_setting n) (node_of rows) (first_fraction n rows) w ≡ Refused f u)
+cut_refused n rows i w u e one o h = passes_refusal (counted_cut rows i w) (λ now. give (Again (node_of now))) _ (cut_again n rows i w e one) o u h

@@ -1,0 +1,7 @@
+//! The turns of the run without parameters, which finds a whole point of forms: which turn it was, what it made of the
+//! rows, and where the run ends.
+#![tactic(auto)]
+
+mod turns;
+
+pub use turns::PointTurn;

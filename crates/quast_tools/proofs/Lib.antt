@@ -1,4 +1,0 @@
-mod Words
-pub mod Lists
-pub mod Given
-pub mod SameSteps

@@ -1,5 +1,0 @@
-use Rattle.quast_tools.proofs.Words.{tree_of, spread_tree-none}
-use Rattle.quast_tools.proofs.restricting.restrict_tree.Goals as goal
-
-pub returns : goal.returns
-returns c = rw (spread_tree-none c.width.result (tree_of c.root.result.now), c.root.ensures.tree) at c.walk.ensures.gives

@@ -1,5 +1,0 @@
-pub mod Searches
-pub mod Samenesses
-pub mod Pairs
-pub mod Choices
-pub mod Nodes

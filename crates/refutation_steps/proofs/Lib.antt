@@ -1,0 +1,3 @@
+mod Words
+pub mod Positives
+pub mod Tracing

@@ -1,0 +1,12 @@
+//! The steps by which forms have no whole point, along the run that finds none.
+#![tactic(auto)]
+
+mod positive_terms;
+mod refute;
+mod short_refute;
+mod trace;
+
+pub use positive_terms::push_positive;
+pub use refute::refute_forms;
+pub use short_refute::refute_on;
+pub use trace::Trace;

@@ -1,0 +1,90 @@
+ghost use Rattle.std.specs.Prelude.{◌≡◌, ◌^◌, ◌≤◌, pos, ◌≤ℤ◌, ◌<ℤ◌, length, All};
+ghost use Rattle.pip_model.specs.Contexts.{IsContext};
+ghost use Rattle.pip_model.specs.Refuting as model;
+ghost use Rattle.pip_model.specs.Refuting.{refute_by, refute_from};
+ghost use Rattle.affine_forms.specs.Checks.{Fits};
+ghost use Rattle.pip_problem.specs.Faults.{run_fault};
+ghost use Rattle.run_counts.specs.Counts.{IsCountedRun};
+ghost use Rattle.refutation_steps.specs.Traces.{IsTraced};
+ghost use Rattle.point_run.specs.Turns.{node_of};
+
+use crate::short_refute::refute_shortly;
+use crate::trace::Trace;
+use affine_forms::Form;
+use certificate_parts::Refutation;
+use pip_problem::Refusal;
+use point_run::{PointTurn, start_rows, take_turn};
+use run_counts::Work;
+use std::alloc::Global;
+use tableau::Tableau;
+
+// The run without parameters to its end, with its trace: the steps, none where it found a point.
+fn refute_on(
+    alloc: Global,
+    rows: &mut Tableau,
+    mut trace: Trace,
+    work: &mut Work,
+) -> Result<Option<Refutation>, Refusal>
+    requires width { rows.old.width ≡ 0 }
+    requires rows { rows.old.unknowns ≤ length rows.old.rows }
+    requires traced { IsTraced rows.old.unknowns rows.old.rows trace }
+    ensures gives { IsCountedRun (λ o. o) run_fault result work.old work.new
+        (refute_from rows.old.unknowns trace (node_of rows.old.rows)) }
+{
+    loop {
+        match take_turn(rows, work)? {
+            PointTurn::Bottom(r) => {
+                trace.close(alloc, r, &rows.row(r))?;
+                return Ok(Some(trace.into_steps()));
+            }
+            PointTurn::List => return Ok(None),
+            PointTurn::Pivot(r, c) => trace.exchange(r, c),
+            PointTurn::Cut(i) => trace.cut(alloc, &rows.row(i))?,
+        }
+    }
+}
+
+// The steps of the run without parameters over the forms as rows, none where it finds a point.
+fn run(
+    alloc: Global,
+    forms: &[Form],
+    places: &[i128],
+    first: i128,
+    work: &mut Work,
+) -> Result<Option<Refutation>, Refusal>
+    requires context { IsContext (length places.now) forms.now }
+    requires places { All Fits places.now }
+    requires some { pos 0 ≤ℤ first }
+    requires few { first <ℤ pos (2 ^ 64) }
+    ensures gives { IsCountedRun (λ o. o) run_fault result work.old work.new
+        (refute_by (length places.now) forms.now places.now first) }
+{
+    let mut rows = start_rows(alloc, places.len(), forms)?;
+    let trace = Trace::start(alloc, places, forms.len(), first)?;
+    refute_on(alloc, &mut rows, trace, work)
+}
+
+/// The steps by which the forms have no point, none where they have one.
+#[tactic(auto, using(crate::proofs::Tracing::refute_by_run))]
+pub fn refute_forms(
+    alloc: Global,
+    forms: &[Form],
+    places: &[i128],
+    first: i128,
+    work: &mut Work,
+) -> Result<Option<Refutation>, Refusal>
+    requires context { IsContext (length places.now) forms.now }
+    requires places { All Fits places.now }
+    requires some { pos 0 ≤ℤ first }
+    requires few { first <ℤ pos (2 ^ 64) }
+    ensures gives { IsCountedRun (λ o. o) run_fault result work.old work.new
+        (model.refute (length places.now) forms.now places.now first) }
+{
+    if places.is_empty() && forms.is_empty() {
+        return Ok(None);
+    }
+    if let Some(found) = refute_shortly(alloc, forms, places, first, work) {
+        return found;
+    }
+    run(alloc, forms, places, first, work)
+}

@@ -1,0 +1,171 @@
+ghost use Rattle.std.specs.Prelude.{◌≡◌, ◌^◌, ◌<◌, [], ◌∷◌, ◌++◌, pos, ◌≤ℤ◌, ◌<ℤ◌, length, slice_set, All, IfOk, OnOk};
+ghost use Rattle.pip_model.specs.Forms.{entry};
+ghost use Rattle.pip_model.specs.Refuting.{indices, first_trace, with_step, cut_step, last_step};
+ghost use Rattle.affine_forms.specs.Checks.{Fits};
+ghost use Rattle.tableau.specs.Tableaus.{IsRow};
+ghost use Rattle.tableau.specs.Views.{row_of};
+ghost use Rattle.refutation_steps.specs.Traces.{with_cut};
+
+use crate::positive_terms::push_positive;
+use affine_forms::{WantOfMemory, negate_all, remainders};
+use certificate_parts::{Refutation, Step, Terms};
+use std::alloc::Global;
+use std::marker::Model;
+use tableau::RowView;
+
+// For each row and each column of a run without parameters the index of the known form that is its quantity, the
+// index of the first step's form, and the steps so far.
+#[derive(Drop)]
+pub struct Trace {
+    rows: Vec<i128>,
+    columns: Vec<i128>,
+    first: i128,
+    steps: Refutation,
+}
+
+impl Model for Trace {
+    ghost use Rattle.std.specs.Prelude.{◌^◌, pos, ◌+ℤ◌, ◌≤ℤ◌, ◌<ℤ◌, All, length};
+    ghost use Rattle.pip_model.specs.Refuting as model;
+    ghost use Rattle.affine_forms.specs.Checks.{Fits};
+
+    ghost Value = { model.Trace };
+
+    ghost view = { λ t. record {
+      rows = t.rows.items;
+      columns = t.columns.items;
+      next = t.first +ℤ pos (length t.steps);
+      steps = t.steps;
+    } };
+
+    ghost invariant = { λ t. (All Fits t.rows.items) × (All Fits t.columns.items)
+        × (pos 0 ≤ℤ t.first) × (t.first <ℤ pos (2 ^ 64)) };
+}
+
+// The indices, and behind them those of so many forms from 0 on.
+fn with_forms(alloc: Global, places: &[i128], count: usize) -> Result<Vec<i128>, WantOfMemory>
+    requires places { All Fits places.now }
+    ensures value { IfOk result (λ v. v.items ≡ places.now ++ indices 0 count) }
+    ensures fits { IfOk result (λ v. All Fits v.items) }
+{
+    let mut made = Vec::with_capacity(alloc, places.len().saturating_add(count))?;
+    made.extend_from_slice(places)?;
+    for i in 0..count {
+        made.push(i as i128)?;
+    }
+    Ok(made)
+}
+
+impl Trace {
+    /// No step yet: the rows of the places, and then of so many forms.
+    pub fn start(
+        alloc: Global,
+        places: &[i128],
+        count: usize,
+        first: i128,
+    ) -> Result<Trace, WantOfMemory>
+        requires places { All Fits places.now }
+        requires some { pos 0 ≤ℤ first }
+        requires few { first <ℤ pos (2 ^ 64) }
+        ensures { IfOk result (λ t. t ≡ first_trace places.now count first) }
+    {
+        let rows = with_forms(alloc, places, count)?;
+        let columns = Vec::from_slice(alloc, places)?;
+        Ok(Trace {
+            rows,
+            columns,
+            first,
+            steps: Refutation::new(alloc),
+        })
+    }
+
+    /// The row's quantity is the column's from here on.
+    pub fn exchange(&mut self, row: usize, column: usize)
+        requires row { row < length self.old.rows }
+        requires column { column < length self.old.columns }
+        ensures { self.new ≡ record self.old { columns = slice_set self.old.columns column (entry self.old.rows row) } }
+    {
+        self.columns[column] = self.rows[row];
+    }
+
+    // The index of the form that the next step gives.
+    fn next(&self) -> i128
+        ensures value { result ≡ self.now.next }
+        ensures fits { Fits result }
+    {
+        self.first + self.steps.as_slice().len() as i128
+    }
+
+    // The next row stands for the form that the next step gives.
+    fn push_row(&mut self) -> Result<(), WantOfMemory>
+        ensures { OnOk result (self.new ≡ record self.old { rows = self.old.rows ++ self.old.next ∷ [] }) }
+    {
+        let next = self.next();
+        self.rows.push(next)?;
+        Ok(())
+    }
+
+    // One step more.
+    fn push_step(&mut self, step: Step) -> Result<(), WantOfMemory>
+        ensures { OnOk result (self.new ≡ with_step self.old step) }
+    {
+        self.steps.push(step)
+    }
+
+    // The pairs of the step of the cut by a row: each column, with the fractional part that the row has there.
+    fn cut_terms(&self, alloc: Global, row: &RowView<'_>) -> Result<Terms, WantOfMemory>
+        requires row { IsRow (length self.now.columns) 0 (row_of row.now) }
+        ensures { IfOk result (λ terms. terms ≡ (cut_step (row_of row.now) self.now.columns).terms) }
+    {
+        let parts = remainders(alloc, row.den, row.coefs)?;
+        let mut terms = Terms::new(alloc);
+        push_positive(&mut terms, &self.columns, &parts)?;
+        Ok(terms)
+    }
+
+    /// The step of the cut by a row; the cut's row stands for its form.
+    pub fn cut(&mut self, alloc: Global, row: &RowView<'_>) -> Result<(), WantOfMemory>
+        requires row { IsRow (length self.old.columns) 0 (row_of row.now) }
+        ensures { OnOk result (self.new ≡ with_cut self.old (row_of row.now)) }
+    {
+        let terms = self.cut_terms(alloc, row)?;
+        self.push_row()?;
+        self.push_step(Step {
+            divisor: row.den,
+            terms,
+        })
+    }
+
+    // The pairs of the last step: the index of row r with the row's denominator, and each column that the row has below
+    // 0, so many times away.
+    fn last_terms(&self, alloc: Global, r: usize, row: &RowView<'_>) -> Result<Terms, WantOfMemory>
+        requires index { r < length self.now.rows }
+        requires row { IsRow (length self.now.columns) 0 (row_of row.now) }
+        ensures { IfOk result (λ terms. terms
+            ≡ (last_step (row_of row.now) (entry self.now.rows r) self.now.columns).terms) }
+    {
+        let mut terms = Terms::new(alloc);
+        terms.push((self.rows[r], row.den))?;
+        let mut away = Vec::from_slice(alloc, row.coefs)?;
+        negate_all(&mut away);
+        push_positive(&mut terms, &self.columns, &away)?;
+        Ok(terms)
+    }
+
+    /// The step at row r, which is below 0 and has no positive coefficient.
+    pub fn close(&mut self, alloc: Global, r: usize, row: &RowView<'_>) -> Result<(), WantOfMemory>
+        requires index { r < length self.old.rows }
+        requires row { IsRow (length self.old.columns) 0 (row_of row.now) }
+        ensures { OnOk result (self.new ≡ with_step self.old
+            (last_step (row_of row.now) (entry self.old.rows r) self.old.columns)) }
+    {
+        let terms = self.last_terms(alloc, r, row)?;
+        self.push_step(Step { divisor: 1, terms })
+    }
+
+    /// The steps.
+    pub fn into_steps(self) -> Refutation
+        ensures { result ≡ self.steps }
+    {
+        self.steps
+    }
+}

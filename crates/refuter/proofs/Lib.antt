@@ -1,0 +1,3 @@
+mod Words
+pub mod FurtherForms
+pub mod KeptFirst

@@ -1,0 +1,13 @@
+use Rattle.refuter.proofs.Words.{rules, ◌≡◌, sym, subst, true, KeptForms, AreFirst}
+use Rattle.refuter.proofs.KeptFirst.{on_ok}
+use Rattle.refuter.proofs.refuter.Refuter.refute.Goals as goal
+
+pub refute_first-requires-clause-first : goal.refute_first-requires-clause-first
+refute_first-requires-clause-first c =
+    let kept : c.in_ok-recall_first.field-0 ≡ true = search rules in
+    record { width = c.in_ok-recall_first.ensures.width kept; first = c.in_ok-recall_first.ensures.first }
+
+pub returns-clause-first : goal.returns-clause-first
+returns-clause-first c =
+    on_ok c.refute_first.result (AreFirst c.refute_first.new.self c.args.known.now)
+    (subst (λ (k : KeptForms). AreFirst k c.args.known.now) (sym c.refute_first.ensures.kept) c.in_ok-recall_first.ensures.first)

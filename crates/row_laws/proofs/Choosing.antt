@@ -1,0 +1,30 @@
+-- Steps of the choice among the candidates.
+use Rattle.row_laws.proofs.Words.{◌≡◌, refl, ap, ◌∙◌, ℕ, suc, ◌+◌, ◌-◌, ◌<◌, Bool, true, false, ◌&&◌, Option, Some, None, List, ◌∷◌, length, arith, IsTrue, IsFalse, fits, is_positive, all_fit, Row, count_from, better, better_listed, choice, choice_listed, candidates_from, compared}
+use Rattle.std.proofs.lemmas.List.Folds.{list_all-append}
+use Rattle.pip_model.specs.Forms.{entry}
+
+count_more : (k n : ℕ) → k < n → count_from k (n - k) ≡ k ∷ count_from (k + 1) (n - (k + 1))
+count_more k n h = let e : n - k ≡ suc (n - (k + 1)) = omega arith in rw e refl
+
+pub candidate_more : (p : Row) (k : ℕ) → k < length p.coefs → is_positive (entry p.coefs k) ≡ true → candidates_from p k ≡ k ∷ candidates_from p (k + 1)
+candidate_more p k h e = rw (count_more k (length p.coefs) h, e) refl
+
+pub candidate_less : (p : Row) (k : ℕ) → k < length p.coefs → is_positive (entry p.coefs k) ≡ false → candidates_from p k ≡ candidates_from p (k + 1)
+candidate_less p k h e = rw (count_more k (length p.coefs) h, e) refl
+
+pub choice_step : (u : List Row) (p : Row) (o : Option ℕ) (k : ℕ) (ks : List ℕ) → choice u p o (k ∷ ks) ≡ choice u p (Some (better u p o k)) ks
+choice_step u p None k ks = refl
+choice_step u p (Some b) k ks = refl
+
+listed_parts : (u : List Row) (p : Row) (o : Option ℕ) (k : ℕ) (ks : List ℕ)
+    → all_fit (choice_listed u p o (k ∷ ks)) ≡ (all_fit (better_listed u p o k) && all_fit (choice_listed u p (Some (better u p o k)) ks))
+listed_parts u p None k ks = refl
+listed_parts u p (Some b) k ks = list_all-append fits (compared u p k b) (choice_listed u p (Some (better u p (Some b) k)) ks)
+
+pub listed_step : (u : List Row) (p : Row) (o : Option ℕ) (k : ℕ) (ks : List ℕ) → IsTrue (all_fit (better_listed u p o k))
+    → all_fit (choice_listed u p o (k ∷ ks)) ≡ all_fit (choice_listed u p (Some (better u p o k)) ks)
+listed_step u p o k ks e = listed_parts u p o k ks ∙ ap (λ (t : Bool). t && all_fit (choice_listed u p (Some (better u p o k)) ks)) e
+
+pub listed_refused : (u : List Row) (p : Row) (o : Option ℕ) (k : ℕ) (ks : List ℕ) → IsFalse (all_fit (better_listed u p o k))
+    → all_fit (choice_listed u p o (k ∷ ks)) ≡ false
+listed_refused u p o k ks e = listed_parts u p o k ks ∙ ap (λ (t : Bool). t && all_fit (choice_listed u p (Some (better u p o k)) ks)) e

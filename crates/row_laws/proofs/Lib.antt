@@ -1,0 +1,20 @@
+mod Words
+pub mod Choosing
+pub mod Combining
+pub mod Comparisons
+pub mod Contents
+pub mod Lowest
+pub mod Multiples
+pub mod Numbers
+pub mod Places
+pub mod Rounding
+pub mod RowLaws
+pub mod ShortHeld
+pub mod ShortPivots
+pub mod ShortRows
+pub mod Solved
+pub mod Stepping
+pub mod Substituting
+pub mod Unchanged
+pub mod UnitFits
+pub mod UnitRows

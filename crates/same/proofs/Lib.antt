@@ -1,0 +1,3 @@
+mod Words
+mod Given
+pub mod SameSteps

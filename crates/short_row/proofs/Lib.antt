@@ -1,0 +1,5 @@
+mod Words
+pub mod Finished
+pub mod Puts
+pub mod ShortParts
+pub mod UnitNumbers

@@ -1,0 +1,61 @@
+ghost use Rattle.std.specs.Prelude.{◌≡◌, ◌≤◌, pos, length, All};
+ghost use Rattle.pip_model.specs.Forms.{combine as combine_of};
+ghost use Rattle.short_numbers.specs.Short.{IsShort, IsHalf, AreHalf};
+ghost use Rattle.short_row.specs.Begun.{finished};
+ghost use Rattle.short_row.specs.Terms.{AreTerms};
+
+use crate::wide::Factors;
+use short_numbers::{half_difference, is_half};
+
+// Makes `a*r - b*s` of r, entry by entry, up to the first that has no 32 bits; how many are made.
+fn combine_half(a: i64, r: &mut [i64], b: i64, s: &[i64]) -> usize
+    requires terms { AreTerms a r.old b s.now }
+    requires halves { AreHalf a b }
+    ensures count { result ≤ length r.old }
+    ensures value { finished a r.new b s.now result ≡ combine_of a r.old b s.now }
+    ensures short { All IsShort r.new }
+{
+    for i in 0..r.len() {
+        if !is_half(r[i]) || !is_half(s[i]) {
+            return i;
+        }
+        r[i] = half_difference(a, r[i], b, s[i]);
+    }
+    r.len()
+}
+
+// Makes `r - b*s` of r, entry by entry, up to the first that has no 32 bits; how many are made. Where s is 0, r stays.
+fn reduce_half(r: &mut [i64], b: i64, s: &[i64]) -> usize
+    requires terms { AreTerms (pos 1) r.old b s.now }
+    requires half { IsHalf b }
+    ensures count { result ≤ length r.old }
+    ensures value { finished (pos 1) r.new b s.now result ≡ combine_of (pos 1) r.old b s.now }
+    ensures short { All IsShort r.new }
+{
+    for i in 0..r.len() {
+        if s[i] != 0 {
+            if !is_half(r[i]) || !is_half(s[i]) {
+                return i;
+            }
+            r[i] = half_difference(1, r[i], b, s[i]);
+        }
+    }
+    r.len()
+}
+
+// Makes `a*r - b*s` of r, entry by entry, by 64 bits, as long as the numbers have 32; how many are made.
+#[inline(always)]
+pub(crate) fn combine_halves(by: Factors, r: &mut [i64], s: &[i64]) -> usize
+    requires terms { AreTerms by.of_row r.old by.of_pivot s.now }
+    ensures count { result ≤ length r.old }
+    ensures value { finished by.of_row r.new by.of_pivot s.now result ≡ combine_of by.of_row r.old by.of_pivot s.now }
+    ensures short { All IsShort r.new }
+{
+    if !is_half(by.of_row) || !is_half(by.of_pivot) {
+        return 0;
+    }
+    if by.of_row == 1 {
+        return reduce_half(r, by.of_pivot, s);
+    }
+    combine_half(by.of_row, r, by.of_pivot, s)
+}

@@ -1,8 +1,0 @@
-use Rattle.short_tableau.proofs.Words.{pos, arith, rules, All-set, IsShort, mapped_step}
-use Rattle.short_tableau.proofs.numbers.divide_all.Goals as goal
-
-pub loop-number-preserved : goal.loop-number-preserved
-loop-number-preserved c = (
-  mapped_step _ _ _ c.loop-number.number-index _ (pos 0) (omega arith) c.loop-number.invariant.0 (search rules),
-  All-set IsShort _ _ _ (search rules) c.loop-number.invariant.1,
-)

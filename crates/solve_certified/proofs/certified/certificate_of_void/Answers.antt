@@ -1,5 +1,0 @@
-use Rattle.solve_certified.proofs.Words.{refl}
-use Rattle.solve_certified.proofs.certified.certificate_of_void.Goals as goal
-
-pub refute-requires-clause-same : goal.refute-requires-clause-same
-refute-requires-clause-same c = λ few. rw c.new-refuter.ensures (record { first = refl })

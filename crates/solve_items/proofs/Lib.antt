@@ -1,0 +1,4 @@
+mod Words
+pub mod ByProblem
+pub mod Certifying
+pub mod Asked

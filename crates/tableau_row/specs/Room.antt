@@ -1,0 +1,30 @@
+-- The numbers that stand one after the other.
+use Rattle.std.specs.Prelude.{◌≡◌, ◌+◌, ◌≤◌, ℤ, Bool, List, ◌++◌, length, take, IsTrue, Vec, vec_len, vec_capacity}
+use Rattle.std.specs.declared.alloc.Global.{Global}
+use Rattle.pip_model.specs.Rows.{Row}
+use Rattle.row_laws.specs.Flat.{numbers_of}
+use Rattle.row_laws.specs.Short.{IsShortRow}
+
+-- ---- the numbers that stand one after the other
+-- these are behind those that were there, in no less room
+pub record Appends (old new : Vec ℤ Global) (zs : List ℤ) : Type 0 where
+  pub items : new.items ≡ old.items ++ zs
+  pub count : vec_len new ≡ vec_len old + length zs
+  pub room : vec_capacity old ≤ vec_capacity new
+
+-- those that were there are left, in no less room
+pub record Leaves (old new : Vec ℤ Global) : Type 0 where
+  pub items : new.items ≡ old.items
+  pub room : vec_capacity old ≤ vec_capacity new
+
+-- those that were there are there still, in no less room
+pub record Keeps (old new : Vec ℤ Global) : Type 0 where
+  pub items : take (length old.items) new.items ≡ old.items
+  pub room : vec_capacity old ≤ vec_capacity new
+
+-- the numbers of the wanted row, which are short, are behind those that were there, where that is done; those are there
+-- still
+pub record WasTried (old new : Vec ℤ Global) (wanted : Row) (done : Bool) : Type 0 where
+  pub appended : IsTrue done → Appends old new (numbers_of wanted)
+  pub short : IsTrue done → IsShortRow wanted
+  pub kept : Keeps old new

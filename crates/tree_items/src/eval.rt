@@ -1,0 +1,47 @@
+ghost use Rattle.std.specs.Prelude.{length};
+ghost use Rattle.program_model.specs.Commands.{Eval as model_eval};
+ghost use Rattle.quast.specs.Answers.{IsOver};
+ghost use Rattle.quast_text.specs.Commented.{commented_of};
+
+use crate::value::value_of;
+use item_writing::Items;
+use pip_endings::Ending;
+use pip_words::ParameterVector;
+use quast_text::{Commented, print_answer, read_answer};
+use std::alloc::Global;
+
+/// Evaluates answers at a parameter vector.
+#[derive(Drop)]
+pub struct Eval<'a>(pub &'a ParameterVector);
+
+impl Items for Eval<'_> {
+    type Read = Commented;
+
+    ghost meaning = { λ e. model_eval e.0.now };
+
+    ghost seen = { λ _ s. commented_of s };
+
+    ghost is_item = { λ e s. IsOver (length e.0.now) s.answer };
+
+    ghost last_place = { λ _ bytes. length bytes };
+
+    fn read(
+        &self,
+        alloc: Global,
+        bytes: &[u8],
+        at: usize,
+    ) -> Result<Option<(Commented, usize)>, Ending> {
+        Ok(read_answer(alloc, bytes, at, self.0.as_slice().len())?)
+    }
+
+    fn put(
+        &self,
+        alloc: Global,
+        commented: &mut Commented,
+        text: &mut Vec<u8>,
+    ) -> Result<(), Ending> {
+        let value = value_of(alloc, &commented.answer, self.0.as_slice())?;
+        print_answer(&commented.comment, &value, text)?;
+        Ok(())
+    }
+}

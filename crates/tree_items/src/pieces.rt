@@ -1,0 +1,47 @@
+ghost use Rattle.std.specs.Prelude.{length};
+ghost use Rattle.program_model.specs.Commands.{Pieces as model_pieces};
+ghost use Rattle.quast.specs.Answers.{IsOver};
+ghost use Rattle.quast_text.specs.Commented.{commented_of};
+
+use item_writing::Items;
+use pip_endings::Ending;
+use pip_words::PiecesOptions;
+use quast_pieces::print_pieces;
+use quast_text::{Commented, read_answer};
+use std::alloc::Global;
+
+/// Takes answers apart.
+#[derive(Drop)]
+pub struct Pieces<'a>(pub &'a PiecesOptions);
+
+impl Items for Pieces<'_> {
+    type Read = Commented;
+
+    ghost meaning = { λ p. model_pieces p.0.now.params };
+
+    ghost seen = { λ _ s. commented_of s };
+
+    ghost is_item = { λ p s. IsOver p.0.now.params s.answer };
+
+    ghost last_place = { λ _ bytes. length bytes };
+
+    fn read(
+        &self,
+        alloc: Global,
+        bytes: &[u8],
+        at: usize,
+    ) -> Result<Option<(Commented, usize)>, Ending> {
+        Ok(read_answer(alloc, bytes, at, self.0.params)?)
+    }
+
+    #[tactic(auto, using(crate::proofs::PieceTexts::pieces_refused))]
+    fn put(
+        &self,
+        _alloc: Global,
+        commented: &mut Commented,
+        text: &mut Vec<u8>,
+    ) -> Result<(), Ending> {
+        print_pieces(&commented.comment, &commented.answer, text)?;
+        Ok(())
+    }
+}

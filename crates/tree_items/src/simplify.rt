@@ -1,0 +1,49 @@
+ghost use Rattle.std.specs.Prelude.{length};
+ghost use Rattle.program_model.specs.Commands.{Simplify as model_simplify};
+ghost use Rattle.quast.specs.Answers.{IsOver};
+ghost use Rattle.quast_text.specs.Commented.{commented_of};
+
+use item_writing::Items;
+use pip_endings::Ending;
+use pip_words::SimplifyOptions;
+use quast::Answer;
+use quast_simplify::simplify_answer;
+use quast_text::{Commented, print_answer, read_answer};
+use std::alloc::Global;
+use std::mem::replace;
+
+/// Simplifies answers.
+#[derive(Drop)]
+pub struct Simplify<'a>(pub &'a SimplifyOptions);
+
+impl Items for Simplify<'_> {
+    type Read = Commented;
+
+    ghost meaning = { λ s. model_simplify s.0.now.params };
+
+    ghost seen = { λ _ s. commented_of s };
+
+    ghost is_item = { λ s c. IsOver s.0.now.params c.answer };
+
+    ghost last_place = { λ _ bytes. length bytes };
+
+    fn read(
+        &self,
+        alloc: Global,
+        bytes: &[u8],
+        at: usize,
+    ) -> Result<Option<(Commented, usize)>, Ending> {
+        Ok(read_answer(alloc, bytes, at, self.0.params)?)
+    }
+
+    fn put(
+        &self,
+        _alloc: Global,
+        commented: &mut Commented,
+        text: &mut Vec<u8>,
+    ) -> Result<(), Ending> {
+        let answer = simplify_answer(replace(&mut commented.answer, Answer::Void));
+        print_answer(&commented.comment, &answer, text)?;
+        Ok(())
+    }
+}
