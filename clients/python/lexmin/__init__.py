@@ -40,6 +40,7 @@ from .answers import Answer, AnswerBySigns, OutsideContext, Piece
 from .forms import Floor, Form, Relation, as_form, congruent
 from .problems import Posed, Problem, Range, Space
 from .processes import Refused, TimedOut
+from .refutations import NotCertified
 from .solver import Solver
 from .texts import Fault
 from .trees import (
@@ -48,6 +49,6 @@ from .trees import (
 __version__ = "1.0.0"
 
 __all__ = [
-    "Answer", "AnswerBySigns", "Bottom", "Choice", "Fault", "Floor", "Form", "NewParameter", "OutsideContext", "Piece", "Point",
-    "Posed", "Problem", "Range", "Refused", "Relation", "Solver", "Space", "TimedOut", "Tree", "Void", "answer_text", "as_form",
+    "Answer", "AnswerBySigns", "Bottom", "Choice", "Fault", "Floor", "Form", "NewParameter", "NotCertified", "OutsideContext", "Piece",
+    "Point", "Posed", "Problem", "Range", "Refused", "Relation", "Solver", "Space", "TimedOut", "Tree", "Void", "answer_text", "as_form",
     "congruent", "groups", "parse_answer", "parse_pieces", "value_at"]

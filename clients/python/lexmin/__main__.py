@@ -5,12 +5,14 @@ import os
 import sys
 from typing import Optional, Sequence
 
-from . import __version__, drawing, explain
+from . import __version__, asking, drawing, explain
 
 # Of each command its module, whose `main` takes the words behind the command and gives the status.
-COMMANDS = {"draw": drawing.main, "explain": explain.main}
+COMMANDS = {"draw": drawing.main, "explain": explain.main, "isl": asking.isl, "shorten": asking.shorten}
 USAGE = """usage: lexmin draw [--parameters NAMES] [--unknowns NAMES] [--mermaid] [--merge] [--across] [FILE]
        lexmin explain [--polylib] [--parameters NAMES] [--unknowns NAMES] [FILE]
+       lexmin isl [--program FILE] [--greatest] [--context CONSTRAINTS] [--low NAME=NUMBER] [--shorten] SET
+       lexmin shorten [--program FILE] [--questions N] [--seconds S] [FILE]
        lexmin COMMAND --help"""
 
 

@@ -6,6 +6,7 @@ from typing import TYPE_CHECKING, Callable, Dict, Iterator, List, Mapping, NoRet
 
 from .forms import Atom, Column, Floor, Form, FormLike, Number, Relation, as_form, checked_name, divided
 from .problems import Space, numbers_over, replaced
+from .shorten import QUESTIONS, SECONDS
 from .trees import (
     Bottom, Choice, NewParameter, Point, Row, Tree, Void, answer_text, form_of, leaves, new_parameter_names, parse_answer,
     parse_pieces, value_at)
@@ -39,10 +40,14 @@ class Piece:
 class Answer:
     """The answer to a problem. `text` is what the program wrote and `tree` its tree, in the program's terms; `posed` says
     what these terms stand for. Answers are equal where they are about the same parameters, context and unknowns, and have
-    the same tree. `same` asks whether they have the same values."""
+    the same tree. `same` asks whether they have the same values.
 
-    def __init__(self, posed: Space, text: str, tree: Optional[Tree] = None, solver: Optional[Solver] = None) -> None:
-        self.posed, self.text, self.solver = posed, text, solver
+    `checked` is None where the program made the answer of the problem as it was sent. Of an answer that was put back behind a
+    preparation it says whether `check` has accepted it; False stays with all that is made of such an answer."""
+
+    def __init__(self, posed: Space, text: str, tree: Optional[Tree] = None, solver: Optional[Solver] = None,
+                 checked: Optional[bool] = None) -> None:
+        self.posed, self.text, self.solver, self.checked = posed, text, solver, checked
         self.tree: Tree = parse_answer(text)[1] if tree is None else tree
 
     def __eq__(self, other: object) -> bool:
@@ -103,6 +108,10 @@ class Answer:
         """The answer without choices that choose nothing and new parameters that nothing uses."""
         return self._made(self.posed, self._run("simplify", [], self.text))
 
+    def shorten(self, *, questions: Optional[int] = QUESTIONS, seconds: Optional[float] = SECONDS) -> Answer:
+        """An answer of the same values with fewer leaves, which `same` has compared with this one: `Solver.shorten`."""
+        return self._asked().shorten(self, questions=questions, seconds=seconds)
+
     def same(self, other: Answer, *relations: Relation) -> bool:
         """Whether both have the same value at all parameters of both contexts, and of these relations."""
         return self.difference(other, *relations) is None
@@ -123,7 +132,7 @@ class Answer:
         posed = self._with(other)
         text = posed.context_text() + self._turned(sign) + other._turned(sign)
         made = self._run("least", ["pivots", "cuts", "splits", "nesting"], text)
-        return self._made(_values(posed, posed.asked, sign), made)
+        return self._made(_values(posed, posed.asked, sign), made, other)
 
     def pieces(self) -> List[Piece]:
         """The answer taken apart: exactly one piece holds at each vector of whole parameters."""
@@ -159,14 +168,19 @@ class Answer:
                 own.asked, list(own.parameters), others.asked, list(others.parameters)))
         return own.under(others.conditions)
 
-    def _made(self, posed: Space, text: str) -> Answer:
-        return Answer(posed, text, solver=self.solver)
+    def _made(self, posed: Space, text: str, *others: Answer) -> Answer:
+        said = {answer.checked for answer in (self, *others)} - {None}
+        return Answer(posed, text, solver=self.solver, checked=all(said) if said else None)
 
     def _run(self, command: str, budgets: Sequence[str], text: str, values: Optional[Sequence[int]] = None) -> str:
+        solver = self._asked()
+        words = [str(len(self.posed.parameters))] if values is None else [str(value) for value in values]
+        return solver.run([command, *words, *solver.budget_words(budgets)], text)
+
+    def _asked(self) -> Solver:
         if self.solver is None:
             raise ValueError("the answer was not made by a Solver: give it one, Answer(.., solver=solver)")
-        words = [str(len(self.posed.parameters))] if values is None else [str(value) for value in values]
-        return self.solver.run([command, *words, *self.solver.budget_words(budgets)], text)
+        return self.solver
 
     # Its words.
 

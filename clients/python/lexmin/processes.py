@@ -324,8 +324,10 @@ class Pool:
         # may take it again.
         self._lock = threading.RLock()
 
-    def answers(self, texts: Iterable[str]) -> Iterator[Union[List[str], Refused]]:
+    def answers(self, texts: Iterable[str], timeout: Optional[float] = None) -> Iterator[Union[List[str], Refused]]:
         own = self._take()
+        if timeout is not None:
+            own.timeout = timeout if self.timeout is None else min(timeout, self.timeout)
         try:
             yield from own.answers(texts)
         finally:

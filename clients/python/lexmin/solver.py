@@ -6,8 +6,16 @@ from collections import deque
 from typing import Deque, Iterable, Iterator, List, Optional, Sequence, Tuple, TypeVar, Union
 
 from .answers import Answer, AnswerBySigns
-from .problems import Posed, Problem
-from .processes import MOST_INPUT_BYTES, Pool, Refused, run_once
+from .problems import Posed, Problem, numbers_over
+from .processes import MOST_INPUT_BYTES, Pool, Refused, TimedOut, run_once
+from .prepare import prepared
+from .refutations import NotCertified, Obligations, steps_of
+from .shorten import QUESTIONS, SECONDS, Shortener
+from .texts import native
+from .trees import Bottom, Point, Void, answer_text, parse_answer
+
+
+MOST_BATCH_BYTES = 4_000_000  # of the texts that one `same` reads
 
 
 class Solver:
@@ -17,18 +25,25 @@ class Solver:
 
     `simplify` asks for simplified answers. `pivots`, `cuts`, `splits`, `nesting` are the budgets of a problem, the
     program's own where none is given; a stranger's problems should have some. `timeout` is the seconds that a problem
-    may take. A Solver ends its processes by `close`, or at the end of a `with`; a call that is under way then fails."""
+    may take. A Solver ends its processes by `close`, or at the end of a `with`; a call that is under way then fails.
+
+    `prepare=True` takes equalities out of each problem before it is solved, `prepare="when refused"` out of those that were
+    refused or late. The answer is put back here, in Python, and then `check` is asked whether it is right: its `checked` says
+    what came of that."""
 
     def __init__(self, program: Union[str, os.PathLike[str]], *, simplify: bool = False, pivots: Optional[int] = None,
                  cuts: Optional[int] = None, splits: Optional[int] = None, nesting: Optional[int] = None,
-                 timeout: Optional[float] = None) -> None:
-        self.program = os.fspath(program)
+                 timeout: Optional[float] = None, prepare: Union[bool, str] = False) -> None:
+        if prepare not in (False, True, "when refused"):
+            raise ValueError(f"prepare is True, False or 'when refused', not {prepare!r}")
+        self.program, self.prepare = os.fspath(program), prepare
         self.timeout = timeout
         self.budgets = {"pivots": pivots, "cuts": cuts, "splits": splits, "nesting": nesting}
         words = self.budget_words(list(self.budgets))
         plain = [self.program, "solve", *words, *(["--simplify"] if simplify else [])]
         self._plain = Pool(plain, 1, timeout)
         self._certified = Pool([self.program, "solve", "--certificate", *words], 2, timeout)
+        self._questions = Pool([self.program, "solve", "--pivots", "1000", "--cuts", "60"], 1, timeout)
 
     def __enter__(self) -> Solver:
         return self
@@ -42,6 +57,7 @@ class Solver:
     def close(self) -> None:
         self._plain.stop()
         self._certified.stop()
+        self._questions.stop()
 
     def budget_words(self, names: Sequence[str]) -> List[str]:
         """The words of the budgets of these names, as far as they were given."""
@@ -56,9 +72,65 @@ class Solver:
         """What comes of each problem, in order: its answer, or its refusal (not raised, so that the others go on).
         Several problems are under way at a time."""
         taken: Deque[Posed] = deque()
+        if self.prepare is True:
+            yield from map(self._solve_prepared, _taken(problems))
+            return
         for found in self._plain.answers(_texts(problems, taken)):
             posed = taken.popleft()
-            yield found if isinstance(found, Refused) else Answer(posed, found[0] + "\n", solver=self)
+            if not isinstance(found, Refused):
+                yield Answer(posed, found[0] + "\n", solver=self)
+            else:
+                made = self._prepared(posed) if self.prepare else None
+                yield found if made is None else made
+
+    def _solve_prepared(self, posed: Posed) -> Union[Answer, Refused]:
+        made = self._prepared(posed)
+        if made is not None:
+            return made
+        found = next(self._plain.answers([posed.text]))
+        return found if isinstance(found, Refused) else Answer(posed, found[0] + "\n", solver=self)
+
+    def _prepared(self, posed: Posed) -> Optional[Answer]:
+        """The answer by the problem made smaller; none where nothing can be taken out, or that is refused too."""
+        text = self.ask_prepared(posed.text)
+        return None if text is None else Answer(posed, text, solver=self, checked=self.proves(posed.text, text))
+
+    def ask_prepared(self, text: str) -> Optional[str]:
+        """The answer to a native text of one problem, by the problem made smaller: put back, and not checked."""
+        problem, = native(text.encode())
+        made = prepared(problem)
+        found = None if made is None or made.text is None else next(self._plain.answers([made.text]))
+        if made is None or found is None or isinstance(found, Refused):
+            return None
+        return answer_text(problem.comment, made.put_back(parse_answer(found[0])[1]))
+
+    def proves(self, text: str, answer: str) -> bool:
+        """Whether `check` accepts an answer to a problem, given as texts, with a certificate that is made for it."""
+        try:
+            return self.check([(text, answer, self.certificate(text, answer))]) == [None]
+        except NotCertified:
+            return False
+
+    def certificate(self, text: str, answer: str) -> str:
+        """A certificate of an answer to a problem, given as texts, whoever made the answer; NotCertified where none is found.
+        What it is worth `check` says."""
+        problem, = native(text.encode())
+        tree = parse_answer(answer)[1]
+        needed = Obligations(problem, tree)
+        steps = []
+        for found in self._certified.answers(needed.questions()):
+            if isinstance(found, Refused):
+                raise NotCertified(f"a refutation was refused: {found}")
+            if not isinstance(parse_answer(found[0])[1], Bottom):
+                raise NotCertified("the answer is not right: there is a point that a refutation leaves")
+            steps.append(steps_of(found[1]))
+        vector: Optional[Sequence[int]] = [] if problem.parameters == 0 else None
+        if problem.parameters and not isinstance(tree, Void):
+            point = self._point(needed.context_question(), None)
+            if not isinstance(point, tuple):
+                raise NotCertified("no parameters of the context were found")
+            vector = point
+        return needed.certificate(None if isinstance(tree, Void) else vector, steps)
 
     def solve_by_signs(self, problem: Problem) -> AnswerBySigns:
         """The answer to a problem with parameters of either sign: a part for each choice of signs, 2^k for k of them."""
@@ -84,6 +156,64 @@ class Solver:
         for answer in answers[1:]:
             made = made.least(answer, greatest=greatest)
         return made
+
+    # Shorter answers.
+
+    def shorten(self, answer: Answer, *, questions: Optional[int] = QUESTIONS, seconds: Optional[float] = SECONDS) -> Answer:
+        """An answer of the same values with fewer leaves: without each choice of which one side is right on both. `questions`
+        and `seconds` are its limits, with None for none; when one is reached, what was found so far counts. The shorter answer
+        is the result only where the program's `same` has said that it has the given one's values, which it is then known to
+        have under the answer's context; else the given answer is."""
+        made, = self.shorten_all([answer], questions=questions, seconds=seconds)
+        return made
+
+    def shorten_all(self, answers: Iterable[Answer], *, questions: Optional[int] = QUESTIONS,
+                    seconds: Optional[float] = SECONDS) -> List[Answer]:
+        """The same of each answer, in order, by one process that is asked about all of them, and by one `same` for all. The
+        limits are those of each answer."""
+        given = [checked_answer(answer) for answer in answers]
+        made = [self._shorter(answer, questions, seconds) for answer in given]
+        trios = [(len(answer.posed.parameters), answer.posed.context_text(), answer.text, shorter.text)
+                 for answer, shorter in zip(given, made)]
+        return [shorter if verdict else answer for answer, shorter, verdict in zip(given, made, self.same_all(trios))]
+
+    def _shorter(self, answer: Answer, questions: Optional[int], seconds: Optional[float]) -> Answer:
+        count = len(answer.posed.parameters)
+        context = [(int(row[-1]), *map(int, row[:-1])) for row in (numbers_over(form, count) for form in answer.posed.context_rows())]
+        tree = Shortener(self._point, questions, seconds).tree(context, count, answer.tree)
+        return Answer(answer.posed, answer_text(parse_answer(answer.text)[0], tree), tree, self, answer.checked)
+
+    def _point(self, text: str, seconds: Optional[float]) -> Union[Tuple[int, ...], None, bool]:
+        found = next(self._questions.answers([text], seconds))
+        if isinstance(found, Refused):
+            return False
+        tree = parse_answer(found[0])[1]
+        return tuple(int(row[-1]) for row in tree.components) if isinstance(tree, Point) else None
+
+    def same_all(self, trios: Sequence[Tuple[int, str, str, str]]) -> List[bool]:
+        """Whether `same` says `same` of each number of parameters, context and two answers, given as texts; a refusal is none.
+        Those that follow each other and are over as many parameters are read by one process, as many as it takes."""
+        waiting = deque((count, "\n".join(texts) + "\n") for count, *texts in trios)
+        verdicts: List[bool] = []
+        while waiting:
+            count, batch, size = waiting[0][0], [waiting.popleft()[1]], 0
+            while waiting and waiting[0][0] == count and (size := size + len(batch[-1].encode())) < MOST_BATCH_BYTES:
+                batch.append(waiting.popleft()[1])
+            verdicts += self._same(count, batch)
+        return verdicts
+
+    def _same(self, count: int, texts: Sequence[str]) -> List[bool]:
+        """The same of texts that one process reads. Where it refuses one, or is late with all, others read the rest."""
+        if not texts:
+            return []
+        words = ["same", str(count), *self.budget_words(["pivots", "cuts", "splits"])]
+        try:
+            output = run_once([self.program, *words], "".join(texts), self.timeout)[1].decode()
+        except TimedOut:
+            half = len(texts) // 2
+            return [*self._same(count, texts[:half]), *self._same(count, texts[half:])] if half else [False]
+        said = [line == "same" for line in output.splitlines()]
+        return said if len(said) == len(texts) else [*said, False, *self._same(count, texts[len(said) + 1:])]
 
     # Certificates.
 
@@ -139,13 +269,24 @@ class Solver:
         return output.decode()
 
 
+def checked_answer(answer: object) -> Answer:
+    if not isinstance(answer, Answer):
+        raise TypeError(f"not an answer: {answer!r}")
+    return answer
+
+
 def _texts(problems: Iterable[Problem], taken: Deque[Posed]) -> Iterator[str]:
     """The problems' texts. What is posed is kept in `taken` until its answer is there."""
+    for posed in _taken(problems):
+        taken.append(posed)
+        yield posed.text
+
+
+def _taken(problems: Iterable[Problem]) -> Iterator[Posed]:
     for problem in problems:
         if not isinstance(problem, Problem):
             raise TypeError(f"not a problem: {problem!r}")
-        taken.append(problem.posed())
-        yield taken[-1].text
+        yield problem.posed()
 
 
 _Found = TypeVar("_Found")

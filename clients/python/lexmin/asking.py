@@ -1,0 +1,95 @@
+"""The commands that ask the program: `lexmin shorten` and `lexmin isl`."""
+from __future__ import annotations
+
+import argparse
+import pathlib
+import sys
+from typing import Dict, List, Sequence
+
+from . import notation
+from .answers import Answer
+from .forms import Column, Form, Relation
+from .problems import Range, Space
+from .processes import Refused
+from .shorten import QUESTIONS, SECONDS
+from .solver import Solver
+from .texts import Fault, ReadProblem, native
+from .trees import groups
+
+SHORTEN = """Solves the problems of a text, and writes their answers with fewer leaves.
+
+    lexmin shorten [--program FILE] [--questions N] [--seconds S] [FILE]
+
+A choice of which one side is right on both is taken out. What is written `same` has compared with the program's own answer,
+under the problem's context; where it did not say `same`, the program's own answer is written. --questions and --seconds are
+the limits of an answer. A refused problem is named on standard error, the others go on, and the status is then 1.
+"""
+ISL = """Writes the lexmin of a set or a map in isl's notation, or its lexmax.
+
+    lexmin isl [--program FILE] [--greatest] [--context CONSTRAINTS] [--low NAME=NUMBER] [--shorten] SET
+
+    $ lexmin isl --greatest '[N] -> { [i] : 0 <= i < N and i mod 4 = 1 }'
+
+Parameters are from 0 on, or from what --low says.
+"""
+
+
+def space_of(problem: ReadProblem) -> Space:
+    """What the answer to a native problem is about, with names for its places: p0, p1, .. and x0, x1, .."""
+    names = [f"p{place}" for place in range(problem.parameters)]
+    context: List[Relation] = []
+    for row in problem.context:
+        context.append(sum((Form({name: number}) for name, number in zip(names, row)), Form()) + row[-1] >= 0)
+    points = {f"x{place}": Form({Column(False, place): 1}) for place in range(problem.unknowns)}
+    return Space(problem.comment, {name: Range(0) for name in names}, context, points)
+
+
+def shorten(words: Sequence[str]) -> int:
+    parser = argparse.ArgumentParser(prog="lexmin shorten", description=SHORTEN, formatter_class=argparse.RawDescriptionHelpFormatter)
+    parser.add_argument("--program", default="./pip", help="the program, ./pip where none is named")
+    parser.add_argument("--questions", type=int, default=QUESTIONS)
+    parser.add_argument("--seconds", type=float, default=SECONDS)
+    parser.add_argument("file", nargs="?", type=pathlib.Path, help="the problems; standard input where none is named")
+    chosen = parser.parse_args(words)
+    status = 0
+    try:
+        data = chosen.file.read_bytes() if chosen.file else sys.stdin.buffer.read()
+        problems = list(native(data))
+        with Solver(chosen.program) as solver:
+            answers: List[Answer] = []
+            for number, text in enumerate(groups(data.decode(errors="replace"))):
+                try:
+                    answers.append(Answer(space_of(problems[number]), solver.ask(text) + "\n", solver=solver))
+                except Refused as refused:
+                    print(f"lexmin shorten: problem {number + 1}: {refused.line}", file=sys.stderr)
+                    status = 1
+            for answer in solver.shorten_all(answers, questions=chosen.questions, seconds=chosen.seconds):
+                print(answer.text, end="")
+    except BrokenPipeError:
+        raise
+    except (OSError, ValueError, Fault) as error:
+        print(f"lexmin shorten: {error}", file=sys.stderr)
+        return 1
+    return status
+
+
+def isl(words: Sequence[str]) -> int:
+    parser = argparse.ArgumentParser(prog="lexmin isl", description=ISL, formatter_class=argparse.RawDescriptionHelpFormatter)
+    parser.add_argument("--program", default="./pip", help="the program, ./pip where none is named")
+    parser.add_argument("--greatest", action="store_true", help="the lexmax")
+    parser.add_argument("--context", default="", help="what is known of the parameters")
+    parser.add_argument("--low", action="append", default=[], metavar="NAME=NUMBER", help="from where on a parameter or an unknown is")
+    parser.add_argument("--shorten", action="store_true", help="with fewer pieces")
+    parser.add_argument("set", metavar="SET")
+    chosen = parser.parse_args(words)
+    try:
+        low: Dict[str, int] = {name.strip(): int(number) for name, _, number in (word.partition("=") for word in chosen.low)}
+        with Solver(chosen.program) as solver:
+            answer = notation.solved(solver, chosen.set, greatest=chosen.greatest, low=low, context=chosen.context)
+            print(notation.written(answer.shorten() if chosen.shorten else answer))
+    except BrokenPipeError:
+        raise
+    except (OSError, ValueError, Refused) as error:
+        print(f"lexmin isl: {error}", file=sys.stderr)
+        return 1
+    return 0
