@@ -173,9 +173,11 @@ class Solver:
         limits are those of each answer."""
         given = [checked_answer(answer) for answer in answers]
         made = [self._shorter(answer, questions, seconds) for answer in given]
-        trios = [(len(answer.posed.parameters), answer.posed.context_text(), answer.text, shorter.text)
-                 for answer, shorter in zip(given, made)]
-        return [shorter if verdict else answer for answer, shorter, verdict in zip(given, made, self.same_all(trios))]
+        changed = [place for place, (answer, own) in enumerate(zip(given, made)) if own.tree != answer.tree]
+        trios = [(len(given[place].posed.parameters), given[place].posed.context_text(), given[place].text, made[place].text)
+                 for place in changed]
+        found = dict(zip(changed, self.same_all(trios)))
+        return [own if found.get(place) else answer for place, (answer, own) in enumerate(zip(given, made))]
 
     def _shorter(self, answer: Answer, questions: Optional[int], seconds: Optional[float]) -> Answer:
         count = len(answer.posed.parameters)
