@@ -8,7 +8,7 @@
 
 What is read: `[parameters] -> { Name[unknowns] : constraints ; .. }`. Constraints are chains of `<`, `<=`, `=`, `!=`, `>=`, `>`
 between affine forms, joined by `and`, `or` and brackets, with `exists (a, b : ..)`, `true` and `false`; in forms stand
-`floor(form/d)`, `floord(form, d)`, `form mod d`, `min(..)`, `max(..)`, `2i` and `2*i`. An entry of a tuple may be a form.
+`floor(form/d)`, `ceil(form/d)`, `floord(form, d)`, `form mod d`, `min(..)`, `max(..)`, `2i` and `2*i`. An entry of a tuple may be a form.
 Of a map `{ A[i, j] -> B[k] : .. }` the first tuple's names are parameters: its answer is the map's lexmin or lexmax.
 What isn't read: `not`, `implies`, `<<` and other comparisons of tuples, nested tuples.
 
@@ -20,12 +20,13 @@ Parameters are from 0 on unless `low` says otherwise: `low={"n": -100}`. What is
 from __future__ import annotations
 
 import itertools
+import math
 import re
 from typing import Callable, Dict, Iterator, List, Mapping, NamedTuple, Optional, Sequence, Set, Tuple
 
 from .answers import Answer
-from .forms import Floor, Form, Relation
-from .problems import Problem
+from .forms import Atom, Floor, Form, Relation
+from .problems import Problem, replaced
 from .solver import Solver
 from .trees import Choice, NewParameter, Point, Tree, form_of
 
@@ -224,7 +225,8 @@ class _Reader:
             name = self.name()
             own[name] = self.fresh(name)
             if self.has("="):  # isl writes `exists (e0 = floor((i)/2) : ..)`
-                defined = product(defined, [Part((*case.held, Form({own[name]: 1}) == case.form), ()) for case in self.form({**known, **own})])
+                cases = self.form({**known, **own})
+                defined = product(defined, [Part((*case.held, Form({own[name]: 1}) == case.form), ()) for case in cases])
             if not self.has(","):
                 break
         self.expect(":")
@@ -242,7 +244,8 @@ class _Reader:
             compare = _COMPARE[self.take()]
             right = self.forms(known)
             for one, other in itertools.product(left, right):
-                made = product(made, [Part((*a.held, *b.held, relation), ()) for a in one for b in other for relation in compare(a.form, b.form)])
+                made = product(made, [Part((*a.held, *b.held, relation), ())
+                                      for a in one for b in other for relation in compare(a.form, b.form)])
             left = right
         return made
 
@@ -265,7 +268,7 @@ class _Reader:
         found = self.factor(known)
         while True:
             bare = len(found) == 1 and not found[0].form.terms
-            if self.has("*") or (bare and (self.is_name() or self.peek() in ("(", "floor", "floord", "min", "max"))):
+            if self.has("*") or (bare and (self.is_name() or self.peek() in ("(", "floor", "ceil", "floord", "min", "max"))):
                 found = self.times(found, self.factor(known))
             elif self.has("mod", "%"):
                 divisor = self.whole_number()
@@ -290,7 +293,9 @@ class _Reader:
         if self.peek().isdigit():
             return [_Case((), Form({}, int(self.take())))]
         if self.has("floor"):
-            return [_Case(it.held, it.form // 1) if it.form.terms else it for it in self.bracket(known)]
+            return [_Case(it.held, _floor(it.form)) for it in self.bracket(known)]
+        if self.has("ceil"):
+            return [_Case(it.held, -_floor(-it.form)) for it in self.bracket(known)]
         if self.has("floord"):
             self.expect("(")
             inner = self.form(known)
@@ -334,6 +339,10 @@ class _Reader:
         if not self.peek().isdigit() or int(self.peek()) == 0:
             raise self.fault("a whole number from 1 on is missing")
         return int(self.take())
+
+
+def _floor(form: Form) -> Form:
+    return form // 1 if form.terms else Form({}, math.floor(form.constant))
 
 
 def product(first: Sequence[Part], second: Sequence[Part]) -> List[Part]:
@@ -390,8 +399,8 @@ def _problem(text: str, parameters: Sequence[str], asked: Sequence[str], unknown
 
 def _renamed(relation: Relation, names: Mapping[str, str]) -> Relation:
     def form(own: Form) -> Form:
-        return Form({(Floor(tuple(sorted(form(atom.form()).terms.items(), key=str)), atom.constant, atom.divisor)
-                      if isinstance(atom, Floor) else names.get(str(atom), atom)): number for atom, number in own.terms.items()}, own.constant)
+        return replaced(own, lambda name: Form({names.get(name, name): 1}))
+
     return Relation(form(relation.form), relation.kind, relation.modulus) if names else relation
 
 
@@ -435,7 +444,8 @@ def written(answer: Answer, name: str = "") -> str:
     return f"{head}{{ {'; '.join(pieces)} }}" if pieces else f"{head}{{ {name}[{', '.join(answer.posed.asked)}] : false }}"
 
 
-def _pieces(answer: Answer, tree: Tree, scope: List[Form], held: List[str], floors: Mapping[str, str]) -> Iterator[Tuple[List[str], List[str]]]:
+def _pieces(answer: Answer, tree: Tree, scope: List[Form], held: List[str],
+            floors: Mapping[str, str]) -> Iterator[Tuple[List[str], List[str]]]:
     if isinstance(tree, Choice):
         form = _text(form_of(tree.form, scope), floors)
         yield from _pieces(answer, tree.yes, scope, [*held, f"{form} >= 0"], floors)
@@ -450,9 +460,11 @@ def _pieces(answer: Answer, tree: Tree, scope: List[Form], held: List[str], floo
 
 def _text(form: Form, floors: Mapping[str, str]) -> str:
     whole, common = form.whole()
-    terms = [(number, f"floor(({_text(atom.form(), floors)})/{atom.divisor})" if isinstance(atom, Floor) else floors.get(str(atom), str(atom)))
-             for atom, number in whole.terms.items()]
-    text = "".join(f"{' - ' if number < 0 else ' + '}{abs(number)}*{own}" for number, own in terms)
+    def named(atom: Atom) -> str:
+        return f"floor(({_text(atom.form(), floors)})/{atom.divisor})" if isinstance(atom, Floor) else floors.get(str(atom), str(atom))
+
+    terms = [(number, named(atom)) for atom, number in whole.terms.items()]
+    text = "".join((" - " if number < 0 else " + ") + (own if abs(number) == 1 else f"{abs(number)}*{own}") for number, own in terms)
     if whole.constant or not terms:
         text += f"{' - ' if whole.constant < 0 else ' + '}{abs(whole.constant)}"
     text = text[3:] if text.startswith(" + ") else "-" + text[3:]

@@ -164,7 +164,7 @@ class Obligations:
             yield self._system(leaf, True, [])
             return
         point = [tuple(int(number) for number in row) for row in leaf.leaf.components]
-        if len(point) != problem.unknowns or any(own != number for row, other in zip(point, leaf.leaf.components) for own, number in zip(row, other)):
+        if len(point) != problem.unknowns or any(own != tuple(other) for own, other in zip(point, leaf.leaf.components)):
             raise NotCertified("a point has other components than the problem has whole unknowns")
         for row in problem.rows:
             total = [0] * (width + 1)
