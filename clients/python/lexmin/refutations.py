@@ -199,13 +199,13 @@ class Obligations:
             return (*(int(place == own) for own in range(columns)), 0)
 
         known = [unit(place) for place in range(problem.parameters)] + [wide(row) for row in problem.context]
-        quotients: List[Tuple[int, Sequence[int], int]] = []
+        quotients: List[Tuple[int, List[int]]] = []
         for row, divisor in leaf.path:
             form = [int(number) for number in row]
             if divisor == 0:
                 known.append(wide(form))
                 continue
-            quotients.append((len(known) + 1, form, divisor))
+            quotients.append((len(known) + 1, form))
             known.append(wide([*form[:-1], -divisor, form[-1]]))
             known.append(wide([*(-number for number in form[:-1]), divisor, divisor - 1 - form[-1]]))
         if with_unknowns:
@@ -216,8 +216,8 @@ class Obligations:
         for index in range(len(system.known)):
             system.add(index)
         if system.false is None:
-            for index, form, divisor in quotients:
-                _sign(system, index, form)
+            for index, taken in quotients:
+                _sign(system, index, taken)
             system.smaller()
         return system
 
