@@ -87,7 +87,7 @@ class Solver:
         made = self._prepared(posed)
         if made is not None:
             return made
-        found = next(self._plain.answers([posed.text]))
+        found, = self._plain.answers([posed.text])
         return found if isinstance(found, Refused) else Answer(posed, found[0] + "\n", solver=self)
 
     def _prepared(self, posed: Posed) -> Optional[Answer]:
@@ -99,8 +99,10 @@ class Solver:
         """The answer to a native text of one problem, by the problem made smaller: put back, and not checked."""
         problem, = native(text.encode())
         made = prepared(problem)
-        found = None if made is None or made.text is None else next(self._plain.answers([made.text]))
-        if made is None or found is None or isinstance(found, Refused):
+        if made is None or made.text is None:
+            return None
+        found, = self._plain.answers([made.text])
+        if isinstance(found, Refused):
             return None
         return answer_text(problem.comment, made.put_back(parse_answer(found[0])[1]))
 
@@ -186,7 +188,7 @@ class Solver:
         return Answer(answer.posed, answer_text(parse_answer(answer.text)[0], tree), tree, self, answer.checked)
 
     def _point(self, text: str, seconds: Optional[float]) -> Union[Tuple[int, ...], None, bool]:
-        found = next(self._questions.answers([text], seconds))
+        found, = self._questions.answers([text], seconds)
         if isinstance(found, Refused):
             return False
         tree = parse_answer(found[0])[1]
