@@ -33,13 +33,14 @@ What is sent
 What answers are good for
     `value`, `eval`, `restrict`, `simplify`, `same`, `difference`, `least`, `pieces` and `put` are methods of an answer,
     `first_of` and `last_of` of a Solver put several together. All of them go by the names and the context of the problem.
+    `is_total` and `is_empty` say whether there are points everywhere, or nowhere.
 
     `shorten` gives an answer with fewer leaves, which the program's `same` has compared with the given one. `Solver(prepare=True)`
     takes equalities out of problems first; the `checked` of such an answer says whether the program's `check` accepted it.
     `lexmin.notation` reads and writes isl's notation, `lexmin.sources` writes answers as functions in Python and in C.
 
-The commands `draw` and `explain` make pictures of answers and say in words what a text asks, `shorten` and `isl` ask the
-program: `python -m lexmin --help`.
+The commands `draw` and `source` make pictures and functions of answers, `explain` says in words what a text asks, `shorten` and
+`isl` ask the program: `python -m lexmin --help`.
 """
 from .answers import Answer, AnswerBySigns, OutsideContext, Piece
 from .forms import Floor, Form, Relation, as_form, congruent

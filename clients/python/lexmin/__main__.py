@@ -5,14 +5,15 @@ import os
 import sys
 from typing import Optional, Sequence
 
-from . import __version__, asking, drawing, explain
+from . import __version__, asking, drawing, explain, sources
 
 # Of each command its module, whose `main` takes the words behind the command and gives the status.
-COMMANDS = {"draw": drawing.main, "explain": explain.main, "isl": asking.isl, "shorten": asking.shorten}
+COMMANDS = {"draw": drawing.main, "explain": explain.main, "isl": asking.isl, "shorten": asking.shorten, "source": sources.main}
 USAGE = """usage: lexmin draw [--parameters NAMES] [--unknowns NAMES] [--mermaid] [--merge] [--across] [FILE]
        lexmin explain [--polylib] [--parameters NAMES] [--unknowns NAMES] [FILE]
        lexmin isl [--program FILE] [--greatest] [--context CONSTRAINTS] [--low NAME=NUMBER] [--shorten] SET
        lexmin shorten [--program FILE] [--questions N] [--seconds S] [FILE]
+       lexmin source [--c] [--name NAME] [--parameters NAMES] [--unknowns NAMES] [FILE]
        lexmin COMMAND --help"""
 
 

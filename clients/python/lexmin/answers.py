@@ -5,7 +5,7 @@ from dataclasses import dataclass
 from typing import TYPE_CHECKING, Callable, Dict, Iterator, List, Mapping, NoReturn, Optional, Sequence, Tuple, Union
 
 from .forms import Atom, Column, Floor, Form, FormLike, Number, Relation, as_form, checked_name, divided
-from .problems import Space, numbers_over, replaced
+from .problems import Space, numbers_over
 from .shorten import QUESTIONS, SECONDS
 from .trees import (
     Bottom, Choice, NewParameter, Point, Row, Tree, Void, answer_text, form_of, leaves, new_parameter_names, parse_answer,
@@ -64,6 +64,17 @@ class Answer:
     def names(self) -> Dict[str, Form]:
         """The parameters and the unknowns that were asked for, as forms to say relations with: `answer.names["N"] >= 3`."""
         return {name: Form({name: 1}) for name in [*self.posed.parameters, *self.posed.asked]}
+
+    @property
+    def is_total(self) -> bool:
+        """Whether there is a point at all parameters of the context. Each leaf of a tree that the program made is reached at
+        some of them, so this is read off the leaves."""
+        return not any(isinstance(leaf, Bottom) for leaf in leaves(self.tree))
+
+    @property
+    def is_empty(self) -> bool:
+        """Whether there is a point at none of them. (Where no parameters satisfy the context both are said.)"""
+        return not any(isinstance(leaf, Point) for leaf in leaves(self.tree))
 
     # Its value.
 
@@ -151,7 +162,7 @@ class Answer:
             if unknown:
                 raise ValueError(f"{', '.join(unknown)}: neither an unknown that was asked for nor a parameter")
         columns = {**{name: self.posed.in_columns(Form({name: 1})) for name in self.posed.parameters}, **self.posed.points}
-        points = {name: replaced(form, columns.__getitem__) for name, form in given.items()}
+        points = {name: form.substitute(columns) for name, form in given.items()}
         posed = _values(self.posed, list(given), 1)
         return self._made(posed, answer_text(self.posed.comment, _Turned(self.posed, list(points.values()), 1).tree(self.tree)))
 
@@ -205,27 +216,52 @@ class Answer:
 
     def __str__(self) -> str:
         """The tree in words: `if`, `elif` and `else`, `q = form // d` for new parameters, a point as its unknowns."""
-        return "\n".join(self._lines(self.tree, self.posed.scope(), self._quotient_names(), "", "if"))
+        return "\n".join(self.lines())
 
-    def _lines(self, tree: Tree, scope: List[Form], quotients: Sequence[str], margin: str, word: str) -> Iterator[str]:
+    def lines(self, point: Optional[Callable[[Mapping[str, Form]], str]] = None, *, none: str = "no point",
+              names: Mapping[str, FormLike] = {}) -> Iterator[str]:
+        """The same line by line. `point` gives the words of a point, `none` is what stands where there is none, and `names` has
+        forms that stand in the place of parameters."""
+        return _Words(self, point, none, names).lines()
+
+
+class _Words:
+    """Writes an answer line by line."""
+
+    def __init__(self, answer: Answer, point: Optional[Callable[[Mapping[str, Form]], str]], none: str,
+                 names: Mapping[str, FormLike]) -> None:
+        self.answer, self.point, self.none, self.names = answer, point, none, names
+        self.quotients = new_parameter_names(answer.tree, [
+            *answer.posed.parameters, *answer.posed.asked, *(name for form in names.values() for name in as_form(form).names())])
+
+    def lines(self) -> Iterator[str]:
+        yield from self._below(self.answer.tree, self.answer.posed.scope(), "", "if")
+
+    def _form(self, row: Row, scope: Sequence[Form]) -> Tuple[Form, int]:
+        return form_of(row, scope).substitute(self.names).whole()
+
+    def _below(self, tree: Tree, scope: List[Form], margin: str, word: str) -> Iterator[str]:
         if isinstance(tree, Void):
             yield f"{margin}void"
         elif isinstance(tree, Bottom):
-            yield f"{margin}no point"
+            yield margin + self.none
         elif isinstance(tree, Point):
-            yield margin + written_point(self.posed.point([form_of(row, scope) for row in tree.components]))
+            found = self.answer.posed.point([form_of(row, scope) for row in tree.components])
+            point = [(name, form.substitute(self.names)) for name, form in found]
+            yield margin + (written_point(point) if self.point is None else self.point(dict(point)))
         elif isinstance(tree, NewParameter):
-            name = quotients[tree.number - len(self.posed.parameters)]
-            yield f"{margin}{name} = ({form_of(tree.form, scope)}) // {tree.divisor}"
-            yield from self._lines(tree.below, [*scope, Form({name: 1})], quotients, margin, "if")
+            name = self.quotients[tree.number - len(self.answer.posed.parameters)]
+            form, common = self._form(tree.form, scope)
+            yield f"{margin}{name} = ({form}) // {tree.divisor * common}"
+            yield from self._below(tree.below, [*scope, Form({name: 1})], margin, "if")
         else:
-            yield f"{margin}{word} {form_of(tree.form, scope)} >= 0:"
-            yield from self._lines(tree.yes, scope, quotients, margin + "    ", "if")
+            yield f"{margin}{word} {self._form(tree.form, scope)[0]} >= 0:"
+            yield from self._below(tree.yes, scope, margin + "    ", "if")
             if isinstance(tree.no, Choice):
-                yield from self._lines(tree.no, scope, quotients, margin, "elif")
+                yield from self._below(tree.no, scope, margin, "elif")
             else:
                 yield f"{margin}else:"
-                yield from self._lines(tree.no, scope, quotients, margin + "    ", "if")
+                yield from self._below(tree.no, scope, margin + "    ", "if")
 
 
 def written_point(point: Sequence[Tuple[str, Form]]) -> str:

@@ -97,6 +97,14 @@ class Form:
                 terms[inner] = terms.get(inner, 0) + number * own
         return Form(terms, constant)
 
+    def substitute(self, names: Mapping[str, FormLike]) -> Form:
+        """The form with forms in the place of these names, in floors too: `(2 * i + j).substitute({"i": k + 1})`."""
+        def value(atom: Atom) -> Form:
+            if isinstance(atom, Floor):
+                return atom.form().put(value) // atom.divisor
+            return as_form(names[atom]) if isinstance(atom, str) and atom in names else Form({atom: 1})
+        return self.put(value)
+
     def numbers(self, names: Sequence[Column]) -> List[Number]:
         """The numbers of these names."""
         return [self.terms.get(name, 0) for name in names]
@@ -182,6 +190,20 @@ class Relation:
 
     def __repr__(self) -> str:
         return f"Relation({self})"
+
+    def substitute(self, names: Mapping[str, FormLike]) -> Relation:
+        """The relation with forms in the place of these names."""
+        return Relation(self.form.substitute(names), self.kind, self.modulus)
+
+    def negated(self) -> List[Relation]:
+        """Relations between whole numbers of which exactly one holds where this one doesn't, and none where it does."""
+        if self.kind == "multiple":
+            form, common = self.form.whole()
+            modulus = self.modulus * common
+            return [Relation(form - rest, "multiple", modulus) for rest in range(1, modulus)]
+        if self.kind == "==":
+            return [self.form > 0, self.form < 0]
+        return [self.form < 0 if self.kind == ">=" else self.form <= 0]
 
     def holds_at(self, values: Mapping[str, Number]) -> bool:
         value = self.form.at(values)

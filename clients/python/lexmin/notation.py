@@ -7,10 +7,11 @@
         print(notation.written(answer))
 
 What is read: `[parameters] -> { Name[unknowns] : constraints ; .. }`. Constraints are chains of `<`, `<=`, `=`, `!=`, `>=`, `>`
-between affine forms, joined by `and`, `or` and brackets, with `exists (a, b : ..)`, `true` and `false`; in forms stand
-`floor(form/d)`, `ceil(form/d)`, `floord(form, d)`, `form mod d`, `min(..)`, `max(..)`, `2i` and `2*i`. An entry of a tuple may be a form.
+between affine forms, and of `<<`, `<<=`, `>>`, `>>=` between lists of them (`i, j << k, l`: lexicographically before), joined by
+`and`, `or`, `not`, `implies` and brackets, with `exists (a, b : ..)`, `true` and `false`; in forms stand `floor(form/d)`,
+`ceil(form/d)`, `floord(form, d)`, `form mod d`, `min(..)`, `max(..)`, `2i` and `2*i`. An entry of a tuple may be a form.
 Of a map `{ A[i, j] -> B[k] : .. }` the first tuple's names are parameters: its answer is the map's lexmin or lexmax.
-What isn't read: `not`, `implies`, `<<` and other comparisons of tuples, nested tuples.
+What isn't read: nested tuples, and `not` of an `exists` whose name neither is a form of others nor stands in one equality alone.
 
 Each part of an `or` is a problem of its own, and `least` puts the answers together. isl's numbers have either sign, the
 program's are from 0 on. So each unknown needs a lower bound among its part's constraints, a form over the parameters and the
@@ -19,351 +20,27 @@ Parameters are from 0 on unless `low` says otherwise: `low={"n": -100}`. What is
 """
 from __future__ import annotations
 
-import itertools
-import math
 import re
-from typing import Callable, Dict, Iterator, List, Mapping, NamedTuple, Optional, Sequence, Set, Tuple
+from typing import Iterator, List, Mapping, Optional, Sequence, Tuple
 
 from .answers import Answer
+from .formulas import Fault, Part, Reader
 from .forms import Atom, Floor, Form, Relation
-from .problems import Problem, replaced
+from .problems import Problem
 from .solver import Solver
 from .trees import Choice, NewParameter, Point, Tree, form_of
-
-_TOKEN = re.compile(r"\s*(->|<=|>=|==|!=|<<|>>|&&|\|\||\d+|[A-Za-z_][A-Za-z0-9_']*|[-+*/%(){}\[\],:;<>=])")
-_COMPARE: Dict[str, Callable[[Form, Form], List[Relation]]] = {
-    "<": lambda a, b: [a < b], "<=": lambda a, b: [a <= b], "=": lambda a, b: [a == b], "==": lambda a, b: [a == b],
-    ">=": lambda a, b: [a >= b], ">": lambda a, b: [a > b], "!=": lambda a, b: [a < b, a > b]}
-_WORDS = ("and", "or", "not", "exists", "mod", "floor", "floord", "ceil", "min", "max", "true", "false", "implies")
-MOST_PARTS = 256  # of the `or` of one set
-
-
-class Fault(ValueError):
-    """What can't be read, and where it stands."""
-
-
-class Part(NamedTuple):
-    """Relations that all hold, and the names of what has to exist."""
-
-    relations: Tuple[Relation, ...]
-    further: Tuple[str, ...]
-
-    def under(self, other: Part) -> Part:
-        return Part(self.relations + other.relations, self.further + other.further)
-
-
-class _Case(NamedTuple):
-    """A form, where these relations hold."""
-
-    held: Tuple[Relation, ...]
-    form: Form
-
-
-class _Tuple(NamedTuple):
-    domain: List[str]  # of a map
-    unknowns: List[str]
-    parts: List[Part]
-
-
-class _Reader:
-    def __init__(self, text: str) -> None:
-        if not isinstance(text, str):
-            raise TypeError(f"a text is wanted, not {text!r}")
-        self.text, self.place = text, 0
-        self.taken: Set[str] = set()  # all names that were given
-
-    # Tokens.
-
-    def peek(self) -> str:
-        match = _TOKEN.match(self.text, self.place)
-        if match:
-            return match.group(1)
-        if self.text[self.place:].strip():
-            raise self.fault("a sign that is not read")
-        return ""
-
-    def take(self) -> str:
-        match = _TOKEN.match(self.text, self.place)
-        if not match:
-            raise self.fault("the text ends, or a sign is not read,")
-        self.place = match.end()
-        return match.group(1)
-
-    def expect(self, wanted: str) -> None:
-        if self.peek() != wanted:
-            raise self.fault(f"`{wanted}` is missing")
-        self.take()
-
-    def has(self, *words: str) -> bool:
-        if self.peek() in words:
-            self.take()
-            return True
-        return False
-
-    def fault(self, words: str) -> Fault:
-        rest = self.text[self.place:].strip()
-        return Fault(f"{words} at `{rest[:20]}`" if rest else f"{words} at the end")
-
-    def is_name(self) -> bool:
-        return bool(re.match(r"[A-Za-z_]", self.peek())) and self.peek() not in _WORDS
-
-    def name(self) -> str:
-        if not self.is_name():
-            raise self.fault("a name is missing")
-        return self.take()
-
-    def fresh(self, name: str) -> str:
-        while name in self.taken:
-            name += "'"
-        self.taken.add(name)
-        return name
-
-    # Sets.
-
-    def whole(self) -> Tuple[List[str], List[_Tuple]]:
-        parameters: List[str] = []
-        if self.has("["):
-            while self.peek() != "]":
-                parameters.append(self.name())
-                if not self.has(","):
-                    break
-            self.expect("]")
-            self.expect("->")
-        self.expect("{")
-        found: List[_Tuple] = []
-        while self.peek() != "}":
-            self.taken = set(parameters)
-            found.append(self.tuple_of({name: name for name in parameters}))
-            if not self.has(";"):
-                break
-        self.expect("}")
-        if self.peek():
-            raise self.fault("more than a set")
-        return parameters, found
-
-    def tuple_of(self, known: Dict[str, str]) -> _Tuple:
-        first, made = self.entries(known, "i")
-        domain: List[str] = []
-        if self.has("->"):
-            domain = first
-            first, more = self.entries(known, "o")
-            made = product(made, more)
-        if self.peek() == "->":
-            raise self.fault("a map of maps is not read")
-        if self.has(":"):
-            made = product(made, self.disjunction(known))
-        return _Tuple(domain, first, made)
-
-    def entries(self, known: Dict[str, str], letter: str) -> Tuple[List[str], List[Part]]:
-        """The names of a tuple; a form in the place of a name is equal to an own name. Adds the names to those known."""
-        if self.peek() != "[":
-            self.name()  # the tuple's
-        self.expect("[")
-        names: List[str] = []
-        made = [Part((), ())]
-        while self.peek() != "]":
-            before = self.place
-            if self.is_name():
-                name = self.take()
-                if name not in known and self.peek() in (",", "]"):
-                    self.taken.add(name)
-                    known[name] = name
-                    names.append(name)
-                    if not self.has(","):
-                        break
-                    continue
-                self.place = before
-            own = self.fresh(f"{letter}{len(names)}")
-            names.append(own)
-            made = product(made, [Part((*case.held, Form({own: 1}) == case.form), ()) for case in self.form(known)])
-            known[own] = own
-            if not self.has(","):
-                break
-        self.expect("]")
-        return names, made
-
-    # Constraints.
-
-    def disjunction(self, known: Mapping[str, str]) -> List[Part]:
-        found = self.conjunction(known)
-        while self.has("or", "||"):
-            found = found + self.conjunction(known)
-        return found
-
-    def conjunction(self, known: Mapping[str, str]) -> List[Part]:
-        found = self.basic(known)
-        while self.has("and", "&&"):
-            found = product(found, self.basic(known))
-        return found
-
-    def basic(self, known: Mapping[str, str]) -> List[Part]:
-        if self.peek() in ("not", "implies"):
-            raise self.fault("`not` and `implies` are not read,")
-        if self.has("true"):
-            return [Part((), ())]
-        if self.has("false"):
-            return []
-        if self.has("exists"):
-            return self.exists(known)
-        if self.peek() == "(":  # a bracket of constraints, or of a form
-            before = self.place
-            try:
-                return self.chain(known)
-            except Fault:
-                self.place = before
-            self.take()
-            found = self.disjunction(known)
-            self.expect(")")
-            return found
-        return self.chain(known)
-
-    def exists(self, known: Mapping[str, str]) -> List[Part]:
-        bracket = self.has("(")
-        own: Dict[str, str] = {}
-        defined: List[Part] = [Part((), ())]
-        while True:
-            name = self.name()
-            own[name] = self.fresh(name)
-            if self.has("="):  # isl writes `exists (e0 = floor((i)/2) : ..)`
-                cases = self.form({**known, **own})
-                defined = product(defined, [Part((*case.held, Form({own[name]: 1}) == case.form), ()) for case in cases])
-            if not self.has(","):
-                break
-        self.expect(":")
-        inner = product(defined, self.disjunction({**known, **own}))
-        if bracket:
-            self.expect(")")
-        return [Part(it.relations, (*own.values(), *it.further)) for it in inner]
-
-    def chain(self, known: Mapping[str, str]) -> List[Part]:
-        left = self.forms(known)
-        if self.peek() not in _COMPARE:
-            raise self.fault("a comparison is missing, or one of tuples,")
-        made = [Part((), ())]
-        while self.peek() in _COMPARE:
-            compare = _COMPARE[self.take()]
-            right = self.forms(known)
-            for one, other in itertools.product(left, right):
-                made = product(made, [Part((*a.held, *b.held, relation), ())
-                                      for a in one for b in other for relation in compare(a.form, b.form)])
-            left = right
-        return made
-
-    # Forms, by cases.
-
-    def forms(self, known: Mapping[str, str]) -> List[List[_Case]]:
-        found = [self.form(known)]
-        while self.has(","):
-            found.append(self.form(known))
-        return found
-
-    def form(self, known: Mapping[str, str]) -> List[_Case]:
-        found = self.term(known)
-        while self.peek() in ("+", "-"):
-            sign = 1 if self.take() == "+" else -1
-            found = [_Case(a.held + b.held, a.form + b.form * sign) for a in found for b in self.term(known)]
-        return found
-
-    def term(self, known: Mapping[str, str]) -> List[_Case]:
-        found = self.factor(known)
-        while True:
-            bare = len(found) == 1 and not found[0].form.terms
-            if self.has("*") or (bare and (self.is_name() or self.peek() in ("(", "floor", "ceil", "floord", "min", "max"))):
-                found = self.times(found, self.factor(known))
-            elif self.has("mod", "%"):
-                divisor = self.whole_number()
-                found = [_Case(it.held, it.form % divisor) for it in found]
-            elif self.has("/"):
-                divisor = self.whole_number()
-                found = [_Case(it.held, it.form / divisor) for it in found]
-            else:
-                return found
-
-    def times(self, first: List[_Case], second: List[_Case]) -> List[_Case]:
-        made = []
-        for a, b in itertools.product(first, second):
-            if a.form.terms and b.form.terms:
-                raise self.fault("a product of two names is not affine,")
-            made.append(_Case(a.held + b.held, b.form * a.form.constant if not a.form.terms else a.form * b.form.constant))
-        return made
-
-    def factor(self, known: Mapping[str, str]) -> List[_Case]:
-        if self.has("-"):
-            return [_Case(it.held, -it.form) for it in self.term(known)]
-        if self.peek().isdigit():
-            return [_Case((), Form({}, int(self.take())))]
-        if self.has("floor"):
-            return [_Case(it.held, _floor(it.form)) for it in self.bracket(known)]
-        if self.has("ceil"):
-            return [_Case(it.held, -_floor(-it.form)) for it in self.bracket(known)]
-        if self.has("floord"):
-            self.expect("(")
-            inner = self.form(known)
-            self.expect(",")
-            divisor = self.whole_number()
-            self.expect(")")
-            return [_Case(it.held, it.form // divisor) for it in inner]
-        if self.peek() in ("min", "max"):
-            return self.choice(self.take() == "min", known)
-        if self.peek() == "(":
-            return self.bracket(known)
-        name = self.name()
-        if name not in known:
-            raise Fault(f"the name {name} is neither a parameter, an unknown nor one of `exists`")
-        return [_Case((), Form({known[name]: 1}))]
-
-    def bracket(self, known: Mapping[str, str]) -> List[_Case]:
-        self.expect("(")
-        inner = self.form(known)
-        self.expect(")")
-        return inner
-
-    def choice(self, least: bool, known: Mapping[str, str]) -> List[_Case]:
-        """The least or the greatest of forms: a case for each, where it is that, and none before it is too."""
-        self.expect("(")
-        found = self.forms(known)
-        self.expect(")")
-        made: List[_Case] = []
-        for picked in itertools.product(*found):
-            held = tuple(relation for it in picked for relation in it.held)
-            for place, own in enumerate(picked):
-                more = []
-                for other_place, other in enumerate(picked):
-                    a, b = (own.form, other.form) if least else (other.form, own.form)
-                    if other_place != place:
-                        more.append(a < b if other_place < place else a <= b)
-                made.append(_Case((*held, *more), own.form))
-        return made
-
-    def whole_number(self) -> int:
-        if not self.peek().isdigit() or int(self.peek()) == 0:
-            raise self.fault("a whole number from 1 on is missing")
-        return int(self.take())
-
-
-def _floor(form: Form) -> Form:
-    return form // 1 if form.terms else Form({}, math.floor(form.constant))
-
-
-def product(first: Sequence[Part], second: Sequence[Part]) -> List[Part]:
-    if len(first) * len(second) > MOST_PARTS:
-        raise Fault(f"the set has more than {MOST_PARTS} parts")
-    return [a.under(b) for a in first for b in second]
-
-
-# ---- Problems ------------------------------------------------------------------------------------------------------
 
 
 def problems(text: str, *, greatest: bool = False, low: Mapping[str, int] = {}, context: str = "") -> List[Problem]:
     """The problems of a set or a map: one for each part of its `or`."""
-    parameters, tuples = _Reader(text).whole()
+    parameters, tuples = Reader(text).whole()
     if len({(tuple(it.domain), len(it.unknowns)) for it in tuples}) > 1:
         raise Fault("the parts of the set have tuples of different lengths, or of a map other names in the first one")
     names = [*parameters, *(tuples[0].domain if tuples else [])]
     known: List[Relation] = []
     if context:
-        reader = _Reader(context)
-        chosen = reader.disjunction({name: name for name in names})
+        reader = Reader(context)
+        chosen = reader.formula({name: name for name in names})
         if len(chosen) != 1 or chosen[0].further or reader.peek():
             raise Fault("a context is one conjunction, without `exists`")
         known = list(chosen[0].relations)
@@ -373,8 +50,8 @@ def problems(text: str, *, greatest: bool = False, low: Mapping[str, int] = {}, 
 
 def _problem(text: str, parameters: Sequence[str], asked: Sequence[str], unknowns: Sequence[str], part: Part, greatest: bool,
              low: Mapping[str, int], context: Sequence[Relation]) -> Problem:
-    named = {own: name for own, name in zip(unknowns, asked) if own != name}
-    relations = [_renamed(relation, named) for relation in part.relations]
+    named = {own: Form({name: 1}) for own, name in zip(unknowns, asked) if own != name}
+    relations = [relation.substitute(named) for relation in part.relations]
     problem = Problem(re.sub(r"[()]", "", text))
     for name in parameters:
         problem.parameter(name, low=low.get(name, 0))
@@ -395,13 +72,6 @@ def _problem(text: str, parameters: Sequence[str], asked: Sequence[str], unknown
     for name in part.further:
         problem.further(name, low=None)
     return problem.where(*relations).context(*context)
-
-
-def _renamed(relation: Relation, names: Mapping[str, str]) -> Relation:
-    def form(own: Form) -> Form:
-        return replaced(own, lambda name: Form({names.get(name, name): 1}))
-
-    return Relation(form(relation.form), relation.kind, relation.modulus) if names else relation
 
 
 def _bound(relations: Sequence[Relation], name: str, before: Sequence[str], sign: int) -> Optional[Form]:

@@ -4,7 +4,7 @@ from __future__ import annotations
 import copy
 import itertools
 from dataclasses import dataclass
-from typing import Callable, Dict, Iterator, List, Mapping, Optional, Sequence, Tuple
+from typing import Dict, Iterator, List, Mapping, Optional, Sequence, Tuple
 
 from .forms import Atom, Column, Floor, Form, FormLike, Number, Relation, as_form, checked_name, checked_relation, divided, row_text
 from .trees import is_one_group
@@ -345,15 +345,6 @@ def whole_rows(form: Form, kind: str) -> List[Form]:
     """The rows of a relation that is no congruence. A strict one is one of whole numbers."""
     form = form.whole()[0]
     return {">=": [form], ">": [form - 1], "==": [form, -form]}[kind]
-
-
-def replaced(form: Form, names: Callable[[str], Form]) -> Form:
-    """A form with its names replaced, those in floors too."""
-    def value(atom: Atom) -> Form:
-        if isinstance(atom, Floor):
-            return replaced(atom.form(), names) // atom.divisor
-        return names(atom) if isinstance(atom, str) else Form({atom: 1})
-    return form.put(value)
 
 
 def numbers_over(form: Form, count: int) -> List[Number]:

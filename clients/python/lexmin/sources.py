@@ -1,17 +1,29 @@
-"""An answer as the source of a function, in Python or in C.
+"""Answers as sources: reads the text of `pip solve` and writes each answer as a function in Python, or in C.
 
-The function takes the parameters in the problem's order. In Python it gives the values of the unknowns that were asked for as a
-tuple, or None where there is no point; in C it writes them and returns 1, or returns 0. It says nothing of parameters outside
-the context. C's numbers are those of `long long`, and nothing is said of a function whose sums pass them.
+    lexmin source [--c] [--name NAME] [--parameters NAMES] [--unknowns NAMES] [FILE]
+
+    $ ./pip solve <examples/tile-of-iteration.pip | lexmin source --name tile --parameters i,N
+
+The function takes the parameters in the problem's order. In Python it gives the values of the unknowns as a tuple, or None where
+there is no point; in C it writes them and returns 1, or returns 0. It says nothing of parameters outside the context. C's
+numbers are those of `long long`, and nothing is said of a function whose sums pass them.
+
+NAMES stand apart by commas, in the order of the problem. Without them parameters are p0, p1, .. Unknowns behind the last one that
+is named are left out. Of several answers the functions are NAME1, NAME2 and so on. Without a FILE the text is standard input.
 """
 from __future__ import annotations
 
+import argparse
+import pathlib
 import re
-from typing import Dict, Iterator, List, Sequence
+import sys
+from typing import Dict, Iterator, List, Optional, Sequence
 
 from .answers import Answer
-from .forms import Floor, Form
-from .trees import Choice, NewParameter, Point, Tree, form_of
+from .drawing import names_of
+from .forms import Column, Floor, Form
+from .problems import Range, Space
+from .trees import Choice, NewParameter, Point, Tree, form_of, groups, leaves, parameter_count, parse_answer
 
 _PLAIN = re.compile(r"[A-Za-z_][A-Za-z0-9_]*")
 _TAKEN = frozenset("""and as assert async await auto break case char class const continue def default del do double elif else enum except extern
@@ -26,19 +38,24 @@ def python_source(answer: Answer, name: str = "lexmin") -> str:
     return "\n".join([head, *writer.lines("    ")]) + "\n"
 
 
-def c_source(answer: Answer, name: str = "lexmin") -> str:
-    """The source of a function in C, with the floor that it calls."""
+C_FLOOR = """static long long floor_of(long long form, long long divisor)
+{
+    return form / divisor - (form % divisor < 0);
+}
+"""
+
+
+def c_source(answer: Answer, name: str = "lexmin", *, floor: bool = True) -> str:
+    """The source of a function in C, with the floor that it calls, where that does not stand in the same file already."""
     writer = _Writer(answer, name, c=True)
     taken = [f"long long {own}" for own in writer.parameters] + ["long long *point"]
-    floor = "\n".join(["static long long floor_of(long long form, long long divisor)", "{",
-                       "    return form / divisor - (form % divisor < 0);", "}"])
-    head = f"int {name}({', '.join(taken)})"
-    return "\n".join([floor, "", head, "{", *writer.lines("    "), "}"]) + "\n"
+    lines = [f"int {name}({', '.join(taken)})", "{", *writer.lines("    "), "}"]
+    return (C_FLOOR + "\n" if floor and any("floor_of(" in line for line in lines) else "") + "\n".join(lines) + "\n"
 
 
 class _Writer:
     def __init__(self, answer: Answer, name: str, c: bool) -> None:
-        if not _PLAIN.fullmatch(name):
+        if not _PLAIN.fullmatch(name) or (name in _TAKEN and name != "lexmin"):
             raise ValueError(f"{name!r} can't be the name of a function")
         self.answer, self.c = answer, c
         self.names: Dict[str, str] = {}
@@ -97,3 +114,54 @@ class _Writer:
             terms.append(f"{'-' if form.constant < 0 else '+'} {abs(form.constant)}")
         text = " ".join(terms)
         return text[2:] if text.startswith("+ ") else "-" + text[2:]
+
+
+# ---- The command ---------------------------------------------------------------------------------------------------
+
+
+def read_answer(text: str, parameters: Optional[Sequence[str]] = None, unknowns: Optional[Sequence[str]] = None) -> Answer:
+    """An answer's text with names for its places."""
+    comment, tree = parse_answer(text)
+    count = parameter_count(tree)
+    names = [f"p{place}" for place in range(count or 0)] if parameters is None else parameters
+    if count is not None and len(names) != count:
+        raise ValueError(f"{len(names)} names of parameters for an answer over {count}")
+    components = min((len(leaf.components) for leaf in leaves(tree) if isinstance(leaf, Point)), default=len(unknowns or ()))
+    own = [f"x{place}" for place in range(components)] if unknowns is None else unknowns
+    if len(own) > components:
+        raise ValueError(f"{len(own)} names of unknowns for points of {components}")
+    points = {name: Form({Column(False, place): 1}) for place, name in enumerate(own)}
+    return Answer(Space(comment, {name: Range(0) for name in names}, [], points), text, tree)
+
+
+def sources(texts: Sequence[str], name: str, parameters: Optional[Sequence[str]], unknowns: Optional[Sequence[str]],
+            as_c: bool) -> Iterator[str]:
+    """The functions of answers, one after the other."""
+    for number, text in enumerate(texts, 1):
+        own = name if len(texts) == 1 else f"{name}{number}"
+        answer = read_answer(text, parameters, unknowns)
+        yield c_source(answer, own, floor=False) if as_c else python_source(answer, own)
+
+
+def main(words: Sequence[str]) -> int:
+    parser = argparse.ArgumentParser(prog="lexmin source", description=__doc__, formatter_class=argparse.RawDescriptionHelpFormatter)
+    parser.add_argument("--c", action="store_true", help="functions in C in place of Python")
+    parser.add_argument("--name", default="lexmin", help="the name of the function")
+    parser.add_argument("--parameters", metavar="NAMES", help="the names of the parameters, apart by commas")
+    parser.add_argument("--unknowns", metavar="NAMES", help="the names of the unknowns, apart by commas")
+    parser.add_argument("file", nargs="?", type=pathlib.Path, help="the answers; standard input where none is named")
+    chosen = parser.parse_args(words)
+    try:
+        data = chosen.file.read_bytes() if chosen.file else sys.stdin.buffer.read()
+        texts = groups(data.decode(errors="replace"))
+        if not texts:
+            raise ValueError("no answer in the text")
+        made = list(sources(texts, chosen.name, names_of(chosen.parameters), names_of(chosen.unknowns), chosen.c))
+        floor = [C_FLOOR] if chosen.c and any("floor_of(" in source for source in made) else []
+        print("\n".join([*floor, *made]), end="")
+    except BrokenPipeError:
+        raise
+    except (OSError, ValueError) as error:
+        print(f"lexmin source: {error}", file=sys.stderr)
+        return 1
+    return 0

@@ -1,0 +1,120 @@
+"""Runs a function as C does, and notes of each read which assignment wrote last what it reads, and in which turn."""
+from __future__ import annotations
+
+import math
+from typing import Callable, Dict, Iterator, Mapping, Optional, Tuple, Union
+
+from syntax import Assignment, Block, Call, Element, Expression, Fault, For, Function, If, Name, Number, Statement, Unary
+
+Value = Union[int, float]
+Cell = Tuple[str, Tuple[int, ...]]
+Instance = Tuple[int, Tuple[int, ...]]  # an assignment by its number, and the values of the loop variables around it
+Read = Tuple[int, int, Tuple[int, ...]]  # of an assignment's reads one by its number, in a turn
+
+
+def truncated(one: Value, other: Value) -> Value:
+    """The quotient, of two ints the one that C makes."""
+    if isinstance(one, int) and isinstance(other, int):
+        return abs(one) // abs(other) * (1 if (one < 0) == (other < 0) else -1)
+    if other == 0:
+        return math.nan if one == 0 or one != one else math.copysign(math.inf, one) * math.copysign(1, other)
+    return one / other
+
+
+def root(value: Value) -> float:
+    return math.sqrt(value) if value >= 0 else math.nan
+
+
+OPERATIONS: Dict[str, Callable[[Value, Value], Value]] = {
+    "+": lambda a, b: a + b, "-": lambda a, b: a - b, "*": lambda a, b: a * b, "/": truncated,
+    "%": lambda a, b: a - truncated(a, b) * b,
+    "<": lambda a, b: int(a < b), "<=": lambda a, b: int(a <= b), ">": lambda a, b: int(a > b), ">=": lambda a, b: int(a >= b),
+    "==": lambda a, b: int(a == b), "!=": lambda a, b: int(a != b)}
+FUNCTIONS: Dict[str, Callable[..., Value]] = {"sqrt": root, "fmin": min, "fmax": max, "min": min, "max": max, "fabs": abs}
+
+
+def first_value(place: int, subscripts: Tuple[int, ...]) -> float:
+    """What an element of the place-th array or scalar holds at the beginning: from 1/8 to 11/8."""
+    total = 7 * place + sum(number * own for number, own in zip((3, 5, 2), subscripts))
+    return (total % 11 + 1) / 8
+
+
+class Execution:
+    """A run of a function. `sources` has each read with the instance that wrote last what it reads, none where nothing did;
+    `cells` what was read or written, with what it holds at the end."""
+
+    def __init__(self, function: Function, sizes: Mapping[str, int]) -> None:
+        self.sizes = dict(sizes)
+        self.names: Dict[str, int] = dict(sizes)
+        self.variables: Tuple[int, ...] = ()
+        self.places = {name: place for place, name in enumerate(function.data)}
+        self.cells: Dict[Cell, Value] = {}
+        self.writers: Dict[Cell, Instance] = {}
+        self.sources: Dict[Read, Optional[Instance]] = {}
+        for condition, line in function.known:
+            if not self.value(condition):
+                raise Fault(line, f"what is asserted does not hold at {dict(sizes)}")
+        self.lengths = {name: tuple(int(self.value(own)) for own in lengths) for name, lengths in function.data.items()}
+        self.block(function.body)
+
+    def block(self, block: Block) -> None:
+        for statement in block:
+            self.statement(statement)
+
+    def statement(self, statement: Statement) -> None:
+        if isinstance(statement, Assignment):
+            self.assign(statement)
+        elif isinstance(statement, If):
+            self.block(statement.yes if self.value(statement.condition) else statement.no)
+        else:
+            around = self.variables
+            for number in self.turns(statement):
+                self.variables = (*around, number)
+                self.block(statement.body)
+            self.variables = around
+            self.names.pop(statement.variable, None)
+
+    def turns(self, loop: For) -> Iterator[int]:
+        number = int(self.value(loop.first))
+        while True:
+            self.names[loop.variable] = number
+            if not OPERATIONS[loop.comparison](number, self.value(loop.bound)):
+                return
+            yield number
+            number += loop.step
+
+    def assign(self, statement: Assignment) -> None:
+        for place, element in enumerate(statement.reads()):
+            self.sources[statement.number, place, self.variables] = self.writers.get(self.cell(element, statement.line))
+        target = self.cell(statement.target, statement.line)
+        value = self.value(statement.value)
+        if statement.operator != "=":
+            value = OPERATIONS[statement.operator[0]](self.held(target), value)
+        self.cells[target] = float(value)
+        self.writers[target] = (statement.number, self.variables)
+
+    def cell(self, element: Element, line: int) -> Cell:
+        found = tuple(int(self.value(own)) for own in element.subscripts)
+        if not all(0 <= own < length for own, length in zip(found, self.lengths[element.array])):
+            raise Fault(line, f"{element.text} is outside its array at {self.names}")
+        return element.array, found
+
+    def held(self, cell: Cell) -> Value:
+        return self.cells.setdefault(cell, first_value(self.places[cell[0]], cell[1]))
+
+    def value(self, expression: Expression) -> Value:
+        if isinstance(expression, Number):
+            return expression.value
+        if isinstance(expression, Name):
+            return self.names[expression.name]
+        if isinstance(expression, Element):
+            return self.held((expression.array, tuple(int(self.value(own)) for own in expression.subscripts)))
+        if isinstance(expression, Call):
+            return FUNCTIONS[expression.function](*map(self.value, expression.arguments))
+        if isinstance(expression, Unary):
+            value = self.value(expression.operand)
+            return -value if expression.operator == "-" else int(not value)
+        if expression.operator in ("&&", "||"):
+            left = bool(self.value(expression.left))
+            return int(left if left == (expression.operator == "||") else bool(self.value(expression.right)))
+        return OPERATIONS[expression.operator](self.value(expression.left), self.value(expression.right))

@@ -1,0 +1,382 @@
+"""Reads the part of C that loop nests are written in: functions over arrays and numbers, with `for`, `if`, `assert` and assignments.
+
+    functions = read(text)
+
+`int` parameters are sizes, `double` ones data. Loop variables are ints that only their loop changes. Comments and lines that
+begin with `#` are passed over.
+"""
+from __future__ import annotations
+
+import re
+from dataclasses import dataclass, field
+from typing import Dict, Iterator, List, Tuple, Union
+
+
+class Fault(ValueError):
+    """What can't be read, or can't be analysed, and in which line it stands."""
+
+    def __init__(self, line: int, words: str) -> None:
+        super().__init__(f"line {line}: {words}")
+
+
+# ---- What is read --------------------------------------------------------------------------------------------------
+
+
+@dataclass(frozen=True)
+class Number:
+    value: Union[int, float]
+
+
+@dataclass(frozen=True)
+class Name:
+    """A size or a loop variable."""
+
+    name: str
+
+
+@dataclass(frozen=True)
+class Element:
+    """An element of an array; a scalar has no subscripts."""
+
+    array: str
+    subscripts: Tuple[Expression, ...]
+    text: str = field(compare=False)
+
+
+@dataclass(frozen=True)
+class Call:
+    function: str
+    arguments: Tuple[Expression, ...]
+
+
+@dataclass(frozen=True)
+class Unary:
+    operator: str
+    operand: Expression
+
+
+@dataclass(frozen=True)
+class Binary:
+    operator: str
+    left: Expression
+    right: Expression
+
+
+Expression = Union[Number, Name, Element, Call, Unary, Binary]
+
+
+@dataclass(frozen=True)
+class Assignment:
+    number: int  # of the function's assignments, in their order, from 0 on
+    target: Element
+    operator: str  # "=" or one with an operation, as "+="
+    value: Expression
+    line: int
+    text: str
+
+    def reads(self) -> List[Element]:
+        """The elements that it reads, in their order; its own first where it adds to it."""
+        return [*([self.target] if self.operator != "=" else []), *elements(self.value)]
+
+
+@dataclass(frozen=True)
+class For:
+    variable: str
+    first: Expression
+    comparison: str
+    bound: Expression
+    step: int
+    body: Block
+    line: int
+
+
+@dataclass(frozen=True)
+class If:
+    condition: Expression
+    yes: Block
+    no: Block
+    line: int
+
+
+Statement = Union[Assignment, For, If]
+Block = Tuple[Statement, ...]
+
+
+@dataclass(frozen=True)
+class Function:
+    name: str
+    sizes: Tuple[str, ...]
+    data: Dict[str, Tuple[Expression, ...]]  # of each array its lengths; those of the parameters first
+    parameters: Tuple[str, ...]  # all of them, in their order
+    known: Tuple[Tuple[Expression, int], ...]  # what it asserts of the sizes, with the lines
+    body: Block
+
+
+def elements(expression: Expression) -> Iterator[Element]:
+    """The elements in an expression, from left to right. Those in subscripts are none of data."""
+    if isinstance(expression, Element):
+        yield expression
+    elif isinstance(expression, Call):
+        for argument in expression.arguments:
+            yield from elements(argument)
+    elif isinstance(expression, Unary):
+        yield from elements(expression.operand)
+    elif isinstance(expression, Binary):
+        yield from elements(expression.left)
+        yield from elements(expression.right)
+
+
+def assignments(block: Block) -> Iterator[Assignment]:
+    for statement in block:
+        if isinstance(statement, Assignment):
+            yield statement
+        elif isinstance(statement, For):
+            yield from assignments(statement.body)
+        else:
+            yield from assignments(statement.yes)
+            yield from assignments(statement.no)
+
+
+# ---- Reading -------------------------------------------------------------------------------------------------------
+
+_PASSED = re.compile(r"/\*.*?\*/|//[^\n]*|^[ \t]*#[^\n]*", re.DOTALL | re.MULTILINE)
+_TOKEN = re.compile(r"\s*(\d+\.\d*(?:[eE][-+]?\d+)?|\d+|[A-Za-z_]\w*|[<>=!]=|&&|\|\||\+\+|--|[-+*/]=|[-+*/%<>=!;,(){}\[\]])")
+_WEIGHTS = {"||": 1, "&&": 2, "==": 3, "!=": 3, "<": 4, "<=": 4, ">": 4, ">=": 4, "+": 5, "-": 5, "*": 6, "/": 6, "%": 6}
+_WORDS = frozenset("int double void for if else assert const while do return break continue goto switch".split())
+
+
+def read(text: str) -> List[Function]:
+    """The functions of a text; a Fault where something in it is not read."""
+    blanked = _PASSED.sub(lambda found: re.sub(r"[^\n]", " ", found.group()), text)
+    reader = _Reader(blanked)
+    functions: List[Function] = []
+    while reader.peek():
+        functions.append(reader.function())
+    return functions
+
+
+class _Reader:
+    def __init__(self, text: str) -> None:
+        self.text, self.place, self.end = text, 0, 0
+        self.sizes: List[str] = []
+        self.data: Dict[str, Tuple[Expression, ...]] = {}
+        self.variables: List[str] = []  # of the loops around
+        self.count = 0
+
+    # Tokens.
+
+    def peek(self) -> str:
+        found = _TOKEN.match(self.text, self.place)
+        if found is None and self.text[self.place:].strip():
+            raise self.fault("this is not read")
+        return found.group(1) if found else ""
+
+    def take(self) -> str:
+        word = self.peek()
+        found = _TOKEN.match(self.text, self.place)
+        self.place = self.end = found.end() if found else len(self.text)
+        return word
+
+    def has(self, *words: str) -> bool:
+        if self.peek() in words:
+            self.take()
+            return True
+        return False
+
+    def expect(self, wanted: str) -> None:
+        if not self.has(wanted):
+            raise self.fault(f"`{wanted}` is missing before `{self.peek()}`")
+
+    def begin(self) -> int:
+        """Where the next token begins."""
+        return self.place + len(self.text[self.place:]) - len(self.text[self.place:].lstrip())
+
+    def line(self) -> int:
+        return self.text.count("\n", 0, self.begin()) + 1
+
+    def fault(self, words: str) -> Fault:
+        return Fault(self.line(), words)
+
+    def since(self, begin: int) -> str:
+        return " ".join(self.text[begin:self.end].split())
+
+    def name(self) -> str:
+        if not re.match(r"[A-Za-z_]", self.peek()) or self.peek() in _WORDS:
+            raise self.fault(f"a name is missing before `{self.peek()}`")
+        return self.take()
+
+    def new_name(self) -> str:
+        found = self.name()
+        if found in self.sizes or found in self.data or found in self.variables:
+            raise self.fault(f"the name {found} is taken")
+        return found
+
+    # Functions and statements.
+
+    def function(self) -> Function:
+        self.sizes, self.data, self.variables, self.count = [], {}, [], 0
+        self.expect("void")
+        name = self.name()
+        self.expect("(")
+        parameters: List[str] = []
+        while True:
+            self.has("const")
+            is_size = self.has("int")
+            if not is_size:
+                self.expect("double")
+            parameters.append(self.new_name())
+            if is_size:
+                self.sizes.append(parameters[-1])
+            else:
+                self.data[parameters[-1]] = tuple(self.subscripts())
+            if not self.has(","):
+                break
+        self.expect(")")
+        self.expect("{")
+        known: List[Tuple[Expression, int]] = []
+        while self.peek() == "assert":
+            line = self.line()
+            self.take()
+            known.append((self.expression(), line))
+            self.expect(";")
+        body = self.rest_of_block()
+        return Function(name, tuple(self.sizes), self.data, tuple(parameters), tuple(known), body)
+
+    def rest_of_block(self) -> Block:
+        found: List[Statement] = []
+        while not self.has("}"):
+            found += self.statement()
+        return tuple(found)
+
+    def statement(self) -> List[Statement]:
+        if self.has(";"):
+            return []
+        if self.has("{"):
+            return list(self.rest_of_block())
+        if self.peek() == "for":
+            return [self.loop()]
+        if self.peek() == "if":
+            return [self.branch()]
+        if self.has("double"):
+            return self.declaration()
+        return [self.assignment()]
+
+    def declaration(self) -> List[Statement]:
+        made: List[Statement] = []
+        while True:
+            begin, line = self.begin(), self.line()
+            name = self.new_name()
+            self.data[name] = tuple(self.subscripts())
+            if not self.data[name] and self.has("="):
+                value = self.expression()
+                made.append(self.made(Element(name, (), name), "=", value, line, begin))
+            if not self.has(","):
+                self.expect(";")
+                return made
+
+    def assignment(self) -> Statement:
+        begin, line = self.begin(), self.line()
+        target = self.factor()
+        if not isinstance(target, Element):
+            raise Fault(line, "an assignment to an element or a scalar belongs here")
+        operator = self.take()
+        if operator not in ("=", "+=", "-=", "*=", "/="):
+            raise Fault(line, f"an assignment belongs here, not `{operator}`")
+        value = self.expression()
+        statement = self.made(target, operator, value, line, begin)
+        self.expect(";")
+        return statement
+
+    def made(self, target: Element, operator: str, value: Expression, line: int, begin: int) -> Assignment:
+        self.count += 1
+        return Assignment(self.count - 1, target, operator, value, line, self.since(begin))
+
+    def loop(self) -> For:
+        line = self.line()
+        self.expect("for")
+        self.expect("(")
+        self.expect("int")
+        variable = self.new_name()
+        self.expect("=")
+        first = self.expression()
+        self.expect(";")
+        self.variables.append(variable)
+        if self.take() != variable or self.peek() not in ("<", "<=", ">", ">="):
+            raise Fault(line, f"a loop ends by {variable} beside its bound, as `{variable} < N`")
+        comparison = self.take()
+        bound = self.expression()
+        self.expect(";")
+        step = self.step(variable)
+        self.expect(")")
+        if (step > 0) != (comparison in ("<", "<=")):
+            raise Fault(line, f"the step of {variable} leads away from its bound")
+        body = tuple(self.statement())
+        self.variables.pop()
+        return For(variable, first, comparison, bound, step, body, line)
+
+    def step(self, variable: str) -> int:
+        if self.peek() in ("++", "--"):
+            step = 1 if self.take() == "++" else -1
+            self.expect(variable)
+            return step
+        self.expect(variable)
+        word = self.take()
+        if word in ("++", "--"):
+            return 1 if word == "++" else -1
+        if word not in ("+=", "-=") or not self.peek().isdigit() or int(self.peek()) == 0:
+            raise self.fault("a step is `++`, `--`, or `+=` or `-=` of a number")
+        return int(self.take()) * (1 if word == "+=" else -1)
+
+    def branch(self) -> If:
+        line = self.line()
+        self.expect("if")
+        self.expect("(")
+        condition = self.expression()
+        self.expect(")")
+        yes = tuple(self.statement())
+        no = tuple(self.statement()) if self.has("else") else ()
+        return If(condition, yes, no, line)
+
+    # Expressions.
+
+    def expression(self, weight: int = 1) -> Expression:
+        left = self.factor()
+        while _WEIGHTS.get(self.peek(), 0) >= weight:
+            operator = self.take()
+            left = Binary(operator, left, self.expression(_WEIGHTS[operator] + 1))
+        return left
+
+    def factor(self) -> Expression:
+        if self.peek() in ("-", "!"):
+            return Unary(self.take(), self.factor())
+        if self.has("("):
+            inner = self.expression()
+            self.expect(")")
+            return inner
+        if re.match(r"\d", self.peek()):
+            word = self.take()
+            return Number(int(word) if word.isdigit() else float(word))
+        begin = self.begin()
+        name = self.name()
+        if self.has("("):
+            return Call(name, self.arguments())
+        if name in self.sizes or name in self.variables:
+            return Name(name)
+        if name not in self.data:
+            raise self.fault(f"{name} is not declared")
+        subscripts = tuple(self.subscripts())
+        if len(subscripts) != len(self.data[name]):
+            raise self.fault(f"{name} has {len(self.data[name])} subscripts")
+        return Element(name, subscripts, self.since(begin))
+
+    def arguments(self) -> Tuple[Expression, ...]:
+        found = [self.expression()]
+        while self.has(","):
+            found.append(self.expression())
+        self.expect(")")
+        return tuple(found)
+
+    def subscripts(self) -> Iterator[Expression]:
+        while self.has("["):
+            yield self.expression()
+            self.expect("]")
