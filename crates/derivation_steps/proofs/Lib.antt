@@ -1,3 +1,4 @@
 mod Words
 pub mod Sums
 pub mod Steps
+pub mod Spreading

@@ -1,5 +1,5 @@
 -- What a step derives comes behind the known forms.
-use Rattle.derivation_steps.proofs.Words.{◌≡◌, refl, ap, ◌∙◌, ℕ, suc, ◌+◌, ◌-◌, ◌<◌, ℤ, pos, List, [], ◌∷◌, ◌++◌, length, replicate, Bool, true, false, arith, Ok, Err, slice_index_or, int_le, ◌>>=◌, ◌>>◌, Step, Spot, Checks, holds, sum_of, is_divisible, derived, after_step, is_absurd, ends_absurd}
+use Rattle.derivation_steps.proofs.Words.{◌≡◌, refl, ap, ◌∙◌, ℕ, ◌+◌, ℤ, pos, List, [], ◌∷◌, ◌++◌, replicate, Bool, true, false, Ok, Err, int_le, ◌>>=◌, ◌>>◌, Step, Spot, Checks, holds, sum_of, is_divisible, derived, after_step}
 use Rattle.derivation_steps.specs.Steps.{derived_from}
 
 module _ (at : Spot) (known : List (List ℤ)) where

@@ -1,8 +1,13 @@
 -- What a step derives.
-use Rattle.std.specs.Prelude.{ℤ, List, Ok}
+use Rattle.std.specs.Prelude.{ℕ, ℤ, List, Ok, map}
 use Rattle.pip_model.specs.Reading.{◌>>=◌, ◌>>◌}
+use Rattle.pip_model.specs.Forms.{widen_to}
 use Rattle.pip_model.specs.Certificate.{Step}
 use Rattle.pip_model.specs.Check.{Spot, Checks, holds, sum_of, is_divisible, derived}
+
+-- forms, each over the first of so many places, read over all of them
+abbrev pub read_over : ℕ → List (List ℤ) → List (List ℤ)
+read_over w forms = map (widen_to w) forms
 
 -- the form that a step derives, begun with this sum
 abbrev pub derived_from : Spot → List (List ℤ) → List ℤ → Step → Checks (List ℤ)

@@ -3,8 +3,12 @@
 
 mod fault;
 mod step;
+mod step_sum;
 mod sum;
+mod trimming;
 
 pub use fault::{Fault, Spot};
 pub use step::derive;
+pub use step_sum::StepSum;
 pub use sum::{add_multiple, zeros};
+pub use trimming::trimmed;

@@ -1,12 +1,9 @@
-ghost use Rattle.std.specs.Prelude.{◌≡◌, ◌+◌, ◌+ℤ◌, pos, replicate, ◌*ℤ◌, ◌&&◌, [], ◌∷◌, true, false, nat_lt, unsigned_abs, length, slice_index_or, All, IfOk, OnOk, MatchOption};
-ghost use Rattle.pip_model.specs.Numbers.{is_nonneg};
-ghost use Rattle.pip_model.specs.Agreement.{IsChecked, Agrees};
+ghost use Rattle.std.specs.Prelude.{◌≡◌, ◌+◌, ◌+ℤ◌, pos, replicate, ◌*ℤ◌, ◌≤◌, [], ◌∷◌, ◌++◌, length, take, drop, All, IfOk, OnOk};
+ghost use Rattle.pip_model.specs.Agreement.{IsChecked};
 ghost use Rattle.pip_model.specs.Check as model;
 ghost use Rattle.affine_forms.specs.Checks.{Fits, is_overflow};
-ghost use Rattle.derivation_steps.specs.Faults.{fault_of, spot_of};
 
-use crate::fault::{Fault, Spot};
-use affine_forms::{Form, Overflow, WantOfMemory, plus, times};
+use affine_forms::{Overflow, WantOfMemory, plus, times};
 use std::alloc::Global;
 
 /// A sum of no terms, over so many places.
@@ -23,7 +20,7 @@ pub fn zeros(alloc: Global, width: usize) -> Result<Vec<i128>, WantOfMemory>
 }
 
 // The next entry, `sum + m*c`.
-fn add_product(sum: i128, m: i128, c: i128) -> Result<i128, Overflow>
+pub(crate) fn add_product(sum: i128, m: i128, c: i128) -> Result<i128, Overflow>
     ensures listed { IsChecked is_overflow ((m *ℤ c) ∷ (sum +ℤ m *ℤ c) ∷ []) result }
     ensures value { IfOk result (λ z. z ≡ sum +ℤ m *ℤ c) }
     ensures fits { IfOk result Fits }
@@ -46,54 +43,18 @@ pub fn add_multiple(sum: &mut [i128], m: i128, c: &[i128]) -> Result<(), Overflo
     Ok(())
 }
 
-// The known form that an index names.
-fn form_of_index(known: &[Form], index: i128) -> Option<&Form>
-    ensures { MatchOption result
-        ((is_nonneg index && nat_lt (unsigned_abs index) (length known.now)) ≡ false)
-        (λ c. ((is_nonneg index && nat_lt (unsigned_abs index) (length known.now)) ≡ true)
-        × (c.now ≡ slice_index_or known.now (unsigned_abs index) [])) }
+// Adds m times the numbers to the sum's first ones.
+pub(crate) fn add_front(sum: &mut Vec<i128>, m: i128, c: &[i128]) -> Result<(), Overflow>
+    requires lengths { length c.now ≤ length sum.old.items }
+    requires fits { All Fits sum.old.items }
+    ensures listed { IsChecked is_overflow
+        (model.plus_term_listed (take (length c.now) sum.old.items) m c.now) result }
+    ensures ok { OnOk result (sum.new.items
+        ≡ model.plus_term (take (length c.now) sum.old.items) m c.now ++ drop (length c.now) sum.old.items) }
+    ensures fits { All Fits sum.new.items }
+    ensures same { length sum.new.items ≡ length sum.old.items }
 {
-    if 0 <= index && index.unsigned_abs() < known.len() as u128 {
-        Some(&known[index as usize])
-    } else {
-        None
-    }
-}
-
-// Adds a pair's multiple of the known form that its index names.
-fn add_term(at: Spot, known: &[Form], sum: &mut [i128], term: (i128, i128)) -> Result<(), Fault>
-    requires widths { All (λ c. length c ≡ length sum.old) known.now }
-    requires fits { All Fits sum.old }
-    ensures gives { Agrees (λ _. sum.new) fault_of result (model.sum_of (spot_of at) known.now sum.old (term ∷ [])) }
-    ensures fits { All Fits sum.new }
-{
-    let (index, multiplier) = term;
-    if multiplier < 0 {
-        return Err(Fault::Rejected(at));
-    }
-    let Some(form) = form_of_index(known, index) else {
-        return Err(Fault::Rejected(at));
-    };
-    match add_multiple(sum, multiplier, form.as_slice()) {
-        Ok(()) => Ok(()),
-        Err(Overflow) => Err(Fault::Overflow(at)),
-    }
-}
-
-// Adds the multiples of all pairs, in order.
-pub(crate) fn add_terms(
-    at: Spot,
-    known: &[Form],
-    sum: &mut [i128],
-    terms: &[(i128, i128)],
-) -> Result<(), Fault>
-    requires widths { All (λ c. length c ≡ length sum.old) known.now }
-    requires fits { All Fits sum.old }
-    ensures gives { Agrees (λ _. sum.new) fault_of result (model.sum_of (spot_of at) known.now sum.old terms.now) }
-    ensures fits { All Fits sum.new }
-{
-    for term in terms {
-        add_term(at, known, sum, *term)?;
-    }
+    let (head, _) = sum.split_at_mut(c.len());
+    add_multiple(head, m, c)?;
     Ok(())
 }

@@ -9,6 +9,7 @@ ghost use Rattle.derivation_steps.specs.Faults.{fault_of};
 ghost use Rattle.leaf_check.specs.Leaves.{case_of, own_premises, AreWide, IsLeaf, nothing, goal_count, IsGoal, AreTurned, has_shape as has_shape_of};
 ghost use Rattle.leaf_check.specs.Known.{ArePushed};
 
+use crate::derivation::Derivation;
 use crate::goals::{row_goal, sign_goal};
 use crate::known::Known;
 use affine_forms::{Form, FormRefusal, WantOfMemory};
@@ -295,8 +296,37 @@ impl Leaf<'_> {
         }
     }
 
-    // The same, with the place of the refutation.
-    fn push_goal_at(&self, alloc: Global, known: &mut Known, r: usize) -> Result<(), Fault>
+    // The forms of a refutation's own, from 0, with the place of the refutation where they are refused.
+    fn goal_at(&self, alloc: Global, r: usize) -> Result<Known, Fault>
+        requires leaf { IsLeaf self.now.problem.now (case_of self.now) }
+        requires whole { IsTrue (model.is_whole_list self.now.problem.now.unknowns (option_copied self.now.list)) }
+        requires place { r < length (own_premises self.now) }
+        requires small { r + 1 < 2 ^ 64 }
+        ensures listed { Agrees (λ _. tt) fault_of result
+            (model.fit (model.spot self.now.number (r + 1) 0)
+            (slice_index_or (own_premises self.now) r nothing).listed) }
+        ensures ok { IfOk result (λ goal. goal ≡ record {
+          width = self.now.scope + self.now.problem.now.unknowns;
+          forms = (slice_index_or (own_premises self.now) r nothing).known;
+        }) }
+    {
+        let Some(width) = self.scope.checked_add(self.problem.unknowns()) else {
+            return Err(Fault::WantOfMemory);
+        };
+        let mut goal = Known::new(alloc, width);
+        match self.push_goal(alloc, &mut goal, r) {
+            Ok(()) => Ok(goal),
+            Err(FormRefusal::Overflow) => Err(Fault::Overflow(Spot {
+                leaf: self.number,
+                refutation: r + 1,
+                step: 0,
+            })),
+            Err(FormRefusal::WantOfMemory) => Err(Fault::WantOfMemory),
+        }
+    }
+
+    // Puts the forms of a refutation's own, from 0, behind the others.
+    fn push_goal_at(&self, alloc: Global, known: &mut Derivation, r: usize) -> Result<(), Fault>
         requires leaf { IsLeaf self.now.problem.now (case_of self.now) }
         requires whole { IsTrue (model.is_whole_list self.now.problem.now.unknowns (option_copied self.now.list)) }
         requires width { known.old.width ≡ self.now.scope + self.now.problem.now.unknowns }
@@ -310,15 +340,9 @@ impl Leaf<'_> {
               (own_premises self.now) r nothing).known;
         }) }
     {
-        match self.push_goal(alloc, known, r) {
-            Ok(()) => Ok(()),
-            Err(FormRefusal::Overflow) => Err(Fault::Overflow(Spot {
-                leaf: self.number,
-                refutation: r + 1,
-                step: 0,
-            })),
-            Err(FormRefusal::WantOfMemory) => Err(Fault::WantOfMemory),
-        }
+        let goal = self.goal_at(alloc, r)?;
+        known.push_all(alloc, goal.as_slice())?;
+        Ok(())
     }
 
     // Checks a refutation, from 0, behind the leaf's known forms, which are as they were where it succeeds.
@@ -326,7 +350,7 @@ impl Leaf<'_> {
     fn refute_goal(
         &self,
         alloc: Global,
-        known: &mut Known,
+        known: &mut Derivation,
         r: usize,
         steps: &[Step],
     ) -> Result<(), Fault>
@@ -351,7 +375,7 @@ impl Leaf<'_> {
     fn refute_all(
         &self,
         alloc: Global,
-        known: &mut Known,
+        known: &mut Derivation,
         refutations: &[Refutation],
     ) -> Result<(), Fault>
         requires leaf { IsLeaf self.now.problem.now (case_of self.now) }
@@ -369,6 +393,20 @@ impl Leaf<'_> {
         Ok(())
     }
 
+    // The forms that each refutation of the leaf starts from, as the check keeps them.
+    fn start_derivation(&self, alloc: Global) -> Result<Derivation, WantOfMemory>
+        requires { IsLeaf self.now.problem.now (case_of self.now) }
+        ensures { IfOk result (λ k. k ≡ record {
+          width = self.now.scope + self.now.problem.now.unknowns;
+          forms = model.scope_forms self.now.problem.now (case_of self.now);
+        }) }
+    {
+        let start = self.start(alloc)?;
+        let mut known = Derivation::new(alloc, start.width());
+        known.push_all(alloc, start.as_slice())?;
+        Ok(known)
+    }
+
     // Checks the shared steps and the refutations, of which there are as many as the leaf has.
     fn check_proofs(&self, alloc: Global, proofs: &LeafProofs) -> Result<(), Fault>
         requires leaf { IsLeaf self.now.problem.now (case_of self.now) }
@@ -379,7 +417,7 @@ impl Leaf<'_> {
             (self.now.scope + self.now.problem.now.unknowns) (model.leaf_forms self.now.problem.now (case_of self.now))
             (own_premises self.now) proofs.now) }
     {
-        let mut known = self.start(alloc)?;
+        let mut known = self.start_derivation(alloc)?;
         known.add_steps(alloc, self.number, 0, proofs.shared().as_slice())?;
         self.refute_all(alloc, &mut known, proofs.as_slice())
     }

@@ -1,6 +1,7 @@
 //! The check of a leaf by its proofs: the forms that a refutation starts from, and those that its steps derive.
 #![tactic(auto)]
 
+mod derivation;
 mod forms;
 mod goals;
 mod known;

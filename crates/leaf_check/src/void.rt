@@ -3,6 +3,7 @@ ghost use Rattle.pip_model.specs.Agreement.{Agrees};
 ghost use Rattle.pip_model.specs.Check as model;
 ghost use Rattle.derivation_steps.specs.Faults.{fault_of};
 
+use crate::derivation::Derivation;
 use crate::known::Known;
 use affine_forms::WantOfMemory;
 use certificate_parts::LeafProofs;
@@ -23,6 +24,19 @@ pub fn void_forms(alloc: Global, problem: &Problem) -> Result<Known, WantOfMemor
     Ok(known)
 }
 
+// The same, as the check keeps them.
+fn void_derivation(alloc: Global, problem: &Problem) -> Result<Derivation, WantOfMemory>
+    ensures { IfOk result (λ k. k ≡ record {
+      width = problem.now.params;
+      forms = (model.void_forms problem.now).known;
+    }) }
+{
+    let start = void_forms(alloc, problem)?;
+    let mut known = Derivation::new(alloc, start.width());
+    known.push_all(alloc, start.as_slice())?;
+    Ok(known)
+}
+
 // Checks the proofs of `void`: they have one refutation, with the steps that stand before it.
 fn check_void_proofs(alloc: Global, problem: &Problem, proofs: &LeafProofs) -> Result<(), Fault>
     ensures { Agrees (λ _. tt) fault_of result (model.check_proofs true 1 problem.now.params
@@ -35,7 +49,7 @@ fn check_void_proofs(alloc: Global, problem: &Problem, proofs: &LeafProofs) -> R
             step: 0,
         }));
     }
-    let mut known = void_forms(alloc, problem)?;
+    let mut known = void_derivation(alloc, problem)?;
     known.add_steps(alloc, 1, 0, proofs.shared().as_slice())?;
     known.refute(alloc, 1, 1, proofs.as_slice()[0].as_slice())
 }

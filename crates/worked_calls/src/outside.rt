@@ -37,18 +37,18 @@ fn a_writer_of_std_takes_all_it_has_room_for(rt: HostRuntime) {
     assert!(rt; is_filled());
 }
 
-// A reader that gives two bytes and then fails.
+// A reader that gives two bytes a call, but fails at its second.
 #[derive(Drop)]
 struct Failing {
-    given: bool,
+    calls: u8,
 }
 
 impl Read for Failing {
     fn read(&mut self, buf: &mut [u8]) -> std::io::Result<usize> {
-        if self.given || buf.len() < 2 {
+        self.calls = self.calls.saturating_add(1);
+        if self.calls == 2 || buf.len() < 2 {
             return Err(Error::from(ErrorKind::UnexpectedEof));
         }
-        self.given = true;
         buf[0] = b'(';
         buf[1] = b'(';
         Ok(2)
@@ -56,7 +56,7 @@ impl Read for Failing {
 }
 
 fn is_fault() -> bool {
-    let mut source = StdSource::new(Failing { given: false });
+    let mut source = StdSource::new(Failing { calls: 0 });
     taken(&mut source) == Ok((2, *b"((")) && taken(&mut source) == Err(Failed)
 }
 
@@ -65,34 +65,57 @@ fn an_error_of_the_reader_is_a_fault(rt: HostRuntime) {
     assert!(rt; is_fault());
 }
 
-// A writer that counts its flushes in a place of its own.
+// A writer that tells in a place of its own how many bytes it had at its last flush.
 #[derive(Drop)]
 struct Flushed<'a> {
-    flushes: &'a mut u8,
+    flushed: &'a mut usize,
+    taken: usize,
 }
 
 impl Write for Flushed<'_> {
+    fn write(&mut self, piece: &[u8]) -> std::io::Result<usize> {
+        self.taken = self.taken.saturating_add(piece.len());
+        Ok(piece.len())
+    }
+
+    fn flush(&mut self) -> std::io::Result<()> {
+        *self.flushed = self.taken;
+        Ok(())
+    }
+}
+
+// How many bytes of these were flushed behind a write of them.
+fn bytes_flushed(text: &[u8]) -> usize {
+    let mut flushed = 0;
+    let mut sink = StdSink::new(Flushed {
+        flushed: &mut flushed,
+        taken: 0,
+    });
+    let written = write_all(&mut sink, text) == Ok(());
+    if written { flushed } else { 0 }
+}
+
+#[test]
+fn what_is_written_is_flushed(rt: HostRuntime) {
+    assert!(rt; bytes_flushed(b"a") == 1);
+    assert!(rt; bytes_flushed(b"abc") == 3);
+}
+
+// A writer that takes all, and whose flush fails.
+#[derive(Drop)]
+struct Clogged {}
+
+impl Write for Clogged {
     fn write(&mut self, piece: &[u8]) -> std::io::Result<usize> {
         Ok(piece.len())
     }
 
     fn flush(&mut self) -> std::io::Result<()> {
-        *self.flushes = self.flushes.saturating_add(1);
-        Ok(())
+        Err(Error::from(ErrorKind::UnexpectedEof))
     }
 }
 
-// The flushes of two writes.
-fn flushes() -> u8 {
-    let mut flushes = 0;
-    let mut sink = StdSink::new(Flushed {
-        flushes: &mut flushes,
-    });
-    let written = write_all(&mut sink, b"ab") == Ok(()) && write_all(&mut sink, b"c") == Ok(());
-    if written { flushes } else { 0 }
-}
-
 #[test]
-fn each_write_is_flushed(rt: HostRuntime) {
-    assert!(rt; flushes() == 2);
+fn a_flush_that_fails_is_a_fault(rt: HostRuntime) {
+    assert!(rt; write_all(&mut StdSink::new(Clogged {}), b"a") == Err(Failed));
 }

@@ -64,6 +64,14 @@ const CHECKED: &[Answered] = &[
 
 const REFUSED_CHECKED: &[Refused] = &[
     Refused {
+        name: "a condition of the second tree past 128 bits",
+        words: "pip check",
+        input: "((n) 1 1 0 0 -1 1 () ())((n)(if #[1 170141183460469231731687303715884105727](list #[0 0])(if #[1 0] (list #[0 0]) ())))(certificate 1 #[0] (()((1 2 1 3 1)))(()())(()))",
+        output: "",
+        notes: "pip: overflow at leaf 2 refutation 1 step 0\n",
+        status: 4,
+    },
+    Refused {
         name: "a step with the divisor 0",
         words: "pip check",
         input: "((a) 1 0 1 0 -1 1 (#[1 -3]) ())((a)\n(list\n#[ 3]\n)\n)\n(certificate 1 #[] (() () ((0 1 1 2 1))))",
@@ -281,6 +289,12 @@ fn checked(rt: HostRuntime) -> Result<(), Fail> {
 
 const SHARED: &[Answered] = &[
     Answered {
+        name: "a list and a bottom",
+        words: "pip share",
+        input: "((n) 1 1 2 0 -1 1 (#[1 0 -1] #[-1 2 0]) ())((n)(if #[-1 2](list #[1 0])()))(certificate 1 #[0] (() ((1 1 1 2 1)) ((1 0 1 2 1)) ((1 3 1 5 1))) (((1 1 1 3 1 4 1))))",
+        output: "(certificate 2 #[ 0]\n(\n()\n()\n((1 1 1 2 1))\n((1 0 1 2 1))\n((1 3 1 5 1))\n)\n(\n()\n((1 1 1 3 1 4 1))\n)\n)\n",
+    },
+    Answered {
         name: "steps that all refutations of a leaf begin with",
         words: "pip share",
         input: "((v) 1 1 0 2 -1 1 () (#[2 -1] #[-2 1]))((v)\nvoid\n)\n(certificate 1 void (((2 1 1) (1 2 1 3 2))))",
@@ -354,6 +368,18 @@ fn shared(rt: HostRuntime) -> Result<(), Fail> {
 }
 
 const MADE: &[Answered] = &[
+    Answered {
+        name: "a cut of a refutation with numbers past 64 bits",
+        words: "pip solve --certificate",
+        input: "((v) 1 0 2 0 -1 1 (#[18446744073709551617 -3] #[-18446744073709551617 4]) ())",
+        output: "((v)\n()\n)\n(certificate 1 #[]\n(\n((18446744073709551617 1 1)(1 2 1 3 18446744073709551617))\n)\n)\n",
+    },
+    Answered {
+        name: "an equation of even numbers past 64 bits and 1",
+        words: "pip solve --certificate",
+        input: "((v) 2 0 2 0 -1 1 (#[2 -18446744073709551616 -1] #[-2 18446744073709551616 1]) ())",
+        output: "((v)\n()\n)\n(certificate 1 #[]\n(\n((2 2 1)(1 3 1 4 2))\n)\n)\n",
+    },
     Answered {
         name: "the certificate of a list",
         words: "pip solve --certificate",

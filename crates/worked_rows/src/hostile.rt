@@ -17,22 +17,33 @@ fn bracketed(
     Ok(text)
 }
 
-// Whether a comment of so many nested brackets is echoed.
-fn is_echoed(alloc: Global, count: usize) -> Result<bool, AllocError> {
-    let input = bracketed(alloc, b"(", count, b" 1 0 1 0 -1 1 (#[1 -3]) ())")?;
-    let output = bracketed(alloc, b"(", count, b"\n(list\n#[ 3]\n)\n)\n")?;
+// Whether a comment of so many nested brackets is echoed, before what an item has behind it.
+fn is_echoed(
+    alloc: Global,
+    words: &str,
+    count: usize,
+    item: &[u8],
+    made: &[u8],
+) -> Result<bool, AllocError> {
+    let input = bracketed(alloc, b"(", count, item)?;
+    let output = bracketed(alloc, b"(", count, made)?;
     let mut ends = ends_over(alloc, input, 4096);
     let wanted = Wanted {
         output: output.as_slice(),
         notes: "",
         status: 0,
     };
-    ends_so(alloc, "pip solve", &mut ends, &wanted)
+    ends_so(alloc, words, &mut ends, &wanted)
 }
 
+// Items of 5 MB.
 #[test]
 fn a_deep_comment_is_echoed(rt: HostRuntime) -> Result<(), Fail> {
-    assert!(rt; is_echoed(rt.alloc(), 1_000_000)?);
+    let alloc = rt.alloc();
+    let problem = b" 1 0 1 0 -1 1 (#[1 -3]) ())".as_slice();
+    let made = b"\n(list\n#[ 3]\n)\n)\n".as_slice();
+    assert!(rt; is_echoed(alloc, "pip solve", 2_500_000, problem, made)?);
+    assert!(rt; is_echoed(alloc, "pip eval", 2_500_000, b"(list#[3]))", made)?);
     Ok(())
 }
 

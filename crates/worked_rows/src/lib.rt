@@ -16,6 +16,8 @@ mod limits;
 #[cfg(test)]
 mod matrices;
 #[cfg(test)]
+mod one_by_one;
+#[cfg(test)]
 mod pieces;
 #[cfg(test)]
 mod pipes;

@@ -12,8 +12,22 @@ enum Text {
     Nested(usize),
     // an answer whose list has so many components
     Listed(usize),
+    // a context without rows and two answers, each a list of so many components, that differ in the last alone
+    Lists(usize),
     // a context of so many rows
     Context(usize),
+    // a context without rows and an answer of so many if nodes on one path, each of which occurs with both signs
+    Chained(usize),
+    // a problem of so many unknowns without rows
+    Unknowns(usize),
+    // a problem of so many like rows
+    Rows(usize),
+    // a problem of so many parameters and no row
+    Parameters(usize),
+    // a problem of so many like context rows
+    ContextRows(usize),
+    // so many blanks, an answer behind them
+    Behind(usize),
     // so many blanks
     Blanks(usize),
     // a problem with blanks behind it, so many bytes in all
@@ -68,6 +82,45 @@ const LIMITS: &[Limit] = &[
         output: "",
         notes: "pip: limit of context rows 257\n",
         status: 9,
+    },
+];
+
+// Problems and answers at a limit.
+const AT_LIMITS: &[Limit] = &[
+    Limit {
+        words: "pip same 0",
+        text: Text::Lists(128),
+        output: "differ #[]\n",
+        notes: "",
+        status: 0,
+    },
+    Limit {
+        words: "pip solve",
+        text: Text::Rows(4096),
+        output: "((r)\n(list\n#[ 3]\n)\n)\n",
+        notes: "",
+        status: 0,
+    },
+    Limit {
+        words: "pip solve",
+        text: Text::ContextRows(256),
+        output: "((c)\n(list\n#[ 0 0]\n)\n)\n",
+        notes: "",
+        status: 0,
+    },
+    Limit {
+        words: "pip solve",
+        text: Text::Parameters(48),
+        output: "((p)\n(list\n#[ 0 0 0 0 0 0 0 0 0 0 0 0 0 0 0 0 0 0 0 0 0 0 0 0 0 0 0 0 0 0 0 0 0 0 0 0 0 0 0 0 0 0 0 0 0 0 0 0 0]\n)\n)\n",
+        notes: "",
+        status: 0,
+    },
+    Limit {
+        words: "pip eval",
+        text: Text::Behind(16_777_199),
+        output: "((e)\n(list\n#[ 7]\n)\n)\n",
+        notes: "",
+        status: 0,
     },
 ];
 
@@ -139,6 +192,27 @@ fn nested(alloc: Global, count: usize) -> Result<Vec<u8>, AllocError> {
     Ok(text)
 }
 
+// Appends so many if nodes on one path, each with a bottom beside it, and the end of their answer.
+fn chain(alloc: Global, text: &mut Vec<u8>, count: usize) -> Result<(), AllocError> {
+    for i in 0..count {
+        let node = format!(in alloc; "(if #[ 1 -{}]\n", i.saturating_add(1))?;
+        text.extend_from_slice(node.as_bytes())?;
+    }
+    text.extend_from_slice(b"()\n")?;
+    repeat(text, b"()\n)\n", count)?;
+    text.extend_from_slice(b")\n")
+}
+
+// A context without rows, and two answers whose lists have so many components: zeros, and 1 at the end of the first.
+fn lists(alloc: Global, count: usize) -> Result<Vec<u8>, AllocError> {
+    let last = count.saturating_sub(1);
+    let mut text = between(alloc, b"()((e)(list", b"#[0]", last, b"#[1]))")?;
+    text.extend_from_slice(b"((f)(list")?;
+    repeat(&mut text, b"#[0]", count)?;
+    text.extend_from_slice(b"))")?;
+    Ok(text)
+}
+
 // Puts a piece into the front of a text, if it fits.
 fn write_over(text: &mut Vec<u8>, piece: &[u8]) {
     for (place, byte) in text.iter_mut().zip(piece) {
@@ -150,7 +224,34 @@ fn made(alloc: Global, text: &Text) -> Result<Vec<u8>, AllocError> {
     match text {
         Text::Nested(count) => nested(alloc, *count),
         Text::Listed(count) => between(alloc, b"((e)(list", b"#[0]", *count, b"))"),
+        Text::Lists(count) => lists(alloc, *count),
         Text::Context(count) => between(alloc, b"(", b"#[0 0]", *count, b")"),
+        Text::Chained(count) => {
+            let mut text = b"()((n)\n".to_vec(alloc)?;
+            chain(alloc, &mut text, *count)?;
+            Ok(text)
+        }
+        Text::Unknowns(count) => {
+            let number = format!(in alloc; "((u) {} 0 0 0 -1 1 () ())", *count)?;
+            number.as_bytes().to_vec(alloc)
+        }
+        Text::Rows(count) => {
+            let front = format!(in alloc; "((r) 1 0 {} 0 -1 1 (", *count)?;
+            between(alloc, front.as_bytes(), b"#[1 -3]", *count, b") ())")
+        }
+        Text::Parameters(count) => {
+            let text = format!(in alloc; "((p) 1 {} 0 0 -1 1 () ())", *count)?;
+            text.as_bytes().to_vec(alloc)
+        }
+        Text::ContextRows(count) => {
+            let front = format!(in alloc; "((c) 1 1 0 {} -1 1 () (", *count)?;
+            between(alloc, front.as_bytes(), b"#[1 -2]", *count, b"))")
+        }
+        Text::Behind(count) => {
+            let mut text = vec![in alloc; b' '; *count]?;
+            text.extend_from_slice(b"((e) (list #[7]))")?;
+            Ok(text)
+        }
         Text::Blanks(count) => Ok(vec![in alloc; b' '; *count]?),
         Text::Padded(length) => {
             let mut text = vec![in alloc; b' '; *length]?;
@@ -181,6 +282,30 @@ fn are_kept(rt: &impl Abort, alloc: Global, limits: &[Limit]) -> Result<(), Fail
 #[test]
 fn limits_are_kept(rt: HostRuntime) -> Result<(), Fail> {
     are_kept(&rt, rt.alloc(), LIMITS)
+}
+
+#[test]
+fn what_is_at_a_limit_is_answered(rt: HostRuntime) -> Result<(), Fail> {
+    are_kept(&rt, rt.alloc(), AT_LIMITS)
+}
+
+// Whether the deepest answer is restricted to itself.
+fn is_walked(alloc: Global) -> Result<bool, AllocError> {
+    let mut output = b"((n)\n".to_vec(alloc)?;
+    chain(alloc, &mut output, 200)?;
+    let wanted = Wanted {
+        output: output.as_slice(),
+        notes: "",
+        status: 0,
+    };
+    let mut ends = ends_over(alloc, made(alloc, &Text::Chained(200))?, 4096);
+    ends_so(alloc, "pip restrict 1", &mut ends, &wanted)
+}
+
+#[test]
+fn the_deepest_answer_is_walked(rt: HostRuntime) -> Result<(), Fail> {
+    assert!(rt; is_walked(rt.alloc())?);
+    Ok(())
 }
 
 #[test]
@@ -219,10 +344,12 @@ fn gives_zeros(
 #[test]
 fn long_lists_are_answered(rt: HostRuntime) -> Result<(), Fail> {
     let alloc = rt.alloc();
-    let problem = b"((u) 65 0 0 0 -1 1 () ())".to_vec(alloc)?;
-    assert!(rt; gives_zeros(alloc, "pip solve", problem, b"((u)\n(list\n", 65)?);
+    let problem = made(alloc, &Text::Unknowns(128))?;
+    assert!(rt; gives_zeros(alloc, "pip solve", problem, b"((u)\n(list\n", 128)?);
     let answer = made(alloc, &Text::Listed(128))?;
     assert!(rt; gives_zeros(alloc, "pip eval", answer, b"((e)\n(list\n", 128)?);
+    let answers = made(alloc, &Text::Lists(128))?;
+    assert!(rt; gives_zeros(alloc, "pip least 0", answers, b"((e)\n(list\n", 128)?);
     Ok(())
 }
 

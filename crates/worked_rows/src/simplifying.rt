@@ -4,6 +4,24 @@ use std::test::Fail;
 
 const TEXTS: &[Answered] = &[
     Answered {
+        name: "two equal trees of an if",
+        words: "pip simplify 1",
+        input: "((a) (if #[1 -1] (if #[1 -2] (list #[0 1]) ()) (if #[1 -2] (list #[0 1]) ())))",
+        output: "((a)\n(if #[ 1 -2]\n(list\n#[ 0 1]\n)\n()\n)\n)\n",
+    },
+    Answered {
+        name: "a new parameter that nothing uses, above an if",
+        words: "pip simplify 1",
+        input: "((a) (newparm 1 (div #[1 0] 2)) (if #[1 0 -1] (list #[1 0 0]) (list #[0 0 1])))",
+        output: "((a)\n(if #[ 1 -1]\n(list\n#[ 1 0]\n)\n(list\n#[ 0 1]\n)\n)\n)\n",
+    },
+    Answered {
+        name: "two equal lists over 48 parameters",
+        words: "pip simplify 48",
+        input: "((s) (if #[0 0 0 0 0 0 0 0 0 0 0 0 0 0 0 0 0 0 0 0 0 0 0 0 0 0 0 0 0 0 0 0 0 0 0 0 0 0 0 0 0 0 0 0 0 0 0 1 -1] (list #[0 0 0 0 0 0 0 0 0 0 0 0 0 0 0 0 0 0 0 0 0 0 0 0 0 0 0 0 0 0 0 0 0 0 0 0 0 0 0 0 0 0 0 0 0 0 0 1 2]) (list #[0 0 0 0 0 0 0 0 0 0 0 0 0 0 0 0 0 0 0 0 0 0 0 0 0 0 0 0 0 0 0 0 0 0 0 0 0 0 0 0 0 0 0 0 0 0 0 1 2])))",
+        output: "((s)\n(list\n#[ 0 0 0 0 0 0 0 0 0 0 0 0 0 0 0 0 0 0 0 0 0 0 0 0 0 0 0 0 0 0 0 0 0 0 0 0 0 0 0 0 0 0 0 0 0 0 0 1 2]\n)\n)\n",
+    },
+    Answered {
         name: "void",
         words: "pip simplify 1",
         input: "((v) void)",

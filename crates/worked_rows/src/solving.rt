@@ -4,6 +4,12 @@ use std::test::Fail;
 
 const SOLVED: &[Answered] = &[
     Answered {
+        name: "a sum of eight unknowns",
+        words: "pip solve",
+        input: "((k) 8 0 2 0 -1 1 (#[25 14 29 31 3 17 2 8 -306] #[-25 -14 -29 -31 -3 -17 -2 -8 306]) ())",
+        output: "((k)\n(list\n#[ 0]\n#[ 0]\n#[ 0]\n#[ 0]\n#[ 0]\n#[ 0]\n#[ 1]\n#[ 38]\n)\n)\n",
+    },
+    Answered {
         name: "an empty input",
         words: "pip solve",
         input: "",
@@ -194,6 +200,42 @@ const SOLVED: &[Answered] = &[
         words: "pip solve",
         input: "((the least x from 1, 2, .., 15 and half of p on) 1 1 16 0 -1 1\n(#[1 -1 0]\n #[1 -2 0]\n #[1 -3 0]\n #[1 -4 0]\n #[1 -5 0]\n #[1 -6 0]\n #[1 -7 0]\n #[1 -8 0]\n #[1 -9 0]\n #[1 -10 0]\n #[1 -11 0]\n #[1 -12 0]\n #[1 -13 0]\n #[1 -14 0]\n #[1 -15 0]\n #[2 0 -1])\n())\n",
         output: "((the least x from 1, 2, .., 15 and half of p on)\n(if #[ -1 30]\n(list\n#[ 0 15]\n)\n(newparm 1 (div #[ 1 0] 2))\n(if #[ -1 2 0]\n(list\n#[ 1 -1 0]\n)\n(list\n#[ 1 -1 0]\n)\n)\n)\n)\n",
+    },
+    Answered {
+        name: "many bounds, one of a number past 64 bits",
+        words: "pip solve",
+        input: "((g) 1 1 16 0 -1 0 (#[1 -1 0] #[1 -2 0] #[1 -3 0] #[1 -4 0] #[1 -5 0] #[1 -6 0] #[1 -7 0] #[1 -8 0] #[1 -9 0] #[1 -10 0] #[1 -11 0] #[1 -12 0] #[1 -13 0] #[1 -14 0] #[1 -15 0] #[9223372036854775808 0 -1]) ())\n",
+        output: "((g)\n(if #[ -1 138350580552821637120]\n(list\n#[ 0 15]\n)\n(list\n#[ 1/9223372036854775808 0]\n)\n)\n)\n",
+    },
+    Answered {
+        name: "many bounds of different denominators",
+        words: "pip solve",
+        input: "((g) 1 1 16 0 -1 0 (#[1 1 0] #[1 2 0] #[1 3 0] #[1 4 0] #[1 5 0] #[1 6 0] #[1 7 0] #[1 8 0] #[1 9 0] #[1 10 0] #[1 11 0] #[1 12 0] #[1 13 0] #[1 14 0] #[1 15 0] #[1099511627777 -3 -1]) ())\n",
+        output: "((g)\n(list\n#[ 1/1099511627777 3/1099511627777]\n)\n)\n",
+    },
+    Answered {
+        name: "many bounds whose rows outgrow 64 bits at a pivot",
+        words: "pip solve",
+        input: "((g) 1 1 16 0 -1 1 (#[1 -1 0] #[1 -2 0] #[1 -3 0] #[1 -4 0] #[1 -5 0] #[1 -6 0] #[1 -7 0] #[1 -8 0] #[1 -9 0] #[1 -10 0] #[1 -11 0] #[1 -12 0] #[1 -13 0] #[1 -14 0] #[1 -15 0] #[1099511627777 -3 -1]) ())\n",
+        output: "((g)\n(if #[ -1 16492674416652]\n(list\n#[ 0 15]\n)\n(newparm 1 (div #[ 1099511627776 1099511627774] 1099511627777))\n(if #[ -1099511627776 1099511627777 -1099511627774]\n(list\n#[ 1 -1 1]\n)\n(list\n#[ 1 -1 1]\n)\n)\n)\n)\n",
+    },
+    Answered {
+        name: "many bounds, and a pivot on the row of an unknown",
+        words: "pip solve",
+        input: "((o) 2 0 24 0 -1 1 (#[1 1 -3] #[1 0 -6] #[1 0 -1] #[1 0 -2] #[1 0 -3] #[1 0 -4] #[1 0 -5] #[0 1 1] #[0 1 2] #[0 1 3] #[0 1 4] #[0 1 5] #[0 1 6] #[0 1 7] #[0 1 8] #[0 1 9] #[0 1 10] #[0 1 11] #[0 1 12] #[0 1 13] #[0 1 14] #[0 1 15] #[0 1 16] #[0 1 17]) ())\n",
+        output: "((o)\n(list\n#[ 6]\n#[ 0]\n)\n)\n",
+    },
+    Answered {
+        name: "a context of a number past 64 bits",
+        words: "pip solve",
+        input: "((q) 1 1 1 1 -1 1 (#[1 0 -1]) (#[9223372036854775808 -1]))\n",
+        output: "((q)\n(list\n#[ 1 0]\n)\n)\n",
+    },
+    Answered {
+        name: "a bound of a number past 64 bits, asked of the context",
+        words: "pip solve",
+        input: "((q) 1 1 1 1 -1 1 (#[1 -9223372036854775809 1]) (#[1 -3]))\n",
+        output: "((q)\n(if #[ 1 -9223372036854775809]\n(list\n#[ 0 0]\n)\n(list\n#[ -1 9223372036854775809]\n)\n)\n)\n",
     },
 ];
 

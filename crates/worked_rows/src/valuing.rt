@@ -61,6 +61,14 @@ const VALUED: &[Answered] = &[
 
 const REFUSED_VALUED: &[Refused] = &[
     Refused {
+        name: "a divisor below 0",
+        words: "pip eval 1",
+        input: "((a) (newparm 1 (div #[1 0] -2)) (list #[0 0 1]))",
+        output: "",
+        notes: "pip: syntax at byte 28\n",
+        status: 2,
+    },
+    Refused {
         name: "a form of another scope",
         words: "pip eval 5 5",
         input: "((c)\n(if #[ -1 0]\n(list\n#[ 0 0]\n)\n(newparm 1 (div #[ 1 0] 2))\n(if #[ -1 2 0]\n(list\n#[ 1 -1 0]\n)\n(list\n#[ 1 -1 0]\n)\n)\n)\n)\n",

@@ -128,6 +128,30 @@ fn restricted(rt: HostRuntime) -> Result<(), Fail> {
 
 const COMPARED: &[Answered] = &[
     Answered {
+        name: "a choice of the second answer alone",
+        words: "pip same 1",
+        input: "()((a) (list #[0 1]))((b) (if #[1 -3] (list #[0 1]) (list #[0 2])))",
+        output: "differ #[ 0]\n",
+    },
+    Answered {
+        name: "void and void",
+        words: "pip same 1",
+        input: "()((a) void)((b) void)",
+        output: "same\n",
+    },
+    Answered {
+        name: "void and a list",
+        words: "pip same 1",
+        input: "()((a) void)((b) (list #[0 1]))",
+        output: "differ #[ 0]\n",
+    },
+    Answered {
+        name: "a list and void",
+        words: "pip same 1",
+        input: "()((a) (list #[0 1]))((b) void)",
+        output: "differ #[ 0]\n",
+    },
+    Answered {
         name: "an answer beside its simplified form",
         words: "pip same 1",
         input: "()((c)\n(if #[ -1 0]\n(list\n#[ 0 0]\n)\n(newparm 1 (div #[ 1 0] 2))\n(if #[ -1 2 0]\n(list\n#[ 1 -1 0]\n)\n(list\n#[ 1 -1 0]\n)\n)\n)\n)\n((c)\n(if #[ -1 0]\n(list\n#[ 0 0]\n)\n(newparm 1 (div #[ 1 0] 2))\n(list\n#[ 1 -1 0]\n)\n)\n)\n",
@@ -263,6 +287,18 @@ fn compared(rt: HostRuntime) -> Result<(), Fail> {
 }
 
 const LESSER: &[Answered] = &[
+    Answered {
+        name: "a list and void",
+        words: "pip least 1",
+        input: "()((a) (list #[0 1]))((b) void)",
+        output: "((a)\n(list\n#[ 0 1]\n)\n)\n",
+    },
+    Answered {
+        name: "void and void",
+        words: "pip least 1",
+        input: "()((a) void)((b) void)",
+        output: "((a)\n()\n)\n",
+    },
     Answered {
         name: "the lesser of two lists",
         words: "pip least 1",

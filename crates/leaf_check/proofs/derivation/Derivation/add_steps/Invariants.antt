@@ -1,5 +1,5 @@
 use Rattle.leaf_check.proofs.Words.{◌≡◌, ◌≤◌, drop, take, length, after_steps}
-use Rattle.leaf_check.proofs.known.Known.add_steps.Given as goal
+use Rattle.leaf_check.proofs.derivation.Derivation.add_steps.Given as goal
 
 abbrev pub invariant-loop-i : goal.invariant-loop-i
 invariant-loop-i l =

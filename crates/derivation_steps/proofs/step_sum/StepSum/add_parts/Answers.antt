@@ -1,0 +1,14 @@
+use Rattle.derivation_steps.proofs.Words.{◌≡◌, refl, ap, subst, [], ◌∷◌, ◌++◌, ◌+ℤ◌, ◌*ℤ◌, ℤ, List, to_z-of_z, w128, fit_never, take, length, IsFalse, all_fit, plus_term_listed}
+use Rattle.affine_forms.proofs.Combined.{refused}
+use Rattle.affine_forms.specs.Checks.{is_overflow}
+use Rattle.derivation_steps.specs.Sums.{PartSum}
+use Rattle.derivation_steps.proofs.step_sum.StepSum.add_parts.Goals as goal
+
+pub returns-in_err-add_front-clause-listed : goal.returns-in_err-add_front-clause-listed
+returns-in_err-add_front-clause-listed c =
+    let m = to_z-of_z w128 c.args.m c.ranges.m in
+    let same : c.self.inside.coefficients.items ≡ c.args.self.now.coefficients = ap (λ (s : PartSum). s.coefficients) c.self.view_is in
+    let over : IsFalse (all_fit (plus_term_listed (take (length c.args.front.now) c.self.inside.coefficients.items) c.args.m c.args.front.now)) = rw m at (c.in_err-add_front.ensures.listed refl) in
+    let first = plus_term_listed (take (length c.args.front.now) c.args.self.now.coefficients) c.args.m c.args.front.now in
+    let behind = (c.args.m *ℤ c.args.constant) ∷ (c.args.self.now.constant +ℤ c.args.m *ℤ c.args.constant) ∷ [] in
+    refused is_overflow c.from_residual.result (first ++ behind) c.from_residual.ensures.0 (fit_never first behind (subst (λ (l : List ℤ). IsFalse (all_fit (plus_term_listed (take (length c.args.front.now) l) c.args.m c.args.front.now))) same over))

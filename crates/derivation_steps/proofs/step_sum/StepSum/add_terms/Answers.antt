@@ -1,0 +1,11 @@
+use Rattle.derivation_steps.proofs.Words.{◌≡◌, ◌∷◌, [], arith, pos, ℕ, subst, err_from_is_err_and, fault_of, spot_of, get_or, sum_of, Err, IfSome}
+use Rattle.derivation_steps.proofs.Sums.{terms_refused}
+use Rattle.derivation_steps.specs.Steps.{read_over}
+use Rattle.derivation_steps.specs.Sums.{total}
+use Rattle.derivation_steps.proofs.step_sum.StepSum.add_terms.Goals as goal
+
+pub returns-in_err-add_term-clause-gives : goal.returns-in_err-add_term-clause-gives
+returns-in_err-add_term-clause-gives c =
+    let p = err_from_is_err_and c.from_residual.result c.from_residual.ensures.1 in
+    let gives = subst (λ (w : ℕ). IfSome (fault_of c.in_err-add_term.field-0.0) (λ f. sum_of (spot_of c.args.at) (read_over w c.args.known.now) (total c.loop-term.self) (get_or c.args.terms.now c.loop-term.term-index (pos 0, pos 0) ∷ []) ≡ Err f)) c.loop-term.invariant.1 c.in_err-add_term.ensures.gives in
+    rw (p.1, p.2) (terms_refused (spot_of c.args.at) (read_over c.args.self.now.width c.args.known.now) (total c.loop-term.self) _ c.args.terms.now c.loop-term.term-index (pos 0, pos 0) (fault_of c.in_err-add_term.field-0.0) (omega arith) c.loop-term.invariant.0 gives)

@@ -1,0 +1,54 @@
+ghost use Rattle.std.specs.Prelude.{◌≡◌, ◌+◌, ◌-◌, ◌≤◌, ◌<◌, ℕ, ◌++◌, pos, length, take, replicate, All, IfOk, IsFalse};
+ghost use Rattle.pip_model.specs.Numbers.{is_zero};
+ghost use Rattle.pip_model.specs.Forms.{entry, width, widen_to};
+ghost use Rattle.affine_forms.specs.Checks.{Fits};
+ghost use Rattle.derivation_steps.specs.Sums.{spread, EndsAtItsLast};
+
+use affine_forms::{Form, WantOfMemory};
+use std::alloc::Global;
+
+// How many numbers there are up to the last that is not 0.
+fn trimmed_len(numbers: &[i128]) -> usize
+    ensures zeros { numbers.now ≡ take result numbers.now ++ replicate (length numbers.now - result) (pos 0) }
+    ensures within { result ≤ length numbers.now }
+    ensures ends { 0 < result → IsFalse (is_zero (entry numbers.now (result - 1))) }
+{
+    let mut count = numbers.len();
+    while count > 0 && numbers[count - 1] == 0 {
+        count -= 1;
+    }
+    count
+}
+
+// The form of these coefficients and this constant, which ends at its last coefficient that is not 0.
+pub(crate) fn trimmed_form(
+    alloc: Global,
+    coefficients: &[i128],
+    constant: i128,
+) -> Result<Form, WantOfMemory>
+    requires fits { All Fits coefficients.now }
+    requires constant { Fits constant }
+    ensures value { IfOk result (λ form. (w : ℕ) → length coefficients.now ≤ w
+        → widen_to w form ≡ spread w coefficients.now constant) }
+    ensures within { IfOk result (λ form. length form ≤ length coefficients.now + 1) }
+    ensures ends { IfOk result EndsAtItsLast }
+{
+    let n = trimmed_len(coefficients);
+    let (front, _) = coefficients.split_at(n);
+    let mut made = Vec::with_capacity(alloc, n.saturating_add(1))?;
+    made.extend_from_slice(front)?;
+    made.push(constant)?;
+    Ok(Form::from_entries(made))
+}
+
+/// The form, which ends at its last coefficient that is not 0. Read over the form's places it is the same.
+pub fn trimmed(alloc: Global, form: &Form) -> Result<Form, WantOfMemory>
+    ensures value { IfOk result (λ made. widen_to (width form.now) made ≡ form.now) }
+    ensures within { IfOk result (λ made. length made ≤ length form.now) }
+    ensures ends { IfOk result EndsAtItsLast }
+{
+    let n = form.width();
+    let (front, _) = form.as_slice().split_at(n);
+    let made = trimmed_form(alloc, front, form.at(n))?;
+    Ok(made)
+}
