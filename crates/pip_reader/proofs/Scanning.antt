@@ -1,6 +1,7 @@
 -- The end of the first group of a text, piece by piece.
 use Rattle.pip_reader.proofs.Words.{◌≡◌, ◌≢◌, ◌∙◌, refl, sym, ap, ℕ, zero, suc, ◌+◌, ◌-◌, ◌<◌, ◌≤◌, false, ◌⊎◌, inl, inr, List, [], ◌∷◌, ◌++◌, length, drop, append_assoc, add-one, zero-add, drop-cons, take, arith, length_push, take_more, length-take-le, drop-drop, take-append-drop, Option, Some, None, IfNone, fold, slice_index, ◌==◌, All, open_after, closing, next_open, NoBracket, group_behind, first_group_end, group_end_from, IsScanned, place_behind}
 use Rattle.std.proofs.lemmas.Bool.{ne_eqb, cases_Bool, cases_eq}
+use Rattle.text_tokens.proofs.Closing.{other_byte}
 use Rattle.std.proofs.lemmas.List.{length-drop}
 use Rattle.std.proofs.Math.Seq.{take-add}
 use Rattle.std.proofs.lemmas.List.Sums.{fold-append}
@@ -40,9 +41,6 @@ pub fold_more : (start now i : ℕ) (xs : List ℕ) → i < length xs → now �
 fold_more start now i xs h e = rw (take_more xs i 0 h, fold-append open_after start (take i xs) (slice_index xs i ∷ [])) e
 
 -- a byte that is no bracket leaves the depth
-pub other_byte : (depth b : ℕ) → b ≢ 40 → b ≢ 41 → depth ≡ open_after depth b
-other_byte depth b not_open not_closed = rw (ne_eqb b 40 not_open, ne_eqb b 41 not_closed) refl
-
 -- behind bytes that hold no end
 end-append : (depth place : ℕ) (xs ys : List ℕ) → group_end_from depth place xs ≡ None → group_end_from depth place (xs ++ ys) ≡ group_end_from (fold open_after depth xs) (place + length xs) ys
 end-append depth place [] ys h = let e : place + 0 ≡ place = omega arith in rw e refl

@@ -1,4 +1,4 @@
-ghost use Rattle.std.specs.Prelude.{◌≡◌, ◌↔◌, ◌+◌, ◌<◌, ◌≤◌, ◌^◌, ◌++◌, ℕ, List, [], length, fold, All, IsTrue, IfNone, IfSome};
+ghost use Rattle.std.specs.Prelude.{◌≡◌, ◌↔◌, ◌+◌, ◌<◌, ◌≤◌, ◌^◌, ◌++◌, ℕ, List, [], length, take, fold, All, IsTrue, IfNone, IfSome};
 ghost use Rattle.pip_model.specs.Reading.{open_after as open_after_of};
 ghost use Rattle.pip_reader.specs.Groups.{IsScanned, NoBracket, first_group_end, group_end_from, place_behind};
 
@@ -15,6 +15,21 @@ fn has_no_bracket(bytes: &[u8]) -> bool
         found |= *byte == b'(' || *byte == b')';
     }
     !found
+}
+
+// How many bytes at the front are passed at one go: a run of 32 or of 8 bytes without a bracket; 0 where there is none.
+#[inline(always)]
+fn quiet_run(bytes: &[u8]) -> usize
+    ensures quiet { All NoBracket (take result bytes.now) }
+    ensures within { result ≤ length bytes.now }
+{
+    if 32 <= bytes.len() && has_no_bracket(&bytes[..32]) {
+        32
+    } else if 8 <= bytes.len() && has_no_bracket(&bytes[..8]) {
+        8
+    } else {
+        0
+    }
 }
 
 /// A search for the end of a text's first group, piece by piece.
@@ -63,7 +78,7 @@ impl GroupScan {
         None
     }
 
-    // The same, by runs of eight bytes, of which those without a bracket are passed at one go.
+    // The same, by runs: those without a bracket are passed at one go.
     fn find(&mut self, bytes: &[u8]) -> Option<usize>
         requires { self.old + length bytes.now < 2 ^ 64 }
         ensures found { result ≡ group_end_from self.old 0 bytes.now }
@@ -73,11 +88,12 @@ impl GroupScan {
     {
         let mut at = 0;
         while at < bytes.len() {
-            let left = bytes.len() - at;
-            if 8 <= left && has_no_bracket(&bytes[at..at + 8]) {
-                at += 8;
+            let (_, rest) = bytes.split_at(at);
+            let quiet = quiet_run(rest);
+            if 0 < quiet {
+                at += quiet;
             } else {
-                let end = at + left.min(8);
+                let end = at + rest.len().min(8);
                 if let Some(after) = self.find_in(&bytes[at..end]) {
                     return Some(at + after);
                 }

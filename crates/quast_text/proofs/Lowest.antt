@@ -24,6 +24,16 @@ product_positive x y h k = let p = mul_pp x y (omega (arith, ints)) (omega (arit
 pub lcm_positive : (a b : ℤ) → pos 1 ≤ℤ a → pos 1 ≤ℤ b → pos 1 ≤ℤ lcm a b
 lcm_positive a b h k = product_positive a (floor_div b (gcd a b)) h (quotient_positive b (gcd a b) (gcd_positive a b k) (gcd_below a b k))
 
+-- the same of a number that is the divisor, or the multiple
+pub divisor_positive : (x c d : ℤ) → x ≡ gcd c d → pos 1 ≤ℤ d → pos 1 ≤ℤ x
+divisor_positive x c d is h = rw is (gcd_positive c d h)
+
+pub multiple_positive : (x a b : ℤ) → x ≡ lcm a b → pos 1 ≤ℤ a → pos 1 ≤ℤ b → pos 1 ≤ℤ x
+multiple_positive x a b is h k = rw is (lcm_positive a b h k)
+
+pub lowest_positive : (x n d : ℤ) → x ≡ floor_div d (gcd n d) → pos 1 ≤ℤ d → pos 1 ≤ℤ x
+lowest_positive x n d is h = rw is (quotient_positive d (gcd n d) (gcd_positive n d h) (gcd_below n d h))
+
 -- ---- a component that is read is in lowest terms already
 
 same_reduced : (c : Component) (g : ℤ) → gcd c.den (gcd_of c.form) ≡ g → g ≡ pos 1 → reduced c.den c.form ≡ c

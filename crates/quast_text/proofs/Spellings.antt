@@ -30,17 +30,6 @@ gcd_positive c (pos n) h =
     let p = pos_of_dvd_of_pos (common-IsGcd (unsigned_abs c) n).1 some in
     omega (arith, ints)
 
--- over 1 a number is itself
-gcd_by_one : (c : ℤ) → gcd c (pos 1) ≡ pos 1
-gcd_by_one c =
-    let none : unsigned_abs c % 1 ≡ 0 = omega arith in
-    ap (λ (n : ℕ). pos (euclid 1 1 n)) none
-
-pub whole_fraction : (c : ℤ) → spell_fraction c (pos 1) ≡ signed_decimal c
-whole_fraction c =
-    ap (λ (g : ℤ). if same_number g (pos 1) then signed_decimal (floor_div c g) else signed_decimal (floor_div c g) ++ codes "/" ++ signed_decimal (floor_div (pos 1) g)) (gcd_by_one c)
-    ∙ ap (λ (z : ℤ). signed_decimal z) (div_one c)
-
 -- ---- what is written goes on from what was
 
 pub begins_through : (a b c : List ℕ) → Begins a b → Begins b c → Begins a c

@@ -1,5 +1,7 @@
 -- What a tree is read as, by its `(` and the word behind it.
 use Rattle.quast_text.proofs.Words.{◌≡◌, ◌∙◌, refl, sym, ℕ, zero, suc, ◌-◌, ◌<◌, arith, sub-one, Ok, Err, List, [], ◌∷◌, Option, Some, None, IfSome, LeftParen, Tree, Bottom, Leaf, Component, most_components, Fault, TooNested, Reads, ◌>>=◌, expect, Head, Ends, Lists, Chooses, Defines, head, room_for, behind_head, tree_by, tree, component, components, with_front, opening, components_behind, list_at, choice_at, define_at}
+use Rattle.std.specs.Prelude.{Result}
+use Rattle.text_reading.specs.Steps.{IsRead}
 use Rattle.text_reading.proofs.Binds.{bind_assoc}
 
 -- the tree by its opening
@@ -51,12 +53,8 @@ unfolding define_at
 tree_define bytes zero w p q k h = absurd (omega arith)
 tree_define bytes (suc n) w p q k h = opened bytes (suc n) (λ v after. tree bytes n v after) w p ∙ rw (h, sub-one) refl
 
-pub tree_choice_nested : (bytes : List ℕ) (n w p q : ℕ) → n ≡ 0 → opening bytes p ≡ Ok (Chooses, q) → tree bytes n w p ≡ Err TooNested
-tree_choice_nested bytes zero w p q k h = opened bytes 0 (λ v after. Err TooNested) w p ∙ rw h refl
-tree_choice_nested bytes (suc n) w p q k h = absurd (omega arith)
-
-pub tree_define_nested : (bytes : List ℕ) (n w p q : ℕ) → n ≡ 0 → opening bytes p ≡ Ok (Defines, q) → tree bytes n w p ≡ Err TooNested
-tree_define_nested bytes zero w p q k h = opened bytes 0 (λ v after. Err TooNested) w p ∙ rw h refl
-tree_define_nested bytes (suc n) w p q k h = absurd (omega arith)
-
-pub ruleset tree_steps = (tree_fault, tree_bottom, tree_list, tree_choice, tree_define, tree_choice_nested, tree_define_nested)
+-- what is read from a place on is read from one before it, where the definition goes on there
+pub read_later : {X Y E : Type 0} (view : X → Y) (fault : E → Option Fault) (bytes : List ℕ) (place at : ℕ) (r : Result (X × ℕ) E) (rest whole : Reads Y)
+    → place < at → whole ≡ rest → IsRead view fault bytes at r rest → IsRead view fault bytes place r whole
+read_later view fault bytes place at (Ok x) rest whole low is h = (is ∙ h.0, omega (arith, low, h.1), h.2)
+read_later view fault bytes place at (Err e) rest whole low is h = rw is h

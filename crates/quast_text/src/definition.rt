@@ -20,7 +20,6 @@ pub(crate) struct Definition {
 }
 
 // The place behind the next token, which is the number of the scope.
-#[tactic(auto, using(pip_model::proofs::Tests::same_number_yes, pip_model::proofs::Tests::same_number_no))]
 fn scope_number(bytes: &[u8], width: usize, place: usize) -> Result<usize, TextRefusal>
     requires { place ≤ length bytes.now }
     ensures { IsPassed text_fault bytes.now place result (model.scope_number bytes.now width place) }

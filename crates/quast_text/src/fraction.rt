@@ -60,7 +60,6 @@ impl Fraction {
 }
 
 // n over d in lowest terms, for a token between these places.
-#[tactic(auto, using(crate::proofs::Spellings::gcd_positive, crate::proofs::Lowest::gcd_below, pip_model::proofs::Tests::is_zero_yes, pip_model::proofs::Tests::is_zero_no))]
 fn lowest_terms(start: usize, n: i128, d: i128, after: usize) -> Reads<Fraction, TextRefusal>
     requires low { pos 0 ≤ℤ d }
     requires n_fits { Fits n }
@@ -113,7 +112,6 @@ pub(crate) fn read_fractions(
 }
 
 // The least common multiple of two numbers of at least 1.
-#[tactic(auto, using(crate::proofs::Lowest::lcm_positive))]
 fn lcm(a: i128, b: i128) -> Result<i128, Overflow>
     requires a { pos 1 ≤ℤ a }
     requires b { pos 1 ≤ℤ b }

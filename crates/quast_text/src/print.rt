@@ -162,7 +162,6 @@ fn put_list(out: &mut Vec<u8>, components: &[Component]) -> Result<(), AllocErro
     put_mark(out, b")\n")
 }
 
-#[tactic(auto, using(std::proofs::lemmas::List::take_all, crate::proofs::Spellings::components_flat))]
 fn put_components(out: &mut Vec<u8>, components: &[Component]) -> Result<(), AllocError>
     ensures ok { Appends (spell_components components.now) out.old.items out.new.items result }
     ensures kept { Begins out.old.items out.new.items }
@@ -193,7 +192,6 @@ fn put_fractions(out: &mut Vec<u8>, component: &Component) -> Result<(), AllocEr
 }
 
 // Appends a blank and c over d in lowest terms, the denominator only where it is not 1.
-#[tactic(auto, using(crate::proofs::Spellings::whole_fraction))]
 fn put_term(out: &mut Vec<u8>, c: i128, d: i128) -> Result<(), AllocError>
     requires positive { pos 1 ≤ℤ d }
     requires c_fits { Fits c }
@@ -221,7 +219,6 @@ fn put_fraction(out: &mut Vec<u8>, c: i128, d: i128) -> Result<(), AllocError>
 }
 
 // Appends c over d in lowest terms.
-#[tactic(auto, using(crate::proofs::Spellings::gcd_positive, crate::proofs::Spellings::fraction_parts))]
 fn put_lowest(out: &mut Vec<u8>, c: i128, d: i128) -> Result<(), AllocError>
     requires positive { pos 1 ≤ℤ d }
     requires c_fits { Fits c }
@@ -235,7 +232,6 @@ fn put_lowest(out: &mut Vec<u8>, c: i128, d: i128) -> Result<(), AllocError>
 }
 
 // What stands behind the numerator: nothing where the divisor is d.
-#[tactic(auto, using(pip_model::proofs::Tests::same_number_yes, pip_model::proofs::Tests::same_number_no))]
 fn put_denominator(out: &mut Vec<u8>, d: i128, divisor: i128) -> Result<(), AllocError>
     requires positive { pos 1 ≤ℤ divisor }
     requires fits { Fits d }

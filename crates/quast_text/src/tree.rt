@@ -54,7 +54,6 @@ fn opening(bytes: &[u8], place: usize) -> Reads<TreeHead, TextRefusal>
 
 // A tree over so many places, on whose paths so many nodes that choose or define may stand, and the place behind it.
 #[cycle(tree)]
-#[tactic(auto, using(crate::proofs::TreeSteps::tree_steps))]
 pub(crate) fn read_tree(
     alloc: Global,
     bytes: &[u8],

@@ -1,15 +1,51 @@
-ghost use Rattle.std.specs.Prelude.{◌≡◌, ◌≤◌, ◌<◌, length, All, IfOk};
+ghost use Rattle.std.specs.Prelude.{◌≡◌, ◌+◌, ◌≤◌, ◌<◌, length, vec_capacity, All, IfOk};
 ghost use Rattle.pip_model.specs.Reading as model;
 ghost use Rattle.affine_forms.specs.Checks.{Fits};
+ghost use Rattle.text_reading.specs.Fronts.{LeavesLast};
 ghost use Rattle.text_reading.specs.Steps.{fault_of, AreRead, IsRead};
 
 use crate::fault::{Reads, TextFault};
-use crate::steps::{expect, number};
+use crate::steps::{expect, long_number, next_number};
 use affine_forms::Form;
 use std::alloc::Global;
-use text_tokens::{Kind, small_number};
+use text_tokens::{Kind, skip_space, spaced_number};
+
+// All of so many numbers but the last, and a place from which the last is read.
+#[inline(always)]
+fn all_but_last(
+    alloc: Global,
+    bytes: &[u8],
+    count: usize,
+    place: usize,
+) -> Reads<Vec<i128>, TextFault>
+    requires place { place ≤ length bytes.now }
+    requires some { 0 < count }
+    ensures reads { LeavesLast bytes.now count place result }
+    ensures count { IfOk result (λ x. length x.0.items + 1 ≡ count) }
+    ensures room { IfOk result (λ x. count ≤ vec_capacity x.0) }
+    ensures fits { IfOk result (λ x. All Fits x.0.items) }
+{
+    let mut read = Vec::with_capacity(alloc, count)?;
+    let (_, mut rest) = bytes.split_at(skip_space(bytes, place));
+    for _ in 0..count - 1 {
+        match spaced_number(rest) {
+            Some((entry, behind)) => {
+                read.push_reserved(entry);
+                rest = behind;
+            }
+            None => {
+                let (entry, after) = long_number(bytes, bytes.len() - rest.len())?;
+                read.push_reserved(entry);
+                let (_, behind) = bytes.split_at(skip_space(bytes, after));
+                rest = behind;
+            }
+        }
+    }
+    Ok((read, bytes.len() - rest.len()))
+}
 
 /// So many numbers, and the place behind them.
+#[inline(always)]
 pub fn numbers(
     alloc: Global,
     bytes: &[u8],
@@ -21,26 +57,17 @@ pub fn numbers(
     ensures count { IfOk result (λ x. length x.0.items ≡ count) }
     ensures fits { IfOk result (λ x. All Fits x.0.items) }
 {
-    let mut read = Vec::with_capacity(alloc, count)?;
-    let mut at = place;
-    for _ in 0..count {
-        let (_, rest) = bytes.split_at(at);
-        match small_number(rest) {
-            Some((entry, len)) => {
-                read.push_reserved(entry);
-                at += len;
-            }
-            None => {
-                let (entry, after) = number(bytes, at)?;
-                read.push_reserved(entry);
-                at = after;
-            }
-        }
+    if count == 0 {
+        return Ok((Vec::new(alloc), place));
     }
-    Ok((read, at))
+    let (mut read, at) = all_but_last(alloc, bytes, count, place)?;
+    let (entry, after) = next_number(bytes, at)?;
+    read.push_reserved(entry);
+    Ok((read, after))
 }
 
 /// So many numbers between row brackets, and the place behind them.
+#[inline(always)]
 pub fn row(alloc: Global, bytes: &[u8], count: usize, place: usize) -> Reads<Vec<i128>, TextFault>
     requires { place ≤ length bytes.now }
     ensures reads { IsRead (λ v. v.items) fault_of bytes.now place result (model.row bytes.now count place) }

@@ -6,7 +6,7 @@ ghost use Rattle.affine_forms.specs.Checks.{Fits};
 ghost use Rattle.text_reading.specs.Steps.{fault_of, IsPassed, IsRead};
 
 use crate::fault::{Reads, TextFault};
-use text_tokens::{Kind, Lexeme, plain_number, skip_blanks, token};
+use text_tokens::{Kind, Lexeme, plain_number, skip_blanks, small_number, token};
 
 /// Whether the kind is the wanted bracket.
 pub fn same_bracket(kind: Kind, wanted: Kind) -> bool
@@ -99,9 +99,9 @@ fn number_token(bytes: &[u8], place: usize) -> Reads<i128, TextFault>
     }
 }
 
-/// The number that is the next token, and the place behind it.
+// The number that is the next token, and the place behind it.
 #[inline(never)]
-pub fn number(bytes: &[u8], place: usize) -> Reads<i128, TextFault>
+pub(crate) fn long_number(bytes: &[u8], place: usize) -> Reads<i128, TextFault>
     requires { place ≤ length bytes.now }
     ensures reads { IsRead (λ z. z) fault_of bytes.now place result (model.number bytes.now place) }
     ensures fits { IfOk result (λ x. Fits x.0) }
@@ -114,4 +114,28 @@ pub fn number(bytes: &[u8], place: usize) -> Reads<i128, TextFault>
             Err(fault) => Err(fault),
         },
     }
+}
+
+// The same, a number of one digit at once.
+#[inline(always)]
+pub(crate) fn next_number(bytes: &[u8], place: usize) -> Reads<i128, TextFault>
+    requires { place ≤ length bytes.now }
+    ensures reads { IsRead (λ z. z) fault_of bytes.now place result (model.number bytes.now place) }
+    ensures fits { IfOk result (λ x. Fits x.0) }
+{
+    let (_, rest) = bytes.split_at(place);
+    match small_number(rest) {
+        Some((number, len)) => Ok((number, place + len)),
+        None => long_number(bytes, place),
+    }
+}
+
+/// The number that is the next token, and the place behind it.
+#[inline(never)]
+pub fn number(bytes: &[u8], place: usize) -> Reads<i128, TextFault>
+    requires { place ≤ length bytes.now }
+    ensures reads { IsRead (λ z. z) fault_of bytes.now place result (model.number bytes.now place) }
+    ensures fits { IfOk result (λ x. Fits x.0) }
+{
+    next_number(bytes, place)
 }

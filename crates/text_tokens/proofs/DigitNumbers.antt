@@ -1,7 +1,10 @@
 -- A number of one digit, behind which a byte stands that ends a number.
-use Rattle.text_tokens.proofs.Words.{◌≡◌, ◌≤◌, ℕ, ℤ, ◌+◌, ◌-◌, ◌^◌, ◌∙◌, ap, sym, true, false, pos, List, [], ◌∷◌, length, refl, arith, ◌==◌, ◌||◌, nat_lt, neg_ℤ, slice_index, nat_tests, lt-ltb, Number, Fits, is_sign, is_digit, digits_at, unsigned_part, behind_stroke, integer_of, lexeme, token_here}
+use Rattle.text_tokens.proofs.Words.{◌≡◌, ◌≤◌, ℕ, ℤ, ◌+◌, ◌-◌, ◌^◌, ◌∙◌, ap, sym, true, false, pos, List, [], ◌∷◌, length, refl, arith, ◌==◌, ◌||◌, nat_lt, neg_ℤ, slice_index, nat_tests, lt-ltb, Number, Fits, is_sign, is_blank, is_digit, digits_at, unsigned_part, behind_stroke, integer_of, lexeme, token_here}
 use Rattle.pip_model.proofs.Fitting.{fits-neg}
 use Rattle.text_tokens.proofs.ShortNumbers.{number_here}
+
+pub digit_no_blank : (b : ℕ) → is_digit b ≡ true → is_blank b ≡ false
+digit_no_blank b h = grind (arith, nat_tests)
 
 digit_no_sign : (b : ℕ) → is_digit b ≡ true → is_sign b ≡ false
 digit_no_sign b h = grind (arith, nat_tests)

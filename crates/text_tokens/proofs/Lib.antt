@@ -3,3 +3,4 @@ pub mod Blanks
 pub mod Closing
 pub mod DigitNumbers
 pub mod ShortNumbers
+pub mod SpacedNumbers

@@ -39,9 +39,11 @@ pub fn group_end(bytes: &[u8], start: usize) -> Option<usize>
     let (_, rest) = bytes.split_at(start);
     let mut depth = 1;
     for (i, byte) in rest.iter().enumerate() {
-        depth = open_after(depth, *byte);
-        if depth == 0 {
-            return Some(start + i + 1);
+        if *byte == b'(' || *byte == b')' {
+            depth = open_after(depth, *byte);
+            if depth == 0 {
+                return Some(start + i + 1);
+            }
         }
     }
     None

@@ -2,9 +2,11 @@
 #![tactic(auto)]
 
 mod groups;
+mod spaced;
 mod tokens;
 
 pub use groups::{group_end, next_open, open_after};
+pub use spaced::{skip_space, spaced_number};
 pub use tokens::{
     Kind, Lexeme, blank, digits, integer, plain_number, skip_blanks, small_number, token,
     unsigned_part,

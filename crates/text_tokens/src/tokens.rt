@@ -15,7 +15,7 @@ pub fn blank(byte: u8) -> bool
     byte <= b' ' && matches!(byte, b'\t' | b'\n' | 12 | b'\r' | b' ')
 }
 
-fn digit(byte: u8) -> bool
+pub(crate) fn digit(byte: u8) -> bool
     ensures { result ≡ is_digit byte }
 {
     byte.is_ascii_digit()

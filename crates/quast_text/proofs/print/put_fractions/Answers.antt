@@ -1,4 +1,4 @@
-use Rattle.quast_text.proofs.Words.{◌≡◌, ◌++◌, ◌∙◌, ap, append_assoc, arith, flat_map, take, spell_fractions, spell_term, written}
+use Rattle.quast_text.proofs.Words.{◌++◌, ◌∙◌, ap, append_assoc, arith, flat_map, take, spell_fractions, spell_term, written}
 use Rattle.quast_text.proofs.Spellings.{fractions_flat}
 use Rattle.quast_text.proofs.print.put_fractions.Goals as goal
 

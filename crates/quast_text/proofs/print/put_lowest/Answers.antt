@@ -1,6 +1,13 @@
 use Rattle.quast_text.proofs.Words.{◌≡◌, ◌++◌, refl, rules, OnOk, signed_decimal, floor_div, gcd, spell_fraction, spell_denominator}
 use Rattle.quast_text.proofs.Spellings.{begins_through, on_ok, fraction_written}
+use Rattle.quast_text.proofs.Lowest.{divisor_positive}
 use Rattle.quast_text.proofs.print.put_lowest.Goals as goal
+
+pub floor_div-requires-clause-positive : goal.floor_div-requires-clause-positive
+floor_div-requires-clause-positive c = divisor_positive _ c.args.c c.args.d (search rules) c.requires.positive
+
+pub put_denominator-requires-clause-positive : goal.put_denominator-requires-clause-positive
+put_denominator-requires-clause-positive c = divisor_positive _ c.args.c c.args.d (search rules) c.requires.positive
 
 pub returns-clause-ok : goal.returns-clause-ok
 returns-clause-ok c =

@@ -1,20 +1,24 @@
-use Rattle.pip_reader.proofs.Words.{arith, refl, sym, ◌∙◌, ◌≤◌, ◌+◌, ◌-◌, length, take, drop}
-use Rattle.std.proofs.lemmas.List.{length-take}
+use Rattle.pip_reader.proofs.Words.{◌≡◌, rules, arith, sym, ◌∙◌, ◌≤◌, ◌+◌, ◌-◌, length, take, drop, All, NoBracket}
+use Rattle.std.proofs.lemmas.List.{length-take, length-drop}
 use Rattle.pip_reader.proofs.Scanning.{quiet-fold, quiet-none, run-more, run-found, fold-run}
 use Rattle.pip_reader.proofs.scan.GroupScan.find.Goals as goal
 
-pub loop-at-preserved-then-has_no_bracket : goal.loop-at-preserved-then-has_no_bracket
-loop-at-preserved-then-has_no_bracket c =
+pub loop-at-preserved-then-quiet-gt0 : goal.loop-at-preserved-then-quiet-gt0
+loop-at-preserved-then-quiet-gt0 c =
     let at = c.loop-at.at in
     let bytes = c.args.bytes.now in
     let depth = c.loop-at.self in
-    let run = take (at + 8 - at) (drop at bytes) in
-    let within : at + 8 ≤ length bytes = omega arith in
-    let stays = quiet-fold depth run (c.if-has_no_bracket.ensures.0 refl) in
-    let none = quiet-none depth 0 run (c.if-has_no_bracket.ensures.0 refl) in
+    let end = at + c.quiet_run-quiet.result in
+    let run = take (end - at) (drop at bytes) in
+    let within : end ≤ length bytes = omega (arith, c.quiet_run-quiet.ensures.within, length-drop at bytes) in
+    let size : c.quiet_run-quiet.result ≡ end - at = omega arith in
+    let quiet : All NoBracket (take c.quiet_run-quiet.result (drop c.loop-at.at c.args.bytes.now)) = search rules in
+    let no : All NoBracket run = rw (← size) quiet in
+    let stays = quiet-fold depth run no in
+    let none = quiet-none depth 0 run no in
     record {
-      rest = sym (run-more at (at + 8) bytes (omega arith) depth depth within none stays) ∙ c.loop-at.invariant.rest;
-      depth = fold-run at (at + 8) bytes (omega arith) c.args.self.now depth depth c.loop-at.invariant.depth stays;
+      rest = sym (run-more at end bytes (omega arith) depth depth within none stays) ∙ c.loop-at.invariant.rest;
+      depth = fold-run at end bytes (omega arith) c.args.self.now depth depth c.loop-at.invariant.depth stays;
       bound = omega arith;
       within = within;
     }

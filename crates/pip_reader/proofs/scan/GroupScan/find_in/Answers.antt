@@ -1,6 +1,7 @@
 use Rattle.pip_reader.proofs.Words.{◌≡◌, ◌≢◌, ◌+◌, ◌≤◌, ◌∙◌, ◌⊎◌, inl, inr, sym, ap, arith, slice_index, open_after}
 use Rattle.std.proofs.lemmas.Bool.{cases_eq}
-use Rattle.pip_reader.proofs.Scanning.{end_more, fold_more, other_byte}
+use Rattle.text_tokens.proofs.Closing.{other_byte}
+use Rattle.pip_reader.proofs.Scanning.{end_more, fold_more}
 use Rattle.pip_reader.proofs.scan.GroupScan.find_in.Goals as goal
 use Rattle.pip_reader.proofs.scan.GroupScan.find_in.Goals.{then-byte-eq40+else-before-gt0, else-before-gt0-via-then-before-gt0+else-depth-eq0, else-before-gt0-via-else-before-gt0, else-byte-eq40+else-byte-eq41}
 

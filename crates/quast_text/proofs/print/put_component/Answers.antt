@@ -1,0 +1,8 @@
+use Rattle.quast_text.proofs.Spellings.{begins_through}
+use Rattle.quast_text.proofs.print.put_component.Goals as goal
+
+pub returns-in_err-put_fractions-clause-kept : goal.returns-in_err-put_fractions-clause-kept
+returns-in_err-put_fractions-clause-kept c = begins_through _ _ _ c.in_ok-put_mark.ensures.kept c.in_err-put_fractions.ensures.kept
+
+pub returns-clause-kept : goal.returns-clause-kept
+returns-clause-kept c = begins_through _ _ _ (begins_through _ _ _ c.in_ok-put_mark.ensures.kept c.in_ok-put_fractions.ensures.kept) c.put_mark-2.ensures.kept
