@@ -110,7 +110,8 @@ impl Context {
         Ok(Context::new(alloc, width))
     }
 
-    /// No forms over so many places from now on. The room of forms, where there is memory to keep it, and of runs stays.
+    /// No forms over so many places from now on. It takes no memory. The room of forms, as far as there is a place for it,
+    /// and of runs stays.
     pub fn restart(&mut self, width: usize)
         ensures width { self.new.width ≡ width }
         ensures forms { self.new.forms ≡ [] }
@@ -128,6 +129,7 @@ impl Context {
         ensures kept { IsKeptContext self.old self.new }
         ensures room { OnOk result (n ≤ self.new.spare) }
     {
+        self.spares.make_room();
         self.forms.reserve(n)?;
         Ok(())
     }
@@ -171,8 +173,8 @@ impl Context {
     }
 
     /// Goes back to a mark: keeps as many of the first forms as it says, none of them wider than its width, which
-    /// becomes the context's. The room of the others is free again. It is not refused: the forms that leave are kept, as
-    /// room for copies, where there is memory for that.
+    /// becomes the context's. The room of the others is free again. It takes no memory: the forms that leave are kept, as
+    /// room for copies, where there is room for them.
     pub fn back_to(&mut self, mark: ContextMark)
         requires forms { mark.forms ≤ length self.old.forms }
         requires narrow { IsContext mark.width (take mark.forms self.old.forms) }

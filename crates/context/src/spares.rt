@@ -34,10 +34,17 @@ impl Spares {
         }
     }
 
-    // Keeps a form, unless many are kept, or memory is wanting.
+    // Makes room for as many forms as are kept at most, where there is none yet and memory for it.
+    pub(crate) fn make_room(&mut self) {
+        if self.forms.capacity() < MOST_SPARES {
+            let _ = self.forms.reserve(MOST_SPARES);
+        }
+    }
+
+    // Keeps a form, where there is room for it and not many are kept. It takes no memory.
     pub(crate) fn keep(&mut self, form: Form) {
-        if self.forms.len() < MOST_SPARES {
-            let _ = self.forms.push(form);
+        if self.forms.len() < MOST_SPARES && self.forms.len() < self.forms.capacity() {
+            self.forms.push_reserved(form);
         }
     }
 

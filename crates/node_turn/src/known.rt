@@ -38,7 +38,7 @@ pub struct KnownForms {
 }
 
 impl Model for KnownForms {
-    ghost use Rattle.std.specs.Prelude.{List, All, map};
+    ghost use Rattle.std.specs.Prelude.{◌≤◌, List, All, length, map};
     ghost use Rattle.node_turn.specs.Known.{KnownForm};
     ghost use Rattle.node_turn.specs.KnownPlaces.{form_at, IsPlaceIn};
 
@@ -46,7 +46,8 @@ impl Model for KnownForms {
 
     ghost view = { λ known. map (form_at known.numbers.items) known.places.items };
 
-    ghost invariant = { λ known. All (IsPlaceIn known.numbers.items) known.places.items };
+    ghost invariant = { λ known. All (IsPlaceIn known.numbers.items) known.places.items
+        × (length known.places.items ≤ 64) };
 }
 
 // Makes room for some forms of so many entries before the first, where there is memory for it.
