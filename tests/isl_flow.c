@@ -1,11 +1,8 @@
 /* Reads lines of four maps apart by tabs: what is read by which instances, what is written, the schedule, and for each reading
  * instance the one that is said to have written last what it reads. Writes `same` of each where isl's dataflow analysis finds that, or
  * `other`, `late` where isl makes more than its operations of it, or `fault` where isl does not read it. */
-#include <stdio.h>
-#include <string.h>
-#include <isl/ctx.h>
+#include "isl_lines.h"
 #include <isl/flow.h>
-#include <isl/options.h>
 #include <isl/union_map.h>
 #include <isl/union_set.h>
 
@@ -32,21 +29,5 @@ static const char *verdict(isl_ctx *ctx, char *part[4])
 
 int main(void)
 {
-	static char line[1 << 20];
-	isl_ctx *ctx = isl_ctx_alloc();
-	isl_options_set_on_error(ctx, ISL_ON_ERROR_CONTINUE);
-	isl_ctx_set_max_operations(ctx, 100000000);
-	while (fgets(line, sizeof line, stdin)) {
-		char *part[4];
-		int count = 0;
-		line[strcspn(line, "\n")] = 0;
-		isl_ctx_reset_operations(ctx);
-		isl_ctx_reset_error(ctx);
-		for (char *it = strtok(line, "\t"); it && count < 4; it = strtok(NULL, "\t"))
-			part[count++] = it;
-		puts(count == 4 ? verdict(ctx, part) : "fault");
-		fflush(stdout);
-	}
-	isl_ctx_free(ctx);
-	return 0;
+	return judge_lines(verdict, 100000000);
 }

@@ -1,25 +1,23 @@
 /* Reads lines of four texts apart by tabs: `least` or `greatest`, a set, a set of parameters, and a set that is said to be
  * its lexmin or lexmax there. Writes `same` or `other` of each, `late` where isl makes more than its operations of it, or `fault`
  * where isl does not read it. */
-#include <stdio.h>
+#include "isl_lines.h"
 #include <string.h>
-#include <isl/ctx.h>
 #include <isl/map.h>
-#include <isl/options.h>
 #include <isl/set.h>
 
-static const char *verdict(isl_ctx *ctx, const char *kind, const char *text, const char *parameters, const char *answer)
+static const char *verdict(isl_ctx *ctx, char *part[4])
 {
-	isl_set *set = isl_set_read_from_str(ctx, text);
-	isl_set *held = isl_set_read_from_str(ctx, parameters);
-	isl_set *said = isl_set_read_from_str(ctx, answer);
+	isl_set *set = isl_set_read_from_str(ctx, part[1]);
+	isl_set *held = isl_set_read_from_str(ctx, part[2]);
+	isl_set *said = isl_set_read_from_str(ctx, part[3]);
 	if (!set || !held || !said) {
 		isl_set_free(set);
 		isl_set_free(held);
 		isl_set_free(said);
 		return "fault";
 	}
-	set = strcmp(kind, "greatest") == 0 ? isl_set_lexmax(set) : isl_set_lexmin(set);
+	set = strcmp(part[0], "greatest") == 0 ? isl_set_lexmax(set) : isl_set_lexmin(set);
 	set = isl_set_intersect_params(set, held);
 	isl_bool same = isl_set_is_equal(set, said);
 	isl_set_free(set);
@@ -31,21 +29,5 @@ static const char *verdict(isl_ctx *ctx, const char *kind, const char *text, con
 
 int main(void)
 {
-	static char line[1 << 20];
-	isl_ctx *ctx = isl_ctx_alloc();
-	isl_options_set_on_error(ctx, ISL_ON_ERROR_CONTINUE);
-	isl_ctx_set_max_operations(ctx, 30000000);
-	while (fgets(line, sizeof line, stdin)) {
-		char *part[4];
-		int count = 0;
-		line[strcspn(line, "\n")] = 0;
-		isl_ctx_reset_operations(ctx);
-		isl_ctx_reset_error(ctx);
-		for (char *it = strtok(line, "\t"); it && count < 4; it = strtok(NULL, "\t"))
-			part[count++] = it;
-		puts(count == 4 ? verdict(ctx, part[0], part[1], part[2], part[3]) : "fault");
-		fflush(stdout);
-	}
-	isl_ctx_free(ctx);
-	return 0;
+	return judge_lines(verdict, 30000000);
 }

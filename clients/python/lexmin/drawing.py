@@ -122,6 +122,15 @@ def mermaid(drawing: Drawing, across: bool = False) -> Iterator[str]:
         yield f"    {start} -->|{label}| {end}" if label else f"    {start} --> {end}"
 
 
+def answer_texts(file: Optional[pathlib.Path]) -> List[str]:
+    """The texts of the answers in a file, or in standard input; ValueError where there is none."""
+    data = file.read_bytes() if file else sys.stdin.buffer.read()
+    texts = groups(data.decode(errors="replace"))
+    if not texts:
+        raise ValueError("no answer in the text")
+    return texts
+
+
 def names_of(text: Optional[str]) -> Optional[List[str]]:
     return None if text is None else [name.strip() for name in text.split(",") if name.strip()]
 
@@ -149,10 +158,7 @@ def main(words: Sequence[str]) -> int:
     parser.add_argument("file", nargs="?", type=pathlib.Path, help="the answers; standard input where none is named")
     chosen = parser.parse_args(words)
     try:
-        data = chosen.file.read_bytes() if chosen.file else sys.stdin.buffer.read()
-        answers = groups(data.decode(errors="replace"))
-        if not answers:
-            raise ValueError("no answer in the text")
+        answers = answer_texts(chosen.file)
         parameters, unknowns = names_of(chosen.parameters), names_of(chosen.unknowns)
         for answer in answers:
             print(draw(answer, parameters, unknowns, as_mermaid=chosen.mermaid, merge=chosen.merge, across=chosen.across))

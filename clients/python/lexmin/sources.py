@@ -20,10 +20,10 @@ import sys
 from typing import Dict, Iterator, List, Optional, Sequence
 
 from .answers import Answer
-from .drawing import names_of
+from .drawing import answer_texts, names_of
 from .forms import Column, Floor, Form
 from .problems import Range, Space
-from .trees import Choice, NewParameter, Point, Tree, form_of, groups, leaves, parameter_count, parse_answer
+from .trees import Choice, NewParameter, Point, Tree, form_of, leaves, parameter_count, parse_answer
 
 _PLAIN = re.compile(r"[A-Za-z_][A-Za-z0-9_]*")
 _TAKEN = frozenset("""and as assert async await auto break case char class const continue def default del do double elif else enum except extern
@@ -152,10 +152,7 @@ def main(words: Sequence[str]) -> int:
     parser.add_argument("file", nargs="?", type=pathlib.Path, help="the answers; standard input where none is named")
     chosen = parser.parse_args(words)
     try:
-        data = chosen.file.read_bytes() if chosen.file else sys.stdin.buffer.read()
-        texts = groups(data.decode(errors="replace"))
-        if not texts:
-            raise ValueError("no answer in the text")
+        texts = answer_texts(chosen.file)
         made = list(sources(texts, chosen.name, names_of(chosen.parameters), names_of(chosen.unknowns), chosen.c))
         floor = [C_FLOOR] if chosen.c and any("floor_of(" in source for source in made) else []
         print("\n".join([*floor, *made]), end="")
