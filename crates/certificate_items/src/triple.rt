@@ -38,11 +38,11 @@ fn rest_of_triple(
     if !problem.integer() {
         return Err(Ending::RationalCertificate);
     }
-    let (commented, at) = needed_answer(alloc, bytes, at, problem.params())?;
+    let (spoken, at) = needed_answer(alloc, bytes, at, problem.params())?;
     let (certificate, at) = needed_certificate(alloc, bytes, at)?;
     let triple = Triple {
         problem,
-        answer: commented.answer,
+        answer: spoken.answer,
         certificate,
     };
     Ok((triple, at))

@@ -1,5 +1,5 @@
 -- The runs that a context keeps.
-use Rattle.context.proofs.Words.{◌≡◌, ap, sym, subst, ℕ, ◌+◌, ◌≤◌, ℤ, Bool, true, false, arith, List, [], ◌∷◌, ◌++◌, length, take, IsTrue, take-take, take-append-le, length-take-le, IsContext, Remembered, IsRemembered, IsKnown, ◌∙◌, Result, ScopedForms, IsKeptContext, ◌-◌, drop, Ok, Err, OnOk, is_ok, take_all, take_rest, take-append-drop}
+use Rattle.context.proofs.Words.{◌≡◌, ap, sym, subst, ℕ, ◌+◌, ◌≤◌, ℤ, Bool, true, false, arith, List, [], ◌∷◌, ◌++◌, length, take, IsTrue, take-take, take-append-le, length-take-le, IsContext, Remembered, IsRemembered, IsKnown, IsTried, ◌∙◌, Result, ScopedForms, IsKeptContext, ◌-◌, drop, Ok, Err, OnOk, is_ok, take_all, take_rest, take-append-drop}
 use Rattle.kept_run.proofs.Copying.{over_columns, length_longer, context_longer}
 
 pub kept_on : (k between now : ScopedForms) → IsKeptContext k between → IsKeptContext between now → IsKeptContext k now
@@ -27,6 +27,10 @@ of_all n known K l old now e is further =
     subst (λ (forms : List (List ℤ)). IsRemembered n forms now)
     (ap (λ (forms : List (List ℤ)). take known K ++ take (length forms - known) (drop known forms)) e ∙ ap (λ (rest : List (List ℤ)). take known K ++ rest) (take_rest K known) ∙ take-append-drop known K)
     (further n (take known K) is)
+
+pub untried : (tried : Bool) (known : ℕ) (K : List (List ℤ)) → tried ≡ false → IsTried tried known K
+untried true known K e h = absurd cc
+untried false known K e h = absurd cc
 
 pub ok_tells : {A E P : Type 0} (r : Result A E) (b : Bool) → b ≡ is_ok r → OnOk r P → IsTrue b → P
 ok_tells (Ok x) b e told h = told

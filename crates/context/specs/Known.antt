@@ -1,5 +1,5 @@
 -- The runs that a context keeps.
-use Rattle.std.specs.Prelude.{ℕ, ◌≤◌, ℤ, Bool, IsTrue, List, length, take}
+use Rattle.std.specs.Prelude.{◌≡◌, ℕ, ◌≤◌, ℤ, Bool, IsTrue, List, length, take}
 use Rattle.pip_model.specs.Contexts.{IsContext}
 use Rattle.kept_run.specs.declared.remembered.Remembered.{Remembered}
 use Rattle.kept_run.specs.Remembered.{IsRemembered}
@@ -12,3 +12,7 @@ pub record IsKnown (n : ℕ) (K : List (List ℤ)) (is_known : Bool) (known : �
   pub remembered : IsTrue is_known → IsRemembered n (take known K) run
   pub earlier_within : IsTrue is_earlier → fewer ≤ length K
   pub earlier_run : IsTrue is_earlier → IsRemembered earlier.run.end.unknowns (take fewer K) earlier
+
+-- where it was tried to make the run of all forms, so many were tried
+abbrev pub IsTried : Bool → ℕ → List (List ℤ) → Type 0
+IsTried tried known K = IsTrue tried → known ≡ length K

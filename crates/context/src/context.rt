@@ -1,4 +1,4 @@
-ghost use Rattle.std.specs.Prelude.{◌≡◌, ◌+◌, ◌-◌, ◌^◌, ◌<◌, ◌≤◌, pos, ◌≤ℤ◌, ◌<ℤ◌, [], ◌∷◌, ◌++◌, length, take, All, IfOk, OnOk, IfErr, IfSome, IfNone, IsTrue};
+ghost use Rattle.std.specs.Prelude.{◌≡◌, ◌+◌, ◌-◌, ◌^◌, ◌<◌, ◌≤◌, pos, ◌≤ℤ◌, ◌<ℤ◌, [], ◌∷◌, ◌++◌, true, false, length, take, All, IfOk, OnOk, IfErr, IfSome, IfNone, IsTrue};
 ghost use Rattle.pip_model.specs.Contexts.{IsContext, PointTells, IsPointRefusal};
 ghost use Rattle.pip_model.specs.RefutedPoint.{IsRefutedPoint};
 ghost use Rattle.pip_model.specs.Refuting as refuting;
@@ -27,7 +27,8 @@ use std::slice::from_ref;
 
 /// A context: forms over the parameters and quotients in scope, which it takes to be at least 0. Its width is their
 /// number; a form that is narrower reads 0 at the missing places. It stands for the whole vectors of numbers from 0 on
-/// at which no form is below 0. Contracts see the width, the forms in order, and the room that is left for more.
+/// at which no form is below 0. Contracts see the width, the forms in order, the room that is left for more, and whether
+/// it was tried to make the run of all forms.
 ///
 /// From one question with a form more to the next a context keeps the first pivots of its own forms' run, no more
 /// than it has places and forms, and the rows that they made. It goes on from them where forms were added, and keeps
@@ -69,16 +70,22 @@ fn stays(is_known: bool, known: usize, width: usize, mark: ContextMark) -> bool
 impl Model for Context {
     ghost use Rattle.std.specs.Prelude.{◌-◌};
     ghost use Rattle.std.specs.Vec.{vec_len, vec_capacity};
-    ghost use Rattle.context.specs.Known.{IsKnown};
+    ghost use Rattle.context.specs.Known.{IsKnown, IsTried};
     ghost use Rattle.context.specs.Scoped.{ScopedForms};
 
     ghost Value = { ScopedForms };
 
     ghost view = { λ k.
-        record { width = k.width; forms = k.forms.items; spare = vec_capacity k.forms - vec_len k.forms } };
+        record {
+          width = k.width;
+          forms = k.forms.items;
+          spare = vec_capacity k.forms - vec_len k.forms;
+          tried = k.is_tried;
+        } };
 
     ghost invariant = { λ k.
-        IsKnown k.width k.forms.items k.is_known k.known k.run k.is_earlier k.earlier_known k.earlier };
+        IsKnown k.width k.forms.items k.is_known k.known k.run k.is_earlier k.earlier_known k.earlier
+        × IsTried k.is_tried k.known k.forms.items };
 }
 
 impl Context {
@@ -86,6 +93,7 @@ impl Context {
     pub fn new(alloc: Global, width: usize) -> Context
         ensures width { result.width ≡ width }
         ensures forms { result.forms ≡ [] }
+        ensures tried { result.tried ≡ false }
     {
         Context {
             width,
@@ -106,6 +114,7 @@ impl Context {
     pub fn try_new(alloc: Global, width: usize) -> Result<Context, WantOfMemory>
         ensures width { IfOk result (λ k. k.width ≡ width) }
         ensures forms { IfOk result (λ k. k.forms ≡ []) }
+        ensures tried { IfOk result (λ k. k.tried ≡ false) }
     {
         Ok(Context::new(alloc, width))
     }
@@ -115,6 +124,7 @@ impl Context {
     pub fn restart(&mut self, width: usize)
         ensures width { self.new.width ≡ width }
         ensures forms { self.new.forms ≡ [] }
+        ensures tried { self.new.tried ≡ false }
     {
         self.spares.keep_from(&mut self.forms, 0);
         self.width = width;
@@ -142,6 +152,7 @@ impl Context {
         ensures width { self.new.width ≡ self.old.width }
         ensures forms { self.new.forms ≡ self.old.forms ++ f ∷ [] }
         ensures spare { self.old.spare ≤ self.new.spare + 1 }
+        ensures tried { self.new.tried ≡ false }
     {
         let _ = f.width();
         self.forms.push(f).unwrap();
@@ -154,6 +165,7 @@ impl Context {
         ensures width { self.new.width ≡ self.old.width + 1 }
         ensures forms { self.new.forms ≡ self.old.forms }
         ensures spare { self.old.spare ≤ self.new.spare }
+        ensures tried { self.new.tried ≡ false }
     {
         self.width += 1;
         self.is_known = false;
@@ -181,6 +193,7 @@ impl Context {
         ensures width { self.new.width ≡ mark.width }
         ensures forms { self.new.forms ≡ take mark.forms self.old.forms }
         ensures spare { self.old.spare + (length self.old.forms - mark.forms) ≤ self.new.spare }
+        ensures tried { self.new.tried ≡ false }
     {
         self.spares.keep_from(&mut self.forms, mark.forms);
         self.is_known = stays(self.is_known, self.known, self.width, mark);
@@ -192,7 +205,9 @@ impl Context {
 
     // Where no run is known, that of fewer forms is, if it is kept and has the context's width.
     fn take_earlier(&mut self)
+        requires tried { self.old.tried ≡ false }
         ensures kept { IsKeptContext self.old self.new }
+        ensures tried { self.new.tried ≡ false }
     {
         if !self.is_known && self.is_earlier && self.earlier.run.end.unknowns() == self.width {
             swap(&mut self.run, &mut self.earlier);
@@ -270,6 +285,7 @@ impl Context {
     #[inline(always)]
     fn prepare(&mut self)
         ensures kept { IsKeptContext self.old self.new }
+        ensures tried { self.new.tried ≡ true }
     {
         if !self.is_tried {
             self.keep_earlier();
@@ -280,6 +296,7 @@ impl Context {
     // Makes the run of all forms alone.
     fn recall(&mut self)
         ensures kept { IsKeptContext self.old self.new }
+        ensures tried { self.new.tried ≡ true }
     {
         self.is_tried = true;
         self.is_known = if self.is_known {
@@ -299,6 +316,7 @@ impl Context {
             (has_point self.old.width (self.old.forms ++ further.now))) }
         ensures none { IfNone result (work.new ≡ work.old) }
         ensures kept { IsKeptContext self.old self.new }
+        ensures tried { self.new.tried ≡ self.old.tried }
     {
         if !self.is_known || self.known < self.forms.len() {
             return None;
@@ -352,6 +370,7 @@ impl Context {
         ensures gives { IsCountedRun (λ b. b) run_fault result work.old work.new
             (has_point self.old.width (self.old.forms ++ form.now ∷ [])) }
         ensures kept { IsKeptContext self.old self.new }
+        ensures tried { self.new.tried ≡ true }
     {
         self.prepare();
         let _ = form.width();

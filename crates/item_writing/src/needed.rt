@@ -3,10 +3,10 @@ ghost use Rattle.pip_model.specs.Limits.{most_params};
 ghost use Rattle.program_model.specs.ItemKinds as kinds;
 ghost use Rattle.quast.specs.Answers.{IsOver};
 ghost use Rattle.item_writing.specs.Items.{Finds};
-ghost use Rattle.item_writing.specs.Needed.{commented_found};
+ghost use Rattle.item_writing.specs.Needed.{spoken_found};
 
 use pip_endings::Ending;
-use quast_text::{Commented, TextRefusal, read_answer};
+use quast_text::{Spoken, TextRefusal, read_answer};
 use std::alloc::Global;
 
 /// The next answer over so many parameters, which has to be there, and the place behind it.
@@ -15,10 +15,10 @@ pub fn needed_answer(
     bytes: &[u8],
     at: usize,
     params: usize,
-) -> Result<(Commented, usize), Ending>
+) -> Result<(Spoken, usize), Ending>
     requires place { at ≤ length bytes.now }
     requires few { params ≤ most_params }
-    ensures { Finds commented_found (λ s. IsOver params s.answer) (kinds.needed_answer bytes.now params at) at
+    ensures { Finds spoken_found (λ s. IsOver params s.answer) (kinds.needed_answer bytes.now params at) at
         (length bytes.now) result }
 {
     match read_answer(alloc, bytes, at, params)? {

@@ -10,6 +10,7 @@ formed_same m copy same is = record {
   width = rw same.end is.width;
   rows = rw same.end is.rows;
   lengths = rw (same.pivots, same.columns) is.lengths;
+  few = rw (same.columns, same.end) is.few;
   each = rw (same.pivots, same.columns, same.end) is.each;
 }
 

@@ -34,13 +34,14 @@ replayed (p ∷ ps) (c ∷ cs) rows = do
 pub record IsTurned (ps : List Row) (cs : List ℕ) (rows now : List Row) : Type 0 where
   pub turns : (further : List Row) (w : Work) → replayed ps cs (rows ++ further) w ≡ go_on (replayed ps cs further w) (λ more. give (now ++ more))
 
--- a row and a column for each pivot, and the rows of a run without parameters
+-- a row and a column for each pivot, no more than there are rows, and the rows of a run without parameters
 pub record IsFormed (m : Replay) : Type 0 where
   pub unknowns : m.pivots.unknowns ≡ m.end.unknowns
   pub pivots_width : m.pivots.width ≡ 0
   pub width : m.end.width ≡ 0
   pub rows : m.end.unknowns ≤ length m.end.rows
   pub lengths : length m.pivots.rows ≡ length m.columns.items
+  pub few : length m.columns.items ≤ length m.end.rows
   pub each : (i : ℕ) → i < length m.columns.items
       → IsCandidate m.end.unknowns (row_at m.pivots.rows i) (get_or m.columns.items i 0)
 

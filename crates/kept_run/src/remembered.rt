@@ -1,4 +1,4 @@
-ghost use Rattle.std.specs.Prelude.{◌≡◌, ℕ, ◌<◌, ◌≤◌, ℤ, Some, List, [], ◌∷◌, ◌++◌, length, map, IfOk, OnOk};
+ghost use Rattle.std.specs.Prelude.{◌≡◌, ℕ, ◌+◌, ◌<◌, ◌≤◌, ℤ, Some, List, [], ◌∷◌, ◌++◌, length, map, IfOk, OnOk};
 ghost use Rattle.pip_model.specs.Contexts.{IsContext};
 ghost use Rattle.pip_model.specs.Rows.{Row};
 ghost use Rattle.point_run.specs.Turns.{negative_from};
@@ -96,12 +96,16 @@ fn push_place(places: &mut Vec<usize>, i: usize) -> Result<(), WantOfMemory>
 }
 
 // The step at the first row below 0: whether a column enters. Where one does, the pivot is written down and made.
+#[tactic(auto, using(run_laws::proofs::RowsAt::length_pivot))]
 fn pivot_at(m: &mut Replay, r: usize) -> Result<bool, Stop>
     requires formed { IsFormed m.old }
     requires row { r < length m.old.end.rows }
     requires first { negative_from 0 m.old.end.rows ≡ Some r }
+    requires few { length m.old.columns.items < length m.old.end.rows }
     ensures formed { IfOk result (λ x. IsFormed m.new) }
     ensures unknowns { IfOk result (λ x. m.new.end.unknowns ≡ m.old.end.unknowns) }
+    ensures rows { IfOk result (λ x. length m.new.end.rows ≡ length m.old.end.rows) }
+    ensures columns { IfOk result (λ x. length m.new.columns.items ≤ length m.old.columns.items + 1) }
     ensures replay { IfOk result (λ x. (first : List Row) → IsReplay first m.old → IsReplay first m.new) }
 {
     let Some(c) = m.end.entering(r) else {

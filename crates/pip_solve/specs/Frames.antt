@@ -29,7 +29,7 @@ node_run t path = run_from (setting_of t path) (node_of t path)
 abbrev pub gone_back : Path → ContextMark → ℕ → ℕ → Path
 gone_back path mark quotients depth = record path {
   depth = depth;
-  context = record {
+  context = record path.context {
     width = mark.width;
     forms = take mark.forms path.context.forms;
     spare = path.context.spare + (length path.context.forms - mark.forms);

@@ -34,14 +34,14 @@ pub fn print_pieces(
     ensures parted { OnOk result (IsParted answer.now) }
 {
     let start = out.len();
-    let put = put_commented(out, comment, answer);
+    let put = put_spoken(out, comment, answer);
     if put.is_err() {
         out.truncate(start);
     }
     put
 }
 
-fn put_commented(out: &mut Vec<u8>, comment: &Bytes, answer: &Answer) -> Result<(), PiecesRefusal>
+fn put_spoken(out: &mut Vec<u8>, comment: &Bytes, answer: &Answer) -> Result<(), PiecesRefusal>
     ensures ok { Appends (spell_pieces comment.now (answer_of answer.now)) out.old.items out.new.items result }
     ensures kept { Begins out.old.items out.new.items }
     ensures listed { IsChecked is_pieces_overflow (answer_listed (answer_of answer.now)) result }

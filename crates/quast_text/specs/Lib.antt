@@ -3,4 +3,4 @@ pub mod Faults
 pub mod Fractions
 pub mod Components
 pub mod Trees
-pub mod Commented
+pub mod Spoken

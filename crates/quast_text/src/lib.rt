@@ -13,5 +13,5 @@ mod row;
 mod tree;
 
 pub use print::{print_answer, print_tree, put_comment, put_definition, put_form, put_node};
-pub use read::{Commented, read_answer};
+pub use read::{Spoken, read_answer};
 pub use refusal::TextRefusal;

@@ -44,14 +44,14 @@ pub fn print_answer(comment: &Bytes, answer: &Answer, out: &mut Vec<u8>) -> Resu
     let start = out.len();
     // Where this is refused, the parts ask for what they need.
     let _ = out.reserve(FIRST_ROOM);
-    if put_commented(out, comment, answer).is_err() {
+    if put_spoken(out, comment, answer).is_err() {
         out.truncate(start);
         return Err(WantOfMemory);
     }
     Ok(())
 }
 
-fn put_commented(out: &mut Vec<u8>, comment: &Bytes, answer: &Answer) -> Result<(), AllocError>
+fn put_spoken(out: &mut Vec<u8>, comment: &Bytes, answer: &Answer) -> Result<(), AllocError>
     ensures printable { OnOk result ((np : ℕ) → np ≤ most_params → IsOver np answer.now
         → IsPrintableAnswer np (answer_of answer.now)) }
     ensures ok { Appends (spell comment.now (answer_of answer.now)) out.old.items out.new.items result }

@@ -2,13 +2,13 @@ ghost use Rattle.std.specs.Prelude.{◌≡◌, ◌≤◌, ◌<◌, ◌↔◌, le
 ghost use Rattle.std.specs.List.{list_all};
 ghost use Rattle.pip_model.specs.Limits.{most_params};
 ghost use Rattle.pip_model.specs.Moved.{is_closed};
-ghost use Rattle.pip_model.specs.TreeText.{tree_or_void as tree_or_void_of, commented_at as commented_at_of, read_answer as read_answer_of};
+ghost use Rattle.pip_model.specs.TreeText.{tree_or_void as tree_or_void_of, commented_at as spoken_at_of, read_answer as read_answer_of};
 ghost use Rattle.pip_model.specs.Printed.{IsCommented};
 ghost use Rattle.pip_model.specs.Agreement.{Agrees};
 ghost use Rattle.quast.specs.Answers.{answer_of, IsOver};
 ghost use Rattle.text_reading.specs.Steps.{IsRead};
 ghost use Rattle.quast_text.specs.Faults.{text_fault};
-ghost use Rattle.quast_text.specs.Commented.{commented_of, found_of};
+ghost use Rattle.quast_text.specs.Spoken.{spoken_of, found_of};
 
 use crate::refusal::TextRefusal;
 use crate::tree::read_tree;
@@ -20,7 +20,7 @@ use text_tokens::{Kind, next_open, token};
 
 /// An answer with its comment, a group with its brackets.
 #[derive(Drop)]
-pub struct Commented {
+pub struct Spoken {
     pub comment: Bytes,
     pub answer: Answer,
 }
@@ -41,31 +41,26 @@ fn tree_or_void(alloc: Global, bytes: &[u8], np: usize, place: usize) -> Reads<A
 }
 
 // The answer with its comment that begins at a place, and the place behind its last `)`.
-fn commented_at(
-    alloc: Global,
-    bytes: &[u8],
-    np: usize,
-    place: usize,
-) -> Reads<Commented, TextRefusal>
+fn spoken_at(alloc: Global, bytes: &[u8], np: usize, place: usize) -> Reads<Spoken, TextRefusal>
     requires place { place ≤ length bytes.now }
     requires few { np ≤ most_params }
-    ensures reads { IsRead commented_of text_fault bytes.now place result (commented_at_of bytes.now np place) }
+    ensures reads { IsRead spoken_of text_fault bytes.now place result (spoken_at_of bytes.now np place) }
     ensures scope { IfOk result (λ x. IsOver np x.0.answer) }
 {
     let first = expect(bytes, Kind::LeftParen, place)?;
     let (comment, at) = group(alloc, bytes, first)?;
     let (answer, at) = tree_or_void(alloc, bytes, np, at)?;
     let after = expect(bytes, Kind::RightParen, at)?;
-    Ok((Commented { comment, answer }, after))
+    Ok((Spoken { comment, answer }, after))
 }
 
 // The answer that begins with the first `(` at or behind `start`, and the place behind its last `)`.
-fn first_commented(
+fn first_spoken(
     alloc: Global,
     bytes: &[u8],
     start: usize,
     np: usize,
-) -> Result<Option<(Commented, usize)>, TextRefusal>
+) -> Result<Option<(Spoken, usize)>, TextRefusal>
     requires start { start ≤ length bytes.now }
     requires few { np ≤ most_params }
     ensures agrees { Agrees found_of text_fault result (read_answer_of bytes.now start np) }
@@ -74,7 +69,7 @@ fn first_commented(
 {
     match next_open(bytes, start) {
         None => Ok(None),
-        Some(place) => Ok(Some(commented_at(alloc, bytes, np, place)?)),
+        Some(place) => Ok(Some(spoken_at(alloc, bytes, np, place)?)),
     }
 }
 
@@ -91,14 +86,14 @@ pub fn read_answer(
     bytes: &[u8],
     start: usize,
     np: usize,
-) -> Result<Option<(Commented, usize)>, TextRefusal>
+) -> Result<Option<(Spoken, usize)>, TextRefusal>
     requires start { start ≤ length bytes.now }
     requires few { np ≤ most_params }
     ensures agrees { Agrees found_of text_fault result (read_answer_of bytes.now start np) }
     ensures none { IfOk result (λ o. (o ≡ None) ↔ IsTrue (list_all is_closed (drop start bytes.now))) }
     ensures scope { IfOk result (λ o. IfSome o (λ x. IsOver np x.0.answer)) }
     ensures place { IfOk result (λ o. IfSome o (λ x. (start < x.1) × (x.1 ≤ length bytes.now))) }
-    ensures commented { IfOk result (λ o. IfSome o (λ x. IsCommented np (commented_of x.0))) }
+    ensures spoken { IfOk result (λ o. IfSome o (λ x. IsCommented np (spoken_of x.0))) }
 {
-    first_commented(alloc, bytes, start, np)
+    first_spoken(alloc, bytes, start, np)
 }

@@ -1,4 +1,4 @@
-ghost use Rattle.std.specs.Prelude.{◌≡◌, ◌+◌, ◌<◌, length, map, All, IfOk};
+ghost use Rattle.std.specs.Prelude.{◌≡◌, ◌+◌, ◌<◌, length, map, All, IfOk, vec_capacity};
 ghost use Rattle.pip_model.specs.Contexts.{IsContext};
 ghost use Rattle.pip_model.specs.Made.{narrow_to};
 
@@ -18,7 +18,7 @@ pub(crate) fn narrow_form(alloc: Global, form: &Form, width: usize) -> Result<Fo
     Ok(Form::from_entries(made))
 }
 
-// The forms over their first places.
+// The forms over their first places, in room for just these.
 pub(crate) fn narrow_all(
     alloc: Global,
     forms: &[Form],
@@ -27,10 +27,11 @@ pub(crate) fn narrow_all(
     requires { All (λ c. width < length c) forms.now }
     ensures value { IfOk result (λ made. made.items ≡ map (narrow_to width) forms.now) }
     ensures context { IfOk result (λ made. IsContext width made.items) }
+    ensures room { IfOk result (λ made. vec_capacity made ≡ length forms.now) }
 {
     let mut made = Vec::with_capacity(alloc, forms.len())?;
     for form in forms {
-        made.push(narrow_form(alloc, form, width)?)?;
+        made.push_reserved(narrow_form(alloc, form, width)?);
     }
     Ok(made)
 }

@@ -1,4 +1,4 @@
-ghost use Rattle.std.specs.Prelude.{◌≡◌, ◌^◌, ◌<◌, ◌≤◌, [], ◌∷◌, ◌++◌, pos, ◌≤ℤ◌, ◌<ℤ◌, List, ℤ, length, map, All, IsTrue, IfOk, OnOk};
+ghost use Rattle.std.specs.Prelude.{◌≡◌, ◌^◌, ◌<◌, ◌≤◌, [], ◌∷◌, ◌++◌, pos, ◌≤ℤ◌, ◌<ℤ◌, List, ℤ, length, map, All, IsTrue, IfOk, OnOk, OnErr};
 ghost use Rattle.pip_model.specs.Contexts.{IsContext};
 ghost use Rattle.pip_model.specs.Made.{narrow_to};
 ghost use Rattle.pip_model.specs.Refuting as model;
@@ -255,9 +255,40 @@ impl Refuter {
         }
     }
 
+    // Keeps no forms.
+    fn forget(&mut self)
+        ensures { self.new.forms ≡ [] }
+    {
+        self.is_known = false;
+        self.forms.clear();
+    }
+
+    // The steps by which the known forms have no point, where those that it keeps are the first of them.
+    fn refute_known(
+        &mut self,
+        known: &[Form],
+        places: &[i128],
+        first: i128,
+        work: &mut Work,
+    ) -> Result<Option<Refutation>, Refusal>
+        requires wide { All (λ c. length places.now < length c) known.now }
+        requires places { All Fits places.now }
+        requires some { pos 0 ≤ℤ first }
+        requires few { first <ℤ pos (2 ^ 64) }
+        requires first { AreFirst self.old known.now }
+        ensures gives { IsCountedRun (λ o. o) run_fault result work.old work.new
+            (model.refute (length places.now) (map (narrow_to (length places.now)) known.now) places.now first) }
+        ensures first { OnOk result (AreFirst self.new known.now) }
+    {
+        if !self.recall_first(known, places.len())? {
+            return self.refute_all(known, places, first, work);
+        }
+        self.refute_first(known, places, first, work)
+    }
+
     /// The steps by which the known forms, each over its first places alone and its constant, have no point, as
     /// `Context::refute` gives them of these forms, with its counts and its refusals. So many of the first known forms
-    /// are those that it was asked before.
+    /// are those that it was asked before. After a refusal it keeps none, and may be asked further.
     pub fn refute(
         &mut self,
         known: &[Form],
@@ -274,11 +305,15 @@ impl Refuter {
         ensures gives { IsCountedRun (λ o. o) run_fault result work.old work.new
             (model.refute (length places.now) (map (narrow_to (length places.now)) known.now) places.now first) }
         ensures first { OnOk result (AreFirst self.new known.now) }
+        ensures refused { OnErr result (self.new.forms ≡ []) }
     {
         self.keep_within(same);
-        if !self.recall_first(known, places.len())? {
-            return self.refute_all(known, places, first, work);
+        match self.refute_known(known, places, first, work) {
+            Ok(found) => Ok(found),
+            Err(refusal) => {
+                self.forget();
+                Err(refusal)
+            }
         }
-        self.refute_first(known, places, first, work)
     }
 }

@@ -2,15 +2,15 @@
 use Rattle.std.specs.Prelude.{◌≡◌, ℕ}
 use Rattle.program_model.specs.ItemKinds as kinds
 use Rattle.quast.specs.Answers.{IsOver}
-use Rattle.quast_text.specs.Commented.{commented_of}
+use Rattle.quast_text.specs.Spoken.{spoken_of}
 use Rattle.tree_items.specs.declared.restricting.Pair.{Pair}
 use Rattle.tree_items.specs.declared.trio.Trio.{Trio}
 
 abbrev pub pair_of : Pair → kinds.Pair
-pair_of p = record { rows = p.rows.forms; first = commented_of p.first }
+pair_of p = record { rows = p.rows.forms; first = spoken_of p.first }
 
 abbrev pub trio_of : Trio → kinds.Trio
-trio_of t = record { rows = t.rows.forms; first = commented_of t.first; second = commented_of t.second }
+trio_of t = record { rows = t.rows.forms; first = spoken_of t.first; second = spoken_of t.second }
 
 -- all are over m parameters
 pub record IsPair (m : ℕ) (p : Pair) : Type 0 where

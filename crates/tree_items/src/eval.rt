@@ -1,13 +1,13 @@
 ghost use Rattle.std.specs.Prelude.{length};
 ghost use Rattle.program_model.specs.Commands.{Eval as model_eval};
 ghost use Rattle.quast.specs.Answers.{IsOver};
-ghost use Rattle.quast_text.specs.Commented.{commented_of};
+ghost use Rattle.quast_text.specs.Spoken.{spoken_of};
 
 use crate::value::value_of;
 use item_writing::Items;
 use pip_endings::Ending;
 use pip_words::ParameterVector;
-use quast_text::{Commented, print_answer, read_answer};
+use quast_text::{Spoken, print_answer, read_answer};
 use std::alloc::Global;
 
 /// Evaluates answers at a parameter vector.
@@ -15,11 +15,11 @@ use std::alloc::Global;
 pub struct Eval<'a>(pub &'a ParameterVector);
 
 impl Items for Eval<'_> {
-    type Read = Commented;
+    type Read = Spoken;
 
     ghost meaning = { λ e. model_eval e.0.now };
 
-    ghost seen = { λ _ s. commented_of s };
+    ghost seen = { λ _ s. spoken_of s };
 
     ghost is_item = { λ e s. IsOver (length e.0.now) s.answer };
 
@@ -30,18 +30,13 @@ impl Items for Eval<'_> {
         alloc: Global,
         bytes: &[u8],
         at: usize,
-    ) -> Result<Option<(Commented, usize)>, Ending> {
+    ) -> Result<Option<(Spoken, usize)>, Ending> {
         Ok(read_answer(alloc, bytes, at, self.0.as_slice().len())?)
     }
 
-    fn put(
-        &self,
-        alloc: Global,
-        commented: &mut Commented,
-        text: &mut Vec<u8>,
-    ) -> Result<(), Ending> {
-        let value = value_of(alloc, &commented.answer, self.0.as_slice())?;
-        print_answer(&commented.comment, &value, text)?;
+    fn put(&self, alloc: Global, spoken: &mut Spoken, text: &mut Vec<u8>) -> Result<(), Ending> {
+        let value = value_of(alloc, &spoken.answer, self.0.as_slice())?;
+        print_answer(&spoken.comment, &value, text)?;
         Ok(())
     }
 }

@@ -1,13 +1,13 @@
 ghost use Rattle.std.specs.Prelude.{length};
 ghost use Rattle.program_model.specs.Commands.{Pieces as model_pieces};
 ghost use Rattle.quast.specs.Answers.{IsOver};
-ghost use Rattle.quast_text.specs.Commented.{commented_of};
+ghost use Rattle.quast_text.specs.Spoken.{spoken_of};
 
 use item_writing::Items;
 use pip_endings::Ending;
 use pip_words::PiecesOptions;
 use quast_pieces::print_pieces;
-use quast_text::{Commented, read_answer};
+use quast_text::{Spoken, read_answer};
 use std::alloc::Global;
 
 /// Takes answers apart.
@@ -15,11 +15,11 @@ use std::alloc::Global;
 pub struct Pieces<'a>(pub &'a PiecesOptions);
 
 impl Items for Pieces<'_> {
-    type Read = Commented;
+    type Read = Spoken;
 
     ghost meaning = { λ p. model_pieces p.0.now.params };
 
-    ghost seen = { λ _ s. commented_of s };
+    ghost seen = { λ _ s. spoken_of s };
 
     ghost is_item = { λ p s. IsOver p.0.now.params s.answer };
 
@@ -30,18 +30,13 @@ impl Items for Pieces<'_> {
         alloc: Global,
         bytes: &[u8],
         at: usize,
-    ) -> Result<Option<(Commented, usize)>, Ending> {
+    ) -> Result<Option<(Spoken, usize)>, Ending> {
         Ok(read_answer(alloc, bytes, at, self.0.params)?)
     }
 
     #[tactic(auto, using(crate::proofs::PieceTexts::pieces_refused))]
-    fn put(
-        &self,
-        _alloc: Global,
-        commented: &mut Commented,
-        text: &mut Vec<u8>,
-    ) -> Result<(), Ending> {
-        print_pieces(&commented.comment, &commented.answer, text)?;
+    fn put(&self, _alloc: Global, spoken: &mut Spoken, text: &mut Vec<u8>) -> Result<(), Ending> {
+        print_pieces(&spoken.comment, &spoken.answer, text)?;
         Ok(())
     }
 }

@@ -7,7 +7,7 @@ use item_writing::{Items, needed_answer};
 use pip_endings::Ending;
 use pip_reader::read_context;
 use pip_words::WalkOptions;
-use quast_text::{Commented, print_answer};
+use quast_text::{Spoken, print_answer};
 use quast_tools::restrict;
 use std::alloc::Global;
 
@@ -15,7 +15,7 @@ use std::alloc::Global;
 #[derive(Drop)]
 pub struct Pair {
     rows: Forms,
-    first: Commented,
+    first: Spoken,
 }
 
 /// Restricts answers to their contexts.

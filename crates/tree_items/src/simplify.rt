@@ -1,14 +1,14 @@
 ghost use Rattle.std.specs.Prelude.{length};
 ghost use Rattle.program_model.specs.Commands.{Simplify as model_simplify};
 ghost use Rattle.quast.specs.Answers.{IsOver};
-ghost use Rattle.quast_text.specs.Commented.{commented_of};
+ghost use Rattle.quast_text.specs.Spoken.{spoken_of};
 
 use item_writing::Items;
 use pip_endings::Ending;
 use pip_words::SimplifyOptions;
 use quast::Answer;
 use quast_simplify::simplify_answer;
-use quast_text::{Commented, print_answer, read_answer};
+use quast_text::{Spoken, print_answer, read_answer};
 use std::alloc::Global;
 use std::mem::replace;
 
@@ -17,11 +17,11 @@ use std::mem::replace;
 pub struct Simplify<'a>(pub &'a SimplifyOptions);
 
 impl Items for Simplify<'_> {
-    type Read = Commented;
+    type Read = Spoken;
 
     ghost meaning = { λ s. model_simplify s.0.now.params };
 
-    ghost seen = { λ _ s. commented_of s };
+    ghost seen = { λ _ s. spoken_of s };
 
     ghost is_item = { λ s c. IsOver s.0.now.params c.answer };
 
@@ -32,18 +32,13 @@ impl Items for Simplify<'_> {
         alloc: Global,
         bytes: &[u8],
         at: usize,
-    ) -> Result<Option<(Commented, usize)>, Ending> {
+    ) -> Result<Option<(Spoken, usize)>, Ending> {
         Ok(read_answer(alloc, bytes, at, self.0.params)?)
     }
 
-    fn put(
-        &self,
-        _alloc: Global,
-        commented: &mut Commented,
-        text: &mut Vec<u8>,
-    ) -> Result<(), Ending> {
-        let answer = simplify_answer(replace(&mut commented.answer, Answer::Void));
-        print_answer(&commented.comment, &answer, text)?;
+    fn put(&self, _alloc: Global, spoken: &mut Spoken, text: &mut Vec<u8>) -> Result<(), Ending> {
+        let answer = simplify_answer(replace(&mut spoken.answer, Answer::Void));
+        print_answer(&spoken.comment, &answer, text)?;
         Ok(())
     }
 }

@@ -8,15 +8,15 @@ use affine_forms::Forms;
 use item_writing::needed_answer;
 use pip_endings::Ending;
 use pip_reader::read_context;
-use quast_text::Commented;
+use quast_text::Spoken;
 use std::alloc::Global;
 
 /// A context and two answers over as many parameters.
 #[derive(Drop)]
 pub struct Trio {
     pub(crate) rows: Forms,
-    pub(crate) first: Commented,
-    pub(crate) second: Commented,
+    pub(crate) first: Spoken,
+    pub(crate) second: Spoken,
 }
 
 // The two answers behind a context, and the place behind these.

@@ -2,13 +2,13 @@
 use affine_rows::WantOfMemory;
 use leaf_certificate::{print_certificate, read_certificate};
 use quast::Answer;
-use quast_text::{Commented, print_tree, read_answer};
+use quast_text::{Spoken, print_tree, read_answer};
 use std::alloc::Global;
 use std::test::Fail;
 
 // Appends the tree of an answer, if it has one.
-fn push_tree(commented: &Commented, out: &mut Vec<u8>) -> Result<(), WantOfMemory> {
-    match &commented.answer {
+fn push_tree(spoken: &Spoken, out: &mut Vec<u8>) -> Result<(), WantOfMemory> {
+    match &spoken.answer {
         Answer::Tree(tree) => print_tree(tree, out),
         Answer::Void => Ok(()),
     }
@@ -16,8 +16,8 @@ fn push_tree(commented: &Commented, out: &mut Vec<u8>) -> Result<(), WantOfMemor
 
 // Appends the tree of the answer over one parameter that a text begins with.
 fn push_read_tree(alloc: Global, text: &[u8], out: &mut Vec<u8>) -> Result<(), Fail> {
-    if let Some((commented, _)) = read_answer(alloc, text, 0, 1)? {
-        push_tree(&commented, out)?;
+    if let Some((spoken, _)) = read_answer(alloc, text, 0, 1)? {
+        push_tree(&spoken, out)?;
     }
     Ok(())
 }

@@ -9,5 +9,5 @@ returns-clause-gives c =
     let number : length c.self.inside.forms.items ≤ c.self.inside.known = search rules in
     let all : take c.self.inside.known c.self.inside.forms.items ≡ c.self.inside.forms.items = take_all c.self.inside.known c.self.inside.forms.items number in
     let is : IsRemembered c.self.inside.width c.self.inside.forms.items c.self.inside.run
-    = subst (λ (K : List (List ℤ)). IsRemembered c.self.inside.width K c.self.inside.run) all (c.self.invariant.remembered c.if-not-self.false) in
+    = subst (λ (K : List (List ℤ)). IsRemembered c.self.inside.width K c.self.inside.run) all (c.self.invariant.0.remembered c.if-not-self.false) in
     rw (← width, ← forms) (known_tells c.self.inside.width c.self.inside.forms.items c.args.further.now c.self.inside.run c.args.work.now c.ask_shortly.new.work is c.ask_shortly.result c.ask_shortly.ensures.gives)

@@ -1,5 +1,5 @@
 use Rattle.quast_text.proofs.Spellings.{begins_through}
-use Rattle.quast_text.proofs.print.put_commented.Goals as goal
+use Rattle.quast_text.proofs.print.put_spoken.Goals as goal
 
 pub returns-in_err-put_solution-clause-kept : goal.returns-in_err-put_solution-clause-kept
 returns-in_err-put_solution-clause-kept c = begins_through _ _ _ c.in_ok-put_comment.ensures.kept c.in_err-put_solution.ensures.kept

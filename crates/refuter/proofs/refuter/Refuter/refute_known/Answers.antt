@@ -1,6 +1,6 @@
 use Rattle.refuter.proofs.Words.{rules, ◌≡◌, sym, subst, true, KeptForms, AreFirst}
 use Rattle.refuter.proofs.KeptFirst.{on_ok}
-use Rattle.refuter.proofs.refuter.Refuter.refute.Goals as goal
+use Rattle.refuter.proofs.refuter.Refuter.refute_known.Goals as goal
 
 pub refute_first-requires-clause-first : goal.refute_first-requires-clause-first
 refute_first-requires-clause-first c =
