@@ -47,15 +47,18 @@ def greatest(m, integer):
     return problem(f"greatest of {m}", 1, m, rows, [], integer)
 
 
-def differences(count):
-    """At least as much as so many differences of two of 48 parameters, none of which follows from the others."""
+def differences(count, rows=0, unknowns=1):
+    """At least as much as so many differences of two of 48 parameters, none of which follows from the others. Further
+    rows, up to so many, ask nothing more of the first unknown, nor of others."""
     pairs = [(i, 24 + j) for i in range(24) for j in range(24)]
-    rows = []
+    forms = []
     for high, low in pairs[:count]:
-        entries = [1, 0] + [0] * 48
-        entries[2 + high], entries[2 + low] = -1, 1
-        rows.append(entries)
-    return problem(f"{count} differences", 1, 48, rows, [], 1)
+        entries = [1] + [0] * unknowns + [0] * 48
+        entries[unknowns + 1 + high], entries[unknowns + 1 + low] = -1, 1
+        forms.append(entries)
+    for k in range(rows - count):
+        forms.append([1] + [0] * (unknowns - 1) + [k % 9 + 1] + [0] * 48)
+    return problem(f"{count} differences", unknowns, 48, forms, [], 1)
 
 
 def tiles(d):

@@ -124,3 +124,11 @@ read_again t f a b e g i h = record {
   wide = h.wide;
   bound = rw g h.bound;
 }
+
+-- so many rows are counted in 64 bits
+pub few : (t : TableauRows) (b : Basis) (forms : List (List ℤ)) → All (IsRead t b) forms → length b.columns.items < 2 ^ 63 → length forms < 2 ^ 63 → length t.rows < 2 ^ 64
+    → length t.rows + length forms < 2 ^ 64
+few t b [] h columns forms rows = omega arith
+few t b (f ∷ fs) h columns forms rows =
+    let first : IsRead t b f = h 0 [] (omega arith) in
+    omega (arith, inside t b f 0 first (omega arith), first.basis.size)

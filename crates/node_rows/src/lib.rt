@@ -6,6 +6,7 @@ mod node_rows;
 mod products;
 mod reading;
 mod rooms;
+mod shared_forms;
 mod stepping;
 mod steps;
 

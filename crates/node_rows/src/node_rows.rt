@@ -9,19 +9,21 @@ ghost use Rattle.node_rows.specs.ReadRows.{IsRead, all_rows};
 use crate::basis::{Basis, measure};
 use crate::products::greatest_norm;
 use crate::reading::{constant, is_nowhere_below, push_read};
+use crate::shared_forms::SharedForms;
 use affine_forms::{Form, WantOfMemory};
 use std::alloc::Global;
 use std::marker::Model;
 use tableau::Tableau;
 
 /// The rows of a node, over the same columns and places: those of the unknowns, and behind them either rows as they are
-/// in a tableau, or the rows of forms, which are made of the unknowns' rows where they are asked for.
+/// in a tableau, or the rows of forms, which are made of the unknowns' rows where they are asked for. Copies share the
+/// forms.
 ///
 /// Contracts see a tableau's rows.
 #[derive(Drop)]
 pub struct NodeRows {
     pub(crate) made: Tableau,
-    pub(crate) forms: Vec<Form>,
+    pub(crate) forms: SharedForms,
     pub(crate) norm: u64,
     pub(crate) basis: Basis,
 }
@@ -34,26 +36,14 @@ impl Model for NodeRows {
 
     ghost Value = { TableauRows };
 
-    ghost view = { λ t. all_rows t.made t.basis t.forms.items };
+    ghost view = { λ t. all_rows t.made t.basis t.forms };
 
-    ghost invariant = { λ t. All (IsRead t.made t.basis) t.forms.items × All (λ f. norm_of f ≤ t.norm) t.forms.items };
+    ghost invariant = { λ t. All (IsRead t.made t.basis) t.forms × All (λ f. norm_of f ≤ t.norm) t.forms };
 }
 
 // Whether so many forms are read off so many unknowns' rows. Fewer take longer to read than to keep as rows.
 fn are_many(forms: usize, unknowns: usize) -> bool {
     forms >= unknowns.saturating_mul(8).saturating_add(8)
-}
-
-// Copies of the forms.
-fn copies(alloc: Global, forms: &[Form]) -> Result<Vec<Form>, WantOfMemory>
-    ensures { IfOk result (λ v. v.items ≡ forms.now) }
-{
-    let mut made = Vec::with_capacity(alloc, forms.len())?;
-    for form in forms {
-        let copy = form.try_clone(alloc)?;
-        made.push(copy)?;
-    }
-    Ok(made)
 }
 
 // The same basis.
@@ -85,18 +75,32 @@ fn all_made(rows: &Tableau, basis: &Basis, forms: &[Form]) -> Result<Tableau, Wa
 pub(crate) fn make_all(
     rows: &mut Tableau,
     basis: &Basis,
-    forms: &mut Vec<Form>,
+    forms: &mut SharedForms,
 ) -> Result<(), WantOfMemory>
-    requires { All (IsRead rows.old basis.now) forms.old.items }
-    ensures ok { OnOk result (rows.new ≡ all_rows rows.old basis.now forms.old.items) }
-    ensures none { OnOk result (forms.new.items ≡ []) }
+    requires { All (IsRead rows.old basis.now) forms.old }
+    ensures ok { OnOk result (rows.new ≡ all_rows rows.old basis.now forms.old) }
+    ensures none { OnOk result (forms.new ≡ []) }
     ensures err { OnErr result (rows.new ≡ rows.old) }
-    ensures kept { OnErr result (forms.new.items ≡ forms.old.items) }
+    ensures kept { OnErr result (forms.new ≡ forms.old) }
 {
     let made = all_made(rows, basis, forms.as_slice())?;
     *rows = made;
     forms.clear();
     Ok(())
+}
+
+// Makes of the rows those that `start` gives of these forms. A refusal leaves none.
+fn restart_rows(rows: &mut Tableau, forms: &[Form]) -> Result<(), WantOfMemory>
+    requires { All (λ form. length form ≡ rows.old.unknowns + rows.old.width + 1) forms.now }
+    ensures ok { OnOk result (rows.new
+        ≡ record rows.old { rows = model.start rows.old.unknowns rows.old.width forms.now }) }
+    ensures err { OnErr result (rows.new ≡ record rows.old { rows = [] }) }
+{
+    let refusal = rows.restart(forms);
+    if refusal.is_err() {
+        rows.reshape(rows.unknowns(), rows.width());
+    }
+    refusal
 }
 
 impl NodeRows {
@@ -106,7 +110,7 @@ impl NodeRows {
     {
         NodeRows {
             made: Tableau::new(alloc, unknowns, width),
-            forms: Vec::new(alloc),
+            forms: SharedForms::none(),
             norm: 0,
             basis: Basis {
                 scale: 1,
@@ -116,28 +120,31 @@ impl NodeRows {
         }
     }
 
-    // Makes of the rows those that `start` gives of these forms, and keeps all.
+    // Makes of the rows those that `start` gives of these forms, and keeps all. A refusal leaves none.
     fn restart_made(&mut self, forms: &[Form]) -> Result<(), WantOfMemory>
         requires { All (λ form. length form ≡ self.old.unknowns + self.old.width + 1) forms.now }
-        ensures { OnOk result (self.new
+        ensures ok { OnOk result (self.new
             ≡ record self.old { rows = model.start self.old.unknowns self.old.width forms.now }) }
+        ensures err { OnErr result (self.new ≡ record self.old { rows = [] }) }
     {
         self.forms.clear();
-        self.made.restart(forms)
+        restart_rows(&mut self.made, forms)
     }
 
     // The same, where they are read off the unknowns' rows.
     fn restart_by_forms(&mut self, forms: &[Form], norm: u64) -> Result<(), WantOfMemory>
         requires wide { All (λ form. length form ≡ self.old.unknowns + self.old.width + 1) forms.now }
         requires norm { All (λ form. norm_of form ≤ norm) forms.now }
-        ensures { OnOk result (self.new
+        ensures ok { OnOk result (self.new
             ≡ record self.old { rows = model.start self.old.unknowns self.old.width forms.now }) }
+        ensures err { OnErr result (self.new ≡ record self.old { rows = [] }) }
     {
-        let copies = copies(self.made.allocator(), forms)?;
         self.forms.clear();
-        self.made.restart(&[])?;
+        self.made.reshape(self.made.unknowns(), self.made.width());
+        let copies = SharedForms::copied(self.made.allocator(), forms)?;
+        restart_rows(&mut self.made, &[])?;
         match measure(&self.made, norm) {
-            None => self.made.restart(forms),
+            None => restart_rows(&mut self.made, forms),
             Some(basis) => {
                 self.forms = copies;
                 self.basis = basis;
@@ -147,11 +154,13 @@ impl NodeRows {
         }
     }
 
-    /// Makes of the rows those that `start` gives of these forms.
+    /// Makes of the rows those that `start` gives of these forms. A refusal leaves no rows, over the same columns and
+    /// places.
     pub fn restart(&mut self, forms: &[Form]) -> Result<(), WantOfMemory>
         requires { All (λ form. length form ≡ self.old.unknowns + self.old.width + 1) forms.now }
-        ensures { OnOk result (self.new
+        ensures ok { OnOk result (self.new
             ≡ record self.old { rows = model.start self.old.unknowns self.old.width forms.now }) }
+        ensures err { OnErr result (self.new ≡ record self.old { rows = [] }) }
     {
         if !are_many(forms.len(), self.made.unknowns()) {
             return self.restart_made(forms);
@@ -212,7 +221,7 @@ impl NodeRows {
         if i < n {
             false
         } else {
-            is_nowhere_below(&self.made, &self.basis, &self.forms[i - n])
+            is_nowhere_below(&self.made, &self.basis, &self.forms.as_slice()[i - n])
         }
     }
 
@@ -226,7 +235,7 @@ impl NodeRows {
         if i < n {
             Form::try_new(self.made.allocator(), self.made.row(i).constant)
         } else {
-            constant(&self.made, &self.basis, &self.forms[i - n])
+            constant(&self.made, &self.basis, &self.forms.as_slice()[i - n])
         }
     }
 
@@ -235,7 +244,7 @@ impl NodeRows {
         ensures { IfOk result (λ t. t ≡ self.now) }
     {
         let made = self.made.try_clone(alloc)?;
-        let forms = copies(alloc, self.forms.as_slice())?;
+        let forms = self.forms.try_share()?;
         let basis = same_basis(alloc, &self.basis)?;
         Ok(NodeRows {
             made,

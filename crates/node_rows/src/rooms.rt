@@ -3,7 +3,8 @@ ghost use Rattle.node_rows.specs.ReadRows.{IsRead, all_rows};
 
 use crate::basis::Basis;
 use crate::node_rows::{NodeRows, make_all};
-use affine_forms::{Form, WantOfMemory};
+use crate::shared_forms::SharedForms;
+use affine_forms::WantOfMemory;
 use std::mem::replace;
 use tableau::Tableau;
 
@@ -11,13 +12,13 @@ use tableau::Tableau;
 pub(crate) fn make_rest(
     rows: &mut Tableau,
     basis: &Basis,
-    forms: &mut Vec<Form>,
+    forms: &mut SharedForms,
 ) -> Result<(), WantOfMemory>
-    requires { All (IsRead rows.old basis.now) forms.old.items }
-    ensures ok { OnOk result (rows.new ≡ all_rows rows.old basis.now forms.old.items) }
-    ensures none { OnOk result (forms.new.items ≡ []) }
+    requires { All (IsRead rows.old basis.now) forms.old }
+    ensures ok { OnOk result (rows.new ≡ all_rows rows.old basis.now forms.old) }
+    ensures none { OnOk result (forms.new ≡ []) }
     ensures err { OnErr result (rows.new ≡ rows.old) }
-    ensures kept { OnErr result (forms.new.items ≡ forms.old.items) }
+    ensures kept { OnErr result (forms.new ≡ forms.old) }
 {
     if forms.is_empty() {
         return Ok(());

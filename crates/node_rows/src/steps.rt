@@ -131,7 +131,7 @@ fn entering(t: &NodeRows, r: usize) -> Result<Option<usize>, FormRefusal>
         let column = dual_pivot::entering(&t.made, r)?;
         Ok(column)
     } else {
-        entering_by(&t.made, &t.basis, &t.forms[r - n])
+        entering_by(&t.made, &t.basis, &t.forms.as_slice()[r - n])
     }
 }
 

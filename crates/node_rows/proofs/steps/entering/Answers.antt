@@ -1,4 +1,4 @@
-use Rattle.std.proofs.Common.{rules, arith, ◌≡◌, ◌<◌, length, map, subst, sym}
+use Rattle.std.proofs.Common.{rules, arith, ◌≡◌, ◌<◌, ◌-◌, length, map, get_or, subst, sym}
 use Rattle.pip_model.specs.Rows.{row_at}
 use Rattle.node_rows.specs.ReadRows.{IsRead, read, all_rows}
 use Rattle.node_rows.proofs.Pivoting.{all_long, row_behind, least, entering_front, listed_front, entering_with, listed_with}
@@ -6,32 +6,36 @@ use Rattle.node_rows.proofs.steps.entering.Goals as goal
 
 pub returns-in_ok-column-clause-listed : goal.returns-in_ok-column-clause-listed
 returns-in_ok-column-clause-listed c =
-    let enough = least c.t.inside.made c.t.inside.basis c.t.inside.forms.items c.t.invariant.0 (search rules) in
+    let enough = least c.t.inside.made c.t.inside.basis c.t.inside.forms c.t.invariant.0 (search rules) in
     let long : length (row_at c.t.inside.made.rows c.args.r).coefs ≡ c.t.inside.made.unknowns = search rules in
-    search (rules, listed_front c.t.inside.made c.t.inside.basis c.t.inside.forms.items c.args.r (search rules) (omega (arith, enough, long)))
+    search (rules, listed_front c.t.inside.made c.t.inside.basis c.t.inside.forms c.args.r (search rules) (omega (arith, enough, long)))
 
 pub returns-in_ok-column-clause-value : goal.returns-in_ok-column-clause-value
 returns-in_ok-column-clause-value c =
-    let enough = least c.t.inside.made c.t.inside.basis c.t.inside.forms.items c.t.invariant.0 (search rules) in
+    let enough = least c.t.inside.made c.t.inside.basis c.t.inside.forms c.t.invariant.0 (search rules) in
     let long : length (row_at c.t.inside.made.rows c.args.r).coefs ≡ c.t.inside.made.unknowns = search rules in
-    search (rules, entering_front c.t.inside.made c.t.inside.basis c.t.inside.forms.items c.args.r (search rules) (omega (arith, enough, long)))
+    search (rules, entering_front c.t.inside.made c.t.inside.basis c.t.inside.forms c.args.r (search rules) (omega (arith, enough, long)))
 
 pub returns-else-r-n-clause-listed : goal.returns-else-r-n-clause-listed
 returns-else-r-n-clause-listed c =
     let t = c.t.inside.made in
     let b = c.t.inside.basis in
-    let bound : c.args.r < length (all_rows t b c.t.inside.forms.items).rows = search rules in
-    let is = row_behind t.rows (read t b) c.t.inside.forms.items c.args.r c.index.result.now (search rules) (omega (arith, bound, all_long t b c.t.inside.forms.items)) in
-    let read_it : IsRead t b c.index.result.now = subst (IsRead t b) (sym c.index.ensures) (c.t.invariant.0 _ _ (omega (arith, bound, all_long t b c.t.inside.forms.items, c.rows-n.ensures, c.if-r-n.false))) in
-    let here : row_at (all_rows t b c.t.inside.forms.items).rows c.args.r ≡ read t b c.index.result.now = search (rules, is) in
-    search (rules, listed_with t b c.index.result.now read_it (map (read t b) c.t.inside.forms.items) c.args.r here)
+    let f = c.index-as_slice-r.result in
+    let bound : c.args.r < length (all_rows t b c.t.inside.forms).rows = search rules in
+    let is = row_behind t.rows (read t b) c.t.inside.forms c.args.r f (search rules) (omega (arith, bound, all_long t b c.t.inside.forms)) in
+    let at : f ≡ get_or c.t.inside.forms (c.args.r - c.rows-n.result) f = search rules in
+    let read_it : IsRead t b f = subst (IsRead t b) (sym at) (c.t.invariant.0 _ _ (omega (arith, bound, all_long t b c.t.inside.forms, c.rows-n.ensures, c.if-r-n.false))) in
+    let here : row_at (all_rows t b c.t.inside.forms).rows c.args.r ≡ read t b f = search (rules, is) in
+    search (rules, listed_with t b f read_it (map (read t b) c.t.inside.forms) c.args.r here)
 
 pub returns-else-r-n-clause-value : goal.returns-else-r-n-clause-value
 returns-else-r-n-clause-value c =
     let t = c.t.inside.made in
     let b = c.t.inside.basis in
-    let bound : c.args.r < length (all_rows t b c.t.inside.forms.items).rows = search rules in
-    let is = row_behind t.rows (read t b) c.t.inside.forms.items c.args.r c.index.result.now (search rules) (omega (arith, bound, all_long t b c.t.inside.forms.items)) in
-    let read_it : IsRead t b c.index.result.now = subst (IsRead t b) (sym c.index.ensures) (c.t.invariant.0 _ _ (omega (arith, bound, all_long t b c.t.inside.forms.items, c.rows-n.ensures, c.if-r-n.false))) in
-    let here : row_at (all_rows t b c.t.inside.forms.items).rows c.args.r ≡ read t b c.index.result.now = search (rules, is) in
-    search (rules, entering_with t b c.index.result.now read_it (map (read t b) c.t.inside.forms.items) c.args.r here)
+    let f = c.index-as_slice-r.result in
+    let bound : c.args.r < length (all_rows t b c.t.inside.forms).rows = search rules in
+    let is = row_behind t.rows (read t b) c.t.inside.forms c.args.r f (search rules) (omega (arith, bound, all_long t b c.t.inside.forms)) in
+    let at : f ≡ get_or c.t.inside.forms (c.args.r - c.rows-n.result) f = search rules in
+    let read_it : IsRead t b f = subst (IsRead t b) (sym at) (c.t.invariant.0 _ _ (omega (arith, bound, all_long t b c.t.inside.forms, c.rows-n.ensures, c.if-r-n.false))) in
+    let here : row_at (all_rows t b c.t.inside.forms).rows c.args.r ≡ read t b f = search (rules, is) in
+    search (rules, entering_with t b f read_it (map (read t b) c.t.inside.forms) c.args.r here)
