@@ -251,18 +251,6 @@ back_room most path mid mark quotients depth marks back room deep =
 pub kept_room : (most : ℕ) (path later : Path) → IsKept path later → HasRoom most path → HasRoom most later
 kept_room most path later kept room = omega (arith, kept.depth, kept.context.spare, room)
 
-pub kept_kept : (path mid later : Path) → IsKept path mid → IsKept mid later → IsKept path later
-kept_kept path mid later f g = record {
-  integer = g.integer ∙ f.integer;
-  depth = g.depth ∙ f.depth;
-  context = record {
-    width = g.context.width ∙ f.context.width;
-    forms = g.context.forms ∙ f.context.forms;
-    spare = omega (arith, f.context.spare, g.context.spare);
-  };
-  quotients = g.quotients ∙ f.quotients;
-}
-
 -- ---- the loop
 
 -- what the loop over turns keeps: the whole run from here is that from the start

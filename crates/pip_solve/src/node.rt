@@ -1,5 +1,4 @@
-ghost use Rattle.std.specs.Prelude.{◌≡◌, ℕ, ◌+◌, ◌*◌, ◌-◌, ◌^◌, ◌<◌, ◌≤◌, [], ◌∷◌, ◌++◌, map, length, IfOk, OnOk};
-ghost use Rattle.pip_model.specs.Limits.{most_nesting};
+ghost use Rattle.std.specs.Prelude.{◌≡◌, ◌+◌, ◌-◌, ◌^◌, ◌<◌, ◌≤◌, [], ◌∷◌, ◌++◌, map, length, IfOk, OnOk};
 ghost use Rattle.pip_model.specs.Rows.{row_at, widened};
 ghost use Rattle.pip_model.specs.Cuts as cuts;
 ghost use Rattle.pip_model.specs.Run.{Work as Counts};
@@ -7,7 +6,7 @@ ghost use Rattle.pip_model.specs.Agreement.{AgreesCounted};
 ghost use Rattle.pip_problem.specs.Faults.{run_fault};
 ghost use Rattle.tableau.specs.Tableaus.{IsRow};
 ghost use Rattle.new_parameters.specs.Scopes.{size};
-ghost use Rattle.node_turn.specs.Nodes.{IsBelow, IsKept};
+ghost use Rattle.node_turn.specs.Nodes.{IsBelow};
 ghost use Rattle.node_turn.specs.Signs.{IsCondition};
 ghost use Rattle.node_turn.specs.Turns.{tree_in, IsNewParameter, IsNewQuotient};
 ghost use Rattle.pip_solve.specs.Frames.{whole_run, turned_run, next_run, HasRoom, HasNextRoom, IsRunning, IsTurned, IsNext, weight};
@@ -185,7 +184,7 @@ fn follow(
 
 // The tree of a node and of the frames that wait for it: the run from it, turn by turn. A node that goes on stays where
 // it is, and so do the forms that are known on its context.
-fn run(
+pub(crate) fn run(
     rows: &mut NodeRows,
     path: &mut Path,
     rooms: &mut Rooms,
@@ -208,66 +207,6 @@ fn run(
         match follow(turn, rows, path, &mut rooms.pending)? {
             Next::Node => {}
             Next::Tree(tree) => return Ok(tree),
-        }
-    }
-}
-
-// Makes room in the context for the forms of so many levels, at most two for each, and for their frames.
-fn make_room(path: &mut Path, pending: &mut Pending, levels: usize) -> Result<(), WantOfMemory>
-    requires few { levels ≤ most_nesting }
-    ensures kept { OnOk result (IsKept path.old path.new) }
-    ensures room { OnOk result (HasRoom levels path.new) }
-    ensures empty { OnOk result (pending.new ≡ record { frames = []; most = levels }) }
-{
-    path.context.reserve(2 * levels + 1)?;
-    pending.restart(levels)
-}
-
-// The tree of a problem's first node after a turn that leaves it for a node below.
-fn run_below(
-    turn: Turn,
-    rows: &mut NodeRows,
-    path: &mut Path,
-    rooms: &mut Rooms,
-    work: &mut Work,
-) -> Result<Quast, Refusal>
-    requires turned { IsTurned rows.old path.old rooms.old.pending turn }
-    requires room { HasRoom rooms.old.pending.most path.old }
-    requires budget { rooms.old.pending.most ≡ work.old.budget.nesting }
-    ensures gives { AgreesCounted tree_in run_fault result work.new
-        (turned_run rows.old path.old rooms.old.pending.frames turn work.old) }
-    ensures width { IfOk result (λ tree. tree.width ≡ path.old.quotients.params) }
-{
-    match follow(turn, rows, path, &mut rooms.pending)? {
-        Next::Node => run(rows, path, rooms, work),
-        Next::Tree(tree) => Ok(tree),
-    }
-}
-
-// The tree of a problem's first node, with at most so many levels below it. Where no turn leaves the node, no frame
-// ever waits, and no room is taken for any, nor for the forms of levels below.
-pub(crate) fn run_first(
-    rows: &mut NodeRows,
-    path: &mut Path,
-    rooms: &mut Rooms,
-    levels: usize,
-    work: &mut Work,
-) -> Result<Quast, Refusal>
-    requires running { IsRunning rows.old path.old (record { frames = []; most = levels }) }
-    requires budget { levels ≡ work.old.budget.nesting }
-    ensures gives { AgreesCounted tree_in run_fault result work.new (whole_run rows.old path.old [] work.old) }
-    ensures width { IfOk result (λ tree. tree.width ≡ path.old.quotients.params) }
-{
-    rooms.known.forget();
-    loop {
-        let turn = take_turn(rows, path, &mut rooms.known, work)?;
-        match turn {
-            Turn::Again => {}
-            Turn::Closed(tree) => return Ok(tree),
-            turn => {
-                make_room(path, &mut rooms.pending, levels)?;
-                return run_below(turn, rows, path, rooms, work);
-            }
         }
     }
 }

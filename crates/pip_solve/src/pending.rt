@@ -98,11 +98,13 @@ impl Pending {
         }
     }
 
-    // Keeps rows, where there is a place for them.
-    pub(crate) fn keep(&mut self, spare: NodeRows)
+    // Keeps the room of rows, where there is a place for it. What others share with them is let go.
+    pub(crate) fn keep(&mut self, rows: NodeRows)
         ensures { self.new ≡ self.old }
     {
         if self.stack.len() + self.spares.len() < self.most {
+            let mut spare = rows;
+            spare.reshape(0, 0);
             let _ = self.spares.push(spare);
         }
     }

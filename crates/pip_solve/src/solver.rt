@@ -9,9 +9,10 @@ ghost use Rattle.pip_model.specs.WellFormed.{IsProblem, IsWellFormedAnswer};
 ghost use Rattle.pip_problem.specs.Faults.{run_fault};
 ghost use Rattle.quast.specs.Answers.{answer_of, IsOver};
 ghost use Rattle.node_turn.specs.Turns.{tree_in};
+ghost use Rattle.pip_solve.specs.Frames.{HasRoom};
 ghost use Rattle.pip_solve.specs.Starts.{IsFirstPath};
 
-use crate::node::run_first;
+use crate::node::run;
 use crate::rooms::Rooms;
 use crate::starting::{start_path, start_rows};
 use context::Work;
@@ -45,9 +46,11 @@ impl Solver {
         self.rows.allocator()
     }
 
-    // The tree of a problem whose context has a point, from the path to its first node.
+    // The tree of a problem whose context has a point, from the path to its first node. Room for all frames that may
+    // wait is made first.
     fn tree(&mut self, problem: &Problem, levels: usize, work: &mut Work) -> Result<Quast, Refusal>
         requires path { IsFirstPath problem.now self.old.path }
+        requires room { HasRoom levels self.old.path }
         requires nesting { levels ≡ work.old.budget.nesting }
         requires few { levels ≤ most_nesting }
         ensures gives { AgreesCounted tree_in run_fault result work.new
@@ -55,15 +58,10 @@ impl Solver {
         ensures width { IfOk result (λ tree. tree.width ≡ problem.now.params) }
     {
         let alloc = self.rows.allocator();
+        self.rooms.pending.restart(levels)?;
         self.rows.reshape(problem.unknowns(), problem.params());
         start_rows(alloc, problem, &mut self.rows)?;
-        run_first(
-            &mut self.rows,
-            &mut self.path,
-            &mut self.rooms,
-            levels,
-            work,
-        )
+        run(&mut self.rows, &mut self.path, &mut self.rooms, work)
     }
 
     // The tree of a problem whose context has a point.
@@ -79,7 +77,7 @@ impl Solver {
             (run_from (setting problem.now) (first_node problem.now) work.old) }
         ensures width { IfOk result (λ tree. tree.width ≡ problem.now.params) }
     {
-        start_path(problem, &mut self.path)?;
+        start_path(problem, levels, &mut self.path)?;
         self.tree(problem, levels, work)
     }
 
@@ -95,11 +93,12 @@ impl Solver {
         ensures scope { IfOk result (IsOver problem.now.params) }
     {
         let alloc = self.rows.allocator();
-        start_path(problem, &mut self.path)?;
+        let levels = limits.nesting() as usize;
+        start_path(problem, levels, &mut self.path)?;
         if !self.path.context.has_point(alloc, work)? {
             return Ok(Answer::Void);
         }
-        let tree = self.tree(problem, limits.nesting() as usize, work)?;
+        let tree = self.tree(problem, levels, work)?;
         Ok(Answer::Tree(tree))
     }
 

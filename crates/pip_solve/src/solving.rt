@@ -30,7 +30,7 @@ fn point_on(
     ensures { IsCountedRun (λ o. o) run_fault result work.old work.new
         (model.point problem.now.params problem.now.context) }
 {
-    add_forms(problem, context)?;
+    add_forms(problem, context, 0)?;
     context.point(alloc, work)
 }
 

@@ -1,7 +1,9 @@
-ghost use Rattle.std.specs.Prelude.{◌≡◌, ◌≤◌, [], IfOk, OnOk, IsTrue, map};
+ghost use Rattle.std.specs.Prelude.{◌≡◌, ◌^◌, ◌<◌, ◌≤◌, [], IfOk, OnOk, IsTrue, map};
 ghost use Rattle.pip_model.specs.Forms.{tighten};
+ghost use Rattle.pip_model.specs.Limits.{most_nesting};
 ghost use Rattle.pip_model.specs.Rows.{started, start};
 ghost use Rattle.pip_model.specs.WellFormed.{IsProblem};
+ghost use Rattle.pip_solve.specs.Frames.{HasRoom};
 ghost use Rattle.pip_solve.specs.Starts.{IsFirstPath};
 
 use affine_forms::{Form, WantOfMemory};
@@ -11,15 +13,21 @@ use node_turn::Path;
 use pip_problem::Problem;
 use std::alloc::Global;
 
-// Adds the forms of a problem's context to an empty one.
-pub(crate) fn add_forms(problem: &Problem, context: &mut Context) -> Result<(), WantOfMemory>
+// Adds the forms of a problem's context to an empty one, with room for so many more.
+pub(crate) fn add_forms(
+    problem: &Problem,
+    context: &mut Context,
+    more: usize,
+) -> Result<(), WantOfMemory>
     requires width { context.old.width ≡ problem.now.params }
     requires empty { context.old.forms ≡ [] }
+    requires few { more < 2 ^ 32 }
     ensures width { OnOk result (context.new.width ≡ problem.now.params) }
     ensures forms { OnOk result (context.new.forms ≡ problem.now.context) }
+    ensures room { OnOk result (more ≤ context.new.spare) }
 {
     let forms = problem.context();
-    context.reserve(forms.len())?;
+    context.reserve(forms.len() + more)?;
     for form in forms {
         let copy = context.copy_form(form.as_slice())?;
         context.add(copy);
@@ -37,12 +45,19 @@ fn restart_path(problem: &Problem, path: &mut Path)
     path.context.restart(problem.params());
 }
 
-// Makes of a path that to a problem's first node.
-pub(crate) fn start_path(problem: &Problem, path: &mut Path) -> Result<(), WantOfMemory>
-    ensures { OnOk result (IsFirstPath problem.now path.new) }
+// Makes of a path that to a problem's first node, with room in its context for the forms of so many levels below it,
+// at most two for each.
+pub(crate) fn start_path(
+    problem: &Problem,
+    levels: usize,
+    path: &mut Path,
+) -> Result<(), WantOfMemory>
+    requires few { levels ≤ most_nesting }
+    ensures first { OnOk result (IsFirstPath problem.now path.new) }
+    ensures room { OnOk result (HasRoom levels path.new) }
 {
     restart_path(problem, path);
-    add_forms(problem, &mut path.context)
+    add_forms(problem, &mut path.context, 2 * levels + 1)
 }
 
 // Tightened copies of the rows.

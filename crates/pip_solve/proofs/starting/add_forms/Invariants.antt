@@ -5,4 +5,4 @@ abbrev pub invariant-loop-form : goal.invariant-loop-form
 invariant-loop-form l =
     (l.context.width ≡ l.problem.params)
     × (l.context.forms ≡ take l.form-index l.forms)
-    × (length l.forms ≤ l.context.spare + l.form-index)
+    × (length l.forms + l.more ≤ l.context.spare + l.form-index)
