@@ -1,3 +1,4 @@
+mod Writes
 mod Words
 mod Rows
 mod StartRows

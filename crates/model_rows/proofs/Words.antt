@@ -4,4 +4,4 @@ pub use Rattle.std.specs.Prelude.{codes, Option, Some, Result, Ok, length}
 pub use Rattle.pip_model.specs.Run.{Budget, standard_budget}
 pub use Rattle.program_model.specs.Endings.{ending, finished}
 pub use Rattle.program_model.specs.Commands.{Restrict, Same, Least, Pieces, Command, Solve, CheckAll, ShareAll, Eval, Simplify, Trial}
-pub use Rattle.program_model.specs.Output.{IsOutput}
+pub use Rattle.model_rows.proofs.Writes.{Writes}

@@ -1,5 +1,5 @@
 //! Texts that are made to overrun a reader: deep comments and wide numbers.
-use crate::row::{Answered, Refused, Wanted, are_answered, are_refused, ends_over, ends_so};
+use crate::row::{Wanted, are_answered, are_refused, ends_over, ends_so};
 use crate::texts::{between, repeat};
 use std::alloc::{AllocError, Global};
 use std::test::Fail;
@@ -47,30 +47,13 @@ fn a_deep_comment_is_echoed(rt: HostRuntime) -> Result<(), Fail> {
     Ok(())
 }
 
-const WIDE: &[Answered] = &[Answered {
-    name: "the least constant, behind 100 zeros",
-    words: "pip solve",
-    input: "((w) 1 0 1 0 -1 1 (#[1 -0000000000000000000000000000000000000000000000000000000000000000000000000000000000000000000000000000170141183460469231731687303715884105727]) ())",
-    output: "((w)\n(list\n#[ 170141183460469231731687303715884105727]\n)\n)\n",
-}];
+const WIDE: &[&str] = &[
+    "the least constant, behind 100 zeros || pip solve || ((w) 1 0 1 0 -1 1 (#[1 -0000000000000000000000000000000000000000000000000000000000000000000000000000000000000000000000000000170141183460469231731687303715884105727]) ()) || ((w)\n(list\n#[ 170141183460469231731687303715884105727]\n)\n)\n",
+];
 
-const REFUSED_WIDE: &[Refused] = &[
-    Refused {
-        name: "a condition one past the least, in an answer",
-        words: "pip simplify 1",
-        input: "((w)\n(if #[ -170141183460469231731687303715884105728 0]\n()\n()\n)\n)\n",
-        output: "",
-        notes: "pip: number too wide at byte 12\n",
-        status: 9,
-    },
-    Refused {
-        name: "a number of unknowns of 40 digits",
-        words: "pip solve",
-        input: "((w) 1000000000000000000000000000000000000000 0 1 0 -1 1 (#[1 -3]) ())",
-        output: "",
-        notes: "pip: number too wide at byte 5\n",
-        status: 9,
-    },
+const REFUSED_WIDE: &[&str] = &[
+    "a condition one past the least, in an answer || pip simplify 1 || ((w)\n(if #[ -170141183460469231731687303715884105728 0]\n()\n()\n)\n)\n || 9 || pip: number too wide at byte 12\n || ",
+    "a number of unknowns of 40 digits || pip solve || ((w) 1000000000000000000000000000000000000000 0 1 0 -1 1 (#[1 -3]) ()) || 9 || pip: number too wide at byte 5\n || ",
 ];
 
 #[test]

@@ -6,25 +6,6 @@ use std::alloc::{AllocError, Global};
 use std::process::Abort;
 use std::test::Fail;
 
-// A worked row that is answered: the words with a blank between two of them, the input, and what the sink gains. The
-// notes gain nothing, and the status is 0. It derives nothing, since what is derived is proved too.
-pub(crate) struct Answered {
-    pub name: &'static str,
-    pub words: &'static str,
-    pub input: &'static str,
-    pub output: &'static str,
-}
-
-// A worked row whose run is refused: what the sink gains before that, what the notes gain, and the status.
-pub(crate) struct Refused {
-    pub name: &'static str,
-    pub words: &'static str,
-    pub input: &'static str,
-    pub output: &'static str,
-    pub notes: &'static str,
-    pub status: u8,
-}
-
 // The source, the sink and the notes of a run, all in memory.
 #[derive(Drop)]
 pub(crate) struct Ends {
@@ -107,36 +88,56 @@ fn ends_over_input(
     ends_so(alloc, line, &mut ends, wanted)
 }
 
+// The text before the next double bar, with what stands behind that; all of it where there is none.
+fn field(row: &str) -> (&str, &str) {
+    match row.split_once(" || ") {
+        Some(parts) => parts,
+        None => (row, ""),
+    }
+}
+
+// Whether a row is answered as it says: its name, the words with a blank between two of them, the input, and what the
+// sink gains. The notes gain nothing, and the status is 0.
+fn is_answered(alloc: Global, row: &str) -> Result<bool, AllocError> {
+    let (_, row) = field(row);
+    let (words, row) = field(row);
+    let (input, output) = field(row);
+    let wanted = Wanted {
+        output: output.as_bytes(),
+        notes: "",
+        status: 0,
+    };
+    ends_over_input(alloc, words, input, &wanted)
+}
+
+// Whether a row is refused as it says: its name, the words, the input, the status, what the notes gain, and what the sink
+// gains before that.
+fn is_refused(alloc: Global, row: &str) -> Result<bool, AllocError> {
+    let (_, row) = field(row);
+    let (words, row) = field(row);
+    let (input, row) = field(row);
+    let (status, row) = field(row);
+    let (notes, output) = field(row);
+    let wanted = Wanted {
+        output: output.as_bytes(),
+        notes,
+        status: status.parse().unwrap_or(0),
+    };
+    ends_over_input(alloc, words, input, &wanted)
+}
+
 // Asserts that each row is answered as it says.
-pub(crate) fn are_answered(rt: &impl Abort, alloc: Global, rows: &[Answered]) -> Result<(), Fail> {
+pub(crate) fn are_answered(rt: &impl Abort, alloc: Global, rows: &[&str]) -> Result<(), Fail> {
     for row in rows {
-        let wanted = Wanted {
-            output: row.output.as_bytes(),
-            notes: "",
-            status: 0,
-        };
-        assert!(rt;
-            ends_over_input(alloc, row.words, row.input, &wanted)?,
-            "{}",
-            row.name
-        );
+        assert!(rt; is_answered(alloc, row)?, "{row}");
     }
     Ok(())
 }
 
 // Asserts that each row is refused as it says.
-pub(crate) fn are_refused(rt: &impl Abort, alloc: Global, rows: &[Refused]) -> Result<(), Fail> {
+pub(crate) fn are_refused(rt: &impl Abort, alloc: Global, rows: &[&str]) -> Result<(), Fail> {
     for row in rows {
-        let wanted = Wanted {
-            output: row.output.as_bytes(),
-            notes: row.notes,
-            status: row.status,
-        };
-        assert!(rt;
-            ends_over_input(alloc, row.words, row.input, &wanted)?,
-            "{}",
-            row.name
-        );
+        assert!(rt; is_refused(alloc, row)?, "{row}");
     }
     Ok(())
 }

@@ -1,23 +1,13 @@
 //! Trials of problems that are drawn.
-use crate::row::{Answered, are_answered};
+use crate::row::are_answered;
 use affine_rows::WantOfMemory;
 use pip_trial::{Generator, draw_problem};
 use std::alloc::Global;
 use std::test::Fail;
 
-const DRAWN: &[Answered] = &[
-    Answered {
-        name: "no problem",
-        words: "pip trial 7 0",
-        input: "",
-        output: "problems 0 lists 0 bottoms 0 quotients 0 refused 0\n",
-    },
-    Answered {
-        name: "1,000 problems, an input that is not read",
-        words: "pip trial 7 1000",
-        input: "((a) 1 0 1",
-        output: "problems 1000 lists 1421 bottoms 729 quotients 393 refused 0\n",
-    },
+const DRAWN: &[&str] = &[
+    "no problem || pip trial 7 0 ||  || problems 0 lists 0 bottoms 0 quotients 0 refused 0\n",
+    "1,000 problems, an input that is not read || pip trial 7 1000 || ((a) 1 0 1 || problems 1000 lists 1421 bottoms 729 quotients 393 refused 0\n",
 ];
 
 #[test]
