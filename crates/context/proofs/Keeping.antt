@@ -36,6 +36,10 @@ pub ok_tells : {A E P : Type 0} (r : Result A E) (b : Bool) → b ≡ is_ok r �
 ok_tells (Ok x) b e told h = told
 ok_tells (Err x) b e told h = absurd cc
 
+wider_context : (n : ℕ) (K : List (List ℤ)) → IsContext n K → IsContext (n + 1) K
+wider_context n [] h = tt
+wider_context n (c ∷ K) h = (record { some = h.0.some; most = omega (arith, h.0.most) }, wider_context n K h.1)
+
 module _ (n : ℕ) (K : List (List ℤ)) (is_known : Bool) (known : ℕ) (run : Remembered) (is_earlier : Bool) (fewer : ℕ) (earlier : Remembered) (was : IsKnown n K is_known known run is_earlier fewer earlier) where
   -- the known run is kept
   pub earlier_kept : (is : Bool) (copy : Remembered) → IsTrue is_known → (IsTrue is → (n : ℕ) (K : List (List ℤ)) → IsRemembered n K run → IsRemembered n K copy) → IsKnown n K is_known known run is known copy
@@ -65,6 +69,16 @@ module _ (n : ℕ) (K : List (List ℤ)) (is_known : Bool) (known : ℕ) (run : 
     remembered = λ h. subst (λ (l : List (List ℤ)). IsRemembered n l run) (sym (take-append-le known K (c ∷ []) (was.within h))) (was.remembered h);
     earlier_within = λ h. let more = length_longer K c in omega (arith, more, was.earlier_within h);
     earlier_run = λ h. subst (λ (l : List (List ℤ)). IsRemembered earlier.run.end.unknowns l earlier) (sym (take-append-le fewer K (c ∷ []) (was.earlier_within h))) (was.earlier_run h);
+  }
+
+  -- one place more: no run is known
+  pub known_wider : IsKnown (n + 1) K false known run is_earlier fewer earlier
+  known_wider = record {
+    context = wider_context n K was.context;
+    within = λ h. absurd cc;
+    remembered = λ h. absurd cc;
+    earlier_within = was.earlier_within;
+    earlier_run = was.earlier_run;
   }
 
   -- the first forms, which may be over other places

@@ -1,5 +1,5 @@
-ghost use Rattle.std.specs.Prelude.{◌≡◌, ◌+◌, ◌-◌, ◌^◌, ◌<◌, ◌≤◌, pos, ◌≤ℤ◌, ◌<ℤ◌, [], ◌∷◌, ◌++◌, true, false, length, take, All, IfOk, OnOk, IfErr, IfSome, IfNone, IsTrue};
-ghost use Rattle.pip_model.specs.Contexts.{IsContext, PointTells, IsPointRefusal};
+ghost use Rattle.std.specs.Prelude.{◌≡◌, List, ℤ, ◌+◌, ◌-◌, ◌^◌, ◌<◌, ◌≤◌, pos, ◌≤ℤ◌, ◌<ℤ◌, [], ◌∷◌, ◌++◌, true, false, length, take, All, IfOk, OnOk, IfErr, IfSome, IfNone, IsTrue};
+ghost use Rattle.pip_model.specs.Contexts.{IsContext, IsNarrow, PointTells, IsPointRefusal};
 ghost use Rattle.pip_model.specs.RefutedPoint.{IsRefutedPoint};
 ghost use Rattle.pip_model.specs.Refuting as refuting;
 ghost use Rattle.pip_model.specs.Run as model;
@@ -9,6 +9,8 @@ ghost use Rattle.affine_forms.specs.Forms.{IsForm};
 ghost use Rattle.pip_problem.specs.Faults.{run_fault};
 ghost use Rattle.run_counts.specs.Counts.{IsCountedRun};
 ghost use Rattle.point_run.specs.Points.{has_point};
+ghost use Rattle.lane_questions.specs.InLanes.{form_in, lanes_of};
+ghost use Rattle.lane_questions.specs.Signs.{class_of_sign};
 ghost use Rattle.context.specs.Scoped.{IsKeptContext};
 
 use crate::constants::are_nonnegative;
@@ -16,6 +18,7 @@ use crate::spares::Spares;
 use affine_forms::{Form, WantOfMemory};
 use certificate_parts::Refutation;
 use kept_run::{Question, Remembered, ask_plainly, ask_shortly, go_further, remember};
+use lane_questions::{LaneQuestions, LaneSign, Lanes, write_form};
 use pip_problem::Refusal;
 use point_run::{Point, find_point};
 use refutation_steps::refute_forms;
@@ -30,10 +33,11 @@ use std::slice::from_ref;
 /// at which no form is below 0. Contracts see the width, the forms in order, the room that is left for more, and whether
 /// it was tried to make the run of all forms.
 ///
-/// From one question with a form more to the next a context keeps the first pivots of its own forms' run, no more
-/// than it has places and forms, and the rows that they made. It goes on from them where forms were added, and keeps
-/// those from which it went on last; it goes back to these where the forms added were dropped, and begins again where
-/// more were dropped, or its width changed. Their room stays, and so does that of a question's rows and form.
+/// From one question with a form more to the next a context keeps its own forms' run: up to its end in lanes, over at
+/// most seven places and while its numbers are narrow; and where that does not answer the first pivots of the run, no
+/// more than it has places and forms, and the rows that they made. It goes on from these where forms were added, and
+/// keeps those from which it went on last; it goes back to them where the forms added were dropped, and begins again
+/// where more were dropped, or its width changed. Their room stays, and so does that of a question's rows and form.
 #[derive(Drop)]
 pub struct Context {
     width: usize,
@@ -51,6 +55,8 @@ pub struct Context {
     is_tried: bool,
     question: Question,
     spares: Spares,
+    // What is kept of the forms in lanes.
+    lanes: LaneQuestions,
 }
 
 /// How many forms a context had, and its width: where it can go back to.
@@ -68,9 +74,10 @@ fn stays(is_known: bool, known: usize, width: usize, mark: ContextMark) -> bool
 }
 
 impl Model for Context {
-    ghost use Rattle.std.specs.Prelude.{◌-◌};
+    ghost use Rattle.std.specs.Prelude.{◌-◌, ◌||◌};
     ghost use Rattle.std.specs.Vec.{vec_len, vec_capacity};
     ghost use Rattle.context.specs.Known.{IsKnown, IsTried};
+    ghost use Rattle.lane_questions.specs.Asking.{IsAsking};
     ghost use Rattle.context.specs.Scoped.{ScopedForms};
 
     ghost Value = { ScopedForms };
@@ -80,12 +87,12 @@ impl Model for Context {
           width = k.width;
           forms = k.forms.items;
           spare = vec_capacity k.forms - vec_len k.forms;
-          tried = k.is_tried;
+          tried = k.is_tried || k.lanes.tried;
         } };
 
     ghost invariant = { λ k.
         IsKnown k.width k.forms.items k.is_known k.known k.run k.is_earlier k.earlier_known k.earlier
-        × IsTried k.is_tried k.known k.forms.items };
+        × IsTried k.is_tried k.known k.forms.items × IsAsking k.width k.forms.items k.lanes };
 }
 
 impl Context {
@@ -107,6 +114,7 @@ impl Context {
             is_tried: false,
             question: Question::new(alloc),
             spares: Spares::new(alloc),
+            lanes: LaneQuestions::new(alloc),
         }
     }
 
@@ -127,6 +135,7 @@ impl Context {
         ensures tried { self.new.tried ≡ false }
     {
         self.spares.keep_from(&mut self.forms, 0);
+        self.lanes.restart();
         self.width = width;
         self.is_known = false;
         self.known = 0;
@@ -156,6 +165,7 @@ impl Context {
     {
         let _ = f.width();
         self.forms.push(f).unwrap();
+        self.lanes.grow();
         self.is_tried = false;
     }
 
@@ -168,6 +178,7 @@ impl Context {
         ensures tried { self.new.tried ≡ false }
     {
         self.width += 1;
+        self.lanes.widen();
         self.is_known = false;
         self.is_tried = false;
     }
@@ -196,6 +207,7 @@ impl Context {
         ensures tried { self.new.tried ≡ false }
     {
         self.spares.keep_from(&mut self.forms, mark.forms);
+        self.lanes.back_to(mark.forms, mark.width);
         self.is_known = stays(self.is_known, self.known, self.width, mark);
         self.is_earlier = stays(self.is_earlier, self.earlier_known, mark.width, mark);
         self.width = mark.width;
@@ -327,7 +339,8 @@ impl Context {
     // Whether the context has a point, where it has no forms, or no places: the run then ends at its first rows. None
     // elsewhere.
     fn point_at_once(&self) -> Option<bool>
-        ensures { IfSome result (λ b. (w : Counts) → has_point self.now.width self.now.forms w ≡ Done b w) }
+        ensures some { IfSome result (λ b. (w : Counts) → has_point self.now.width self.now.forms w ≡ Done b w) }
+        ensures none { IfNone result (1 ≤ self.now.width) }
     {
         if self.forms.is_empty() {
             return Some(true);
@@ -336,6 +349,20 @@ impl Context {
             return Some(are_nonnegative(&self.forms));
         }
         None
+    }
+
+    // Whether the context has a point, by the runs in rows of more than 32 bits.
+    fn has_point_wider(&mut self, alloc: Global, work: &mut Work) -> Result<bool, Refusal>
+        ensures gives { IsCountedRun (λ b. b) run_fault result work.old work.new
+            (has_point self.old.width self.old.forms) }
+        ensures kept { IsKeptContext self.old self.new }
+    {
+        self.prepare();
+        if let Some(answer) = self.ask_known(&[], work) {
+            return answer;
+        }
+        let point = find_point(alloc, self.width, &self.forms, work)?;
+        Ok(point.is_some())
     }
 
     /// Whether the context has a point, as `point` would find it, with its counts and refusals. The context stays as it
@@ -348,12 +375,59 @@ impl Context {
         if let Some(found) = self.point_at_once() {
             return Ok(found);
         }
-        self.prepare();
-        if let Some(answer) = self.ask_known(&[], work) {
+        if let Some(answer) = self.lanes.has_point(self.width, &self.forms, work) {
             return answer;
         }
-        let point = find_point(alloc, self.width, &self.forms, work)?;
-        Ok(point.is_some())
+        self.has_point_wider(alloc, work)
+    }
+
+    /// The form over so many places that stands in lanes, in the room that was kept for one if there is one.
+    pub fn form_of_lanes(&mut self, form: Lanes, places: usize) -> Result<Form, WantOfMemory>
+        requires { places ≤ 7 }
+        ensures value { IfOk result (λ made. made ≡ form_in places form) }
+        ensures kept { IsKeptContext self.old self.new }
+    {
+        let mut room = self.spares.take();
+        write_form(&mut room, form, places)?;
+        Ok(Form::from_entries(room))
+    }
+
+    /// The sign of a tightened form in lanes at the context's points, by the run in lanes: with the counts and the
+    /// refusals of the runs over all forms. None where that is not had, and nothing is counted then.
+    pub fn sign_in_lanes(
+        &mut self,
+        form: Lanes,
+        work: &mut Work,
+    ) -> Option<Result<LaneSign, Refusal>>
+        ensures gives { IfSome result (λ r. (c : List ℤ) → form ≡ lanes_of c → IsNarrow self.old.width c
+            → IsCountedRun (class_of_sign c) run_fault r work.old work.new
+            (model.class_by_points self.old.width self.old.forms c)) }
+        ensures none { IfNone result (work.new ≡ work.old) }
+        ensures kept { IsKeptContext self.old self.new }
+        ensures tried { self.new.tried ≡ true }
+    {
+        self.lanes.sign(self.width, &self.forms, form, work)
+    }
+
+    // Whether the context with one form more has a point, by the runs in rows of more than 32 bits.
+    fn point_with_wider(
+        &mut self,
+        alloc: Global,
+        form: &Form,
+        work: &mut Work,
+    ) -> Result<bool, Refusal>
+        requires narrow { length form.now ≤ self.old.width + 1 }
+        ensures gives { IsCountedRun (λ b. b) run_fault result work.old work.new
+            (has_point self.old.width (self.old.forms ++ form.now ∷ [])) }
+        ensures kept { IsKeptContext self.old self.new }
+        ensures tried { self.new.tried ≡ true }
+    {
+        self.prepare();
+        let _ = form.width();
+        if let Some(answer) = self.ask_known(from_ref(form), work) {
+            return answer;
+        }
+        ask_plainly(alloc, self.width, &self.forms, form, work)
     }
 
     /// Whether the context with one form more has a point, as `point` would find it; the form is no wider than the
@@ -372,11 +446,9 @@ impl Context {
         ensures kept { IsKeptContext self.old self.new }
         ensures tried { self.new.tried ≡ true }
     {
-        self.prepare();
-        let _ = form.width();
-        if let Some(answer) = self.ask_known(from_ref(form), work) {
+        if let Some(answer) = self.lanes.ask(self.width, &self.forms, form, work) {
             return answer;
         }
-        ask_plainly(alloc, self.width, &self.forms, form, work)
+        self.point_with_wider(alloc, form, work)
     }
 }

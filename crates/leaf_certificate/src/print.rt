@@ -143,7 +143,6 @@ fn put_divisor(out: &mut Vec<u8>, divisor: i128) -> Result<(), AllocError>
     put_number(out, divisor)
 }
 
-#[tactic(auto, using(std::proofs::lemmas::List::take_all, crate::proofs::Spellings::terms_flat))]
 fn put_terms(out: &mut Vec<u8>, terms: &[(i128, i128)]) -> Result<(), AllocError>
     ensures ok { Appends (spell_terms terms.now) out.old.items out.new.items result }
     ensures kept { Begins out.old.items out.new.items }

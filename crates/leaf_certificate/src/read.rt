@@ -34,7 +34,6 @@ fn read_version(bytes: &[u8], place: usize) -> Reads<bool, CertificateRefusal>
 }
 
 // The numbers up to the `]`, and the place behind that.
-#[tactic(auto, using(crate::proofs::Sequences::reaches_end))]
 fn read_numbers(alloc: Global, bytes: &[u8], place: usize) -> Reads<Vec<i128>, TextFault>
     requires some { 0 < place }
     requires place { place ≤ length bytes.now }

@@ -28,7 +28,6 @@ fn read_shared(
 }
 
 // The refutations up to the `)`, behind these shared steps, and the place behind that.
-#[tactic(auto, using(crate::proofs::Sequences::reaches_end))]
 fn read_refutations(
     alloc: Global,
     bytes: &[u8],
@@ -69,7 +68,6 @@ fn read_leaf(
 }
 
 // The leaves up to the `)` behind a certificate that has none, and the place behind that.
-#[tactic(auto, using(crate::proofs::Sequences::reaches_end))]
 pub(crate) fn read_leaves(
     alloc: Global,
     bytes: &[u8],

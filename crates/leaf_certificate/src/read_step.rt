@@ -22,7 +22,6 @@ fn read_term(bytes: &[u8], place: usize) -> Reads<(i128, i128), TextFault>
 }
 
 // The terms up to the `)`, and the place behind that.
-#[tactic(auto, using(crate::proofs::Sequences::reaches_end))]
 fn read_terms(alloc: Global, bytes: &[u8], place: usize) -> Reads<Terms, TextFault>
     requires some { 0 < place }
     requires place { place ≤ length bytes.now }
@@ -50,7 +49,6 @@ fn read_step(alloc: Global, bytes: &[u8], place: usize) -> Reads<Step, TextFault
 }
 
 // The steps up to the `)`, and the place behind that.
-#[tactic(auto, using(crate::proofs::Sequences::reaches_end))]
 fn read_steps(alloc: Global, bytes: &[u8], place: usize) -> Reads<Refutation, TextFault>
     requires some { 0 < place }
     requires place { place ≤ length bytes.now }

@@ -3,4 +3,5 @@
 
 mod program;
 
+pub use pip_items::answer_next;
 pub use program::{pip_main, refuse_words};

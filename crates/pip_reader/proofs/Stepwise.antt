@@ -3,8 +3,10 @@ use Rattle.pip_reader.proofs.Words.{◌≡◌, ◌≤◌, length, ℕ, List, Ok,
 use Rattle.pip_model.specs.Problem.{Problem}
 use Rattle.pip_model.specs.WellFormed.{IsProblem}
 use Rattle.text_reading.proofs.Binds.{bind_assoc}
+use Rattle.pip_reader.specs.Header.{size}
 
 pub problem_is_by_steps : (bytes : List ℕ) (place : ℕ) → problem_at bytes place ≡ problem_by_steps bytes place
+unfolding size
 problem_is_by_steps bytes place = simp bind_assoc
 
 -- what is read by steps is a problem, and its comment a group

@@ -17,6 +17,22 @@ pub(crate) struct Sizes {
     pub context_rows: usize,
 }
 
+// A number from `low` to `high`, and the place behind it.
+#[tactic(auto, unfolding(crate::specs::Header::size))]
+fn size(
+    bytes: &[u8],
+    kind: LimitKind,
+    low: usize,
+    high: usize,
+    place: usize,
+) -> Reads<usize, ReadRefusal>
+    requires { place ≤ length bytes.now }
+    ensures reads { IsRead (λ n. n) read_fault bytes.now place result (model.size bytes.now kind low high place) }
+    ensures high { IfOk result (λ x. x.0 ≤ high) }
+{
+    within(kind, low, high, number(bytes, place)?)
+}
+
 // The four numbers of sizes, each in its range, and the place behind them.
 pub(crate) fn read_sizes(bytes: &[u8], place: usize) -> Reads<Sizes, ReadRefusal>
     requires { place ≤ length bytes.now }
@@ -24,20 +40,10 @@ pub(crate) fn read_sizes(bytes: &[u8], place: usize) -> Reads<Sizes, ReadRefusal
     ensures unknowns { IfOk result (λ x. x.0.unknowns ≤ most_unknowns) }
     ensures params { IfOk result (λ x. x.0.params ≤ most_params) }
 {
-    let (unknowns, at) = within(LimitKind::Unknowns, 1, MOST_UNKNOWNS, number(bytes, place)?)?;
-    let (params, at) = within(
-        LimitKind::Parameters,
-        0,
-        MOST_PARAMETERS,
-        number(bytes, at)?,
-    )?;
-    let (rows, at) = within(LimitKind::Rows, 0, MOST_ROWS, number(bytes, at)?)?;
-    let (context_rows, at) = within(
-        LimitKind::ContextRows,
-        0,
-        MOST_CONTEXT_ROWS,
-        number(bytes, at)?,
-    )?;
+    let (unknowns, at) = size(bytes, LimitKind::Unknowns, 1, MOST_UNKNOWNS, place)?;
+    let (params, at) = size(bytes, LimitKind::Parameters, 0, MOST_PARAMETERS, at)?;
+    let (rows, at) = size(bytes, LimitKind::Rows, 0, MOST_ROWS, at)?;
+    let (context_rows, at) = size(bytes, LimitKind::ContextRows, 0, MOST_CONTEXT_ROWS, at)?;
     let sizes = Sizes {
         unknowns,
         params,

@@ -13,8 +13,8 @@ ghost use Rattle.least.specs.Kept.{IsWithinLimits};
 use affine_forms::Forms;
 use pip_problem::Limits;
 use quast::Answer;
-use quast_tools::Sameness;
 use quast_walk::ToolRefusal;
+use same::Sameness;
 use std::alloc::Global;
 
 /// The answer at the vectors that satisfy the rows.
@@ -34,7 +34,7 @@ pub fn restrict(
     ensures well_formed { IfOk result (λ a. IsWellFormedAnswer rows.now.width (answer_of a)) }
     ensures scope { IfOk result (IsOver rows.now.width) }
 {
-    quast_tools::restrict(alloc, rows, answer, limits)
+    restrict::restrict(alloc, rows, answer, limits)
 }
 
 /// Whether two answers have the same values at the vectors that satisfy the rows.
@@ -55,7 +55,7 @@ pub fn same(
         (IsSameRefusal rows.now.width rows.now.forms (answer_of first.now) (answer_of second.now))) }
     ensures scope { IfOk result (DiffersOver rows.now.width) }
 {
-    quast_tools::same(alloc, rows, first, second, limits)
+    same::same(alloc, rows, first, second, limits)
 }
 
 /// The lesser of two answers at the vectors that satisfy the rows.
@@ -76,5 +76,5 @@ pub fn least(
         (IsLeastRefusal rows.now.width rows.now.forms (answer_of first.now) (answer_of second.now))) }
     ensures made { IfOk result (IsWithinLimits rows.now.width limits.now.nesting) }
 {
-    quast_tools::least(alloc, rows, first, second, limits)
+    least::least(alloc, rows, first, second, limits)
 }

@@ -39,6 +39,11 @@ pub on_ok : {X E : Type 0} (r : Result X E) (P Q : Type 0) → (P → Q) → OnO
 on_ok (Ok x) P Q f h = f h
 on_ok (Err e) P Q f h = h
 
+-- a text behind another
+pub put_behind : {X E : Type 0} (r : Result X E) (old mid new first second : List ℕ) → mid ≡ old ++ first → OnOk r (new ≡ mid ++ second) → OnOk r (new ≡ old ++ (first ++ second))
+put_behind (Ok x) old mid new first second p h = h ∙ ap (λ t. t ++ second) p ∙ append_assoc old first second
+put_behind (Err e) old mid new first second p h = h
+
 pub fraction_written : (old mid new : List ℕ) (c d g : ℤ) → g ≡ gcd c d → mid ≡ old ++ signed_decimal (floor_div c g) → new ≡ mid ++ spell_denominator d g → new ≡ old ++ spell_fraction c d
 fraction_written old mid new c d g is first second =
     second ∙ ap (λ t. t ++ spell_denominator d g) first ∙ append_assoc old (signed_decimal (floor_div c g)) (spell_denominator d g)

@@ -1,7 +1,9 @@
 -- What a tree is read as, by its `(` and the word behind it.
-use Rattle.quast_text.proofs.Words.{◌≡◌, ◌∙◌, refl, sym, ℕ, zero, suc, ◌-◌, ◌<◌, arith, sub-one, Ok, Err, List, [], ◌∷◌, Option, Some, None, IfSome, LeftParen, Tree, Bottom, Leaf, Component, most_components, Fault, TooNested, Reads, ◌>>=◌, expect, Head, Ends, Lists, Chooses, Defines, head, room_for, behind_head, tree_by, tree, component, components, with_front, opening, components_behind, list_at, choice_at, define_at}
-use Rattle.std.specs.Prelude.{Result}
+use Rattle.quast_text.proofs.Words.{◌≡◌, ◌∙◌, refl, sym, ap, ℕ, zero, ◌+◌, suc, ◌-◌, ◌<◌, arith, sub-one, Ok, Err, List, [], ◌∷◌, Option, Some, None, IfSome, LeftParen, Tree, Bottom, Leaf, Component, most_components, Fault, TooNested, Reads, ◌>>=◌, expect, Head, Ends, Lists, Chooses, Defines, head, room_for, behind_head, tree_by, tree, component, components, with_front, opening, components_behind, list_at, choice_at, quotient_opening, closed_divisor, definition_at, define_at}
+use Rattle.std.specs.Prelude.{Result, ℤ}
 use Rattle.text_reading.specs.Steps.{IsRead}
+use Rattle.pip_model.specs.Tree.{NewParm}
+use Rattle.quast_text.proofs.Definitions.{definition_by}
 use Rattle.text_reading.proofs.Binds.{bind_assoc}
 
 -- the tree by its opening
@@ -51,7 +53,8 @@ tree_choice bytes (suc n) w p q k h = opened bytes (suc n) (λ v after. tree byt
 pub tree_define : (bytes : List ℕ) (n w p q : ℕ) → 0 < n → opening bytes p ≡ Ok (Defines, q) → tree bytes n w p ≡ define_at bytes (n - 1) w q
 unfolding define_at
 tree_define bytes zero w p q k h = absurd (omega arith)
-tree_define bytes (suc n) w p q k h = opened bytes (suc n) (λ v after. tree bytes n v after) w p ∙ rw (h, sub-one) refl
+tree_define bytes (suc n) w p q k h =
+    opened bytes (suc n) (λ v after. tree bytes n v after) w p ∙ rw (h, sub-one) (ap (λ (r : Reads (List ℤ × ℤ)). r >>= λ d. tree bytes n (w + 1) d.1 >>= λ a. Ok (NewParm d.0.0 d.0.1 a.0, a.1)) (definition_by bytes w q))
 
 -- what is read from a place on is read from one before it, where the definition goes on there
 pub read_later : {X Y E : Type 0} (view : X → Y) (fault : E → Option Fault) (bytes : List ℕ) (place at : ℕ) (r : Result (X × ℕ) E) (rest whole : Reads Y)

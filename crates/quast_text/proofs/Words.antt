@@ -26,7 +26,7 @@ pub use Rattle.quast.specs.Components.{IsComponent}
 pub use Rattle.pip_model.specs.Printed.{IsCommented, IsPrintableAnswer}
 pub use Rattle.text_printing.proofs.Spellings.{written}
 pub use Rattle.quast_text.specs.Trees.{next_component, opening}
-unfoldable pub use Rattle.quast_text.specs.Trees.{components_behind, list_at, choice_at, define_at}
+unfoldable pub use Rattle.quast_text.specs.Trees.{components_behind, list_at, choice_at, quotient_opening, closed_divisor, definition_at, define_at}
 pub use Rattle.quast_text.specs.Faults.{text_fault}
 pub use Rattle.quast_text.specs.Fractions.{numerator_of, next_fraction}
 pub use Rattle.quast_text.specs.Printing.{spell_denominator, spell_term, spell_component}

@@ -1,9 +1,10 @@
 -- Fractions of a component's text.
-use Rattle.std.specs.Prelude.{ℕ, ℤ, pos, ◌≤ℤ◌, ◌*ℤ◌, List}
+use Rattle.std.specs.Prelude.{ℕ, ℤ, pos, ◌≤ℤ◌, ◌*ℤ◌, List, Ok}
 use Rattle.pip_model.specs.Numbers.{floor_div}
+use Rattle.pip_model.specs.declared.Kind.TheVariants.{LeftRow, RightRow}
 use Rattle.pip_model.specs.Tokens.{token}
-use Rattle.pip_model.specs.Reading.{Reads}
-use Rattle.pip_model.specs.TreeText.{fraction_of}
+use Rattle.pip_model.specs.Reading.{Reads, ◌>>=◌, expect}
+use Rattle.pip_model.specs.TreeText.{fraction_of, fractions}
 use Rattle.affine_forms.specs.Checks.{Fits}
 
 -- the parts fit, and the denominator is at least 1
@@ -15,6 +16,14 @@ pub record IsFraction (f : ℤ × ℤ) : Type 0 where
 -- the number or fraction that is the next token
 abbrev pub next_fraction : List ℕ → ℕ → Reads (ℤ × ℤ)
 next_fraction bytes place = fraction_of (token bytes place).kind (token bytes place).start (token bytes place).after
+
+-- so many of them between row brackets
+unfoldable pub bracketed_fractions : List ℕ → ℕ → ℕ → Reads (List (ℤ × ℤ))
+bracketed_fractions bytes n place = do
+  first ← expect bytes LeftRow place
+  fs ← fractions bytes n first
+  after ← expect bytes RightRow fs.1
+  Ok (fs.0, after)
 
 -- the numerator over the denominator d, a multiple of the fraction's
 abbrev pub numerator_of : ℤ → ℤ × ℤ → ℤ

@@ -7,6 +7,7 @@ ghost use Rattle.quast.specs.Components.{IsComponent};
 ghost use Rattle.text_reading.specs.Steps.{IsRead};
 ghost use Rattle.quast_text.specs.Faults.{text_fault};
 ghost use Rattle.quast_text.specs.Components.{component_of_parts};
+ghost use Rattle.quast_text.specs.Fractions.{bracketed_fractions as bracketed_fractions_of};
 
 use crate::fraction::{Fraction, common_denominator, numerators, read_fractions};
 use crate::refusal::TextRefusal;
@@ -39,6 +40,25 @@ fn over_one_denominator(
     }
 }
 
+// So many fractions between row brackets, and the place behind them.
+#[tactic(auto, unfolding(crate::specs::Fractions::bracketed_fractions))]
+fn bracketed_fractions(
+    alloc: Global,
+    bytes: &[u8],
+    count: usize,
+    place: usize,
+) -> Reads<Vec<Fraction>, TextRefusal>
+    requires { place ≤ length bytes.now }
+    ensures reads { IsRead (λ v. v.items) text_fault bytes.now place result
+        (bracketed_fractions_of bytes.now count place) }
+    ensures count { IfOk result (λ x. length x.0.items ≡ count) }
+{
+    let first = expect(bytes, Kind::LeftRow, place)?;
+    let (fractions, at) = read_fractions(alloc, bytes, count, first)?;
+    let after = expect(bytes, Kind::RightRow, at)?;
+    Ok((fractions, after))
+}
+
 // A component over so many places between row brackets, and the place behind it.
 pub(crate) fn read_component(
     alloc: Global,
@@ -51,9 +71,7 @@ pub(crate) fn read_component(
     ensures reads { IsRead (λ c. c) text_fault bytes.now place result (component_at bytes.now width place) }
     ensures component { IfOk result (λ x. IsComponent width x.0) }
 {
-    let first = expect(bytes, Kind::LeftRow, place)?;
-    let (fractions, at) = read_fractions(alloc, bytes, width + 1, first)?;
-    let after = expect(bytes, Kind::RightRow, at)?;
+    let (fractions, after) = bracketed_fractions(alloc, bytes, width + 1, place)?;
     let start = token(bytes, place).start;
     let (denominator, entries) = over_one_denominator(alloc, start, &fractions)?;
     let component = Component::reduced(denominator, Form::from_entries(entries));

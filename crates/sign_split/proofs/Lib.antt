@@ -4,3 +4,4 @@ pub mod Opposites
 pub mod TightSigns
 pub mod Widening
 pub mod ByPoints
+pub mod LaneClasses

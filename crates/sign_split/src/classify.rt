@@ -1,18 +1,20 @@
-ghost use Rattle.std.specs.Prelude.{◌≡◌, ◌+◌, ◌≤◌, length, IfOk, IfErr, IfSome, IsTrue};
+ghost use Rattle.std.specs.Prelude.{◌≡◌, ◌+◌, ◌≤◌, None, length, IfOk, IfErr, IfSome, IfNone, IsTrue};
 ghost use Rattle.pip_model.specs.Contexts.{ClassTells, IsPointRefusal};
-ghost use Rattle.pip_model.specs.Forms.{widen_to, opposite};
+ghost use Rattle.pip_model.specs.Forms.{widen_to, opposite, tighten};
 ghost use Rattle.pip_model.specs.Listed.{all_fit, opposite_listed};
 ghost use Rattle.pip_model.specs.Run as model;
 ghost use Rattle.affine_forms.specs.Forms.{IsForm};
 ghost use Rattle.pip_problem.specs.Faults.{run_fault};
 ghost use Rattle.run_counts.specs.Counts.{IsCountedRun};
 ghost use Rattle.context.specs.Scoped.{IsKeptContext};
+ghost use Rattle.lane_questions.specs.InLanes.{form_in};
+ghost use Rattle.lane_questions.specs.Signs.{class_of_sign};
 ghost use Rattle.sign_split.specs.Classes.{class_of, class_if_below, widened_class, ConditionIs};
 
 use crate::classes::Class;
 use crate::signs::{is_everywhere_below, is_nowhere_below};
 use affine_forms::Form;
-use context::{Context, Work};
+use context::{Context, LaneSign, Lanes, Work, tightened};
 use pip_problem::Refusal;
 use std::alloc::Global;
 
@@ -47,6 +49,49 @@ fn class_above(
         return Ok(Class::Minus);
     }
     Ok(Class::Unknown(form))
+}
+
+// The class of a form in lanes of this sign, whose opposite's listed number fits. The form is made where it is unknown.
+fn class_by_sign(
+    context: &mut Context,
+    form: Lanes,
+    places: usize,
+    sign: LaneSign,
+) -> Result<Class, Refusal>
+    requires few { places ≤ 7 }
+    requires opposite_fits { IsTrue (all_fit (opposite_listed (form_in places form))) }
+    ensures class { IfOk result (λ c. class_of c ≡ class_of_sign (form_in places form) sign) }
+    ensures refused { IfErr result (λ e. run_fault e ≡ None) }
+    ensures kept { IsKeptContext context.old context.new }
+    ensures condition { IfOk result (ConditionIs (length (form_in places form))) }
+{
+    match sign {
+        LaneSign::Unknown => Ok(Class::Unknown(context.form_of_lanes(form, places)?)),
+        LaneSign::Plus => Ok(Class::Plus),
+        LaneSign::Minus => Ok(Class::Minus),
+    }
+}
+
+// The class of the tightened form of these entries by the run in lanes; none where that does not tell it, and nothing is
+// counted then.
+fn class_in_lanes(
+    context: &mut Context,
+    entries: &[i128],
+    work: &mut Work,
+) -> Option<Result<Class, Refusal>>
+    requires form { IsForm entries.now }
+    requires narrow { length entries.now ≤ context.old.width + 1 }
+    ensures gives { IfSome result (λ r. IsCountedRun class_of run_fault r work.old work.new
+        (model.class_by_points context.old.width context.old.forms (tighten entries.now))) }
+    ensures none { IfNone result (work.new ≡ work.old) }
+    ensures kept { IsKeptContext context.old context.new }
+    ensures condition { IfSome result (λ r. IfOk r (ConditionIs (length entries.now))) }
+{
+    let form = tightened(entries)?;
+    match context.sign_in_lanes(form, work)? {
+        Ok(sign) => Some(class_by_sign(context, form, entries.len() - 1, sign)),
+        Err(refusal) => Some(Err(refusal)),
+    }
 }
 
 // The class of a tightened form by points: with its opposite, which is then turned back, and with itself.
@@ -91,6 +136,9 @@ fn class_at(
     }
     if is_everywhere_below(entries) {
         return Ok(Class::Minus);
+    }
+    if let Some(class) = class_in_lanes(context, entries, work) {
+        return class;
     }
     let mut form = context.copy_form(entries)?;
     form.tighten();

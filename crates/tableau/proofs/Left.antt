@@ -1,7 +1,8 @@
 -- The kept rows on both sides of one, and what is left of them in a pivot.
 use Rattle.tableau.proofs.Words.{◌≡◌, refl, ap, sym, ◌∙◌, subst, ℕ, ◌+◌, ◌-◌, ◌<◌, ◌≤◌, ℤ, pos, ◌≤ℤ◌, List, [], ◌∷◌, ◌++◌, length, get_or, map, take, drop, arith, IsTrue, append_assoc, length-append, length-drop, length-map, length_push, length-take-le, take-map, drop-map, all_fit, Row, row_at, eliminated, eliminated_listed, IsRow, IsReduced, entry, KeptRows, IsOver, IsSolvable, IsSpare, AreLeft, AreLent, AreLentOf, AreNext, AreSides, IsPivot, lent_row, row_kept, turned, turned_listed, with_more, with_rows, Lent, Kept}
-use Rattle.tableau.proofs.Runs.{kept_front, kept_behind}
-use Rattle.tableau.proofs.Turning.{first_listed, first_rows, row_is, shape_same, shape_more, shape_with, still_spare}
+use Rattle.kept_rows.proofs.Runs.{kept_front, kept_behind}
+use Rattle.kept_rows.proofs.Sides.{first_listed, row_is}
+use Rattle.tableau.proofs.Turning.{first_rows, shape_same, shape_more, shape_with, still_spare}
 
 -- ---- the next rows, made of the rows on both sides of one, and of one between them
 

@@ -1,4 +1,4 @@
-pub mod Along
+pub mod InPlace
 pub mod KeptRows
 pub use Rattle.row_laws.specs.Flat
 pub use Rattle.row_laws.specs.Rows

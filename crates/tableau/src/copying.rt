@@ -1,65 +1,12 @@
-ghost use Rattle.std.specs.Prelude.{◌≡◌, ◌+◌, ◌-◌, ◌<◌, ◌≤◌, ◌++◌, length, map, take, drop, All, IfOk, vec_len, vec_capacity};
-ghost use Rattle.tableau.specs.KeptRows.{IsOver, IsLent, AreLent, IsRun, IsMovable, SameRows, moved_kept, row_length, lent_row, lent_rows, with_more, with_rows};
+ghost use Rattle.std.specs.Prelude.{◌≡◌, ◌+◌, ◌-◌, ◌<◌, ◌≤◌, length, IfOk};
+ghost use Rattle.tableau.specs.KeptRows.{IsOver, SameRows, with_more, with_rows};
+ghost use Rattle.kept_rows.specs.Places.{IsLent, AreLent, IsRun, row_length, lent_row, lent_rows};
 
 use crate::flat_rows::FlatRows;
-use crate::kept::{Kept, Lent, RowPlace};
-use crate::pushing::append_kept;
 use affine_forms::WantOfMemory;
+use kept_rows::{Kept, Lent, append_all_kept, append_moved, append_run};
 use std::alloc::Global;
 use tableau_row::append_entries;
-
-// Appends the kept rows, for which there is room.
-fn append_all_kept(kept: &mut Vec<Kept>, others: &[Kept])
-    requires room { vec_len kept.old + length others.now ≤ vec_capacity kept.old }
-    ensures items { kept.new.items ≡ kept.old.items ++ others.now }
-    ensures room { vec_capacity kept.old ≤ vec_capacity kept.new }
-{
-    match kept.extend_from_slice(others) {
-        Ok(()) => {}
-        Err(_) => unreachable!(),
-    }
-}
-
-// A kept row whose numbers move with those from a place on to another.
-fn move_row(one: Kept, first: usize, to: usize) -> Kept
-    requires { IsMovable first to one }
-    ensures { result ≡ moved_kept first to one }
-{
-    match one {
-        Kept::Unit(c) => Kept::Unit(c),
-        Kept::At(at) => Kept::At(RowPlace {
-            first: at.first - first + to,
-            short: at.short,
-        }),
-    }
-}
-
-// Appends the kept rows, whose numbers move with those from a place on to another.
-fn append_moved(kept: &mut Vec<Kept>, others: &[Kept], first: usize, to: usize)
-    requires room { vec_len kept.old + length others.now ≤ vec_capacity kept.old }
-    requires places { All (IsMovable first to) others.now }
-    ensures items { kept.new.items ≡ kept.old.items ++ map (moved_kept first to) others.now }
-    ensures room { vec_capacity kept.old ≤ vec_capacity kept.new }
-{
-    for one in others {
-        append_kept(kept, move_row(*one, first, to));
-    }
-}
-
-// Appends the numbers from a place on to another.
-fn append_run(numbers: &mut Vec<i128>, others: &[i128], first: usize, end: usize)
-    requires within { first < end → end ≤ length others.now }
-    requires order { first ≤ end }
-    requires room { vec_len numbers.old + (end - first) ≤ vec_capacity numbers.old }
-    ensures items { numbers.new.items ≡ numbers.old.items ++ take (end - first) (drop first others.now) }
-    ensures room { vec_capacity numbers.old ≤ vec_capacity numbers.new }
-{
-    if first < end {
-        let (_, behind) = others.split_at(first);
-        let (run, _) = behind.split_at(end - first);
-        append_entries(numbers, run);
-    }
-}
 
 // Adds a kept row that is lent.
 pub(crate) fn copy_kept(next: &mut FlatRows, lent: &Lent<'_>, one: Kept)

@@ -2,14 +2,15 @@ ghost use Rattle.std.specs.Prelude.{◌≡◌, ◌+◌, ◌-◌, ◌<◌, ◌≤
 ghost use Rattle.pip_model.specs.Rows as model;
 ghost use Rattle.pip_model.specs.Agreement.{IsChecked};
 ghost use Rattle.affine_forms.specs.Checks.{is_overflow};
-ghost use Rattle.tableau.specs.KeptRows.{IsOver, IsLent, AreLeft, AreLent, AreSteady, IsPivot, IsRun, IsSolvable, IsSpare, IsSteady, SameShape, lent_row, row_length, turned, turned_listed, with_more, with_rows};
+ghost use Rattle.tableau.specs.KeptRows.{IsOver, AreLeft, AreSteady, IsPivot, IsSpare, IsSteady, SameShape, turned, turned_listed, with_more, with_rows};
+ghost use Rattle.kept_rows.specs.Places.{IsLent, AreLent, IsRun, IsSolvable, lent_row, row_length};
 ghost use Rattle.row_laws.specs.Rows.{IsRow, IsOwnRow};
 ghost use Rattle.tableau_row.specs.Views.{row_of};
 
 use crate::copying::copy_kept;
 use crate::flat_rows::FlatRows;
-use crate::kept::{Kept, Lent};
 use affine_forms::Overflow;
+use kept_rows::{Kept, Lent};
 use tableau_row::{RowView, check_eliminated};
 
 // Checks the numbers of a row with row p, solved for column c, put in. They fit where both rows are short, and where

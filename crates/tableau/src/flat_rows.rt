@@ -1,12 +1,13 @@
 ghost use Rattle.std.specs.Prelude.{◌≡◌, ◌*◌, ◌^◌, ◌<◌, ◌≤◌, false, [], length, IfOk, IfSome, IfNone, OnOk};
 ghost use Rattle.pip_model.specs.Rows as model;
-ghost use Rattle.tableau.specs.KeptRows.{AreLentOf, AreSides, IsSpare, SameRows, flat_numbers, row_length, unit_run};
+ghost use Rattle.tableau.specs.KeptRows.{AreLentOf, AreSides, IsSpare, SameRows};
+ghost use Rattle.kept_rows.specs.Places.{flat_numbers, row_length, unit_run};
 ghost use Rattle.row_laws.specs.Flat.{is_unit_row};
 ghost use Rattle.row_laws.specs.Rows.{IsRow};
 ghost use Rattle.tableau_row.specs.Views.{row_of};
 
-use crate::kept::{Kept, Lent};
 use affine_forms::WantOfMemory;
+use kept_rows::{Kept, Lent};
 use std::alloc::Global;
 use std::cmp::max;
 use std::marker::Model;
@@ -25,7 +26,8 @@ pub(crate) struct FlatRows {
 
 impl Model for FlatRows {
     ghost use Rattle.std.specs.Prelude.{length, vec_capacity};
-    ghost use Rattle.tableau.specs.KeptRows.{KeptRows, IsFlat, HasRoom, rows_kept};
+    ghost use Rattle.tableau.specs.KeptRows.{KeptRows, HasRoom};
+    ghost use Rattle.kept_rows.specs.Places.{IsFlat, rows_kept};
 
     ghost Value = { KeptRows };
 

@@ -6,11 +6,9 @@ mod copying;
 mod exchange;
 mod flat_rows;
 mod in_place;
-mod kept;
 mod pushing;
 mod row_rounding;
 mod tableau;
-mod unit_run;
 mod widening;
 
 pub use affine_forms::FormRefusal as StepRefusal;

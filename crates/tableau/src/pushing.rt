@@ -1,4 +1,4 @@
-ghost use Rattle.std.specs.Prelude.{◌≡◌, ◌+◌, ◌-◌, ◌<◌, ◌≤◌, pos, [], ◌∷◌, ◌++◌, length, take, drop, All, IsTrue, IfSome, OnErr, OnOk, vec_len, vec_capacity};
+ghost use Rattle.std.specs.Prelude.{◌≡◌, ◌+◌, ◌-◌, ◌<◌, ◌≤◌, pos, [], ◌∷◌, ◌++◌, length, All, IsTrue, IfSome, OnErr, OnOk, vec_len, vec_capacity};
 ghost use Rattle.pip_model.specs.Listed.{all_fit};
 ghost use Rattle.pip_model.specs.Rows as model;
 ghost use Rattle.pip_model.specs.Cuts.{rounded, rounded_listed};
@@ -6,28 +6,19 @@ ghost use Rattle.pip_model.specs.Agreement.{IsChecked};
 ghost use Rattle.affine_forms.specs.Checks.{is_overflow};
 ghost use Rattle.affine_forms.specs.Forms.{IsForm};
 ghost use Rattle.row_laws.specs.Flat.{numbers_of, row_of_numbers};
-ghost use Rattle.tableau.specs.KeptRows.{IsFlat, IsPlainRow, IsSolvable, IsUnsealed, rows_kept, with_more};
+ghost use Rattle.kept_rows.specs.Places.{IsPlainRow, IsSolvable};
+ghost use Rattle.tableau.specs.KeptRows.{with_more};
 ghost use Rattle.row_laws.specs.Short.{IsShort, IsShortRow};
 ghost use Rattle.row_laws.specs.Rows.{IsRow, IsReduced};
 ghost use Rattle.tableau_row.specs.Views.{row_of};
 
 use crate::flat_rows::FlatRows;
-use crate::kept::{Kept, RowPlace};
 use affine_forms::{Form, Overflow};
+use kept_rows::{Kept, RowPlace, append_kept, seal};
 use tableau_row::{
     RowView, append_divided, append_eliminated, append_entries, append_rounded, append_solved,
-    append_widened, is_short_row, unit_column, view_of,
+    append_widened, is_short_row,
 };
-
-// Appends the kept row, for which there is room.
-pub(crate) fn append_kept(kept: &mut Vec<Kept>, one: Kept)
-    requires room { vec_len kept.old < vec_capacity kept.old }
-    ensures items { kept.new.items ≡ kept.old.items ++ one ∷ [] }
-    ensures count { length kept.new.items ≡ length kept.old.items + 1 }
-    ensures room { vec_capacity kept.old ≤ vec_capacity kept.new }
-{
-    kept.push_reserved(one);
-}
 
 // Appends the number, for which there is room.
 fn append_number(numbers: &mut Vec<i128>, number: i128)
@@ -50,35 +41,6 @@ fn append_form(numbers: &mut Vec<i128>, form: &Form) -> bool
     append_number(numbers, 1);
     append_entries(numbers, form.as_slice());
     is_short_row(1, form.as_slice(), &[])
-}
-
-// Keeps the row whose numbers stand last, from the place on: the row of a column as the column.
-#[inline(always)]
-fn seal(
-    kept: &mut Vec<Kept>,
-    numbers: &mut Vec<i128>,
-    last: RowPlace,
-    unknowns: usize,
-    width: usize,
-)
-    requires unsealed { IsUnsealed unknowns width last numbers.old.items kept.old.items }
-    requires room { vec_len kept.old < vec_capacity kept.old }
-    ensures flat { IsFlat unknowns width numbers.new.items kept.new.items }
-    ensures rows { rows_kept unknowns width numbers.new.items kept.new.items
-        ≡ rows_kept unknowns width (take last.first numbers.old.items) kept.old.items
-        ++ row_of_numbers unknowns (drop last.first numbers.old.items) ∷ [] }
-    ensures count { length kept.new.items ≡ length kept.old.items + 1 }
-    ensures kept_room { vec_capacity kept.old ≤ vec_capacity kept.new }
-    ensures numbers_room { vec_capacity numbers.new ≡ vec_capacity numbers.old }
-{
-    let (_, row) = numbers.as_slice().split_at(last.first);
-    match unit_column(&view_of(row, unknowns, last.short)) {
-        Some(c) => {
-            numbers.truncate(last.first);
-            append_kept(kept, Kept::Unit(c));
-        }
-        None => append_kept(kept, Kept::At(last)),
-    }
 }
 
 impl FlatRows {

@@ -3,12 +3,13 @@ ghost use Rattle.pip_model.specs.Rows as model;
 ghost use Rattle.pip_model.specs.Cuts.{rounded, rounded_listed};
 ghost use Rattle.pip_model.specs.Agreement.{IsChecked};
 ghost use Rattle.affine_forms.specs.Checks.{is_overflow};
-ghost use Rattle.tableau.specs.KeptRows.{IsOver, IsSpare, AreLent, lent_rows, with_rows, SameRows, unit_run};
+ghost use Rattle.tableau.specs.KeptRows.{IsOver, IsSpare, with_rows, SameRows};
+ghost use Rattle.kept_rows.specs.Places.{AreLent, lent_rows, unit_run};
 
 use crate::copying::copy_kept;
 use crate::flat_rows::FlatRows;
-use crate::kept::{Kept, Lent};
 use affine_forms::{Overflow, WantOfMemory};
+use kept_rows::{Kept, Lent};
 use std::alloc::Global;
 
 // Adds the kept rows.

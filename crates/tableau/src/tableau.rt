@@ -11,8 +11,8 @@ ghost use Rattle.row_laws.specs.Tableaus.{with_row, with_rounded};
 ghost use Rattle.tableau_row.specs.Views.{row_of};
 
 use crate::flat_rows::FlatRows;
-use crate::unit_run::make_run;
 use affine_forms::{Form, Overflow, WantOfMemory};
+use kept_rows::make_run;
 use std::alloc::Global;
 use std::marker::Model;
 use std::mem::swap;

@@ -4,10 +4,10 @@ ghost use Rattle.tree_items.specs.Pairs.{IsTrio, trio_of};
 
 use crate::trio::{Trio, trio_at};
 use item_writing::Items;
+use least::least;
 use pip_endings::Ending;
 use pip_words::WalkOptions;
 use quast_text::print_answer;
-use quast_tools::least;
 use std::alloc::Global;
 
 /// Makes of two answers the lesser one, under a context.

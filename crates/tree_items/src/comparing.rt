@@ -9,7 +9,7 @@ use crate::trio::{Trio, trio_at};
 use item_writing::Items;
 use pip_endings::Ending;
 use pip_words::WalkOptions;
-use quast_tools::{Sameness, same};
+use same::{Sameness, same};
 use std::alloc::{AllocError, Global};
 use text_printing::{put, put_row};
 

@@ -8,7 +8,7 @@ use pip_endings::Ending;
 use pip_reader::read_context;
 use pip_words::WalkOptions;
 use quast_text::{Spoken, print_answer};
-use quast_tools::restrict;
+use restrict::restrict;
 use std::alloc::Global;
 
 /// A context and an answer over as many parameters.

@@ -1,6 +1,6 @@
 //! Native problems that are answered one by one, by the call of the library.
 use crate::row::{Ends, ends_over};
-use pip_items::answer_next;
+use pip_cli::answer_next;
 use pip_outside::Window;
 use pip_problem::Limits;
 use pip_words::SolveOptions;

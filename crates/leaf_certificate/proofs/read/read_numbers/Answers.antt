@@ -1,6 +1,6 @@
-use Rattle.leaf_certificate.proofs.Words.{◌≡◌, ◌++◌, ◌∷◌, [], rules, err_from_is_err_and, Fits, fault_of}
+use Rattle.leaf_certificate.proofs.Words.{◌≡◌, ◌∙◌, ◌++◌, ◌∷◌, [], rules, err_from_is_err_and, Fits, fault_of}
 use Rattle.std.proofs.lemmas.List.Elements.{All-push}
-use Rattle.leaf_certificate.proofs.Sequences.{reaches_next, reaches_refused}
+use Rattle.leaf_certificate.proofs.Sequences.{reaches_next, reaches_end, reaches_refused}
 use Rattle.leaf_certificate.proofs.read.read_numbers.Goals as goal
 
 pub returns-in_err-number-clause-reads : goal.returns-in_err-number-clause-reads
@@ -15,3 +15,6 @@ loop-read-preserved c =
       reaches = reaches_next c.requires.some c.loop-read.invariant.reaches (search rules) (search rules) (search rules) (search rules);
       fits = All-push Fits c.loop-read.read.items c.in_ok-number.number c.loop-read.invariant.fits (search rules);
     })
+
+pub returns-clause-reads : goal.returns-clause-reads
+returns-clause-reads c = (reaches_end c.requires.some c.loop-read.invariant.reaches (search rules) ∙ search rules, search rules, search rules)

@@ -1,5 +1,5 @@
-use Rattle.leaf_certificate.proofs.Words.{◌≡◌, ◌++◌, ◌∷◌, [], rules, err_from_is_err_and, fault_of}
-use Rattle.leaf_certificate.proofs.Sequences.{reaches_next, reaches_refused}
+use Rattle.leaf_certificate.proofs.Words.{◌≡◌, ◌∙◌, ◌++◌, ◌∷◌, [], rules, err_from_is_err_and, fault_of}
+use Rattle.leaf_certificate.proofs.Sequences.{reaches_next, reaches_end, reaches_refused}
 use Rattle.leaf_certificate.proofs.read_leaf.read_refutations.Goals as goal
 
 pub returns-in_err-refutation-clause-reads : goal.returns-in_err-refutation-clause-reads
@@ -14,3 +14,6 @@ loop-alloc-preserved c =
       reaches = reaches_next c.requires.some c.loop-alloc.invariant.reaches (search rules) (search rules) (search rules) (search rules);
       shared = search rules;
     })
+
+pub returns-clause-reads : goal.returns-clause-reads
+returns-clause-reads c = (reaches_end c.requires.some c.loop-alloc.invariant.reaches (search rules) ∙ search rules, search rules, search rules)

@@ -1,5 +1,5 @@
 use Rattle.tableau.proofs.Words.{rules, arith, ap, subst, sym, ◌≡◌, ◌∙◌, ◌++◌, List, map, take, drop, append_assoc, common_steps, all_fit, Row, KeptRows, AreLent, lent_row, turned, turned_listed, with_rows, row_of, Kept}
-use Rattle.tableau.proofs.Runs.{kept_behind}
+use Rattle.kept_rows.proofs.Runs.{kept_behind}
 use Rattle.tableau.proofs.Turning.{listed_behind, rows_behind, shape_with}
 use Rattle.tableau.proofs.exchange.push_steady.Goals as goal
 

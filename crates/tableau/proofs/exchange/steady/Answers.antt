@@ -1,5 +1,5 @@
 use Rattle.tableau.proofs.Words.{List, take, ◌<◌, length, subst, sym, take_more, All-more, IsRun, IsSteady, lent_row, row_length, row_of, Kept}
-use Rattle.tableau.proofs.Runs.{run_more}
+use Rattle.kept_rows.proofs.Runs.{run_more}
 use Rattle.tableau.proofs.exchange.steady.Goals as goal
 
 pub loop-i-preserved : goal.loop-i-preserved

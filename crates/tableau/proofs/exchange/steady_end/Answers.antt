@@ -1,5 +1,6 @@
 use Rattle.tableau.proofs.Words.{rules, ap, length, sym, subst, ◌≡◌, ◌∙◌, ◌+◌, pos, IsTrue, entry, IsPlace, IsSteady, kept_short, lent_row, IsShortRow, row_of, Kept}
-use Rattle.tableau.proofs.Turning.{unit_steady, short_steady, place_entry}
+use Rattle.kept_rows.proofs.Sides.{place_entry}
+use Rattle.tableau.proofs.Turning.{unit_steady, short_steady}
 use Rattle.tableau.proofs.exchange.steady_end.Goals as goal
 
 pub returns-then-k-pivot-clause-steady : goal.returns-then-k-pivot-clause-steady

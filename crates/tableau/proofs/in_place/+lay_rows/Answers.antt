@@ -1,5 +1,5 @@
 use Rattle.tableau.proofs.Words.{rules, ◌-◌, take, drop, length, row_of_numbers, IsReduced}
-use Rattle.tableau.specs.declared.kept.Kept.TheVariants as kept
+use Rattle.kept_rows.specs.declared.kept.Kept.TheVariants as kept
 use Rattle.tableau.proofs.InPlace.{laid_at, pattern_kept}
 use Rattle.tableau.proofs.in_place.+lay_rows.Goals as goal
 

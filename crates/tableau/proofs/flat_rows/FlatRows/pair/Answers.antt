@@ -1,5 +1,5 @@
 use Rattle.tableau.proofs.Words.{rules, ◌≡◌, [], ◌∷◌}
-use Rattle.tableau.specs.declared.kept.Kept.TheVariants as kept
+use Rattle.kept_rows.specs.declared.kept.Kept.TheVariants as kept
 use Rattle.tableau.proofs.InPlace.{two_kept, pair_view}
 use Rattle.tableau.proofs.flat_rows.FlatRows.pair.Goals as goal
 

@@ -1,6 +1,14 @@
-use Rattle.tableau.proofs.Words.{rules, subst, sym, eliminated, IsRow, row_of, elimination, KeptRows}
-use Rattle.tableau.proofs.Flat.{unsealed, pushed}
+use Rattle.tableau.proofs.Words.{rules, subst, sym, eliminated, IsRow, row_of, elimination, KeptRows, arith, ◌≡◌, length, vec_len}
+use Rattle.kept_rows.proofs.Flat.{unsealed}
+use Rattle.tableau.proofs.Pushed.{pushed, kept_room, room_behind, row_room}
 use Rattle.tableau.proofs.flat_rows.FlatRows.push_eliminated.Goals as goal
+
+pub append_eliminated-short-requires-clause-room : goal.append_eliminated-short-requires-clause-room
+append_eliminated-short-requires-clause-room c =
+    let s = c.self.inside in
+    let given = subst (λ (t : KeptRows). IsRow t.unknowns t.width (row_of c.args.row.now)) (sym c.self.view_is) c.requires.row in
+    let many : vec_len s.numbers ≡ length s.numbers.items = search rules in
+    omega (arith, many, row_room c.args.self.now s.unknowns s.width s.most _ _ s.numbers.items s.kept.items c.self.view_is c.self.invariant.0 c.self.invariant.1 c.requires.room (row_of c.args.row.now) given)
 
 pub append_eliminated-short-requires-clause-step : goal.append_eliminated-short-requires-clause-step
 append_eliminated-short-requires-clause-step c =
@@ -23,3 +31,14 @@ returns c =
     let given = subst (λ (t : KeptRows). IsRow t.unknowns t.width (row_of c.args.row.now)) (sym c.self.view_is) c.requires.row in
     pushed c.args.self.now s.unknowns s.width s.most s.numbers.items c.append_eliminated-short.new.numbers.items c.seal.new.numbers.items s.kept.items c.seal.new.kept.items c.len-first.result (eliminated (row_of c.args.p.now) c.args.c (row_of c.args.row.now)) c.self.view_is c.append_eliminated-short.ensures.appended.items (search rules) (made.row s.unknowns s.width given).coefs
     c.seal.ensures.rows
+
+pub seal-requires-clause-room : goal.seal-requires-clause-room
+seal-requires-clause-room c =
+    let s = c.self.inside in
+    let many : vec_len s.kept ≡ length s.kept.items = search rules in
+    omega (arith, many, kept_room c.args.self.now s.unknowns s.width s.most _ _ s.numbers.items s.kept.items c.self.view_is c.self.invariant.0 c.self.invariant.1 c.requires.room)
+
+pub invariant_of-self : goal.invariant_of-self
+invariant_of-self c =
+    let s = c.self.inside in
+    (c.seal.ensures.flat, room_behind c.args.self.now s.unknowns s.width s.most _ _ s.numbers.items s.kept.items c.self.view_is c.self.invariant.0 c.self.invariant.1 c.requires.room _ _ c.seal.new.kept.items c.seal.ensures.count c.seal.ensures.kept_room (omega (arith, c.seal.ensures.numbers_room, c.append_eliminated-short.ensures.appended.room)))

@@ -1,5 +1,5 @@
 use Rattle.tableau.proofs.Words.{refl, ◌++◌, rules, arith, ap, sym, subst, ◌∙◌, ◌≡◌, ◌+◌, ◌-◌, ◌^◌, ◌<◌, ◌≤◌, List, length, vec_len, vec_capacity, common_steps, Row, KeptRows, AreKept, IsRun, row_length, rows_kept, lent_rows, with_rows}
-use Rattle.tableau.proofs.Runs.{run_grows, run_few, run_within, run_movable, run_room, with_run}
+use Rattle.kept_rows.proofs.Runs.{run_grows, run_few, run_within, run_movable, run_room, with_run}
 use Rattle.tableau.proofs.flat_rows.FlatRows.push_run.Goals as goal
 
 pub append_run-requires-clause-within : goal.append_run-requires-clause-within

@@ -1,7 +1,15 @@
-use Rattle.tableau.proofs.Words.{rules, ap, ◌≡◌, ◌++◌, ◌∙◌, subst, sym, all_fit, Row, unit_row, eliminated, eliminated_listed, IsTrue, numbers_of, IsRow, IsMadeReduced, pivot_row, KeptRows, with_more, row_of}
+use Rattle.tableau.proofs.Words.{rules, ap, ◌≡◌, ◌++◌, ◌∙◌, subst, sym, all_fit, Row, unit_row, eliminated, eliminated_listed, IsTrue, numbers_of, IsRow, IsMadeReduced, pivot_row, KeptRows, with_more, row_of, arith, length, vec_len}
 use Rattle.std.specs.Prelude.{true}
-use Rattle.tableau.proofs.Flat.{unsealed, pushed, unit_over}
+use Rattle.kept_rows.proofs.Flat.{unsealed, unit_over}
+use Rattle.tableau.proofs.Pushed.{pushed, kept_room, room_behind, row_room}
 use Rattle.tableau.proofs.flat_rows.FlatRows.push_solved.Goals as goal
+
+pub append_solved-requires-clause-room : goal.append_solved-requires-clause-room
+append_solved-requires-clause-room c =
+    let s = c.self.inside in
+    let given = subst (λ (t : KeptRows). IsRow t.unknowns t.width (row_of c.args.p.now)) (sym c.self.view_is) c.requires.p.row in
+    let many : vec_len s.numbers ≡ length s.numbers.items = search rules in
+    omega (arith, many, row_room c.args.self.now s.unknowns s.width s.most _ _ s.numbers.items s.kept.items c.self.view_is c.self.invariant.0 c.self.invariant.1 c.requires.room (row_of c.args.p.now) given)
 
 pub append_solved-requires-clause-p : goal.append_solved-requires-clause-p
 append_solved-requires-clause-p c = pivot_row c.args.self.now.unknowns c.args.self.now.width c.args.c (row_of c.args.p.now) c.requires.p.row c.requires.p.column c.requires.p.positive
@@ -39,3 +47,14 @@ returns-clause-row c =
     pushed c.args.self.now s.unknowns s.width s.most s.numbers.items c.append_solved.new.numbers.items c.seal.new.numbers.items s.kept.items c.seal.new.kept.items c.len-first.result made c.self.view_is items (search rules) row.coefs
     c.seal.ensures.rows
     ∙ ap (λ (t : KeptRows). with_more c.args.self.now (eliminated p k (unit_row t.unknowns t.width k))) c.self.view_is
+
+pub seal-requires-clause-room : goal.seal-requires-clause-room
+seal-requires-clause-room c =
+    let s = c.self.inside in
+    let many : vec_len s.kept ≡ length s.kept.items = search rules in
+    omega (arith, many, kept_room c.args.self.now s.unknowns s.width s.most _ _ s.numbers.items s.kept.items c.self.view_is c.self.invariant.0 c.self.invariant.1 c.requires.room)
+
+pub invariant_of-self : goal.invariant_of-self
+invariant_of-self c =
+    let s = c.self.inside in
+    (c.seal.ensures.flat, room_behind c.args.self.now s.unknowns s.width s.most _ _ s.numbers.items s.kept.items c.self.view_is c.self.invariant.0 c.self.invariant.1 c.requires.room _ _ c.seal.new.kept.items c.seal.ensures.count c.seal.ensures.kept_room (omega (arith, c.seal.ensures.numbers_room, c.append_solved.ensures.appended.room)))

@@ -1,6 +1,7 @@
 use Rattle.tableau.proofs.Words.{rules, arith, ◌∙◌, ap, List, common_steps, Row, unit_row, eliminated, lent_row, row_of, Kept}
 use Rattle.tableau.proofs.Left.{all_made, first_made, formed_next, next_swapped, second_made, sides_solvable}
-use Rattle.tableau.proofs.Turning.{still_spare, turned_pivot, turned_sides}
+use Rattle.kept_rows.proofs.Sides.{turned_pivot, turned_sides}
+use Rattle.tableau.proofs.Turning.{still_spare}
 use Rattle.tableau.proofs.flat_rows.FlatRows.turn.Goals as goal
 
 pub invariant_of-pivot : goal.invariant_of-pivot

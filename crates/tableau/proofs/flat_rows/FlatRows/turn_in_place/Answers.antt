@@ -1,5 +1,6 @@
-use Rattle.tableau.proofs.Words.{rules, arith, IsTrue, is_ready_front}
-use Rattle.tableau.proofs.InPlace.{front_some, ready_rows}
+use Rattle.tableau.proofs.Words.{rules, arith, IsTrue, is_ready_front, ◌≡◌, sym, ◌∙◌, ap, length, length-map, row_kept, KeptRows}
+use Rattle.kept_rows.proofs.InPlace.{front_some}
+use Rattle.tableau.proofs.InPlace.{ready_rows}
 use Rattle.tableau.proofs.flat_rows.FlatRows.turn_in_place.Goals as goal
 
 pub push_pair-requires-clause-short : goal.push_pair-requires-clause-short
@@ -21,3 +22,9 @@ pub returns-in-Some-false-clause-listed : goal.returns-in-Some-false-clause-list
 returns-in-Some-false-clause-listed c = λ done.
     let s = c.self.inside in
     (ready_rows s.unknowns s.width s.most c.args.c c.args.r s.numbers.items s.kept.items c.args.self.now c.self.view_is c.self.invariant.0 (search rules) c.requires.pivot).1
+
+pub turn_flat-requires-clause-room : goal.turn_flat-requires-clause-room
+turn_flat-requires-clause-room c =
+    let s = c.self.inside in
+    let count : length s.kept.items ≡ length c.args.self.now.rows = sym (length-map s.kept.items (row_kept s.unknowns s.width s.numbers.items)) ∙ ap (λ (t : KeptRows). length t.rows) c.self.view_is in
+    omega (arith, count, ap (λ (t : KeptRows). t.most) c.push_pair.ensures, c.requires.spare.room)

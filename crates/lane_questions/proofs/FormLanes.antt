@@ -1,0 +1,79 @@
+-- Forms in lanes: the sum of their sizes, and their lanes one after the other.
+use Rattle.std.proofs.Common.{get_or, ◌≡◌, ◌∙◌, refl, ap, sym, ℕ, zero, suc, ◌+◌, ◌-◌, ◌<◌, ◌≤◌, ℤ, pos, unsigned_abs, arith, List, [], ◌∷◌, ◌++◌, length, take, set, replicate, append_assoc, length-append}
+use Rattle.std.proofs.Math.Seq.{take-suc, set-append_seam}
+use Rattle.std.proofs.lemmas.List.{map-append, length-take-le}
+use Rattle.std.proofs.lemmas.List.Elements.{All-append, All-cons, All-nil}
+use Rattle.std.specs.Prelude.{slice_set}
+use Rattle.pip_model.specs.Forms.{entry, constant}
+use Rattle.form_laws.specs.Bounds.{norm}
+use Rattle.lanes.specs.Narrow.{AreLanes}
+use Rattle.lane_questions.specs.InLanes.{lanes_of, all_lanes, IsWithin, AreWithin, AreFirst}
+
+-- ---- the sum of sizes
+
+pub norm_step : (zs : List ℤ) (k i : ℕ) → i ≡ k + 1 → norm (take i zs) ≡ norm (take k zs) + unsigned_abs (entry zs k)
+norm_step [] zero zero e = absurd (omega arith)
+norm_step [] zero (suc i) e = refl
+norm_step [] (suc k) zero e = absurd (omega arith)
+norm_step [] (suc k) (suc i) e = refl
+norm_step (z ∷ zs) zero zero e = absurd (omega arith)
+norm_step (z ∷ zs) zero (suc zero) e = omega arith
+norm_step (z ∷ zs) zero (suc (suc i)) e = absurd (omega arith)
+norm_step (z ∷ zs) (suc k) zero e = absurd (omega arith)
+norm_step (z ∷ zs) (suc k) (suc i) e = omega (arith, norm_step zs k i (omega arith))
+
+-- ---- lanes of a form
+
+-- the constant and the first k coefficients of a form, at most 7
+abbrev pub first_lanes : List ℤ → ℕ → List ℤ
+first_lanes es k = constant es ∷ take k es ++ replicate (7 - k) (pos 0)
+
+zeros_more : (m : ℕ) → 1 ≤ m → replicate m (pos 0) ≡ pos 0 ∷ replicate (m - 1) (pos 0)
+zeros_more zero h = absurd (omega arith)
+zeros_more (suc m) h = let e : suc m - 1 ≡ m = omega arith in rw e refl
+
+pub lane_step : (es now new : List ℤ) (k i : ℕ) (z : ℤ) → now ≡ first_lanes es k → k < length es → k < 7 → z ≡ entry es k → new ≡ slice_set now (k + 1) z → i ≡ k + 1 → new ≡ first_lanes es i
+lane_step es now new k i z was inside few is e next =
+    let long : length (take k es) ≡ k = length-take-le k es (omega arith) in
+    let zeros : replicate (7 - k) (pos 0) ≡ pos 0 ∷ replicate (7 - k - 1) (pos 0) = zeros_more (7 - k) (omega arith) in
+    let place : k + 1 ≡ suc k = omega arith in
+    let less : 7 - k - 1 ≡ 7 - i = omega arith in
+    let more : i ≡ suc k = omega arith in
+    e ∙ ap (λ (xs : List ℤ). slice_set xs (k + 1) z) was
+    ∙ ap (λ (j : ℕ). set (first_lanes es k) j z) place
+    ∙ ap (λ (xs : List ℤ). constant es ∷ xs) (
+    ap (λ (xs : List ℤ). set (take k es ++ xs) k z) zeros
+    ∙ ap (λ (j : ℕ). set (take k es ++ pos 0 ∷ replicate (7 - k - 1) (pos 0)) j z) (sym long)
+    ∙ set-append_seam (take k es) (pos 0) (replicate (7 - k - 1) (pos 0)) z
+    ∙ ap (λ (x : ℤ). take k es ++ x ∷ replicate (7 - k - 1) (pos 0)) is
+    ∙ ap (λ (m : ℕ). take k es ++ entry es k ∷ replicate m (pos 0)) less
+    ∙ sym (append_assoc (take k es) (entry es k ∷ []) (replicate (7 - i) (pos 0)))
+    ∙ ap (λ (xs : List ℤ). xs ++ replicate (7 - i) (pos 0)) (sym (take-suc es k (pos 0) inside))
+    ∙ ap (λ (j : ℕ). take j es ++ replicate (7 - i) (pos 0)) (sym more))
+
+-- ---- lists of forms
+
+within_more : (m n : ℕ) (forms : List (List ℤ)) → m ≤ n → AreWithin m forms → AreWithin n forms
+within_more m n forms le h k d lt = record { lanes = (h k d lt).lanes; norm = omega (arith, (h k d lt).norm) }
+
+pub within_pushed : (m s n : ℕ) (forms : List (List ℤ)) (form : List ℤ) → m ≤ n → s ≤ n → AreWithin m forms → AreLanes form → s ≡ norm form → AreWithin n (forms ++ form ∷ [])
+within_pushed m s n forms form more size h lanes e =
+    All-append (IsWithin n) forms (form ∷ []) (within_more m n forms more h)
+    (All-cons (IsWithin n) form [] (record { lanes = lanes; norm = omega (arith, size, e) }) (All-nil (IsWithin n)))
+
+pub first_step : (K forms new : List (List ℤ)) (c form : List ℤ) (i : ℕ) → AreFirst K forms → i ≡ length forms → i < length K → c ≡ get_or K i c → form ≡ lanes_of c → new ≡ forms ++ form ∷ [] → AreFirst K new
+first_step K forms new c form i h at inside is lanes e =
+    let long : length new ≡ suc i = ap length e ∙ simp length-append (omega (arith, at)) in
+    record {
+      number = omega (arith, long, inside);
+      same =
+          let front : forms ≡ all_lanes (take i K) = h.same ∙ ap (λ (k : ℕ). all_lanes (take k K)) (sym at) in
+          let back : form ∷ [] ≡ all_lanes (get_or K i c ∷ []) = ap (λ (x : List ℤ). x ∷ []) (lanes ∙ ap lanes_of is) in
+          e ∙ ap (λ (xs : List (List ℤ)). xs ++ form ∷ []) front ∙ ap (λ (xs : List (List ℤ)). all_lanes (take i K) ++ xs) back
+          ∙ sym (map-append lanes_of (take i K) (get_or K i c ∷ []))
+          ∙ ap all_lanes (sym (take-suc K i c inside))
+          ∙ ap (λ (k : ℕ). all_lanes (take k K)) (sym long);
+    }
+
+pub first_place : (forms new : List (List ℤ)) (form : List ℤ) (i : ℕ) → i ≡ length forms → new ≡ forms ++ form ∷ [] → i + 1 ≡ length new
+first_place forms new form i at e = sym (ap length e ∙ simp length-append (omega (arith, at)))

@@ -1,0 +1,124 @@
+-- One form more behind the kept run of a context's forms: its row is the last one.
+use Rattle.std.proofs.Common.{◌≡◌, ◌∙◌, refl, ap, sym, subst, ℕ, suc, ◌+◌, ◌<◌, ℤ, pos, ◌≤ℤ◌, ◌<ℤ◌, arith, Bool, true, false, Option, Some, None, List, [], ◌∷◌, ◌++◌, length, map, take, length-append}
+use Rattle.std.proofs.lemmas.List.{map-append, get_or_at}
+use Rattle.std.specs.Prelude.{if◌then◌else◌, IfSome, is_some}
+use Rattle.pip_model.specs.Numbers.{is_nonneg}
+use Rattle.pip_model.specs.Forms.{entry, constant, widen_to}
+use Rattle.pip_model.specs.Rows.{Row, row_at, divided, form_row}
+use Rattle.pip_model.specs.Run.{Work, Done, Refused, Refusal, go_on, give, numbers_of, count_pivot, turn, point_setting}
+use Rattle.pip_model.proofs.Fuel.{refused_run_from, falls-constant_class}
+use Rattle.run_counts.specs.Counts.{HasRoomFor, counted_more}
+use Rattle.point_turns.specs.Points.{has_point, finds_point}
+use Rattle.point_turns.specs.Turns.{negative_from, node_of}
+use Rattle.form_laws.specs.ByForm.{by_form, combination}
+use Rattle.scaled_laws.specs.Scaled.{row_over}
+use Rattle.scaled_laws.specs.Tables.{ScaledTable}
+use Rattle.lanes.specs.Narrow.{AreLanes}
+use Rattle.lane_rows.specs.Laned.{numbers_of as lane_numbers, AreUnused}
+use Rattle.lane_questions.specs.Behind.{IsBehind}
+use Rattle.lane_questions.specs.Kept.{LaneVertex, IsKeptLanes}
+use Rattle.lane_run.specs.Runs.{run_rows, forms_of, AreModest, IsRowBelow}
+use Rattle.lane_run.specs.Pivots.{IsEntering, IsPivoted}
+use Rattle.lane_run.proofs.FrontPivot.{rows_further, front_finds, front_refused}
+use Rattle.lane_run.proofs.Parts.{below_zero, not_below, lanes_sign}
+use Rattle.lane_questions.proofs.KeptRuns.{goes_on_kept, asked_by_run}
+
+-- ---- the first row below 0 where only the last one can be below 0
+
+last_below : (E : List Row) (r : Row) (i : ℕ) → negative_from i E ≡ None → is_nonneg (constant r.constant) ≡ false → negative_from i (E ++ r ∷ []) ≡ Some (i + length E)
+last_below [] r i none below = let e : i ≡ i + 0 = omega arith in rw below (ap Some e)
+last_below (x ∷ E) r i none below = by (is_nonneg (constant x.constant)) none (λ h. last_below E r (i + 1) h below)
+  where
+    by : (t : Bool) → (if t then negative_from (i + 1) E else Some i) ≡ None → (negative_from (i + 1) E ≡ None → negative_from (i + 1) (E ++ r ∷ []) ≡ Some (i + 1 + length E))
+        → (if t then negative_from (i + 1) (E ++ r ∷ []) else Some i) ≡ Some (i + suc (length E))
+    by true e more = let g : i + 1 + length E ≡ i + suc (length E) = omega arith in more e ∙ ap Some g
+    by false e more = absurd cc
+
+last_above : (E : List Row) (r : Row) (i : ℕ) → negative_from i E ≡ None → is_nonneg (constant r.constant) ≡ true → negative_from i (E ++ r ∷ []) ≡ None
+last_above [] r i none above = rw above refl
+last_above (x ∷ E) r i none above = by (is_nonneg (constant x.constant)) none (λ h. last_above E r (i + 1) h above)
+  where
+    by : (t : Bool) → (if t then negative_from (i + 1) E else Some i) ≡ None → (negative_from (i + 1) E ≡ None → negative_from (i + 1) (E ++ r ∷ []) ≡ None)
+        → (if t then negative_from (i + 1) (E ++ r ∷ []) else Some i) ≡ None
+    by true e more = more e
+    by false e more = absurd cc
+
+finds_refused : (n : ℕ) (rows : List Row) (w v : Work) (f : Refusal) → turn (point_setting n) (node_of rows) w ≡ Refused f v → finds_point n rows w ≡ Refused f v
+finds_refused n rows w v f e = ap (λ o. go_on o (λ t. give (is_some (numbers_of t)))) (refused_run_from (point_setting n) falls-constant_class (node_of rows) w v f e)
+
+module _ (n : ℕ) (K : List (List ℤ)) (c : List ℤ) (all : List (List ℤ)) (row : List ℤ) (v : LaneVertex) (is : IsBehind n K c all row v) where
+  abbrev F : List (List ℤ)
+  F = map (widen_to n) (K ++ c ∷ [])
+
+  abbrev E : List Row
+  E = run_rows v.table (map (widen_to n) K)
+
+  abbrev basis : List Row
+  basis = take v.table.unknowns v.table.rows
+
+  abbrev R : Row
+  R = by_form v.table.unknowns 0 v.table.scale basis (widen_to n c)
+
+  kept : IsKeptLanes n K v
+  kept = is.kept.kept
+
+  alone : length v.table.rows ≡ v.table.unknowns
+  alone = kept.alone ∙ sym kept.unknowns
+
+  all_rows : run_rows v.table F ≡ E ++ R ∷ []
+  all_rows = ap (run_rows v.table) (map-append (widen_to n) K (c ∷ [])) ∙ rows_further v.table (map (widen_to n) K) (widen_to n c ∷ []) alone
+
+  -- the run of all forms, behind its pivots
+  pub goes_on_behind : (w u : Work) (k : ℕ) → k ≡ v.pivots → HasRoomFor w (record { pivots = k; cuts = 0; splits = 0 }) → u ≡ counted_more w (record { pivots = k; cuts = 0; splits = 0 })
+      → has_point n (K ++ c ∷ []) w ≡ finds_point v.table.unknowns (run_rows v.table F) u
+  goes_on_behind w u k same room counted = asked_by_run n K c w ∙ goes_on_kept n K v kept w u k same room counted (c ∷ []) (is.narrow, tt) is.modest
+
+  pub forms_behind : F ≡ forms_of v.table.unknowns all
+  forms_behind = sym is.forms ∙ ap (λ (k : ℕ). forms_of k all) (sym kept.unknowns)
+
+  pub modest_behind : AreModest v.table.unknowns F
+  modest_behind = subst (λ (k : ℕ). AreModest k F) (sym kept.unknowns) is.modest
+
+  -- ---- its sign
+
+  module _ (lanes : AreLanes row) (positive : pos 1 ≤ℤ v.table.scale) where
+    few : v.table.unknowns < length row
+    few = let a = lanes.long in let b = kept.unknowns in let d = kept.few in omega (arith, a, b, d)
+
+    row_is : divided (row_over v.table.unknowns v.table.scale (lane_numbers v.table.unknowns row)) ≡ R
+    row_is = ap divided
+        (subst (λ (k : ℕ). row_over k v.table.scale (lane_numbers k row) ≡ combination k 0 v.table.scale (take k v.table.rows) (widen_to n c)) (sym kept.unknowns) is.value)
+
+    sign : is_nonneg (entry row 0) ≡ is_nonneg (constant R.constant)
+    sign = lanes_sign v.table.unknowns v.table.scale row R positive few row_is refl
+
+    pub row_behind : AreUnused v.table.unknowns row → entry row 0 <ℤ pos 0 → IsRowBelow v.table F row
+    row_behind unused lt =
+        let below : is_nonneg (constant R.constant) ≡ false = sym sign ∙ below_zero (entry row 0) lt in
+        let e : 0 + length E ≡ length E = omega arith in
+        record {
+          place = length E;
+          first = ap (negative_from 0) all_rows ∙ last_below E R 0 is.kept.end below ∙ ap Some e;
+          within = subst (λ (rows : List Row). length E < length rows) (sym all_rows) (let l = length-append E (R ∷ []) in omega (arith, l));
+          lanes = lanes;
+          unused = unused;
+          same = row_is ∙ sym (ap (λ (rows : List Row). row_at rows (length E)) all_rows ∙ get_or_at E R [] (form_row 0 []) (length E) refl);
+        }
+
+    pub none_behind : pos 0 ≤ℤ entry row 0 → negative_from 0 (run_rows v.table F) ≡ None
+    none_behind le = ap (negative_from 0) all_rows ∙ last_above E R 0 is.kept.end (sym sign ∙ not_below (entry row 0) le)
+
+-- ---- the pivot on its row
+
+pub goes_on_pivoted : (t now : ScaledTable) (p : List ℤ) (c : ℕ) (F all : List (List ℤ)) (w v : Work) → IsPivoted t now p c → AreModest t.unknowns F → IsRowBelow t F p
+    → F ≡ forms_of t.unknowns all → count_pivot w ≡ Done tt v → finds_point t.unknowns (run_rows t F) w ≡ finds_point now.unknowns (run_rows now (forms_of now.unknowns all)) v
+goes_on_pivoted t now p c F all w v is modest below e counted =
+    front_finds t now p c F w is modest below
+    ∙ ap (λ o. go_on o (λ done. finds_point t.unknowns (run_rows now F))) counted
+    ∙ ap (λ (G : List (List ℤ)). finds_point t.unknowns (run_rows now G) v) e
+    ∙ ap (λ (k : ℕ). finds_point k (run_rows now (forms_of k all)) v) (sym is.unknowns)
+
+pub refused_at_pivot : (t : ScaledTable) (p : List ℤ) (c : ℕ) (F : List (List ℤ)) (w v : Work) (o : Option Refusal) → IsEntering t p (Some c) → AreModest t.unknowns F → IsRowBelow t F p
+    → IfSome o (λ f. count_pivot w ≡ Refused f v) → IfSome o (λ f. finds_point t.unknowns (run_rows t F) w ≡ Refused f v)
+refused_at_pivot t p c F w v None enters modest below e = e
+refused_at_pivot t p c F w v (Some f) enters modest below e = finds_refused t.unknowns (run_rows t F) w v f (front_refused t p c w v (Some f) enters e F modest below)

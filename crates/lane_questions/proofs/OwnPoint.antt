@@ -1,0 +1,35 @@
+-- The point of a context itself, behind the kept run of its forms.
+use Rattle.std.proofs.Common.{◌≡◌, ◌∙◌, ap, sym, subst, ℕ, ◌^◌, ◌<◌, ◌≤◌, arith, ℤ, List, [], ◌++◌, map, append-nil}
+use Rattle.pip_model.specs.Forms.{widen_to}
+use Rattle.pip_model.specs.Run.{Work}
+use Rattle.run_counts.specs.Counts.{HasRoomFor, counted_more}
+use Rattle.point_turns.specs.Points.{has_point, finds_point, first_rows}
+use Rattle.lane_questions.specs.InLanes.{all_lanes, AreWithin}
+use Rattle.lane_questions.specs.Kept.{LaneVertex, IsKeptLanes, IsEndedLanes}
+use Rattle.lane_run.specs.Runs.{run_rows, forms_of, AreModest}
+use Rattle.lane_questions.proofs.KeptRuns.{goes_on_kept, found_by_run}
+use Rattle.lane_questions.proofs.Widened.{all_widened, all_modest}
+
+module _ (n : ℕ) (K : List (List ℤ)) (v : LaneVertex) (is : IsEndedLanes n K v) where
+  abbrev F : List (List ℤ)
+  F = map (widen_to n) K
+
+  kept : IsKeptLanes n K v
+  kept = is.kept
+
+  pub modest_own : (most : ℕ) (all : List (List ℤ)) → all ≡ all_lanes K → AreWithin most all → most < 2 ^ 30 → AreModest n F
+  modest_own most all same within small = all_modest n K most kept.few kept.context (subst (AreWithin most) same within) (omega (arith, small))
+
+  pub forms_own : (all : List (List ℤ)) → all ≡ all_lanes K → F ≡ forms_of v.table.unknowns (all ++ [])
+  forms_own all same =
+      sym (all_widened n K kept.few kept.context)
+      ∙ ap (λ (k : ℕ). forms_of k (all_lanes K)) (sym kept.unknowns)
+      ∙ ap (forms_of v.table.unknowns) (sym (append-nil all ∙ same))
+
+  -- the run of all forms, behind its pivots
+  pub goes_on_own : (w u : Work) (k : ℕ) → k ≡ v.pivots → HasRoomFor w (record { pivots = k; cuts = 0; splits = 0 }) → u ≡ counted_more w (record { pivots = k; cuts = 0; splits = 0 })
+      → 1 ≤ n → AreModest n F → has_point n K w ≡ finds_point v.table.unknowns (run_rows v.table F) u
+  goes_on_own w u k same room counted some modest =
+      found_by_run n K w some
+      ∙ subst (λ (forms : List (List ℤ)). AreModest n (map (widen_to n) forms) → finds_point n (first_rows n forms) w ≡ finds_point v.table.unknowns (run_rows v.table (map (widen_to n) forms)) u)
+      (append-nil K) (goes_on_kept n K v kept w u k same room counted [] tt) modest

@@ -1,0 +1,8 @@
+use Rattle.std.proofs.Common.{◌≡◌}
+use Rattle.pip_model.specs.Numbers.{floor_div}
+use Rattle.affine_forms.proofs.Mapped.{mapped}
+use Rattle.lanes.specs.Narrow.{AreLanes}
+use Rattle.lane_questions.proofs.forms.divided.Given as goal
+
+abbrev pub invariant-loop-k : goal.invariant-loop-k
+invariant-loop-k l = record { made : l.made ≡ mapped (λ x. floor_div x l.fn.d) l.k l.fn.form; lanes : AreLanes l.fn.form }

@@ -1,0 +1,8 @@
+use Rattle.std.proofs.Common.{◌≡◌, ℕ, ℤ, List, take}
+use Rattle.pip_model.specs.Contexts.{IsContext}
+use Rattle.lane_questions.specs.InLanes.{all_lanes}
+use Rattle.lane_questions.specs.Kept.{IsKeptLanes}
+use Rattle.lane_questions.proofs.kept.KeptLanes.extend.Given as goal
+
+abbrev pub invariant-loop : goal.invariant-loop
+invariant-loop l = (n known : ℕ) (K : List (List ℤ)) → IsContext n K → l.forms.forms ≡ all_lanes K → IsKeptLanes n (take known K) l.fn.self → IsKeptLanes n K l.self

@@ -1,0 +1,76 @@
+use Rattle.std.proofs.Common.{rules, arith, ◌≡◌, [], ◌∷◌, ◌++◌, true, false}
+use Rattle.std.proofs.lemmas.Grind.{common_steps}
+use Rattle.pip_model.specs.Forms.{opposite}
+use Rattle.pip_model.specs.Run.{Done}
+use Rattle.run_counts.proofs.Counting.{counted_on}
+use Rattle.point_turns.specs.Points.{has_point}
+use Rattle.short_run.specs.Stops.{stop_fault}
+use Rattle.lane_questions.proofs.SignsByPoints.{opposite_question, question_fits, nowhere_below, refused_below, everywhere_below, of_both_signs, refused_above}
+use Rattle.lane_questions.proofs.kept.KeptLanes.sign_shortly.Goals as goal
+
+pub returns-in_err-ask_shortly-clause-gives : goal.returns-in_err-ask_shortly-clause-gives
+returns-in_err-ask_shortly-clause-gives c = λ n K form is.
+    let all = c.args.forms.now.forms in
+    let one = c.args.form in
+    let v = c.args.self.now in
+    let fit = question_fits n K form all one v is c.in-Some.ensures.lanes in
+    let below = opposite_question n K form all one c.in-Some.below v is (c.in-Some.ensures.value form is.narrow.some is.form) in
+    let told = c.in_err-ask_shortly.ensures.gives n K (opposite form) below in
+    let refused = refused_below n K form c.args.work.now fit c.ask_shortly.new.work (stop_fault c.in_err-ask_shortly.field-0.0) told.agrees in
+    record { agrees = grind (arith, common_steps, refused); counted = told.counted }
+
+pub returns-then-not-branch-clause-gives : goal.returns-then-not-branch-clause-gives
+returns-then-not-branch-clause-gives c = λ n K form is.
+    let all = c.args.forms.now.forms in
+    let one = c.args.form in
+    let v = c.args.self.now in
+    let fit = question_fits n K form all one v is c.in-Some.ensures.lanes in
+    let below = opposite_question n K form all one c.in-Some.below v is (c.in-Some.ensures.value form is.narrow.some is.form) in
+    let told = c.ask_shortly.ensures.gives n K (opposite form) below in
+    let none : has_point n (K ++ opposite form ∷ []) c.args.work.now ≡ Done false c.ask_shortly.new.work = search (rules, told) in
+    record { agrees = nowhere_below n K form c.args.work.now fit c.ask_shortly.new.work none; counted = told.counted }
+
+pub returns-in_err-ask_shortly-2-clause-gives : goal.returns-in_err-ask_shortly-2-clause-gives
+returns-in_err-ask_shortly-2-clause-gives c = λ n K form is.
+    let all = c.args.forms.now.forms in
+    let one = c.args.form in
+    let v = c.args.self.now in
+    let fit = question_fits n K form all one v is c.in-Some.ensures.lanes in
+    let below = opposite_question n K form all one c.in-Some.below v is (c.in-Some.ensures.value form is.narrow.some is.form) in
+    let first = c.ask_shortly.ensures.gives n K (opposite form) below in
+    let some : has_point n (K ++ opposite form ∷ []) c.args.work.now ≡ Done true c.ask_shortly.new.work = search (rules, first) in
+    let told = c.in_err-ask_shortly-2.ensures.gives n K form is in
+    let refused = refused_above n K form c.args.work.now fit c.ask_shortly.new.work some c.ask_shortly-2.new.work (stop_fault c.in_err-ask_shortly-2.field-0.0) told.agrees in
+    record { agrees = grind (arith, common_steps, refused); counted = counted_on c.args.work.now c.ask_shortly.new.work c.ask_shortly-2.new.work first.counted told.counted }
+
+pub returns-then-not-branch-2-clause-gives : goal.returns-then-not-branch-2-clause-gives
+returns-then-not-branch-2-clause-gives c = λ n K form is.
+    let all = c.args.forms.now.forms in
+    let one = c.args.form in
+    let v = c.args.self.now in
+    let fit = question_fits n K form all one v is c.in-Some.ensures.lanes in
+    let below = opposite_question n K form all one c.in-Some.below v is (c.in-Some.ensures.value form is.narrow.some is.form) in
+    let first = c.ask_shortly.ensures.gives n K (opposite form) below in
+    let some : has_point n (K ++ opposite form ∷ []) c.args.work.now ≡ Done true c.ask_shortly.new.work = search (rules, first) in
+    let told = c.ask_shortly-2.ensures.gives n K form is in
+    let none : has_point n (K ++ form ∷ []) c.ask_shortly.new.work ≡ Done false c.ask_shortly-2.new.work = search (rules, told) in
+    record {
+      agrees = everywhere_below n K form c.args.work.now fit c.ask_shortly.new.work some c.ask_shortly-2.new.work none;
+      counted = counted_on c.args.work.now c.ask_shortly.new.work c.ask_shortly-2.new.work first.counted told.counted;
+    }
+
+pub returns-clause-gives : goal.returns-clause-gives
+returns-clause-gives c = λ n K form is.
+    let all = c.args.forms.now.forms in
+    let one = c.args.form in
+    let v = c.args.self.now in
+    let fit = question_fits n K form all one v is c.in-Some.ensures.lanes in
+    let below = opposite_question n K form all one c.in-Some.below v is (c.in-Some.ensures.value form is.narrow.some is.form) in
+    let first = c.ask_shortly.ensures.gives n K (opposite form) below in
+    let some : has_point n (K ++ opposite form ∷ []) c.args.work.now ≡ Done true c.ask_shortly.new.work = search (rules, first) in
+    let told = c.ask_shortly-2.ensures.gives n K form is in
+    let found : has_point n (K ++ form ∷ []) c.ask_shortly.new.work ≡ Done true c.ask_shortly-2.new.work = search (rules, told) in
+    record {
+      agrees = of_both_signs n K form c.args.work.now fit c.ask_shortly.new.work some c.ask_shortly-2.new.work found;
+      counted = counted_on c.args.work.now c.ask_shortly.new.work c.ask_shortly-2.new.work first.counted told.counted;
+    }

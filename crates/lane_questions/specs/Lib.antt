@@ -1,0 +1,5 @@
+pub mod InLanes
+pub mod Kept
+pub mod Signs
+pub mod Asking
+pub mod Behind

@@ -1,0 +1,11 @@
+use Rattle.std.proofs.Common.{◌≡◌, pos, drop}
+use Rattle.pip_model.specs.Rows.{is_better}
+use Rattle.scaled_laws.specs.Scaled.{row_over}
+use Rattle.lane_rows.specs.Laned.{numbers_of, undivided_in}
+use Rattle.lane_rows.proofs.choice.is_better.Given as goal
+
+abbrev pub invariant-loop-i : goal.invariant-loop-i
+invariant-loop-i l =
+    let u = undivided_in l.n (pos 1) l.n l.rows in
+    let p = row_over l.n (pos 1) (numbers_of l.n l.p) in
+    is_better (drop l.i u) p l.k l.b ≡ is_better u p l.k l.b

@@ -1,0 +1,10 @@
+use Rattle.std.proofs.Common.{◌<◌, ◌≤◌, ◌^◌}
+use Rattle.lane_rows.proofs.Turns.{TurnedTo}
+use Rattle.lane_rows.proofs.turning.turn_rows.Given as goal
+
+abbrev pub invariant-loop-j : goal.invariant-loop-j
+invariant-loop-j l = record {
+  narrow : l.sizes < 2 ^ 31;
+  start : l.start ≤ l.sizes;
+  turned : TurnedTo l.l l.p l.lane l.fn.rows l.rows l.j l.sizes;
+}

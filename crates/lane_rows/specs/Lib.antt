@@ -1,0 +1,3 @@
+pub mod Laned
+pub mod Read
+pub mod Turned

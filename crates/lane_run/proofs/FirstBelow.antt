@@ -1,0 +1,73 @@
+-- The first row below 0 among rows that stand in parts one behind the other.
+use Rattle.std.proofs.Common.{◌≡◌, ◌∙◌, refl, ap, sym, ℕ, zero, suc, ◌+◌, ◌-◌, ◌<◌, ◌≤◌, ℤ, arith, ◌⊎◌, inl, inr, Bool, true, false, Some, None, List, [], ◌∷◌, ◌++◌, length, length-append}
+use Rattle.std.specs.Prelude.{if◌then◌else◌}
+use Rattle.std.proofs.lemmas.Bool.{cases_lt}
+use Rattle.std.proofs.lemmas.List.{get_or_append_left, get_or-append-add}
+use Rattle.pip_model.specs.Rows.{Row, row_at, form_row}
+use Rattle.point_turns.specs.Turns.{negative_from}
+use Rattle.scaled_laws.specs.Tables.{ScaledTable}
+use Rattle.lane_run.specs.Below.{is_above, AreAbove, IsFirstRowBelow}
+
+-- ---- as the run finds it
+
+above_none : (rows : List Row) (i : ℕ) → AreAbove rows → negative_from i rows ≡ None
+above_none [] i all = refl
+above_none (r ∷ rows) i all = ap (λ (b : Bool). if b then negative_from (i + 1) rows else Some i) (all 0 (omega arith))
+    ∙ above_none rows (i + 1) (λ j lt. all (suc j) (omega (arith, lt)))
+
+below_some : (rows : List Row) (i k : ℕ) → k < length rows → is_above (row_at rows k) ≡ false → ((j : ℕ) → j < k → is_above (row_at rows j) ≡ true) → negative_from i rows ≡ Some (i + k)
+below_some [] i k lt e before = absurd (omega arith)
+below_some (r ∷ rows) i zero lt e before = let s : i ≡ i + 0 = omega arith in ap (λ (b : Bool). if b then negative_from (i + 1) rows else Some i) e ∙ ap (λ (j : ℕ). Some j) s
+below_some (r ∷ rows) i (suc k) lt e before =
+    let s : (i + 1) + k ≡ i + suc k = omega arith in
+    ap (λ (b : Bool). if b then negative_from (i + 1) rows else Some i) (before 0 (omega arith))
+    ∙ below_some rows (i + 1) k (omega arith) e (λ j less. before (suc j) (omega (arith, less))) ∙ ap (λ (j : ℕ). Some j) s
+
+pub none_negative : (rows : List Row) → AreAbove rows → negative_from 0 rows ≡ None
+none_negative rows all = above_none rows 0 all
+
+pub first_negative : (t : ScaledTable) (rows : List Row) (row : List ℤ) (h : IsFirstRowBelow t rows row) → negative_from 0 rows ≡ Some h.place
+first_negative t rows row h = let s : 0 + h.place ≡ h.place = omega arith in below_some rows 0 h.place h.within h.below h.before ∙ ap (λ (j : ℕ). Some j) s
+
+-- ---- parts
+
+module _ (R S : List Row) where
+  pub row_front : (j : ℕ) → j < length R → row_at (R ++ S) j ≡ row_at R j
+  row_front j lt = get_or_append_left R S (form_row 0 []) j lt
+
+  pub row_behind : (j : ℕ) → row_at (R ++ S) (length R + j) ≡ row_at S j
+  row_behind j = get_or-append-add R S j (form_row 0 [])
+
+  above_at : AreAbove R → (k : ℕ) → ((j : ℕ) → j < k → is_above (row_at S j) ≡ true) → (j : ℕ) → j < length R + k → is_above (row_at (R ++ S) j) ≡ true
+  above_at front k back j lt = by (cases_lt j (length R))
+    where
+      by : (j < length R) ⊎ (length R ≤ j) → is_above (row_at (R ++ S) j) ≡ true
+      by (inl less) = ap is_above (row_front j less) ∙ front j less
+      by (inr le) =
+          let s : length R + (j - length R) ≡ j = omega (arith, le) in
+          sym (ap (λ (i : ℕ). is_above (row_at (R ++ S) i)) s) ∙ ap is_above (row_behind (j - length R)) ∙ back (j - length R) (omega (arith, lt, le))
+
+  pub both_above : AreAbove R → AreAbove S → AreAbove (R ++ S)
+  both_above front back j lt = above_at front (length S) back j (omega (arith, lt, length-append R S))
+
+  pub first_front : (t : ScaledTable) (row : List ℤ) → IsFirstRowBelow t R row → IsFirstRowBelow t (R ++ S) row
+  first_front t row h = record {
+    place = h.place;
+    within = omega (arith, h.within, length-append R S);
+    below = ap is_above (row_front h.place h.within) ∙ h.below;
+    before = λ j lt. ap is_above (row_front j (omega (arith, lt, h.within))) ∙ h.before j lt;
+    lanes = h.lanes;
+    unused = h.unused;
+    same = h.same ∙ sym (row_front h.place h.within);
+  }
+
+  pub first_behind : (t : ScaledTable) (row : List ℤ) → AreAbove R → IsFirstRowBelow t S row → IsFirstRowBelow t (R ++ S) row
+  first_behind t row front h = record {
+    place = length R + h.place;
+    within = omega (arith, h.within, length-append R S);
+    below = ap is_above (row_behind h.place) ∙ h.below;
+    before = above_at front h.place h.before;
+    lanes = h.lanes;
+    unused = h.unused;
+    same = h.same ∙ sym (row_behind h.place);
+  }

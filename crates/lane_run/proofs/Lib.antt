@@ -1,0 +1,8 @@
+pub mod FrontPivot
+pub mod FirstBelow
+pub mod Parts
+pub mod RowBelow
+pub mod Passed
+pub mod CutTurns
+pub mod Modest
+pub mod SameRun

@@ -1,0 +1,51 @@
+-- A question's run from turn to turn: it finds what it found from the first rows on.
+use Rattle.std.proofs.Common.{◌≡◌, ◌∙◌, refl, ap, sym, subst, ℕ, ℤ, ◌<◌, Bool, Option, Some, None, is_some, List}
+use Rattle.std.specs.Prelude.{IfSome, Ok, Err}
+use Rattle.pip_model.specs.Rows.{Row}
+use Rattle.pip_model.specs.Run.{Work, Refused, Refusal, left, turn, go_on, give, numbers_of, point_setting}
+use Rattle.pip_model.proofs.Fuel.{again_run, again_less, refused_run_from, falls-constant_class}
+use Rattle.run_counts.specs.Counts.{HasCounted, IsCountedRun}
+use Rattle.run_counts.proofs.Counting.{counted_on, counted_none}
+use Rattle.point_turns.specs.Points.{finds_point, IsTurnOf}
+use Rattle.point_turns.specs.Turns.{node_of}
+use Rattle.scaled_laws.specs.Tables.{ScaledTable}
+use Rattle.lane_run.specs.Runs.{run_rows, forms_of}
+
+-- the run of n unknowns from the first rows and counts, which goes on from others
+pub record IsSameRun (n : ℕ) (first now : List Row) (before w : Work) : Type 0 where
+  pub counted : HasCounted before w
+  pub same : finds_point n now w ≡ finds_point n first before
+
+pub same_start : (n : ℕ) (first : List Row) (before : Work) → IsSameRun n first first before before
+same_start n first before = record { counted = counted_none before; same = refl }
+
+module _ (n : ℕ) (first now : List Row) (before w v : Work) (is : IsSameRun n first now before w) (counted : HasCounted w v) where
+  pub same_on : (next : List Row) → IsTurnOf n now next w v None → IsSameRun n first next before v
+  same_on next e = record {
+    counted = counted_on before w v is.counted counted;
+    same = sym (ap (λ o. go_on o (λ t. give (is_some (numbers_of t)))) (again_run (point_setting n) falls-constant_class (node_of now) (node_of next) w v e)) ∙ is.same;
+  }
+
+  pub less_left : (next : List Row) → IsTurnOf n now next w v None → left v < left w
+  less_left next e = again_less (point_setting n) falls-constant_class (node_of now) (node_of next) w v e
+
+  pub run_ended : {E : Type 0} (fault : E → Option Refusal) (next : List Row) (found : Bool) → IsTurnOf n now next w v (Some found)
+      → IsCountedRun (λ b. b) fault (Ok found) before v (finds_point n first)
+  run_ended fault next found e = record {
+    agrees = sym is.same ∙ e;
+    counted = counted_on before w v is.counted counted;
+  }
+
+  stopped : (o : Option Refusal) → IfSome o (λ f. turn (point_setting n) (node_of now) w ≡ Refused f v) → IfSome o (λ f. finds_point n first before ≡ Refused f v)
+  stopped None e = e
+  stopped (Some f) e = sym is.same ∙ ap (λ o. go_on o (λ t. give (is_some (numbers_of t)))) (refused_run_from (point_setting n) falls-constant_class (node_of now) w v f e)
+
+  pub run_stopped : {E : Type 0} (fault : E → Option Refusal) (e : E) → IfSome (fault e) (λ f. turn (point_setting n) (node_of now) w ≡ Refused f v)
+      → IsCountedRun (λ (b : Bool). b) fault (Err e) before v (finds_point n first)
+  run_stopped fault e h = record { agrees = stopped (fault e) h; counted = counted_on before w v is.counted counted }
+
+-- a turn over the table's columns is one over as many columns
+pub turn_over : (k n : ℕ) (rows now : ScaledTable) (forms : List (List ℤ)) (w v : Work) → k ≡ n
+    → IsTurnOf k (run_rows rows (forms_of k forms)) (run_rows now (forms_of k forms)) w v None
+    → IsTurnOf n (run_rows rows (forms_of n forms)) (run_rows now (forms_of n forms)) w v None
+turn_over k n rows now forms w v e turned = subst (λ (j : ℕ). IsTurnOf j (run_rows rows (forms_of j forms)) (run_rows now (forms_of j forms)) w v None) e turned

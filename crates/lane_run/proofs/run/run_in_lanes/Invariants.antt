@@ -1,0 +1,15 @@
+use Rattle.std.proofs.Common.{◌≡◌, ◌++◌}
+use Rattle.pip_model.specs.Run.{left}
+use Rattle.lane_run.specs.Runs.{run_rows, forms_of}
+use Rattle.lane_run.proofs.SameRun.{IsSameRun}
+use Rattle.lane_run.proofs.run.run_in_lanes.Given as goal
+
+abbrev pub invariant-loop-found : goal.invariant-loop-found
+invariant-loop-found l = record {
+  unknowns : l.rows.unknowns ≡ l.fn.rows.unknowns;
+  run : IsSameRun l.fn.rows.unknowns (run_rows l.fn.rows (forms_of l.fn.rows.unknowns (l.forms.forms.now ++ l.forms.further.now)))
+      (run_rows l.rows (forms_of l.fn.rows.unknowns (l.forms.forms.now ++ l.forms.further.now))) l.fn.work l.work;
+}
+
+abbrev pub decreases-loop-found : goal.decreases-loop-found
+decreases-loop-found l = left l.work

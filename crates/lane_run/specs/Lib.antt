@@ -1,0 +1,4 @@
+pub mod Within
+pub mod Runs
+pub mod Below
+pub mod Pivots

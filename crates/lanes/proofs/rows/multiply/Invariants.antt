@@ -1,0 +1,7 @@
+use Rattle.std.proofs.Common.{◌≡◌, ◌*ℤ◌}
+use Rattle.pip_model.specs.Forms.{entry}
+use Rattle.lanes.proofs.Writing.{Written}
+use Rattle.lanes.proofs.rows.multiply.Given as goal
+
+abbrev pub invariant-loop-k : goal.invariant-loop-k
+invariant-loop-k l = Written (λ k z. z ≡ l.f *ℤ entry l.fn.row k) l.fn.row l.row l.k

@@ -1,0 +1,6 @@
+use Rattle.std.proofs.Common.{◌≡◌, take}
+use Rattle.pip_model.specs.Forms.{dot}
+use Rattle.lanes.proofs.rows.sum_products.Given as goal
+
+abbrev pub invariant-loop-k : goal.invariant-loop-k
+invariant-loop-k l = l.sum ≡ dot l.xs (take l.k l.ys)

@@ -1,0 +1,2 @@
+// The laws of rows whose numbers stand over one denominator.
+#![tactic(auto)]

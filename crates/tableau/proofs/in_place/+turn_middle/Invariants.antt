@@ -1,5 +1,0 @@
-use Rattle.tableau.proofs.Words.{length}
-use Rattle.tableau.proofs.in_place.+turn_middle.Given as goal
-
-abbrev pub decreases-turn_middle : goal.decreases-turn_middle
-decreases-turn_middle l = length l.kept.now
