@@ -12,3 +12,4 @@ pub mod Short
 pub mod Tightening
 pub mod Units
 pub mod Values
+pub use Rattle.pip_model.proofs.Gcd

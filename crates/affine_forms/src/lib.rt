@@ -29,3 +29,4 @@ pub use multiples::round_form;
 pub use numbers::{
     Overflow, divides, floor_div, floor_mod, gcd, minus, nonnegative, plus, positive, times,
 };
+pub use pip_model::{LimitKind, Option_};

@@ -3,6 +3,6 @@ pub use Rattle.std.proofs.Common.{◌≡◌}
 pub use Rattle.std.specs.Prelude.{Err, IfSome, Ok}
 pub use Rattle.std.proofs.lemmas.Result.{err_from_is_err_and}
 pub use Rattle.program_model.specs.ItemTexts.{verdict_text, certificate_text}
-pub use Rattle.pip_endings.specs.Endings.{told}
+pub use Rattle.item_writing.specs.Endings.{told}
 pub use Rattle.pip_stream.proofs.Dropping.{if-map}
 pub use Rattle.pip_model.specs.Certificate.{Certificate}

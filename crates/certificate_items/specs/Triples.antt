@@ -4,8 +4,8 @@ use Rattle.pip_model.specs.Check.{Checks}
 use Rattle.program_model.specs.Endings as model
 use Rattle.program_model.specs.ItemKinds as kinds
 use Rattle.quast.specs.Answers.{answer_of, IsOver}
-use Rattle.pip_endings.specs.Endings.{told}
-use Rattle.pip_endings.specs.declared.ending.Ending.{Ending}
+use Rattle.item_writing.specs.Endings.{told}
+use Rattle.item_writing.specs.Ending.{Ending}
 use Rattle.certificate_items.specs.declared.triple.Triple.{Triple}
 
 abbrev pub triple_of : Triple → kinds.Triple

@@ -3,8 +3,7 @@ ghost use Rattle.program_model.specs.Commands.{CheckAll};
 ghost use Rattle.certificate_items.specs.Triples.{IsTriple, triple_of};
 
 use crate::triple::{Triple, accept, triple_at};
-use item_writing::Items;
-use pip_endings::Ending;
+use item_writing::{Ending, Items};
 use std::alloc::Global;
 
 /// Says of each triple that its certificate is accepted.

@@ -3,8 +3,8 @@ ghost use Rattle.item_writing.specs.Items.{Finds};
 ghost use Rattle.certificate_items.specs.Needed.{needed_certificate as needed_certificate_of};
 
 use certificate_parts::Certificate;
+use item_writing::Ending;
 use leaf_certificate::{CertificateRefusal, read_certificate};
-use pip_endings::Ending;
 use std::alloc::Global;
 
 // The next certificate, which has to be there, and the place behind it.

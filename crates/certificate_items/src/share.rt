@@ -4,9 +4,8 @@ ghost use Rattle.certificate_items.specs.Triples.{IsTriple, triple_of};
 
 use crate::triple::{Triple, accept, triple_at};
 use certificate_check::share;
-use item_writing::Items;
+use item_writing::{Ending, Items};
 use leaf_certificate::print_certificate;
-use pip_endings::Ending;
 use std::alloc::Global;
 
 /// Writes the certificate of each triple with its shared steps, where it is accepted.

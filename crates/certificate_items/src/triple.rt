@@ -2,15 +2,14 @@ ghost use Rattle.std.specs.Prelude.{◌≤◌, length, IfErr, Some};
 ghost use Rattle.pip_model.specs.Check as model;
 ghost use Rattle.program_model.specs.ItemKinds as kinds;
 ghost use Rattle.quast.specs.Answers.{answer_of};
-ghost use Rattle.pip_endings.specs.Endings.{IsOfItem};
+ghost use Rattle.item_writing.specs.Endings.{IsOfItem};
 ghost use Rattle.item_writing.specs.Items.{Finds, FindsItem};
 ghost use Rattle.certificate_items.specs.Triples.{IsTriple, triple_of, IsFound};
 
 use crate::needed::needed_certificate;
 use certificate_check::{CheckRefusal, Verdict, check};
 use certificate_parts::Certificate;
-use item_writing::needed_answer;
-use pip_endings::Ending;
+use item_writing::{Ending, needed_answer};
 use pip_problem::Problem;
 use pip_reader::read_problem;
 use quast::Answer;

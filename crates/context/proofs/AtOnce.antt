@@ -2,7 +2,7 @@
 use Rattle.context.proofs.Words.{◌≡◌, ◌∙◌, refl, ap, ℕ, zero, suc, ◌+◌, ◌-◌, ℤ, arith, Bool, true, false, ◌&&◌, Option, Some, None, is_none, List, [], ◌∷◌, length, map, take, replicate, pos, if◌then◌else◌, filter, list_all, length-map, is_nonneg, is_positive, width, coefficients, constant, entry, widen_to, Row, row_at, form_row, unit_row, count_from, fraction_from, Work, Done, length-count, negative_from, has_point, finds_point}
 use Rattle.std.specs.Prelude.{◌++◌}
 use Rattle.run_laws.proofs.Scopes.{constant-end}
-use Rattle.short_run.proofs.Ending.{finds_here, finds_none}
+use Rattle.kept_run.proofs.Ending.{finds_here, finds_none}
 use Rattle.kept_run.proofs.OneFormMore.{alone_is}
 
 -- ---- without forms

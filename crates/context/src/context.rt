@@ -8,7 +8,7 @@ ghost use Rattle.affine_forms.specs.Checks.{Fits};
 ghost use Rattle.affine_forms.specs.Forms.{IsForm};
 ghost use Rattle.pip_problem.specs.Faults.{run_fault};
 ghost use Rattle.run_counts.specs.Counts.{IsCountedRun};
-ghost use Rattle.point_run.specs.Points.{has_point};
+ghost use Rattle.kept_run.specs.Points.{has_point};
 ghost use Rattle.lane_questions.specs.InLanes.{form_in, lanes_of};
 ghost use Rattle.lane_questions.specs.Signs.{class_of_sign};
 ghost use Rattle.context.specs.Scoped.{IsKeptContext};
@@ -17,11 +17,12 @@ use crate::constants::are_nonnegative;
 use crate::spares::Spares;
 use affine_forms::{Form, WantOfMemory};
 use certificate_parts::Refutation;
-use kept_run::{Question, Remembered, ask_plainly, ask_shortly, go_further, remember};
+use kept_run::{
+    Point, Question, Remembered, ask_plainly, ask_shortly, find_point, go_further, refute_forms,
+    remember,
+};
 use lane_questions::{LaneQuestions, LaneSign, Lanes, write_form};
 use pip_problem::Refusal;
-use point_run::{Point, find_point};
-use refutation_steps::refute_forms;
 use run_counts::Work;
 use std::alloc::Global;
 use std::marker::Model;

@@ -6,6 +6,6 @@ mod context;
 mod spares;
 
 pub use context::{Context, ContextMark};
+pub use kept_run::Point;
 pub use lane_questions::{LaneSign, Lanes, tightened};
-pub use point_run::Point;
 pub use run_counts::{Counts, Work};

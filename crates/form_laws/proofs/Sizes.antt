@@ -12,7 +12,7 @@ use Rattle.pip_model.proofs.Fitting.{fit_join}
 use Rattle.pip_model.proofs.Forms.{entry-scale}
 use Rattle.run_laws.proofs.Lengths.{length_floors}
 use Rattle.run_laws.proofs.RowsAt.{divisor}
-use Rattle.affine_forms.proofs.Short.{short_fits}
+use Rattle.row_laws.proofs.Short.{short_fits}
 use Rattle.row_laws.specs.Short.{IsShort, IsShortRow}
 use Rattle.row_laws.proofs.ShortRows.{short_eliminated}
 use Rattle.form_laws.specs.ByForm.{coef, place, over, combination, by_form, Kept, Form, Whole, made, rows_by}

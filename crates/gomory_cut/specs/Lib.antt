@@ -1,1 +1,3 @@
 pub mod Fractions
+pub use Rattle.tableau.specs.Tableaus
+pub use Rattle.tableau.specs.Views

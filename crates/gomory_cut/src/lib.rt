@@ -7,4 +7,4 @@ mod fractions;
 
 pub use cuts::{constant_cut, parametric_cut, parametric_cut_by, rewrite};
 pub use fractions::{FractionRow, find_fraction, first_fraction, residue_of};
-pub use tableau::StepRefusal;
+pub use tableau::{RowView, StepRefusal, Tableau, view_of};

@@ -8,4 +8,5 @@ mod whole;
 
 pub use items::{Items, write_items};
 pub use needed::needed_answer;
+pub use pip_endings::{Ending, Status};
 pub use whole::write_over_input;

@@ -26,4 +26,4 @@ pub use Rattle.kept_rows.specs.declared.kept.Kept.{Kept}
 pub use Rattle.kept_rows.specs.declared.kept.RowPlace.{RowPlace}
 pub use Rattle.kept_rows.specs.Along.{rows_along, IsMadeRow, AreAlong, AreMade, is_ready, is_ready_middle, is_ready_front, pivoted}
 pub use Rattle.std.proofs.lemmas.Int.{ints}
-pub use Rattle.affine_forms.specs.Checks.{Fits}
+pub use Rattle.tableau_row.specs.Checks.{Fits}

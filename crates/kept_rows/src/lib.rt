@@ -14,4 +14,8 @@ pub use in_place::{Pivot, turn_front};
 pub use kept::{Kept, Lent, RowPlace};
 pub use ready::is_ready_front;
 pub use sealing::seal;
+pub use tableau_row::{
+    RowView, append_divided, append_eliminated, append_entries, append_rounded, append_solved,
+    append_widened, check_eliminated, is_short_row, short_floor_div, short_gcd, view_of,
+};
 pub use unit_run::make_run;

@@ -1,8 +1,8 @@
 ghost use Rattle.std.specs.Prelude.{◌≡◌, ◌+◌, ◌<◌, [], length, max, IfOk, OnOk, OnErr};
 ghost use Rattle.kept_rows.specs.Places as model;
 
-use affine_forms::WantOfMemory;
 use std::cmp::max;
+use tableau_row::WantOfMemory;
 
 // How long the run is from which the rows of columns are lent.
 fn run_length(unknowns: usize, width: usize) -> Result<usize, WantOfMemory>

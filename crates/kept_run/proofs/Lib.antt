@@ -6,3 +6,5 @@ pub mod OneFormMore
 pub mod PivotBehind
 pub mod Replaying
 pub mod Retracing
+pub use Rattle.short_run.proofs.Leaving
+pub use Rattle.short_run.proofs.Ending

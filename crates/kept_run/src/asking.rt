@@ -6,17 +6,16 @@ ghost use Rattle.pip_problem.specs.Faults.{run_fault};
 ghost use Rattle.run_counts.specs.Counts.{IsCountedRun};
 ghost use Rattle.short_run.specs.Stops.{stop_fault};
 ghost use Rattle.kept_run.specs.Remembered.{IsFormed, IsStopped, asked, IsPivotBehind};
-ghost use Rattle.point_run.specs.Points.{is_end, finds_point, form_rows, first_rows, EndsWith};
+ghost use Rattle.refutation_steps.specs.Points.{is_end, finds_point, form_rows, first_rows, EndsWith};
 
 use crate::behind::{put_behind, rows_behind};
 use crate::question::Question;
 use crate::remembered::{Remembered, Replay};
 use affine_forms::Form;
 use pip_problem::Refusal;
-use point_run::{push_form, run_on, start_rows};
+use refutation_steps::{push_form, run_on, start_rows};
 use run_counts::Work;
-use short_run::{Stop, run_short};
-use short_tableau::ShortTableau;
+use short_run::{ShortTableau, Stop, run_short};
 use std::alloc::Global;
 
 // Goes on from the last rows of a run with other rows behind them, in the room of these rows.

@@ -4,15 +4,14 @@ ghost use Rattle.pip_model.specs.Rows.{row_at};
 ghost use Rattle.run_counts.specs.Counts.{IsCountedRun};
 ghost use Rattle.short_run.specs.Stops.{stop_fault};
 ghost use Rattle.kept_run.specs.Remembered.{IsFormed, turned, replayed};
-ghost use Rattle.point_run.specs.Points.{form_rows};
+ghost use Rattle.refutation_steps.specs.Points.{form_rows};
 ghost use Rattle.refutation_steps.specs.Traces.{exchanges};
 
 use crate::remembered::Replay;
 use affine_forms::{Form, WantOfMemory};
 use refutation_steps::Trace;
 use run_counts::Work;
-use short_run::{Stop, push_short};
-use short_tableau::ShortTableau;
+use short_run::{ShortTableau, Stop, push_short};
 
 // A remembered pivot is counted, and turns these rows.
 #[inline(always)]

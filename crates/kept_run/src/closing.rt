@@ -6,19 +6,17 @@ ghost use Rattle.run_counts.specs.Counts.{IsCountedRun};
 ghost use Rattle.kept_run.specs.Remembered.{IsStopped};
 ghost use Rattle.short_run.specs.Stops.{stop_fault};
 ghost use Rattle.refutation_steps.specs.Traces.{IsTraced, IsClosing};
-ghost use Rattle.point_run.specs.Turns.{node_of};
+ghost use Rattle.refutation_steps.specs.Turns.{node_of};
 
 use crate::behind::put_behind;
 use crate::question::Question;
 use crate::remembered::Remembered;
 use affine_forms::WantOfMemory;
 use certificate_parts::Refutation;
-use refutation_steps::{Trace, refute_on};
+use refutation_steps::{Trace, refute_on, view_of};
 use run_counts::Work;
-use short_run::Stop;
-use short_tableau::ShortTableau;
+use short_run::{ShortTableau, Stop};
 use std::alloc::Global;
-use tableau_row::view_of;
 
 // The first row below 0, where no column enters there.
 fn closing_row(rows: &ShortTableau) -> Option<usize>

@@ -3,12 +3,11 @@ ghost use Rattle.pip_model.specs.Contexts.{IsContext, IsNarrow};
 ghost use Rattle.pip_model.specs.Forms.{widen_to};
 ghost use Rattle.pip_model.specs.Rows.{Row, form_row};
 ghost use Rattle.kept_run.specs.Remembered.{IsFormed, IsReplay, IsStopped, IsRemembered, IsTurned};
-ghost use Rattle.point_run.specs.Points.{first_rows};
+ghost use Rattle.refutation_steps.specs.Points.{first_rows};
 
 use crate::remembered::{Remembered, Replay, run_to_end};
 use affine_forms::Form;
-use short_run::{Stop, push_short};
-use short_tableau::ShortTableau;
+use short_run::{ShortTableau, Stop, push_short};
 use std::slice::from_ref;
 
 // Turns the rows by the pivots in order; whether all numbers of the rows that are made are short. Nothing is counted.

@@ -1,4 +1,4 @@
-use short_tableau::ShortTableau;
+use short_run::ShortTableau;
 use std::alloc::Global;
 
 // Rows whose room is used again from question to question: the row of the form that is asked, and the rows of a run

@@ -1,13 +1,12 @@
 ghost use Rattle.std.specs.Prelude.{◌≡◌, ℕ, ◌+◌, ◌<◌, ◌≤◌, ℤ, Some, List, [], ◌∷◌, ◌++◌, length, map, IfOk, OnOk};
 ghost use Rattle.pip_model.specs.Contexts.{IsContext};
 ghost use Rattle.pip_model.specs.Rows.{Row};
-ghost use Rattle.point_run.specs.Turns.{negative_from};
+ghost use Rattle.refutation_steps.specs.Turns.{negative_from};
 ghost use Rattle.kept_run.specs.Remembered.{IsFormed, IsReplay, IsSameReplay, IsStopped, IsRemembered};
-ghost use Rattle.point_run.specs.Points.{first_rows, is_end};
+ghost use Rattle.refutation_steps.specs.Points.{first_rows, is_end};
 
 use affine_forms::{Form, WantOfMemory};
-use short_run::{Stop, start_short};
-use short_tableau::ShortTableau;
+use short_run::{ShortTableau, Stop, start_short};
 use std::alloc::Global;
 
 // Pivots of a run without parameters, in order: their rows as they stood before each, the places of these rows, and

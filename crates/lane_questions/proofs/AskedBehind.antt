@@ -5,7 +5,7 @@ use Rattle.pip_model.specs.Contexts.{IsContext, IsNarrow}
 use Rattle.form_laws.specs.ByForm.{combination}
 use Rattle.scaled_laws.specs.Scaled.{row_over}
 use Rattle.scaled_laws.specs.Tables.{ScaledTable}
-use Rattle.lane_rows.specs.Laned.{numbers_of}
+use Rattle.lane_run.specs.Laned.{numbers_of}
 use Rattle.lane_questions.specs.Behind.{IsBehind}
 use Rattle.lane_questions.specs.InLanes.{lanes_of, all_lanes, AreWithin}
 use Rattle.lane_questions.specs.Kept.{LaneVertex, IsQuestion}

@@ -14,7 +14,7 @@ use Rattle.form_laws.specs.ByForm.{by_form, combination}
 use Rattle.scaled_laws.specs.Scaled.{row_over}
 use Rattle.scaled_laws.specs.Tables.{ScaledTable}
 use Rattle.lanes.specs.Narrow.{AreLanes}
-use Rattle.lane_rows.specs.Laned.{numbers_of as lane_numbers, AreUnused}
+use Rattle.lane_run.specs.Laned.{numbers_of as lane_numbers, AreUnused}
 use Rattle.lane_questions.specs.Behind.{IsBehind}
 use Rattle.lane_questions.specs.Kept.{LaneVertex, IsKeptLanes}
 use Rattle.lane_run.specs.Runs.{run_rows, forms_of, AreModest, IsRowBelow}

@@ -4,7 +4,7 @@ use Rattle.std.proofs.lemmas.List.{take-replicate}
 use Rattle.pip_model.specs.Forms.{width, coefficients, constant, widen_to}
 use Rattle.pip_model.specs.Contexts.{IsContext, IsNarrow}
 use Rattle.pip_model.proofs.Division.{form-parts}
-use Rattle.lane_rows.specs.Laned.{numbers_of}
+use Rattle.lane_run.specs.Laned.{numbers_of}
 use Rattle.lane_questions.specs.InLanes.{lanes_of, all_lanes, AreWithin}
 use Rattle.lane_run.specs.Runs.{forms_of, AreModest}
 use Rattle.lane_run.proofs.Modest.{are_modest}

@@ -4,7 +4,7 @@ use Rattle.pip_model.specs.Contexts.{IsNarrow}
 use Rattle.pip_model.specs.Forms.{widen_to}
 use Rattle.form_laws.specs.ByForm.{combination}
 use Rattle.scaled_laws.specs.Scaled.{row_over}
-use Rattle.lane_rows.specs.Laned.{numbers_of}
+use Rattle.lane_run.specs.Laned.{numbers_of}
 use Rattle.lane_questions.specs.Kept.{LaneVertex, IsEndedLanes}
 use Rattle.lane_run.specs.Runs.{forms_of, AreModest}
 

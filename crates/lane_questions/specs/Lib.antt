@@ -3,3 +3,4 @@ pub mod Kept
 pub mod Signs
 pub mod Asking
 pub mod Behind
+pub use Rattle.point_turns.specs.Points

@@ -12,7 +12,7 @@ use crate::forms::{LaneForms, in_lanes};
 use crate::kept::KeptLanes;
 use crate::sign::LaneSign;
 use affine_forms::Form;
-use lane_rows::LaneRows;
+use lane_run::LaneRows;
 use lanes::Lanes;
 use pip_problem::Refusal;
 use run_counts::Work;

@@ -7,7 +7,9 @@ mod read_forms;
 mod run;
 mod turn;
 
+pub use lane_rows::LaneRows;
 pub use pivots::{entering_at, pivot_at};
 pub use read_forms::ReadForms;
 pub use run::run_in_lanes;
+pub use short_run::Stop;
 pub use turn::row_below;

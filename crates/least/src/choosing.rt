@@ -13,11 +13,10 @@ ghost use Rattle.least.specs.Kept.{IsWithinLimits};
 
 use crate::choosing_walk::choose_answers;
 use affine_forms::{Forms, MOST_COMPONENTS};
-use context::{Context, Work};
 use made_nodes::{as_answer, given};
 use pip_problem::Limits;
 use quast::{Answer, Node};
-use quast_walk::{ToolRefusal, context_of, levels, point};
+use quast_walk::{Context, ToolRefusal, Work, context_of, levels, point};
 use std::alloc::Global;
 
 // The lesser of two answers on the context, after what was counted; none is `void`.

@@ -4,7 +4,7 @@ ghost use Rattle.pip_model.specs.ToolAgreement.{AgreesWalked};
 ghost use Rattle.pip_model.specs.Tools.{choosing, least_first, least_leaves, least_second, tree_or_bottom};
 ghost use Rattle.pip_model.specs.Tree.{Tree, is_scoped};
 ghost use Rattle.pip_model.specs.Walks.{start_visit};
-ghost use Rattle.context.specs.Scoped.{IsKeptContext};
+ghost use Rattle.quast_walk.specs.Scoped.{IsKeptContext};
 ghost use Rattle.quast.specs.Answers.{answer_of, IsOver};
 ghost use Rattle.quast.specs.Trees.{tree_of};
 ghost use Rattle.quast_walk.specs.Faults.{tool_fault};
@@ -14,10 +14,9 @@ ghost use Rattle.quast_walk.specs.Visits.{visit_of};
 use crate::lesser_leaves::choose_at_leaves;
 use crate::lesser_lists::{count_if, raise};
 use affine_forms::{Form, WantOfMemory};
-use context::{Context, Work};
 use made_nodes::{choice, definition};
 use quast::{Answer, Node};
-use quast_walk::{Reading, ToolRefusal, TreeLeaf, Walker, walk};
+use quast_walk::{Context, Reading, ToolRefusal, TreeLeaf, Walker, Work, walk};
 use std::alloc::Global;
 
 // The first answer's walk: the lesser is made along the second one's walk from each leaf.

@@ -4,7 +4,7 @@ ghost use Rattle.pip_model.specs.ToolAgreement.{AgreesWalked};
 ghost use Rattle.pip_model.specs.Tools.{least_leaves, spread_tree, widened_components};
 ghost use Rattle.pip_model.specs.Tree as model;
 ghost use Rattle.pip_model.specs.Tree.{is_scoped};
-ghost use Rattle.context.specs.Scoped.{IsKeptContext};
+ghost use Rattle.quast_walk.specs.Scoped.{IsKeptContext};
 ghost use Rattle.quast.specs.Trees.{tree_of};
 ghost use Rattle.quast_walk.specs.Faults.{tool_fault};
 ghost use Rattle.quast_walk.specs.Readings.{leaf_tree, HasRoom};
@@ -14,10 +14,9 @@ ghost use Rattle.made_nodes.specs.Pairs.{AreMet};
 use crate::lesser_lists::choose_rest;
 use crate::rest::{Asked, Rest};
 use affine_forms::WantOfMemory;
-use context::{Context, Work};
 use made_nodes::{first_list, leaf_node, list};
 use quast::{Component, Node};
-use quast_walk::{Reading, ToolRefusal, TreeLeaf, spread_list};
+use quast_walk::{Context, Reading, ToolRefusal, TreeLeaf, Work, spread_list};
 
 // A list of the first tree as a node over so many places, of which its own are the first.
 fn first_node(

@@ -5,7 +5,7 @@ ghost use Rattle.pip_model.specs.Tools.{count_if as count_of};
 ghost use Rattle.pip_model.specs.Tree as model;
 ghost use Rattle.pip_model.specs.Tree.{is_scoped};
 ghost use Rattle.pip_model.specs.Walks.{by_run, make, walk_on, Walked};
-ghost use Rattle.context.specs.Scoped.{ScopedForms, IsKeptContext};
+ghost use Rattle.quast_walk.specs.Scoped.{ScopedForms, IsKeptContext};
 ghost use Rattle.quast.specs.Trees.{tree_of};
 ghost use Rattle.quast_walk.specs.Faults.{tool_fault};
 ghost use Rattle.quast_walk.specs.Readings.{HasRoom};
@@ -14,11 +14,11 @@ ghost use Rattle.least.specs.Choices.{chosen_by, left, rest_chosen, IsRest};
 
 use crate::rest::{Asked, Rest};
 use affine_forms::Form;
-use context::{Context, Work};
 use made_nodes::{choice, list_again};
 use quast::{Component, Node};
-use quast_walk::{ToolRefusal, difference, enter, leave, mark, negated, sign};
-use sign_split::Class;
+use quast_walk::{
+    Class, Context, ToolRefusal, Work, difference, enter, leave, mark, negated, sign,
+};
 use std::alloc::Global;
 
 // Below one more node of the tree that is made: the nesting is raised.

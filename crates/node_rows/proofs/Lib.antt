@@ -1,2 +1,3 @@
 pub mod ReadRows
 pub mod Pivoting
+pub use Rattle.point_run.proofs.Pointing

@@ -11,4 +11,5 @@ mod stepping;
 mod steps;
 
 pub use node_rows::NodeRows;
+pub use point_run::count_and_cut;
 pub use stepping::enter_and_pivot;

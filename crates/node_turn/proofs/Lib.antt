@@ -5,3 +5,4 @@ pub mod FirstRows
 pub mod Knowing
 pub mod KnownPlaces
 pub mod Cutting
+pub use Rattle.node_rows.proofs.Pointing

@@ -13,7 +13,7 @@ pub use Rattle.tableau.specs.Tableaus.{TableauRows}
 pub use Rattle.new_parameters.specs.Scopes.{size}
 pub use Rattle.quast.specs.Trees.{ScopedTree}
 pub use Rattle.run_counts.specs.declared.work.Counts.{Counts}
-pub use Rattle.context.specs.Scoped.{ScopedForms, IsKeptContext}
+pub use Rattle.sign_split.specs.Scoped.{ScopedForms, IsKeptContext}
 pub use Rattle.pip_model.specs.Agreement.{AgreesCounted}
 pub use Rattle.pip_problem.specs.Faults.{run_fault}
 pub use Rattle.sign_split.specs.Classes.{class_of}

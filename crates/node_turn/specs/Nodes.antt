@@ -4,8 +4,8 @@ use Rattle.pip_model.specs.Limits.{most_unknowns, most_params, most_nesting}
 use Rattle.pip_model.specs.Cuts.{Quotient}
 use Rattle.pip_model.specs.Run.{Node, Setting, class}
 use Rattle.tableau.specs.Tableaus.{TableauRows}
-use Rattle.context.specs.declared.context.ContextMark.{ContextMark}
-use Rattle.context.specs.Scoped.{IsKeptContext}
+use Rattle.sign_split.specs.ContextMark.{ContextMark}
+use Rattle.sign_split.specs.Scoped.{IsKeptContext}
 use Rattle.new_parameters.specs.Scopes.{size}
 use Rattle.node_turn.specs.declared.path.Path.{Path}
 

@@ -16,12 +16,11 @@ ghost use Rattle.node_turn.specs.Turns.{turn_of, TurnIs};
 use crate::path::Path;
 use crate::turn::Turn;
 use affine_forms::{Form, Overflow, WantOfMemory};
-use context::Work;
 use gomory_cut::{FractionRow, parametric_cut_by, residue_of, rewrite};
 use new_parameters::{Quotient, rounding};
+use node_rows::count_and_cut;
 use pip_problem::Refusal;
-use point_run::count_and_cut;
-use sign_split::{Class, class};
+use sign_split::{Class, Work, class};
 use tableau::Tableau;
 
 // The residue of row i over its denominator.

@@ -1,6 +1,6 @@
 ghost use Rattle.std.specs.Prelude.{◌≡◌, ◌⊎◌, [], ◌∷◌, ◌++◌, Contains, IfSome};
 
-use context::Counts;
+use sign_split::Counts;
 use std::alloc::Global;
 use std::marker::Model;
 

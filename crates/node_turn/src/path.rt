@@ -2,12 +2,12 @@ ghost use Rattle.std.specs.Prelude.{◌≡◌, ◌^◌, ◌+◌, ◌-◌, ◌<�
 ghost use Rattle.pip_model.specs.Contexts.{IsContext};
 ghost use Rattle.pip_model.specs.Forms as model;
 ghost use Rattle.pip_model.specs.Listed.{all_fit, opposite_listed};
-ghost use Rattle.context.specs.Scoped.{IsKeptContext};
+ghost use Rattle.sign_split.specs.Scoped.{IsKeptContext};
 ghost use Rattle.node_turn.specs.Nodes.{IsBelow, IsBack};
 
 use affine_forms::{Form, WantOfMemory};
-use context::{Context, ContextMark};
 use new_parameters::Quotients;
+use sign_split::{Context, ContextMark};
 use std::alloc::Global;
 
 /// Where a run stands: the mode of its problem, how many if and newparm nodes are above, and the context and the

@@ -7,17 +7,16 @@ ghost use Rattle.pip_model.specs.Run.{AllPlus, Done, Plus};
 ghost use Rattle.affine_forms.specs.Forms.{IsForm};
 ghost use Rattle.pip_problem.specs.Faults.{run_fault};
 ghost use Rattle.run_counts.specs.Counts.{IsCountedRun, HasCounted};
-ghost use Rattle.context.specs.Scoped.{IsKeptContext};
+ghost use Rattle.sign_split.specs.Scoped.{IsKeptContext};
 ghost use Rattle.sign_split.specs.Classes.{class_of, ConditionIs};
 ghost use Rattle.node_turn.specs.Known.{AreKnown};
 ghost use Rattle.node_turn.specs.Signs.{signs_of, kept_signs, keep_class, scanned, IsCondition, ClassIs, SignsAre};
 
 use crate::known::KnownForms;
 use affine_forms::Form;
-use context::{Context, Work};
 use node_rows::NodeRows;
 use pip_problem::Refusal;
-use sign_split::{Class, class_of_entries, is_nowhere_below};
+use sign_split::{Class, Context, Work, class_of_entries, is_nowhere_below};
 use std::alloc::Global;
 use tableau::Tableau;
 

@@ -18,12 +18,12 @@ use crate::known::KnownForms;
 use crate::path::Path;
 use crate::scan::{Signs, scan};
 use affine_forms::{Form, WantOfMemory};
-use context::Work;
 use gomory_cut::{FractionRow, find_fraction};
 use new_parameters::Quotient;
 use node_rows::{NodeRows, enter_and_pivot};
 use pip_problem::Refusal;
 use quast::{Component, Quast};
+use sign_split::Work;
 use std::alloc::Global;
 use tableau::Tableau;
 

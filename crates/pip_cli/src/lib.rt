@@ -3,5 +3,5 @@
 
 mod program;
 
-pub use pip_items::answer_next;
+pub use pip_items::{Ending, Generator, answer_next, draw_problem};
 pub use program::{pip_main, refuse_words};

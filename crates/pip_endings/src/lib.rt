@@ -7,4 +7,5 @@ mod status;
 mod told;
 
 pub use ending::Ending;
+pub use pip_stream::MOST_INPUT_BYTES;
 pub use status::Status;

@@ -3,5 +3,6 @@
 
 mod output;
 
+pub use item_writing::{Ending, Status};
 pub use output::write_output;
-pub use solve_items::answer_next;
+pub use solve_items::{Generator, answer_next, draw_problem};

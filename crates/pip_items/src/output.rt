@@ -6,8 +6,7 @@ ghost use Rattle.item_writing.specs.Outputs.{TakesInput, TakesInputAtMost, IsRea
 ghost use Rattle.item_writing.specs.ByProblem.{WritesOf, ReadsWhole, StopsAtRefused, FailsInTime};
 
 use certificate_items::{Check, Share};
-use item_writing::{write_items, write_over_input};
-use pip_endings::Ending;
+use item_writing::{Ending, write_items, write_over_input};
 use pip_outside::{Sink, Source};
 use pip_words::Command;
 use solve_items::{Matrices, Trial, write_problems};

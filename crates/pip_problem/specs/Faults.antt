@@ -6,8 +6,8 @@ use Rattle.pip_problem.specs.declared.refusal.Refusal.{Refusal}
 use Rattle.pip_problem.specs.declared.refusal.Refusal.TheVariants as refusal
 use Rattle.pip_problem.specs.declared.refusal.ReadRefusal.{ReadRefusal}
 use Rattle.pip_problem.specs.declared.refusal.ReadRefusal.TheVariants as read
-use Rattle.pip_model.specs.Run as run
-use Rattle.pip_model.specs.Reading as reading
+use Rattle.affine_forms.specs.Run as run
+use Rattle.affine_forms.specs.Reading as reading
 
 abbrev pub run_fault : Refusal → Option run.Refusal
 run_fault refusal.Overflow = Some run.Overflow

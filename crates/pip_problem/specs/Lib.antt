@@ -1,1 +1,3 @@
 pub mod Faults
+pub use Rattle.affine_forms.specs.Run
+pub use Rattle.affine_forms.specs.Agreement

@@ -1,10 +1,10 @@
 ghost use Rattle.std.specs.Prelude.{◌≡◌, ◌+◌, ◌≤◌, ◌++◌, length, take, All, IfOk};
 ghost use Rattle.std.specs.List.{list_all};
-ghost use Rattle.pip_model.specs.Numbers.{is_nonneg};
-ghost use Rattle.pip_model.specs.Problem.{all_nonneg as all_nonneg_of, rows_listed, feasible, feasible_listed};
-ghost use Rattle.pip_model.specs.Limits.{most_unknowns, most_params};
-ghost use Rattle.pip_model.specs.WellFormed.{IsRow};
-ghost use Rattle.pip_model.specs.Agreement.{IsChecked};
+ghost use Rattle.affine_forms.specs.Numbers.{is_nonneg};
+ghost use Rattle.affine_forms.specs.Problem.{all_nonneg as all_nonneg_of, rows_listed, feasible, feasible_listed};
+ghost use Rattle.affine_forms.specs.Limits.{most_unknowns, most_params};
+ghost use Rattle.affine_forms.specs.WellFormed.{IsRow};
+ghost use Rattle.affine_forms.specs.Agreement.{IsChecked};
 ghost use Rattle.affine_forms.specs.Checks.{Fits, is_overflow};
 
 use crate::problem::Problem;

@@ -7,9 +7,8 @@ mod limits;
 mod problem;
 mod refusal;
 
-pub use affine_forms::{Bytes, MOST_PARAMETERS};
+pub use affine_forms::{Bytes, LimitKind, MOST_PARAMETERS, Option_};
 pub use feasible::is_feasible;
 pub use limits::Limits;
-pub use pip_model::{LimitKind, Option_};
 pub use problem::Problem;
 pub use refusal::{ReadRefusal, Refusal};

@@ -1,5 +1,5 @@
 ghost use Rattle.std.specs.Prelude.{◌≡◌};
-ghost use Rattle.pip_model.specs.Run.{IsBudget, standard_budget};
+ghost use Rattle.affine_forms.specs.Run.{IsBudget, standard_budget};
 
 use affine_forms::MOST_NESTING;
 use std::marker::Model;
@@ -14,7 +14,7 @@ pub struct Limits {
 }
 
 impl Model for Limits {
-    ghost use Rattle.pip_model.specs.Run.{Budget, IsBudget};
+    ghost use Rattle.affine_forms.specs.Run.{Budget, IsBudget};
 
     ghost Value = { Budget };
 

@@ -1,5 +1,5 @@
 ghost use Rattle.std.specs.Prelude.{◌≡◌, IfOk};
-ghost use Rattle.pip_model.specs.WellFormed.{IsProblem};
+ghost use Rattle.affine_forms.specs.WellFormed.{IsProblem};
 
 use crate::forms::FormList;
 use affine_forms::{Bytes, Form, WantOfMemory};
@@ -21,8 +21,8 @@ pub struct Problem {
 }
 
 impl Model for Problem {
-    ghost use Rattle.pip_model.specs.Problem.{Problem as Described};
-    ghost use Rattle.pip_model.specs.WellFormed.{IsProblem};
+    ghost use Rattle.affine_forms.specs.Problem.{Problem as Described};
+    ghost use Rattle.affine_forms.specs.WellFormed.{IsProblem};
 
     ghost Value = { Described };
 

@@ -2,8 +2,7 @@ ghost use Rattle.std.specs.Prelude.{◌≡◌};
 ghost use Rattle.pip_problem.specs.declared.refusal.Refusal.TheVariants as run;
 ghost use Rattle.pip_problem.specs.declared.refusal.ReadRefusal.TheVariants as read;
 
-use affine_forms::{FormRefusal, Overflow, WantOfMemory};
-use pip_model::{LimitKind, Option_};
+use affine_forms::{FormRefusal, LimitKind, Option_, Overflow, WantOfMemory};
 use std::alloc::{AllocError, AllocFailed};
 use thiserror::Error;
 

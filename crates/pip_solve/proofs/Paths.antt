@@ -2,7 +2,7 @@
 use Rattle.pip_solve.proofs.Words.{◌≡◌, sym, subst, ap, ℕ, ◌+◌, ◌-◌, ◌<◌, ◌≤◌, ℤ, pos, List, [], ◌∷◌, ◌++◌, length, map, true, append_assoc, arith, get_or-append_seam, get_or-map, All-from_recursion, tighten, Row, row_at, form_row, widened, started, start, Quotient, Problem, most_nesting, IsRow, IsProblem, TableauRows, Scope, size, quotient_at, Path, IsNode, Waiting, Waits, IsRunning, Frame}
 use Rattle.std.proofs.Common.{All}
 use Rattle.run_laws.proofs.Started.{started_formed}
-use Rattle.point_run.proofs.Pointing.{length_start}
+use Rattle.node_turn.proofs.Pointing.{length_start}
 use Rattle.pip_solve.specs.Starts.{IsFirstPath}
 
 -- the quotient that was added last

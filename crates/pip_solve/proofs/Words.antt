@@ -12,7 +12,7 @@ pub use Rattle.pip_model.specs.Rows.{row_at, widened, Row, form_row, started, st
 pub use Rattle.pip_model.specs.Cuts.{Quotient, lower_bound, upper_bound, parametric_cut}
 pub use Rattle.pip_model.specs.Run.{Work, ◌>>=◌, go_on, give, run_from, Outcome, Done, Refused, Counted, Turn, Closed, Again, Below, Split, turn, class, Budget, IsBudget, answered, solve, Node, Setting, Refusal, left, point, answer, answer_from, setting, first_node}
 pub use Rattle.tableau.specs.Tableaus.{TableauRows}
-pub use Rattle.context.specs.declared.context.ContextMark.{ContextMark}
+pub use Rattle.node_turn.specs.ContextMark.{ContextMark}
 pub use Rattle.new_parameters.specs.Scopes.{Scope, size, quotient_at}
 pub use Rattle.quast.specs.Trees.{ScopedTree}
 pub use Rattle.pip_model.proofs.Fuel.{falls-class, closed_run_from, again_run, below_run, split_run, AtMost, Progress, falls-turn, refused_run_from}
@@ -21,7 +21,7 @@ pub use Rattle.pip_model.specs.WellFormed.{IsProblem, IsWellFormedAnswer, IsRow}
 pub use Rattle.pip_model.specs.Agreement.{Agrees, AgreesCounted}
 pub use Rattle.pip_problem.specs.Faults.{run_fault}
 pub use Rattle.pip_model.specs.Limits.{most_nesting}
-pub use Rattle.point_run.specs.Points.{has_point}
+pub use Rattle.node_turn.specs.Points.{has_point}
 pub use Rattle.run_laws.proofs.Scopes.{length-bounds}
 pub use Rattle.node_turn.specs.declared.path.Path.{Path}
 pub use Rattle.pip_solve.specs.declared.pending.Frame.{Frame}

@@ -8,7 +8,7 @@ use Rattle.pip_model.specs.Run.{Counted, ◌>>=◌, give, run_from}
 use Rattle.affine_forms.specs.Checks.{Fits}
 use Rattle.tableau.specs.Tableaus.{TableauRows}
 use Rattle.quast.specs.Trees.{ScopedTree}
-use Rattle.context.specs.declared.context.ContextMark.{ContextMark}
+use Rattle.node_turn.specs.ContextMark.{ContextMark}
 use Rattle.node_turn.specs.Nodes.{node_of, setting_of, IsNode}
 use Rattle.node_turn.specs.Signs.{IsCondition}
 use Rattle.node_turn.specs.Turns.{after, turn_of, IsNewParameter}

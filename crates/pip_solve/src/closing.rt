@@ -4,8 +4,7 @@ ghost use Rattle.pip_solve.specs.Frames.{finished, next_run, HasNextRoom, IsClos
 
 use crate::pending::{Frame, Pending};
 use affine_forms::WantOfMemory;
-use node_rows::NodeRows;
-use node_turn::Path;
+use node_turn::{NodeRows, Path};
 use quast::Quast;
 use std::mem::replace;
 

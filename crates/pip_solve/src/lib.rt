@@ -9,6 +9,7 @@ mod solver;
 mod solving;
 mod starting;
 
+pub use node_turn::{Context, Work};
 pub use pending::{Frame, Pending};
 pub use solver::Solver;
 pub use solving::{answer_from, context_point, solve};

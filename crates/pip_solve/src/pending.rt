@@ -1,8 +1,7 @@
 ghost use Rattle.std.specs.Prelude.{◌≡◌, ◌<◌, ◌≤◌, [], ◌∷◌, length, IfOk, IfSome, IsTrue, ◌↔◌, OnOk, OnErr, None};
 
 use affine_forms::{Form, WantOfMemory};
-use context::ContextMark;
-use node_rows::NodeRows;
+use node_turn::{ContextMark, NodeRows};
 use quast::Quast;
 use std::alloc::Global;
 use std::marker::Model;

@@ -13,7 +13,7 @@ ghost use Rattle.node_turn.specs.Turns.{tree_in};
 
 use crate::solver::Solver;
 use crate::starting::add_forms;
-use context::{Context, Point, Work};
+use node_turn::{Context, Point, Work};
 use pip_problem::{Limits, Problem, Refusal};
 use quast::{Answer, Quast};
 use std::alloc::Global;

@@ -7,9 +7,7 @@ ghost use Rattle.pip_solve.specs.Frames.{HasRoom};
 ghost use Rattle.pip_solve.specs.Starts.{IsFirstPath};
 
 use affine_forms::{Form, WantOfMemory};
-use context::Context;
-use node_rows::NodeRows;
-use node_turn::Path;
+use node_turn::{Context, NodeRows, Path};
 use pip_problem::Problem;
 use std::alloc::Global;
 

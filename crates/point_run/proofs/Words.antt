@@ -8,5 +8,5 @@ pub use Rattle.pip_model.specs.Rows.{Row, start, row_at, form_row, count_from, u
 pub use Rattle.pip_model.specs.Run.{Done, Again, Closed, left, leaf, turn, point_setting, row_component, MinusAt, turn_by}
 pub use Rattle.pip_problem.specs.Faults.{run_fault}
 pub use Rattle.pip_model.specs.Numbers.{floor_div, gcd, gcd_of}
-pub use Rattle.tableau.specs.Tableaus.{TableauRows}
+pub use Rattle.gomory_cut.specs.Tableaus.{TableauRows}
 pub use Rattle.point_turns.specs.Turns.{node_of, negative_from, counted_cut, pivoted}

@@ -7,6 +7,7 @@ mod point_turn;
 mod rows;
 mod steps;
 
+pub use gomory_cut::{RowView, Tableau, view_of};
 pub use point::Point;
 pub use point_run::{find_point, run_on};
 pub use point_turn::take_turn;

@@ -5,9 +5,9 @@ ghost use Rattle.pip_model.specs.Rows.{row_at};
 ghost use Rattle.pip_model.specs.Run.{row_component};
 
 use affine_forms::{WantOfMemory, floor_div, gcd_with};
+use gomory_cut::Tableau;
 use std::alloc::Global;
 use std::marker::Model;
-use tableau::Tableau;
 
 /// A whole vector.
 #[derive(Drop)]

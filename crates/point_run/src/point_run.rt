@@ -11,11 +11,11 @@ use crate::point::{Point, values};
 use crate::point_turn::take_turn;
 use crate::rows::start_rows;
 use affine_forms::Form;
+use gomory_cut::Tableau;
 use pip_problem::Refusal;
 use point_turns::PointTurn;
 use run_counts::Work;
 use std::alloc::Global;
-use tableau::Tableau;
 
 /// The run without parameters to its end: whether it found a point, which the rows then show.
 pub fn run_on(rows: &mut Tableau, work: &mut Work) -> Result<bool, Refusal>

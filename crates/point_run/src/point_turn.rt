@@ -11,11 +11,10 @@ ghost use Rattle.point_turns.specs.Turns.{negative_from, node_of, made, HasSameS
 
 use crate::steps::{count_and_cut, enter};
 use affine_forms::nonnegative;
-use gomory_cut::first_fraction;
+use gomory_cut::{Tableau, first_fraction};
 use pip_problem::Refusal;
 use point_turns::PointTurn;
 use run_counts::Work;
-use tableau::Tableau;
 
 // Whether the constant of row i is below 0.
 fn is_below(rows: &Tableau, i: usize) -> bool

@@ -6,8 +6,8 @@ ghost use Rattle.pip_model.specs.Rows.{form_row};
 ghost use Rattle.affine_forms.specs.Forms.{IsForm};
 
 use affine_forms::{Form, WantOfMemory};
+use gomory_cut::Tableau;
 use std::alloc::Global;
-use tableau::Tableau;
 
 // Adds the row of a form that is read over all columns. The list of coefficients is room for them.
 fn push_widened(

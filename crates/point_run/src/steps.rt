@@ -8,10 +8,9 @@ ghost use Rattle.run_counts.specs.Counts.{IsCountedRun};
 ghost use Rattle.point_turns.specs.Turns.{pivoted, counted_cut, HasSameScope, IsEntered};
 
 use dual_pivot::{entering, pivot};
-use gomory_cut::constant_cut;
+use gomory_cut::{Tableau, constant_cut};
 use pip_problem::Refusal;
 use run_counts::Work;
-use tableau::Tableau;
 
 /// The step at a row below 0: which column enters. Where one does, a pivot is counted and then made. A refusal leaves
 /// the rows as they were, and the counts at what was counted.

@@ -2,3 +2,5 @@ mod Words
 pub mod Leaving
 pub mod Pointing
 pub mod Turning
+pub use Rattle.short_tableau.proofs.RowLaws
+pub use Rattle.short_tableau.proofs.Places

@@ -12,7 +12,7 @@ pub use Rattle.pip_model.proofs.Fuel.{again_less, again_run, closed_run_from, re
 pub use Rattle.pip_model.specs.Numbers.{is_nonneg}
 pub use Rattle.run_counts.specs.Counts.{IsCountedRun, HasCounted}
 pub use Rattle.pip_model.specs.Cuts.{constant_cut}
-pub use Rattle.row_laws.specs.Tableaus.{TableauRows}
+pub use Rattle.short_tableau.specs.Tableaus.{TableauRows}
 pub use Rattle.run_counts.proofs.Counting.{counted_on, counted_none}
 pub use Rattle.point_turns.specs.Turns.{node_of, negative_from, counted_cut, HasSameScope}
 pub use Rattle.point_turns.specs.Points.{finds_point, ended}

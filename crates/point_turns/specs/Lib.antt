@@ -1,3 +1,6 @@
 pub mod Points
 pub mod TurnAt
 pub mod Turns
+pub use Rattle.short_tableau.specs.Ended
+pub use Rattle.run_counts.specs.Counts
+pub use Rattle.short_tableau.specs.Tableaus

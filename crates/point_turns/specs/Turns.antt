@@ -5,7 +5,7 @@ use Rattle.pip_model.specs.Rows.{Row, row_at, entering}
 use Rattle.pip_model.specs.Cuts.{constant_cut}
 use Rattle.pip_model.specs.Run as run
 use Rattle.pip_model.specs.Run.{Counted, ◌>>◌, give, count_cut, Node, point_setting, leaf}
-use Rattle.row_laws.specs.Tableaus.{TableauRows}
+use Rattle.short_tableau.specs.Tableaus.{TableauRows}
 pub use Rattle.short_tableau.specs.Below.{negative_from}
 use Rattle.point_turns.specs.declared.turns.PointTurn.{PointTurn}
 use Rattle.point_turns.specs.declared.turns.PointTurn.TheVariants as code

@@ -4,4 +4,6 @@
 
 mod turns;
 
+pub use run_counts::Work;
+pub use short_tableau::ShortTableau;
 pub use turns::PointTurn;

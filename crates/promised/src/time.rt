@@ -1,7 +1,7 @@
 ghost use Rattle.std.specs.Prelude.{◌≡◌, true};
 ghost use Rattle.program_model.specs.Endings.{write_failed};
 ghost use Rattle.pip_words.specs.Words.{command_given};
-ghost use Rattle.item_writing.specs.ByProblem.{WritesInTime, reads_by_problem};
+ghost use Rattle.pip_cli.specs.ByProblem.{WritesInTime, reads_by_problem};
 ghost use Rattle.pip_cli.specs.Runs.{WhereTold};
 
 use pip_cli::pip_main;

@@ -3,6 +3,5 @@
 #![tactic(auto)]
 
 pub use least::least;
-pub use quast_walk::ToolRefusal;
-pub use restrict::restrict;
+pub use restrict::{ToolRefusal, restrict};
 pub use same::{Sameness, same};

@@ -6,7 +6,7 @@ use Rattle.pip_model.specs.Tree as model
 use Rattle.pip_model.specs.Tree.{Tree, Component, is_scoped, nesting}
 use Rattle.pip_model.specs.Tools.{spread, spread_tree}
 use Rattle.quast.specs.Components.{IsComponent}
-use Rattle.context.specs.Scoped.{ScopedForms}
+use Rattle.sign_split.specs.Scoped.{ScopedForms}
 use Rattle.quast.specs.declared.answer.Answer.{Answer}
 use Rattle.quast.specs.declared.answer.Answer.TheVariants as answer
 use Rattle.quast_walk.specs.declared.reading.TreeLeaf.{TreeLeaf}

@@ -7,8 +7,8 @@ use Rattle.pip_model.specs.Listed.{all_fit, opposite_listed}
 use Rattle.pip_model.specs.Run.{Work, class, listed}
 use Rattle.pip_model.specs.Tree.{Tree}
 use Rattle.pip_model.specs.Walks.{Walked, Stopped, Walking, ◌>>=◌, ◌>>◌, by_run, not_negative, Visit, Walker, where_holds, below_listed, walk}
-use Rattle.context.specs.Scoped.{ScopedForms}
-use Rattle.context.specs.declared.context.ContextMark.{ContextMark}
+use Rattle.sign_split.specs.Scoped.{ScopedForms}
+use Rattle.sign_split.specs.ContextMark.{ContextMark}
 use Rattle.quast_walk.specs.Faults.{tool_fault}
 use Rattle.quast_walk.specs.declared.refusal.ToolRefusal.{ToolRefusal}
 

@@ -13,6 +13,7 @@ mod tree_walk;
 pub use differences::{above, below, difference, negated};
 pub use reading::{Reading, TreeLeaf};
 pub use refusal::ToolRefusal;
+pub use sign_split::{Class, Context, Point, Work};
 pub use spreading::{spread, spread_list};
 pub use starting::{context_of, levels, point};
 pub use steps::{enter, leave, mark, sign};

@@ -10,8 +10,8 @@ ghost use Rattle.quast_walk.specs.Readings.{answer_nesting};
 
 use crate::refusal::ToolRefusal;
 use affine_forms::{Forms, WantOfMemory};
-use context::{Context, Point, Work};
 use quast::Answer;
+use sign_split::{Context, Point, Work};
 use std::alloc::Global;
 
 // The rows' forms join a context of none, with room for two more at each of so many levels.

@@ -6,15 +6,14 @@ ghost use Rattle.pip_model.specs.Run.{class as class_in};
 ghost use Rattle.pip_model.specs.ToolAgreement.{AgreesWalked};
 ghost use Rattle.pip_model.specs.Walks.{by_run, below_listed};
 ghost use Rattle.affine_forms.specs.Checks.{Fits, is_form_overflow};
-ghost use Rattle.context.specs.Scoped.{ScopedForms, IsKeptContext};
+ghost use Rattle.sign_split.specs.Scoped.{ScopedForms, IsKeptContext};
 ghost use Rattle.sign_split.specs.Classes.{class_of, ConditionIs};
 ghost use Rattle.quast_walk.specs.Faults.{tool_fault};
 ghost use Rattle.quast_walk.specs.Visits.{visit_of, IsUnder, IsBelow, IsGrown, IsMarked};
 
 use crate::refusal::ToolRefusal;
 use affine_forms::{Form, FormRefusal, WantOfMemory, lower_bound, upper_bound};
-use context::{Context, ContextMark, Work};
-use sign_split::{Class, class};
+use sign_split::{Class, Context, ContextMark, Work, class};
 use std::alloc::Global;
 
 /// The class of a node's form, which is no wider than the context: that of `sign_split`. The context stays as it was,

@@ -6,7 +6,7 @@ ghost use Rattle.pip_model.specs.Tree.{nesting};
 ghost use Rattle.pip_model.specs.Walks as model;
 ghost use Rattle.pip_model.specs.Walks.{where_holds};
 ghost use Rattle.affine_forms.specs.Checks.{Fits};
-ghost use Rattle.context.specs.Scoped.{ScopedForms, IsKeptContext};
+ghost use Rattle.sign_split.specs.Scoped.{ScopedForms, IsKeptContext};
 ghost use Rattle.quast.specs.Trees.{tree_of};
 ghost use Rattle.quast_walk.specs.Faults.{tool_fault};
 ghost use Rattle.quast_walk.specs.Readings.{leaf_tree, IsTreeAt, IsLeafAt, AreBranches, HasRoom};
@@ -17,9 +17,8 @@ use crate::refusal::ToolRefusal;
 use crate::spreading::spread;
 use crate::steps::{enter, go_below, leave, mark, opposite, sign};
 use affine_forms::{Form, WantOfMemory};
-use context::{Context, Work};
 use quast::Node;
-use sign_split::Class;
+use sign_split::{Class, Context, Work};
 
 /// What is done on a walk of a tree: before the two trees of a node that chooses whose form has both signs, before the
 /// tree of a new parameter, at a leaf, and what is made of what was made below such nodes.

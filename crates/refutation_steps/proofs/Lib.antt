@@ -1,3 +1,4 @@
 mod Words
 pub mod Positives
 pub mod Tracing
+pub use Rattle.short_run.proofs.Leaving

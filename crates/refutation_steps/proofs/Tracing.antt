@@ -2,7 +2,7 @@
 use Rattle.refutation_steps.proofs.Words.{◌≡◌, refl, ap, sym, ◌∙◌, ℕ, zero, suc, ◌+◌, ◌<◌, ◌≤◌, ℤ, Bool, true, false, Option, Some, None, List, [], ◌∷◌, ◌++◌, length, slice_set, length-append, arith, if◌then◌else◌, get_or_append_left, length-map, Ok, is_nonneg, constant, entry, widen_to, Bottom, Row, row_at, form_row, entering, first_fraction, start, constant_cut, Refutation, Work, Outcome, Done, Refusal, Counted, Turn, Again, Closed, MinusAt, left, turn, point_setting, Trace, traced, pivot_trace, cut_trace, with_step, last_step, refute_from, refute_by, refute, first_trace, indices, length-count, again_less, falls-constant_class, length_slice_set, signs_from, next_trace, refute-again, refute-closed, TableauRows, IsCountedRun, HasCounted, counted_none, counted_on, negative_from, node_of, HasSameScope, exchanged, with_cut, IsTraced}
 use Rattle.std.specs.Prelude.{map}
 use Rattle.point_run.specs.TurnAt.{IsTurnAt}
-use Rattle.point_turns.specs.declared.turns.PointTurn.TheVariants as code
+use Rattle.short_run.specs.PointTurn.TheVariants as code
 use Rattle.point_run.proofs.Leaving.{scope_none, scope_on}
 use Rattle.point_run.proofs.Turning.{signs_of}
 

@@ -16,7 +16,7 @@ pub use Rattle.pip_model.specs.Numbers.{is_nonneg, is_positive}
 pub use Rattle.pip_model.specs.Certificate.{Refutation}
 pub use Rattle.run_counts.specs.Counts.{IsCountedRun, HasCounted}
 pub use Rattle.pip_model.specs.Cuts.{constant_cut}
-pub use Rattle.tableau.specs.Tableaus.{TableauRows}
+pub use Rattle.point_run.specs.Tableaus.{TableauRows}
 pub use Rattle.run_laws.proofs.RowsAt.{length_slice_set}
 pub use Rattle.affine_forms.specs.Checks.{Fits}
 pub use Rattle.run_counts.proofs.Counting.{counted_on, counted_none}

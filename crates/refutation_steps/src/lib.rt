@@ -6,6 +6,7 @@ mod refute;
 mod short_refute;
 mod trace;
 
+pub use point_run::{Point, find_point, push_form, run_on, start_rows, view_of};
 pub use positive_terms::push_positive;
 pub use refute::refute_forms;
 pub use short_refute::refute_on;

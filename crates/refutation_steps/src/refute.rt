@@ -13,10 +13,9 @@ use crate::trace::Trace;
 use affine_forms::Form;
 use certificate_parts::Refutation;
 use pip_problem::Refusal;
-use point_run::{PointTurn, start_rows, take_turn};
+use point_run::{PointTurn, Tableau, start_rows, take_turn};
 use run_counts::Work;
 use std::alloc::Global;
-use tableau::Tableau;
 
 // The run without parameters to its end, with its trace: the steps, none where it found a point.
 fn refute_on(

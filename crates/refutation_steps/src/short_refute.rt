@@ -14,12 +14,10 @@ use crate::trace::Trace;
 use affine_forms::{Form, WantOfMemory};
 use certificate_parts::Refutation;
 use pip_problem::Refusal;
-use point_run::PointTurn;
+use point_run::{PointTurn, view_of};
 use run_counts::Work;
-use short_run::{Stop, start_short, take_turn};
-use short_tableau::ShortTableau;
+use short_run::{ShortTableau, Stop, start_short, take_turn};
 use std::alloc::Global;
-use tableau_row::view_of;
 
 // The step of the cut by row i.
 fn trace_cut(

@@ -2,16 +2,16 @@ ghost use Rattle.std.specs.Prelude.{◌≡◌, ◌^◌, ◌<◌, [], ◌∷◌, 
 ghost use Rattle.pip_model.specs.Forms.{entry};
 ghost use Rattle.pip_model.specs.Refuting.{indices, first_trace, with_step, cut_step, last_step};
 ghost use Rattle.affine_forms.specs.Checks.{Fits};
-ghost use Rattle.tableau.specs.Tableaus.{IsRow};
-ghost use Rattle.tableau.specs.Views.{row_of};
+ghost use Rattle.point_run.specs.Tableaus.{IsRow};
+ghost use Rattle.point_run.specs.Views.{row_of};
 ghost use Rattle.refutation_steps.specs.Traces.{with_cut};
 
 use crate::positive_terms::push_positive;
 use affine_forms::{WantOfMemory, negate_all, remainders};
 use certificate_parts::{Refutation, Step, Terms};
+use point_run::RowView;
 use std::alloc::Global;
 use std::marker::Model;
-use tableau::RowView;
 
 // For each row and each column of a run without parameters the index of the known form that is its quantity, the
 // index of the first step's form, and the steps so far.

@@ -4,4 +4,6 @@
 mod narrowed;
 mod refuter;
 
+pub use point_run::Point;
+pub use refutation_steps::push_positive;
 pub use refuter::Refuter;

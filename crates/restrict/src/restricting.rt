@@ -15,11 +15,12 @@ ghost use Rattle.quast_walk.specs.Readings.{answer_nesting};
 ghost use Rattle.made_nodes.specs.Nodes.{node_answer};
 
 use affine_forms::{Form, Forms, WantOfMemory};
-use context::{Context, Work};
 use made_nodes::{as_answer, choice, definition, given, leaf_node};
 use pip_problem::Limits;
 use quast::{Answer, Node, Quast};
-use quast_walk::{Reading, ToolRefusal, TreeLeaf, Walker, context_of, levels, point, walk};
+use quast_walk::{
+    Context, Reading, ToolRefusal, TreeLeaf, Walker, Work, context_of, levels, point, walk,
+};
 use std::alloc::Global;
 
 // A walk that keeps each node that chooses whose form has both signs, each new parameter and each leaf.

@@ -18,3 +18,4 @@ pub mod Substituting
 pub mod Unchanged
 pub mod UnitFits
 pub mod UnitRows
+pub use Rattle.short_numbers.proofs.Short

@@ -1,6 +1,6 @@
 -- A row rounded by a quotient.
 use Rattle.row_laws.proofs.Words.{◌≡◌, refl, ap, sym, ◌∙◌, ℕ, ◌+◌, ◌<◌, ◌≤◌, ℤ, pos, ◌+ℤ◌, ◌-ℤ◌, neg_ℤ, arith, List, [], ◌∷◌, ◌++◌, length, map, slice_set, length-map, length-replicate, get_or-map, length-append, entry, negate, residue, unit_form, add, width, Row, residue_of, rounding, rounded_listed, raised}
-use Rattle.affine_forms.proofs.Units.{add_unit, add_back, negate_unit, widen_same}
+use Rattle.short_numbers.proofs.Units.{add_unit, add_back, negate_unit, widen_same}
 
 add_residue : (d : ℤ) (xs : List ℤ) → add xs (residue d xs) ≡ map (raised d) xs
 add_residue d [] = refl

@@ -13,15 +13,15 @@ pub use Rattle.std.proofs.lemmas.List.Folds.{list_all-append}
 pub use Rattle.pip_model.specs.Forms.{entry, width, coefficients, constant, combine, remove, floor_divided, negate, residue, unit_form, add, scale}
 pub use Rattle.pip_model.specs.Rows.{Row, divided, eliminated, widened, eliminated_listed, substituted, pivot_listed, row_at, unit_row, count_from, form_row, cross_products, up_to_difference, is_better}
 pub use Rattle.pip_model.specs.Listed.{all_fit, combine_listed}
-pub use Rattle.affine_forms.specs.Checks.{Fits}
-pub use Rattle.affine_forms.proofs.Short.{short_fits, product_fits}
+pub use Rattle.short_numbers.specs.Checks.{Fits}
+pub use Rattle.short_numbers.proofs.Short.{short_fits, product_fits}
 pub use Rattle.pip_model.proofs.Forms.{length-combine, entry-negate}
 pub use Rattle.pip_model.specs.Numbers.{fits, is_positive, is_zero, same_number, gcd, gcd_of, floor_div, euclid}
 pub use Rattle.pip_model.proofs.Tests.{both, is_zero_is, same_number_is}
-pub use Rattle.affine_forms.proofs.Divisors.{gcd_assoc, floor_divided_one}
-pub use Rattle.affine_forms.proofs.Combined.{listed_at}
+pub use Rattle.short_numbers.proofs.Divisors.{gcd_assoc, floor_divided_one}
+pub use Rattle.short_numbers.proofs.Combined.{listed_at}
 pub use Rattle.pip_model.specs.Cuts.{residue_of, rounding, rounded_listed}
-pub use Rattle.affine_forms.specs.Forms.{raised}
+pub use Rattle.short_numbers.specs.Forms.{raised}
 pub use Rattle.pip_model.proofs.Division.{floor-unique, floor-exact, gcd-divides, gcd_of-divides, all_through, through, Multiple}
 pub use Rattle.pip_model.proofs.Gcd.{common, common-scaled, gcd-greatest, gcd_of-greatest, common-IsGcd, times-one, size-divided, size-gcd_of, gcd_one, gcd_zero, size_opposite, gcd_opposite, gcd_of_negate, gcd_exchanged}
 pub use Rattle.row_laws.specs.Lowest.{AreLowest, substituted_by}

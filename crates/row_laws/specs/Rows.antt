@@ -2,7 +2,7 @@
 use Rattle.std.specs.Prelude.{◌≡◌, ℕ, ◌+◌, ◌-◌, ℤ, pos, ◌≤ℤ◌, List, length, All}
 use Rattle.pip_model.specs.Numbers.{gcd, gcd_of}
 use Rattle.pip_model.specs.Rows.{Row}
-use Rattle.affine_forms.specs.Checks.{Fits}
+use Rattle.short_numbers.specs.Checks.{Fits}
 
 -- a row over n columns, whose constant form stands over w places
 pub record IsRow (n w : ℕ) (r : Row) : Type 0 where

@@ -2,7 +2,7 @@
 use Rattle.std.specs.Prelude.{◌≡◌, ℤ, Bool, List, length, All, IsTrue}
 use Rattle.pip_model.specs.Forms.{combine}
 use Rattle.pip_model.specs.Rows.{Row}
-use Rattle.affine_forms.specs.Checks.{Fits}
+use Rattle.short_numbers.specs.Checks.{Fits}
 pub use Rattle.short_numbers.specs.Short.{is_short, IsShort, IsHalf, AreShort, AreHalf}
 
 -- as many short numbers in one list as in the other

@@ -1,6 +1,6 @@
 -- What parts of a run count together.
 use Rattle.std.proofs.Common.{refl, ◌∙◌, arith}
-use Rattle.pip_model.specs.Run.{Work}
+use Rattle.pip_problem.specs.Run.{Work}
 use Rattle.run_counts.specs.Counts.{HasCounted}
 
 pub counted_none : (w : Work) → HasCounted w w

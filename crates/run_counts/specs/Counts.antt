@@ -1,7 +1,7 @@
 -- What a part of a run counts, however it ends.
 use Rattle.std.specs.Prelude.{◌≡◌, ◌+◌, ◌≤◌, Option, Result}
-use Rattle.pip_model.specs.Run.{Work, Counted, Refusal}
-use Rattle.pip_model.specs.Agreement.{AgreesCounted}
+use Rattle.pip_problem.specs.Run.{Work, Counted, Refusal}
+use Rattle.pip_problem.specs.Agreement.{AgreesCounted}
 use Rattle.run_counts.specs.declared.work.Counts.{Counts}
 
 -- the budget is as before, and no count fell

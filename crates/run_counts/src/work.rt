@@ -1,7 +1,7 @@
 ghost use Rattle.std.specs.Prelude.{◌≡◌, ◌-◌, ◌≤◌, ◌↔◌, OnOk, IsTrue, if◌then◌else◌};
-ghost use Rattle.pip_model.specs.Run as model;
-ghost use Rattle.pip_model.specs.Run.{IsBudget, start_work};
-ghost use Rattle.pip_model.specs.Agreement.{AgreesCounted};
+ghost use Rattle.pip_problem.specs.Run as model;
+ghost use Rattle.pip_problem.specs.Run.{IsBudget, start_work};
+ghost use Rattle.pip_problem.specs.Agreement.{AgreesCounted};
 ghost use Rattle.pip_problem.specs.Faults.{run_fault};
 ghost use Rattle.run_counts.specs.Counts.{IsCountedRun, HasRoomFor, counted_more};
 
@@ -30,7 +30,7 @@ pub struct Counts {
 
 impl Model for Work {
     ghost use Rattle.std.specs.Prelude.{◌≤◌};
-    ghost use Rattle.pip_model.specs.Run as run;
+    ghost use Rattle.pip_problem.specs.Run as run;
 
     ghost Value = { run.Work };
 

@@ -8,7 +8,7 @@ pub use Rattle.pip_model.specs.Run.{Work, point}
 pub use Rattle.pip_model.specs.Walks.{Walked, Made, Stopped, Walking, walk_on, make, by_run}
 pub use Rattle.pip_model.specs.Tools.{first_numbers, differ_or, first_of_both, same_lists, widened_components}
 pub use Rattle.pip_model.specs.ToolAgreement.{AgreesWalked}
-pub use Rattle.context.specs.Scoped.{ScopedForms, IsKeptContext}
+pub use Rattle.quast_walk.specs.Scoped.{ScopedForms, IsKeptContext}
 pub use Rattle.quast_walk.specs.Faults.{tool_fault}
 pub use Rattle.quast_walk.specs.Visits.{visit_of}
 pub use Rattle.quast_walk.proofs.Placing.{spread_tree-none}

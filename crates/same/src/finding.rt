@@ -4,16 +4,17 @@ ghost use Rattle.pip_model.specs.ToolAgreement.{AgreesWalked};
 ghost use Rattle.pip_model.specs.Tools.{differ_here, same_lists};
 ghost use Rattle.pip_model.specs.Walks.{Walking};
 ghost use Rattle.affine_forms.specs.Checks.{is_form_overflow};
-ghost use Rattle.context.specs.Scoped.{IsKeptContext};
+ghost use Rattle.quast_walk.specs.Scoped.{IsKeptContext};
 ghost use Rattle.quast_walk.specs.Faults.{tool_fault};
 ghost use Rattle.quast_walk.specs.Visits.{visit_of};
 ghost use Rattle.made_nodes.specs.Pairs.{AreLists};
 ghost use Rattle.same.specs.Searches.{point_or, component_or, Finds};
 
 use affine_forms::{Form, FormRefusal};
-use context::{Context, Point, Work};
 use quast::Component;
-use quast_walk::{Reading, ToolRefusal, above, below, difference, enter, leave, mark, point};
+use quast_walk::{
+    Context, Point, Reading, ToolRefusal, Work, above, below, difference, enter, leave, mark, point,
+};
 
 // The context's point, cut to its parameters.
 pub(crate) fn find_here(

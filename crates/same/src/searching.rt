@@ -3,7 +3,7 @@ ghost use Rattle.pip_model.specs.ToolAgreement.{AgreesWalked};
 ghost use Rattle.pip_model.specs.Tools.{comparing, same_first, same_leaves, same_second};
 ghost use Rattle.pip_model.specs.Tree.{Solved, is_scoped};
 ghost use Rattle.pip_model.specs.Walks.{start_visit};
-ghost use Rattle.context.specs.Scoped.{IsKeptContext};
+ghost use Rattle.quast_walk.specs.Scoped.{IsKeptContext};
 ghost use Rattle.quast.specs.Answers.{answer_of, IsOver};
 ghost use Rattle.quast_walk.specs.Faults.{tool_fault};
 ghost use Rattle.quast_walk.specs.Readings.{leaf_answer, leaf_tree, answer_nesting, HasRoom};
@@ -11,9 +11,8 @@ ghost use Rattle.quast_walk.specs.Visits.{visit_of};
 
 use crate::leaves::find_at_leaves;
 use affine_forms::{Form, WantOfMemory};
-use context::{Context, Point, Work};
 use quast::Answer;
-use quast_walk::{Reading, ToolRefusal, TreeLeaf, Walker, walk};
+use quast_walk::{Context, Point, Reading, ToolRefusal, TreeLeaf, Walker, Work, walk};
 use std::alloc::Global;
 
 // A point at which two answers differ, if one was found.

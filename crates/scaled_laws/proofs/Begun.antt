@@ -4,7 +4,7 @@ use Rattle.std.proofs.lemmas.List.{drop-set-lt, drop-replicate, take-replicate}
 use Rattle.std.proofs.Math.Seq.{take-set-lt}
 use Rattle.std.specs.Prelude.{slice_set}
 use Rattle.pip_model.specs.Rows.{divided, unit_row}
-use Rattle.row_laws.proofs.RowLaws.{divided_whole}
+use Rattle.form_laws.proofs.RowLaws.{divided_whole}
 use Rattle.scaled_laws.specs.Scaled.{row_over}
 use Rattle.scaled_laws.specs.Units.{row_size, unit_numbers}
 

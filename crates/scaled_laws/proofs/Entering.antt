@@ -11,7 +11,7 @@ use Rattle.pip_model.proofs.Polynomials.{var, ◌⊖◌, ◌⊗◌, ring}
 use Rattle.pip_model.proofs.Forms.{entry-scale}
 use Rattle.run_laws.proofs.Lengths.{length_floors}
 use Rattle.run_laws.proofs.RowsAt.{divisor}
-use Rattle.row_laws.specs.Choices.{IsCandidate}
+use Rattle.form_laws.specs.Choices.{IsCandidate}
 use Rattle.form_laws.specs.ByForm.{coef}
 use Rattle.scaled_laws.specs.Scaled.{row_over}
 use Rattle.form_laws.proofs.Divided.{Undivided, undivided}

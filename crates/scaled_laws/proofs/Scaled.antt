@@ -15,7 +15,7 @@ use Rattle.pip_model.proofs.Polynomials.{var, ◌⊕◌, ◌⊖◌, ◌⊗◌, r
 use Rattle.pip_model.proofs.Forms.{entry-scale}
 use Rattle.run_laws.proofs.Lengths.{length_floors}
 use Rattle.run_laws.proofs.RowsAt.{divisor}
-use Rattle.row_laws.proofs.Unchanged.{scaled}
+use Rattle.form_laws.proofs.Unchanged.{scaled}
 use Rattle.form_laws.specs.ByForm.{coef, place}
 use Rattle.form_laws.specs.Columns.{IsScaled}
 use Rattle.scaled_laws.specs.Scaled.{row_over}

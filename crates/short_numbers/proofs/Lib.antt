@@ -1,2 +1,6 @@
 pub mod Bounds
 pub mod Quotients
+pub use Rattle.affine_forms.proofs.Units
+pub use Rattle.affine_forms.proofs.Short
+pub use Rattle.affine_forms.proofs.Divisors
+pub use Rattle.affine_forms.proofs.Combined

@@ -2,7 +2,7 @@
 use Rattle.std.proofs.Common.{zero, suc, ◌≤◌, ℤ, pos, negsuc, ◌≤ℤ◌, unsigned_abs, arith}
 use Rattle.std.proofs.lemmas.Int.{ints}
 use Rattle.std.proofs.Math.Nat.{div-le_self}
-use Rattle.pip_model.specs.Numbers.{floor_div}
+use Rattle.affine_forms.specs.Numbers.{floor_div}
 use Rattle.short_numbers.specs.Short.{IsShort}
 
 smaller : (a d : ℤ) → pos 1 ≤ℤ d → unsigned_abs (floor_div a d) ≤ unsigned_abs a

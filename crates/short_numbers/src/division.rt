@@ -1,5 +1,5 @@
 ghost use Rattle.std.specs.Prelude.{◌≡◌, ◌+◌, ◌<◌, ◌^◌, pos, ◌≤ℤ◌};
-ghost use Rattle.pip_model.specs.Numbers.{euclid, gcd as gcd_of_two, floor_div as floor_div_of};
+ghost use Rattle.affine_forms.specs.Numbers.{euclid, gcd as gcd_of_two, floor_div as floor_div_of};
 ghost use Rattle.short_numbers.specs.Short.{IsShort};
 
 // Euclid's algorithm on numbers below 2^63, which divides the second number first.

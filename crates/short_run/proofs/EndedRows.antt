@@ -1,6 +1,6 @@
 -- Rows at which a run ends.
 use Rattle.short_run.proofs.Words.{◌≡◌, ◌∙◌, refl, ap, ℕ, suc, ◌+◌, ◌<◌, ◌≤◌, arith, Bool, true, false, Option, Some, None, is_some, IsTrue, IfSome, List, [], ◌∷◌, ◌++◌, length, if◌then◌else◌, is_nonneg, is_positive, constant, list_any, Row, row_at, candidates, Work, Done, negative_from, finds_point}
-use Rattle.short_tableau.specs.Ended.{IsEndedBy}
+use Rattle.point_turns.specs.Ended.{IsEndedBy}
 use Rattle.short_run.proofs.Ending.{no_candidates, finds_here, finds_none}
 use Rattle.short_run.proofs.FurtherRows.{negative-front, row_at-front}
 

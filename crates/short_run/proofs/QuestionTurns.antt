@@ -1,7 +1,7 @@
 -- A turn of a question's run: it goes on, or the run ends, maybe after a pivot that is counted and not made.
 use Rattle.short_run.proofs.Words.{◌≡◌, false, ◌∙◌, refl, ap, sym, ℕ, ◌≤◌, arith, Bool, true, Option, Some, None, is_some, IfSome, IsTrue, ◌<◌, List, [], ◌∷◌, length, append-nil, all_fit, Row, row_at, first_fraction, entering, entering_listed, pivot, pivot_listed, Work, Done, Refused, Refusal, Again, turn, turn_by, last_turn, go_on, give, count_pivot, numbers_of, point_setting, again_run, falls-constant_class, negative_from, node_of, counted_cut, finds_point, length_pivot, entering_of, candidates, take, MinusAt, listed, ◌>>◌}
-use Rattle.short_tableau.specs.Ended.{IsEndedBy}
-use Rattle.row_laws.specs.Tableaus.{IsRow}
+use Rattle.point_turns.specs.Ended.{IsEndedBy}
+use Rattle.point_turns.specs.Tableaus.{IsRow}
 use Rattle.short_run.proofs.Ending.{finds_here, finds_none}
 use Rattle.short_run.proofs.EndedRows.{finds_ended}
 use Rattle.short_run.proofs.FurtherRows.{IsStep, turn-alone}

@@ -5,6 +5,7 @@ mod short_rows;
 mod short_run;
 mod stop;
 
+pub use point_turns::ShortTableau;
 pub use short_rows::{push_short, start_short};
 pub use short_run::{run_short, take_turn};
 pub use stop::Stop;

@@ -7,7 +7,7 @@ ghost use Rattle.short_run.specs.Stops.{stop_fault};
 
 use crate::stop::Stop;
 use affine_forms::{Form, WantOfMemory};
-use short_tableau::ShortTableau;
+use point_turns::ShortTableau;
 
 /// Adds the row of one form, whose numbers have to be short.
 #[inline(always)]

@@ -3,16 +3,14 @@ ghost use Rattle.pip_model.specs.Cuts.{constant_cut};
 ghost use Rattle.pip_model.specs.Rows.{row_at};
 ghost use Rattle.pip_model.specs.Run as model;
 ghost use Rattle.pip_model.specs.Run.{Refused, turn_by, MinusAt, AllPlus, point_setting};
-ghost use Rattle.run_counts.specs.Counts.{IsCountedRun, HasCounted};
+ghost use Rattle.point_turns.specs.Counts.{IsCountedRun, HasCounted};
 ghost use Rattle.short_run.specs.Stops.{stop_fault};
 ghost use Rattle.point_turns.specs.TurnAt.{IsTurnAt};
 ghost use Rattle.point_turns.specs.Turns.{negative_from, node_of, made, counted_cut, HasSameScope};
 ghost use Rattle.point_turns.specs.Points.{finds_point, IsTurnOf};
 
 use crate::stop::Stop;
-use point_turns::PointTurn;
-use run_counts::Work;
-use short_tableau::ShortTableau;
+use point_turns::{PointTurn, ShortTableau, Work};
 
 // At a row below 0: no point where no column enters, else a pivot.
 fn pivot_turn(rows: &mut ShortTableau, work: &mut Work, r: usize) -> Result<PointTurn, Stop>

@@ -6,3 +6,4 @@ pub mod Entries
 pub mod Fitting
 pub mod OneRow
 pub mod Places
+pub use Rattle.row_laws.proofs.RowLaws

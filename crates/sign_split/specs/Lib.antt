@@ -1,1 +1,3 @@
 pub mod Classes
+pub use Rattle.context.specs.Scoped
+pub use Rattle.context.specs.declared.context.ContextMark

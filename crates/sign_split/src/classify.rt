@@ -7,8 +7,8 @@ ghost use Rattle.affine_forms.specs.Forms.{IsForm};
 ghost use Rattle.pip_problem.specs.Faults.{run_fault};
 ghost use Rattle.run_counts.specs.Counts.{IsCountedRun};
 ghost use Rattle.context.specs.Scoped.{IsKeptContext};
-ghost use Rattle.lane_questions.specs.InLanes.{form_in};
-ghost use Rattle.lane_questions.specs.Signs.{class_of_sign};
+ghost use Rattle.context.specs.InLanes.{form_in};
+ghost use Rattle.context.specs.Signs.{class_of_sign};
 ghost use Rattle.sign_split.specs.Classes.{class_of, class_if_below, widened_class, ConditionIs};
 
 use crate::classes::Class;

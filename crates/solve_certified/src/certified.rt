@@ -24,8 +24,8 @@ use certificate_check::{Known, void_forms};
 use certificate_parts::{Certificate, LeafProofs, Refutation};
 use pip_problem::{Limits, Problem, Refusal};
 use pip_solve::{answer_from, context_point};
-use point_run::Point;
 use quast::{Answer, Quast};
+use refuter::Point;
 use run_counts::Work;
 use std::alloc::Global;
 

@@ -5,7 +5,7 @@ ghost use Rattle.solve_certified.specs.Quotients.{steps_from, ReadsPlaces};
 
 use affine_forms::{Form, WantOfMemory};
 use certificate_parts::{Refutation, Step, Terms};
-use refutation_steps::push_positive;
+use refuter::push_positive;
 use std::alloc::Global;
 use std::marker::Model;
 

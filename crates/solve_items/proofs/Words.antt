@@ -8,7 +8,7 @@ pub use Rattle.std.specs.Io.KnownBytes.{Appends}
 pub use Rattle.std.proofs.lemmas.Result.{err_from_is_err_and}
 pub use Rattle.program_model.specs.ItemTexts.{certified_answer_text, certified_outcome, certified_text}
 pub use Rattle.pip_model.specs.TreeText.{spell}
-pub use Rattle.pip_endings.specs.Endings.{told, IsOfItem}
+pub use Rattle.item_writing.specs.Endings.{told, IsOfItem}
 pub use Rattle.pip_outside.specs.Bytes.{AppendsFront}
 pub use Rattle.program_model.specs.Endings.{Ending, finished, fault_ending}
 pub use Rattle.program_model.specs.Items.{ItemAt, Ends, FirstItemsTo, IsItself, NoEnd, Gives, or_ending, text_with, text_of_item}

@@ -4,12 +4,12 @@ ghost use Rattle.pip_model.specs.Certificate.{spell_certificate};
 ghost use Rattle.program_model.specs.ItemTexts.{certified_text};
 ghost use Rattle.pip_model.specs.TreeText.{spell};
 ghost use Rattle.quast.specs.Answers.{answer_of};
-ghost use Rattle.pip_endings.specs.Endings.{told, IsOfItem};
+ghost use Rattle.item_writing.specs.Endings.{told, IsOfItem};
 ghost use Rattle.item_writing.specs.Items.{IsTextOfItem};
 
 use certificate_parts::Certificate;
+use item_writing::Ending;
 use leaf_certificate::print_certificate;
-use pip_endings::Ending;
 use pip_problem::{Limits, Problem};
 use quast::Answer;
 use quast_text::print_answer;

@@ -6,6 +6,7 @@ mod problems;
 mod solve;
 mod trial;
 
+pub use pip_trial::{Generator, draw_problem};
 pub use problems::{answer_next, write_problems};
 pub use solve::Matrices;
 pub use trial::Trial;

@@ -11,10 +11,10 @@ ghost use Rattle.item_writing.specs.Outputs.{EndsByFaults};
 ghost use Rattle.item_writing.specs.ByProblem.{WritesByProblem, FailsInTime, CallsBy};
 
 use crate::solve::write_solution;
-use pip_endings::Ending;
+use item_writing::Ending;
 use pip_outside::{Sink, Source, Window, write_all};
-use pip_solve::Solver;
 use pip_stream::next_problem;
+use pip_trial::Solver;
 use pip_words::SolveOptions;
 use std::alloc::Global;
 

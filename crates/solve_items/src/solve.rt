@@ -5,14 +5,13 @@ ghost use Rattle.pip_model.specs.Simplified.{simplified};
 ghost use Rattle.pip_model.specs.Values.{simplified_by};
 ghost use Rattle.quast.specs.Answers.{answer_of};
 ghost use Rattle.pip_words.specs.Words.{options_of};
-ghost use Rattle.pip_endings.specs.Endings.{IsOfItem};
+ghost use Rattle.item_writing.specs.Endings.{IsOfItem};
 ghost use Rattle.item_writing.specs.Items.{IsTextOfItem};
 
 use crate::certified::write_certified;
-use item_writing::Items;
-use pip_endings::Ending;
+use item_writing::{Ending, Items};
 use pip_problem::Problem;
-use pip_solve::Solver;
+use pip_trial::Solver;
 use pip_words::SolveOptions;
 use polylib_reader::read_matrices;
 use quast::Answer;

@@ -1,8 +1,7 @@
 ghost use Rattle.std.specs.Prelude.{⊤};
 ghost use Rattle.program_model.specs.Commands.{Trial as model_trial};
 
-use item_writing::Items;
-use pip_endings::Ending;
+use item_writing::{Ending, Items};
 use pip_trial::print_trial;
 use pip_words::TrialOptions;
 use std::alloc::Global;

@@ -18,7 +18,7 @@ pub use Rattle.row_laws.proofs.Unchanged.{all_fit-append, eliminated_listed_one}
 pub use Rattle.row_laws.proofs.RowLaws.{divided_one, count_map, widened_is_row, widened_content}
 pub use Rattle.row_laws.specs.Steps.{IsMadeReduced}
 pub use Rattle.row_laws.proofs.Stepping.{elimination, pivot_row}
-pub use Rattle.tableau_row.specs.Views.{row_of}
+pub use Rattle.kept_rows.specs.Views.{row_of}
 pub use Rattle.pip_model.proofs.Forms.{length-count}
 pub use Rattle.pip_model.specs.Cuts.{rounded, rounded_listed}
 pub use Rattle.tableau.specs.KeptRows.{KeptRows, IsOver, IsSpare, AreLeft, AreLentOf, AreNext, AreSides, IsPivot, turned, turned_listed, with_more, with_rows, IsSteady, SameShape, AreSteady}

@@ -4,9 +4,8 @@ ghost use Rattle.kept_rows.specs.Places.{IsLent, AreLent, IsRun, row_length, len
 
 use crate::flat_rows::FlatRows;
 use affine_forms::WantOfMemory;
-use kept_rows::{Kept, Lent, append_all_kept, append_moved, append_run};
+use kept_rows::{Kept, Lent, append_all_kept, append_entries, append_moved, append_run};
 use std::alloc::Global;
-use tableau_row::append_entries;
 
 // Adds a kept row that is lent.
 pub(crate) fn copy_kept(next: &mut FlatRows, lent: &Lent<'_>, one: Kept)

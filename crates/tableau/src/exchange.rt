@@ -5,13 +5,12 @@ ghost use Rattle.affine_forms.specs.Checks.{is_overflow};
 ghost use Rattle.tableau.specs.KeptRows.{IsOver, AreLeft, AreSteady, IsPivot, IsSpare, IsSteady, SameShape, turned, turned_listed, with_more, with_rows};
 ghost use Rattle.kept_rows.specs.Places.{IsLent, AreLent, IsRun, IsSolvable, lent_row, row_length};
 ghost use Rattle.row_laws.specs.Rows.{IsRow, IsOwnRow};
-ghost use Rattle.tableau_row.specs.Views.{row_of};
+ghost use Rattle.kept_rows.specs.Views.{row_of};
 
 use crate::copying::copy_kept;
 use crate::flat_rows::FlatRows;
 use affine_forms::Overflow;
-use kept_rows::{Kept, Lent};
-use tableau_row::{RowView, check_eliminated};
+use kept_rows::{Kept, Lent, RowView, check_eliminated};
 
 // Checks the numbers of a row with row p, solved for column c, put in. They fit where both rows are short, and where
 // the row stays as it is under an entry of 1.

@@ -4,14 +4,13 @@ ghost use Rattle.tableau.specs.KeptRows.{AreLentOf, AreSides, IsSpare, SameRows}
 ghost use Rattle.kept_rows.specs.Places.{flat_numbers, row_length, unit_run};
 ghost use Rattle.row_laws.specs.Flat.{is_unit_row};
 ghost use Rattle.row_laws.specs.Rows.{IsRow};
-ghost use Rattle.tableau_row.specs.Views.{row_of};
+ghost use Rattle.kept_rows.specs.Views.{row_of};
 
 use affine_forms::WantOfMemory;
-use kept_rows::{Kept, Lent};
+use kept_rows::{Kept, Lent, RowView};
 use std::alloc::Global;
 use std::cmp::max;
 use std::marker::Model;
-use tableau_row::RowView;
 
 // Rows: those of columns by the columns, the others by their numbers, one row after the other. There is room for
 // `most` rows.

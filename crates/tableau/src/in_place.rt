@@ -10,9 +10,8 @@ ghost use Rattle.row_laws.specs.Short.{IsShortRow};
 
 use crate::copying::copy_kept;
 use crate::flat_rows::FlatRows;
-use kept_rows::{Kept, Pivot, is_ready_front, turn_front};
+use kept_rows::{Kept, Pivot, is_ready_front, turn_front, view_of};
 use std::mem::swap;
-use tableau_row::view_of;
 
 // From how many unknowns on a pivot in place is worth while.
 const MANY: usize = 8;

@@ -12,5 +12,5 @@ mod tableau;
 mod widening;
 
 pub use affine_forms::FormRefusal as StepRefusal;
+pub use kept_rows::{RowView, short_floor_div, short_gcd, view_of};
 pub use tableau::Tableau;
-pub use tableau_row::{RowView, short_floor_div, short_gcd};

@@ -10,14 +10,13 @@ ghost use Rattle.kept_rows.specs.Places.{IsPlainRow, IsSolvable};
 ghost use Rattle.tableau.specs.KeptRows.{with_more};
 ghost use Rattle.row_laws.specs.Short.{IsShort, IsShortRow};
 ghost use Rattle.row_laws.specs.Rows.{IsRow, IsReduced};
-ghost use Rattle.tableau_row.specs.Views.{row_of};
+ghost use Rattle.kept_rows.specs.Views.{row_of};
 
 use crate::flat_rows::FlatRows;
 use affine_forms::{Form, Overflow};
-use kept_rows::{Kept, RowPlace, append_kept, seal};
-use tableau_row::{
-    RowView, append_divided, append_eliminated, append_entries, append_rounded, append_solved,
-    append_widened, is_short_row,
+use kept_rows::{
+    Kept, RowPlace, RowView, append_divided, append_eliminated, append_entries, append_kept,
+    append_rounded, append_solved, append_widened, is_short_row, seal,
 };
 
 // Appends the number, for which there is room.

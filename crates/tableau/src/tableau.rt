@@ -8,15 +8,14 @@ ghost use Rattle.row_laws.specs.Flat.{numbers_of, is_unit_row};
 ghost use Rattle.tableau.specs.KeptRows.{AreReady, IsSpare, SameRows, with_rows};
 ghost use Rattle.row_laws.specs.Rows.{IsRow, row_from};
 ghost use Rattle.row_laws.specs.Tableaus.{with_row, with_rounded};
-ghost use Rattle.tableau_row.specs.Views.{row_of};
+ghost use Rattle.kept_rows.specs.Views.{row_of};
 
 use crate::flat_rows::FlatRows;
 use affine_forms::{Form, Overflow, WantOfMemory};
-use kept_rows::make_run;
+use kept_rows::{RowView, is_short_row, make_run};
 use std::alloc::Global;
 use std::marker::Model;
 use std::mem::swap;
-use tableau_row::{RowView, is_short_row};
 
 /// Rows over the same columns, one for each unknown, whose constant forms stand over the same places: the
 /// parameters, and then the quotients of a path. Each number of a row fits, and each denominator is at least 1.

@@ -1,3 +1,4 @@
 pub mod Room
 pub mod Stepped
 pub mod Views
+pub use Rattle.affine_forms.specs.Checks

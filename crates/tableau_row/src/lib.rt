@@ -10,6 +10,7 @@ mod short;
 mod step;
 mod view;
 
+pub use affine_forms::WantOfMemory;
 pub use append::{
     append_divided, append_eliminated, append_entries, append_rounded, append_row, append_solved,
     append_widened,

@@ -4,7 +4,7 @@ pub use Rattle.std.specs.Prelude.{Err, IfSome, IsFalse, Ok, Result, All}
 pub use Rattle.pip_model.specs.Listed.{all_fit}
 pub use Rattle.program_model.specs.ItemTexts.{pieces_text, made_text, made_line, sameness_text}
 pub use Rattle.pip_model.specs.TreeText.{Commented, spell}
-pub use Rattle.pip_endings.specs.Endings.{told, pieces_ending}
+pub use Rattle.item_writing.specs.Endings.{told, pieces_ending}
 pub use Rattle.program_model.specs.Endings.{Ending}
 pub use Rattle.pip_model.specs.Reading.{◌>>=◌}
 pub use Rattle.pip_model.specs.Tree.{Answer, Tree, Bottom, Leaf, Component, reduced, Ratio, component_value, leaf_of, leaf_point, tree_value}

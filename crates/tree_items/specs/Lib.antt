@@ -1,2 +1,3 @@
 pub mod Values
 pub mod Pairs
+pub use Rattle.restrict.specs.Faults

@@ -3,9 +3,8 @@ ghost use Rattle.program_model.specs.Commands.{Least as model_least};
 ghost use Rattle.tree_items.specs.Pairs.{IsTrio, trio_of};
 
 use crate::trio::{Trio, trio_at};
-use item_writing::Items;
+use item_writing::{Ending, Items};
 use least::least;
-use pip_endings::Ending;
 use pip_words::WalkOptions;
 use quast_text::print_answer;
 use std::alloc::Global;

@@ -6,8 +6,7 @@ ghost use Rattle.text_printing.specs.Printing.{Appends};
 ghost use Rattle.tree_items.specs.Pairs.{IsTrio, trio_of};
 
 use crate::trio::{Trio, trio_at};
-use item_writing::Items;
-use pip_endings::Ending;
+use item_writing::{Ending, Items};
 use pip_words::WalkOptions;
 use same::{Sameness, same};
 use std::alloc::{AllocError, Global};

@@ -4,8 +4,7 @@ ghost use Rattle.quast.specs.Answers.{IsOver};
 ghost use Rattle.quast_text.specs.Spoken.{spoken_of};
 
 use crate::value::value_of;
-use item_writing::Items;
-use pip_endings::Ending;
+use item_writing::{Ending, Items};
 use pip_words::ParameterVector;
 use quast_text::{Spoken, print_answer, read_answer};
 use std::alloc::Global;

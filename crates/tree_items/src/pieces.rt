@@ -3,8 +3,7 @@ ghost use Rattle.program_model.specs.Commands.{Pieces as model_pieces};
 ghost use Rattle.quast.specs.Answers.{IsOver};
 ghost use Rattle.quast_text.specs.Spoken.{spoken_of};
 
-use item_writing::Items;
-use pip_endings::Ending;
+use item_writing::{Ending, Items};
 use pip_words::PiecesOptions;
 use quast_pieces::print_pieces;
 use quast_text::{Spoken, read_answer};

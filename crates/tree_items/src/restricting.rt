@@ -3,8 +3,7 @@ ghost use Rattle.program_model.specs.Commands.{Restrict as model_restrict};
 ghost use Rattle.tree_items.specs.Pairs.{IsPair, pair_of};
 
 use affine_forms::Forms;
-use item_writing::{Items, needed_answer};
-use pip_endings::Ending;
+use item_writing::{Ending, Items, needed_answer};
 use pip_reader::read_context;
 use pip_words::WalkOptions;
 use quast_text::{Spoken, print_answer};

@@ -3,8 +3,7 @@ ghost use Rattle.program_model.specs.Commands.{Simplify as model_simplify};
 ghost use Rattle.quast.specs.Answers.{IsOver};
 ghost use Rattle.quast_text.specs.Spoken.{spoken_of};
 
-use item_writing::Items;
-use pip_endings::Ending;
+use item_writing::{Ending, Items};
 use pip_words::SimplifyOptions;
 use quast::Answer;
 use quast_simplify::simplify_answer;

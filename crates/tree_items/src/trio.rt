@@ -5,8 +5,7 @@ ghost use Rattle.item_writing.specs.Items.{Finds, FindsItem};
 ghost use Rattle.tree_items.specs.Pairs.{IsTrio, trio_of};
 
 use affine_forms::Forms;
-use item_writing::needed_answer;
-use pip_endings::Ending;
+use item_writing::{Ending, needed_answer};
 use pip_reader::read_context;
 use quast_text::Spoken;
 use std::alloc::Global;

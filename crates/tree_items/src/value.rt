@@ -6,11 +6,11 @@ ghost use Rattle.affine_forms.specs.Checks.{Fits};
 ghost use Rattle.quast.specs.Answers.{answer_of, IsOver};
 ghost use Rattle.quast.specs.Components.{IsComponent};
 ghost use Rattle.quast.specs.Places.{IsPoint};
-ghost use Rattle.pip_endings.specs.Endings.{told};
+ghost use Rattle.item_writing.specs.Endings.{told};
 ghost use Rattle.tree_items.specs.Values.{ratios_of, tree_valued, valued};
 
 use affine_forms::{Form, WantOfMemory};
-use pip_endings::Ending;
+use item_writing::Ending;
 use quast::{Answer, Component, Place, Quast, Scratch};
 use std::alloc::Global;
 

@@ -3,8 +3,8 @@ ghost use Rattle.std.specs.Prelude.{◌≡◌, ◌+◌, ◌≤◌, length};
 
 use affine_rows::{Form, WantOfMemory};
 use certificate_parts::{Refutation, Step};
-use context::{Context, Work};
 use pip_problem::{Limits, Refusal};
+use pip_solve::{Context, Work};
 use std::alloc::Global;
 use std::test::Fail;
 

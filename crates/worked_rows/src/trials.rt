@@ -1,7 +1,7 @@
 //! Trials of problems that are drawn.
 use crate::row::are_answered;
 use affine_rows::WantOfMemory;
-use pip_trial::{Generator, draw_problem};
+use pip_cli::{Generator, draw_problem};
 use std::alloc::Global;
 use std::test::Fail;
 

@@ -1,5 +1,5 @@
 use Rattle.node_turn.proofs.Words.{rules, arith, ◌≡◌, ◌∙◌, sym, IfSome, common_steps, row_at, Minus, Done, Refused, class, run_fault, counted_on, class_of, kept_signs}
-use Rattle.context.proofs.Keeping.{kept_on}
+use Rattle.sign_split.proofs.Keeping.{kept_on}
 use Rattle.node_turn.proofs.Scanning.{scanned_on, scanned_minus, refused_from, not_minus}
 use Rattle.node_turn.proofs.Knowing.{known_on, at_start}
 use Rattle.node_turn.proofs.scan.scan.Goals as goal

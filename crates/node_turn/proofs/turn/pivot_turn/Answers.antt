@@ -1,5 +1,5 @@
 use Rattle.node_turn.proofs.Words.{arith, ap, ◌≡◌, subst, common_steps, Done, turn_by, MinusAt, ScopedTree, node_of, setting_of}
-use Rattle.point_run.specs.Turns.{pivoted}
+use Rattle.node_rows.specs.Turns.{pivoted}
 use Rattle.node_turn.proofs.turn.pivot_turn.Goals as goal
 
 pub returns-in_err-enter_and_pivot-clause-gives : goal.returns-in_err-enter_and_pivot-clause-gives

@@ -1,6 +1,6 @@
 use Rattle.std.proofs.Common.{◌≡◌, drop}
-use Rattle.pip_model.specs.Listed.{all_fit}
-use Rattle.pip_model.specs.Problem.{all_nonneg, rows_listed}
+use Rattle.affine_forms.specs.Listed.{all_fit}
+use Rattle.affine_forms.specs.Problem.{all_nonneg, rows_listed}
 use Rattle.pip_problem.proofs.feasible.all_nonneg.Given as goal
 
 abbrev pub invariant-loop-form : goal.invariant-loop-form

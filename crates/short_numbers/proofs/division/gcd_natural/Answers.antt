@@ -1,6 +1,6 @@
 use Rattle.std.proofs.Common.{arith, ◌^◌}
 use Rattle.std.proofs.lemmas.Nat.Gcd.{IsGcd-from_zero, IsGcd-from_mod, IsGcd-swap}
-use Rattle.pip_model.proofs.Gcd.{euclid_only, euclid_below}
+use Rattle.affine_forms.proofs.Gcd.{euclid_only, euclid_below}
 use Rattle.short_numbers.proofs.division.gcd_natural.Goals as goal
 
 pub loop-y-init : goal.loop-y-init

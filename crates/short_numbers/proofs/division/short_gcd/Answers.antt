@@ -1,7 +1,7 @@
 use Rattle.std.proofs.Common.{rules, ◌≡◌, to_z}
 use Rattle.std.specs.Int.{w64}
-use Rattle.pip_model.specs.Numbers.{gcd}
-use Rattle.pip_model.proofs.Gcd.{gcd_between}
+use Rattle.affine_forms.specs.Numbers.{gcd}
+use Rattle.affine_forms.proofs.Gcd.{gcd_between}
 use Rattle.short_numbers.proofs.division.short_gcd.Goals as goal
 
 pub returns-clause-positive : goal.returns-clause-positive

@@ -1,5 +1,5 @@
 use Rattle.short_run.proofs.Words.{refl, unit_row}
-use Rattle.row_laws.proofs.RowLaws.{count_map}
+use Rattle.point_turns.proofs.RowLaws.{count_map}
 use Rattle.short_run.proofs.short_rows.start_columns.Goals as goal
 
 pub loop-c-preserved : goal.loop-c-preserved

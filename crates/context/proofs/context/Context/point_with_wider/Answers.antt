@@ -1,5 +1,5 @@
 use Rattle.context.proofs.Words.{rules, arith, ◌≡◌, sym, [], ◌∷◌}
-use Rattle.point_run.proofs.Leaving.{run_same}
+use Rattle.kept_run.proofs.Leaving.{run_same}
 use Rattle.kept_run.proofs.OneFormMore.{has_point_is}
 use Rattle.context.proofs.context.Context.point_with_wider.Goals as goal
 

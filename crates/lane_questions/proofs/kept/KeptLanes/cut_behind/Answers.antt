@@ -4,7 +4,7 @@ use Rattle.pip_model.specs.Rows.{first_fraction}
 use Rattle.pip_model.specs.Run.{Done}
 use Rattle.run_counts.proofs.Counting.{counted_none}
 use Rattle.scaled_laws.specs.Tables.{ScaledTable}
-use Rattle.short_run.specs.Stops.{stop_fault}
+use Rattle.lane_run.specs.Stops.{stop_fault}
 use Rattle.point_turns.specs.Points.{finds_point}
 use Rattle.point_turns.specs.Turns.{negative_from}
 use Rattle.lane_questions.specs.Kept.{LaneVertex}

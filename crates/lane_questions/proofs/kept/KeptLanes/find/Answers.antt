@@ -4,7 +4,7 @@ use Rattle.std.specs.Int.{w32}
 use Rattle.pip_model.specs.Agreement.{AgreesCounted}
 use Rattle.run_counts.proofs.Counting.{counted_on}
 use Rattle.scaled_laws.specs.Tables.{ScaledTable}
-use Rattle.short_run.specs.Stops.{stop_fault}
+use Rattle.lane_run.specs.Stops.{stop_fault}
 use Rattle.lane_questions.specs.Kept.{LaneVertex}
 use Rattle.lane_questions.proofs.KeptRuns.{counted_kept}
 use Rattle.lane_questions.proofs.OneBehind.{goes_on_behind, forms_behind, modest_behind, row_behind, none_behind}

@@ -1,7 +1,7 @@
 use Rattle.std.proofs.Common.{rules, refl, ◌∙◌, ap, sym, subst, Bool}
 use Rattle.pip_model.specs.Agreement.{AgreesCounted}
 use Rattle.run_counts.proofs.Counting.{counted_on}
-use Rattle.short_run.specs.Stops.{stop_fault}
+use Rattle.lane_run.specs.Stops.{stop_fault}
 use Rattle.lane_questions.specs.Kept.{LaneVertex}
 use Rattle.lane_questions.proofs.KeptRuns.{counted_kept}
 use Rattle.lane_questions.proofs.OwnPoint.{modest_own, forms_own, goes_on_own}

@@ -5,7 +5,7 @@ use Rattle.pip_model.specs.Run.{Done, count_pivot}
 use Rattle.pip_problem.specs.Faults.{run_fault}
 use Rattle.run_counts.proofs.Counting.{counted_none, counted_on}
 use Rattle.scaled_laws.specs.Tables.{ScaledTable}
-use Rattle.short_run.specs.Stops.{stop_fault}
+use Rattle.lane_run.specs.Stops.{stop_fault}
 use Rattle.lane_questions.specs.Kept.{LaneVertex}
 use Rattle.lane_run.specs.Pivots.{IsEntering, IsPivoted}
 use Rattle.lane_run.proofs.FrontPivot.{front_closes}

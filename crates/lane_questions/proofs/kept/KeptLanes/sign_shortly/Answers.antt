@@ -4,7 +4,7 @@ use Rattle.pip_model.specs.Forms.{opposite}
 use Rattle.pip_model.specs.Run.{Done}
 use Rattle.run_counts.proofs.Counting.{counted_on}
 use Rattle.point_turns.specs.Points.{has_point}
-use Rattle.short_run.specs.Stops.{stop_fault}
+use Rattle.lane_run.specs.Stops.{stop_fault}
 use Rattle.lane_questions.proofs.SignsByPoints.{opposite_question, question_fits, nowhere_below, refused_below, everywhere_below, of_both_signs, refused_above}
 use Rattle.lane_questions.proofs.kept.KeptLanes.sign_shortly.Goals as goal
 

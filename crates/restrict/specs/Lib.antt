@@ -1,0 +1,1 @@
+pub use Rattle.quast_walk.specs.Faults
