@@ -26,6 +26,9 @@ fn unit_products(p: &RowView<'_>, c: usize, k: usize, b: usize) -> Result<(i128,
     ensures value { IfOk result (λ both. both ≡
         (unit_entry c k *ℤ entry p.now.coefs.now b, unit_entry c b *ℤ entry p.now.coefs.now k)) }
 {
+    if c != k && c != b {
+        return Ok((0, 0));
+    }
     let of_k = unit_product(c, k, p.coefs[b])?;
     let of_b = unit_product(c, b, p.coefs[k])?;
     Ok((of_k, of_b))

@@ -1,5 +1,6 @@
 mod Words
 pub mod Along
+pub mod Firsts
 pub mod Flat
 pub mod FormRows
 pub mod InPlace

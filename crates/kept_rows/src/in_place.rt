@@ -12,6 +12,7 @@ use crate::kept::{Kept, RowPlace};
 use tableau_row::{RowView, eliminate, unit_column, view_of};
 
 // Whether the row is not that of a column.
+#[inline(always)]
 fn is_plain(row: &RowView<'_>) -> bool
     requires { 0 < length row.now.constant.now }
     ensures { IsTrue result → is_unit_row (row_of row.now) ≡ false }

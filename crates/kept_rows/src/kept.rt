@@ -32,6 +32,7 @@ pub struct Lent<'t> {
 
 impl<'t> Lent<'t> {
     // The row of column c.
+    #[inline(always)]
     #[tactic(auto, using(crate::proofs::UnitRun::length_run, crate::proofs::UnitRun::lent_unit))]
     fn unit(&self, c: usize) -> RowView<'t>
         requires column { c < self.now.unknowns }
@@ -46,6 +47,7 @@ impl<'t> Lent<'t> {
     }
 
     /// The numbers of the row whose first number stands at a place.
+    #[inline(always)]
     pub fn numbers_at(&self, first: usize) -> &'t [i128]
         requires { first + row_length self.now.unknowns self.now.width ≤ length self.now.numbers.now }
         ensures value { result.now ≡ take (row_length self.now.unknowns self.now.width)
@@ -58,6 +60,7 @@ impl<'t> Lent<'t> {
     }
 
     // The row at a place.
+    #[inline(always)]
     fn plain(&self, at: RowPlace) -> RowView<'t>
         requires place { at.first + row_length self.now.unknowns self.now.width ≤ length self.now.numbers.now }
         requires short { IsTrue at.short
@@ -69,6 +72,7 @@ impl<'t> Lent<'t> {
 
     /// The numbers of a row that is kept by them.
     #[tactic(auto, using(row_laws::proofs::Numbers::numbers_again))]
+    #[inline(always)]
     pub fn run(&self, kept: Kept) -> Option<&'t [i128]>
         requires { IsPlace self.now.unknowns self.now.width (length self.now.numbers.now) kept }
         ensures { IfSome result (λ s. s.now ≡ numbers_of (lent_row self.now kept)) }
@@ -80,6 +84,7 @@ impl<'t> Lent<'t> {
     }
 
     /// The place behind the numbers of a row, the given one where it has none.
+    #[inline(always)]
     pub fn behind(&self, kept: Kept, at: usize) -> usize
         requires { IsPlace self.now.unknowns self.now.width (length self.now.numbers.now) kept }
         ensures { result ≡ place_behind (row_length self.now.unknowns self.now.width) at kept }
@@ -91,6 +96,7 @@ impl<'t> Lent<'t> {
     }
 
     /// A row.
+    #[inline(always)]
     pub fn row(&self, kept: Kept) -> RowView<'t>
         requires one { IsLent self.now kept }
         requires units { self.now.units.now ≡ unit_run self.now.unknowns self.now.width }

@@ -5,6 +5,7 @@ ghost use Rattle.kept_rows.specs.Along as along;
 use crate::kept::Kept;
 
 // Whether the row is that of another column, or known to be short.
+#[inline(always)]
 fn is_ready(one: Kept, c: usize) -> bool
     ensures { result ≡ along.is_ready c one }
 {

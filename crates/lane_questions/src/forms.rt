@@ -223,6 +223,7 @@ pub fn write_form(room: &mut Vec<i128>, form: Lanes, places: usize) -> Result<()
     ensures value { OnOk result (room.new.items ≡ room.old.items ++ form_in places form) }
     ensures form { OnOk result (IsForm (form_in places form)) }
 {
+    room.reserve(places + 1)?;
     for k in 0..places {
         room.push(form.get(k + 1) as i128)?;
     }

@@ -119,6 +119,7 @@ impl KeptLanes {
     }
 
     // Goes on with the pivot on the row of these numbers behind the last rows, in the room of other rows.
+    #[inline(always)]
     fn pivot_behind(
         &self,
         room: &mut LaneRows,

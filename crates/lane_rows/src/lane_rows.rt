@@ -88,6 +88,7 @@ impl LaneRows {
     }
 
     /// Becomes the same as another, in the room that there is. A refusal leaves no rows over no columns.
+    #[inline(always)]
     pub fn copy_from(&mut self, t: &LaneRows) -> Result<(), WantOfMemory>
         ensures ok { OnOk result (self.new ≡ t.now) }
         ensures err { OnErr result (self.new ≡ no_rows 0 0) }

@@ -73,6 +73,7 @@ impl KnownForms {
     }
 
     // What was counted for the form of these entries, where it is known.
+    #[inline(always)]
     pub(crate) fn find(&self, entries: &[i128]) -> Option<Counts>
         ensures { IfSome result (λ counts. Contains self.now (record { form = entries.now; counts = counts })) }
     {

@@ -31,6 +31,7 @@ pub(crate) enum Signs {
 
 // Whether the form of these entries is known. What was counted for it is counted again then; where that has no room,
 // it is as if it were not known.
+#[inline(always)]
 fn is_known_again(known: &KnownForms, entries: &[i128], work: &mut Work) -> bool
     ensures known { (K : List (List ℤ)) (w : ℕ) → AreKnown K w work.old.budget known.now → IsTrue result
         → model.class K w entries.now work.old ≡ Done Plus work.new }

@@ -5,9 +5,10 @@ use Rattle.pip_model.specs.Reading.{no_big_parameter}
 use Rattle.pip_model.specs.Problem.{Problem}
 use Rattle.pip_model.specs.WellFormed.{IsProblem}
 use Rattle.text_laws.proofs.ReadMatrices.{read_matrices-reads}
-use Rattle.polylib_reader.specs.Matrices.{problem_by_steps, context_matrix, constraint_matrix}
+use Rattle.polylib_reader.specs.Matrices.{size, problem_by_steps, context_matrix, constraint_matrix}
 
 pub read_matrices_by_steps : (bytes : List ℕ) → read_matrices bytes ≡ problem_by_steps bytes
+unfolding size
 read_matrices_by_steps bytes = simp bind_assoc refl
 
 -- a problem that is read by steps is within the limits

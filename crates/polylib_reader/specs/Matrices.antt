@@ -15,23 +15,25 @@ row_head bytes kind most count place = do
   now ← counted kind most (count + count_of equality.0)
   Ok ((equality.0, now), equality.1)
 
+-- a number from `low` to `high`
+unfoldable pub size : List ℕ → LimitKind → ℕ → ℕ → ℕ → Reads ℕ
+size bytes kind low high place = do
+  n ← matrix_number bytes place
+  within kind low high n
+
 -- the number of parameters and the context's inequalities
 abbrev pub context_matrix : List ℕ → Reads (ℕ × List (List ℤ))
 context_matrix bytes = do
-  k ← matrix_number bytes 0
-  rows ← within ContextRows 0 most_context_rows k
-  kc ← matrix_number bytes rows.1
-  columns ← within ContextColumns 2 (most_params + 2) kc
+  rows ← size bytes ContextRows 0 most_context_rows 0
+  columns ← size bytes ContextColumns 2 (most_params + 2) rows.1
   forms ← matrix_rows bytes ContextRows most_context_rows (columns.0 - 2 + 1) 0 rows.0 columns.1
   Ok ((columns.0 - 2, forms.0), forms.1)
 
 -- the number of unknowns and the tableau's inequalities
 abbrev pub constraint_matrix : List ℕ → ℕ → ℕ → Reads (ℕ × List (List ℤ))
 constraint_matrix bytes params place = do
-  l ← matrix_number bytes place
-  rows ← within Rows 0 most_rows l
-  lc ← matrix_number bytes rows.1
-  columns ← within Columns (params + 3) (params + 2 + most_unknowns) lc
+  rows ← size bytes Rows 0 most_rows place
+  columns ← size bytes Columns (params + 3) (params + 2 + most_unknowns) rows.1
   forms ← matrix_rows bytes Rows most_rows (columns.0 - params - 2 + params + 1) 0 rows.0 columns.1
   Ok ((columns.0 - params - 2, forms.0), forms.1)
 

@@ -2,9 +2,9 @@ ghost use Rattle.std.specs.Prelude.{◌≤◌, ◌<◌, length, IfOk};
 ghost use Rattle.pip_model.specs.Limits.{most_params, most_rows};
 ghost use Rattle.pip_model.specs.MatrixText.{matrix_rows as matrix_rows_of};
 ghost use Rattle.pip_model.specs.Agreement.{Agrees};
-ghost use Rattle.text_reading.specs.Steps.{AreRead};
+ghost use Rattle.text_reading.specs.Steps.{AreRead, IsRead};
 ghost use Rattle.pip_problem.specs.Faults.{read_fault};
-ghost use Rattle.polylib_reader.specs.Matrices.{context_matrix as context_matrix_of, constraint_matrix as constraint_matrix_of};
+ghost use Rattle.polylib_reader.specs.Matrices.{size as size_of, context_matrix as context_matrix_of, constraint_matrix as constraint_matrix_of};
 
 use crate::number::{number, numbers};
 use crate::row::{push_inequalities, row_head};
@@ -53,25 +53,31 @@ fn matrix_rows(
     Ok((forms, at))
 }
 
+// A number from `low` to `high`, and the place behind it.
+#[tactic(auto, unfolding(crate::specs::Matrices::size))]
+fn size(
+    bytes: &[u8],
+    kind: LimitKind,
+    low: usize,
+    high: usize,
+    place: usize,
+) -> Reads<usize, ReadRefusal>
+    requires { place ≤ length bytes.now }
+    ensures reads { IsRead (λ n. n) read_fault bytes.now place result (size_of bytes.now kind low high place) }
+    ensures range { IfOk result (λ x. (low ≤ x.0) × (x.0 ≤ high)) }
+{
+    within(kind, low, high, number(bytes, place)?)
+}
+
 // The context matrix: its rows, its columns, and its entries row by row.
 pub(crate) fn context_matrix(alloc: Global, bytes: &[u8]) -> Result<Matrix, ReadRefusal>
     ensures agrees { Agrees (λ m. ((m.size, m.forms.items), m.after)) read_fault result (context_matrix_of bytes.now) }
     ensures params { IfOk result (λ m. m.size ≤ most_params) }
     ensures order { IfOk result (λ m. m.after ≤ length bytes.now) }
 {
-    let (rows, at) = within(
-        LimitKind::ContextRows,
-        0,
-        MOST_CONTEXT_ROWS,
-        number(bytes, 0)?,
-    )?;
+    let (rows, at) = size(bytes, LimitKind::ContextRows, 0, MOST_CONTEXT_ROWS, 0)?;
     let most_columns = MOST_PARAMETERS + 2;
-    let (columns, at) = within(
-        LimitKind::ContextColumns,
-        2,
-        most_columns,
-        number(bytes, at)?,
-    )?;
+    let (columns, at) = size(bytes, LimitKind::ContextColumns, 2, most_columns, at)?;
     let params = columns - 2;
     let (forms, after) = matrix_rows(
         alloc,
@@ -102,14 +108,9 @@ pub(crate) fn constraint_matrix(
         (constraint_matrix_of bytes.now params place) }
     ensures order { IfOk result (λ m. m.after ≤ length bytes.now) }
 {
-    let (rows, at) = within(LimitKind::Rows, 0, MOST_ROWS, number(bytes, place)?)?;
+    let (rows, at) = size(bytes, LimitKind::Rows, 0, MOST_ROWS, place)?;
     let most_columns = params + 2 + MOST_UNKNOWNS;
-    let (columns, at) = within(
-        LimitKind::Columns,
-        params + 3,
-        most_columns,
-        number(bytes, at)?,
-    )?;
+    let (columns, at) = size(bytes, LimitKind::Columns, params + 3, most_columns, at)?;
     let unknowns = columns - params - 2;
     let width = unknowns + params + 1;
     let (forms, after) = matrix_rows(alloc, bytes, LimitKind::Rows, MOST_ROWS, width, rows, at)?;

@@ -32,6 +32,7 @@ impl Model for Component {
 
 impl Component {
     /// The form over `den`, both divided by the greatest common divisor of `den` and all entries.
+    #[inline(always)]
     pub fn reduced(den: i128, form: Form) -> Component
         requires positive { pos 1 ≤ℤ den }
         requires fits { Fits den }

@@ -1,5 +1,5 @@
 -- Readers in a row, of which some are read as one.
-use Rattle.std.proofs.Common.{◌≡◌, refl, sym, ℕ, ◌+◌, ℤ, List}
+use Rattle.std.proofs.Common.{◌≡◌, refl, sym, ℕ, ◌+◌, List}
 use Rattle.std.specs.Prelude.{Result, Ok, Err}
 use Rattle.pip_model.specs.declared.Kind.TheVariants.{LeftRow, RightRow}
 use Rattle.pip_model.specs.Tokens.{token}

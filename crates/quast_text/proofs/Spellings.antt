@@ -1,5 +1,5 @@
 -- Texts of lists, and numbers over a denominator.
-use Rattle.quast_text.proofs.Words.{◌≡◌, ◌∙◌, refl, ap, sym, append_assoc, codes, if◌then◌else◌, ℕ, ◌%◌, ℤ, pos, negsuc, ◌≤ℤ◌, ◌<◌, unsigned_abs, Bool, true, false, arith, List, [], ◌∷◌, ◌++◌, flat_map, ints, append-nil, signed_decimal, pos_of_dvd_of_pos, OnOk, is_err, floor_div, gcd, same_number, euclid, Component, spell_fraction, spell_fractions, spell_components, spell_denominator, spell_term, spell_component, common-IsGcd, div_one}
+use Rattle.quast_text.proofs.Words.{◌≡◌, ◌∙◌, refl, ap, sym, append_assoc, codes, if◌then◌else◌, ℕ, ℤ, pos, negsuc, ◌≤ℤ◌, ◌<◌, unsigned_abs, Bool, true, false, arith, List, [], ◌∷◌, ◌++◌, flat_map, ints, append-nil, signed_decimal, pos_of_dvd_of_pos, OnOk, is_err, floor_div, gcd, same_number, Component, spell_fraction, spell_fractions, spell_components, spell_denominator, spell_term, spell_component, common-IsGcd}
 use Rattle.std.specs.Prelude.{Result, Ok, Err}
 use Rattle.text_printing.specs.Printing.{Begins}
 

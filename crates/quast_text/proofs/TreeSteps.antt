@@ -1,5 +1,5 @@
 -- What a tree is read as, by its `(` and the word behind it.
-use Rattle.quast_text.proofs.Words.{◌≡◌, ◌∙◌, refl, sym, ap, ℕ, zero, ◌+◌, suc, ◌-◌, ◌<◌, arith, sub-one, Ok, Err, List, [], ◌∷◌, Option, Some, None, IfSome, LeftParen, Tree, Bottom, Leaf, Component, most_components, Fault, TooNested, Reads, ◌>>=◌, expect, Head, Ends, Lists, Chooses, Defines, head, room_for, behind_head, tree_by, tree, component, components, with_front, opening, components_behind, list_at, choice_at, quotient_opening, closed_divisor, definition_at, define_at}
+use Rattle.quast_text.proofs.Words.{◌≡◌, ◌∙◌, refl, sym, ap, ℕ, zero, ◌+◌, suc, ◌-◌, ◌<◌, arith, sub-one, Ok, Err, List, [], ◌∷◌, Option, Some, None, IfSome, LeftParen, Tree, Bottom, Leaf, Component, most_components, Fault, TooNested, Reads, ◌>>=◌, expect, Head, Ends, Lists, Chooses, Defines, head, room_for, behind_head, tree_by, tree, component, components, with_front, opening, components_behind, list_at, choice_at, define_at}
 use Rattle.std.specs.Prelude.{Result, ℤ}
 use Rattle.text_reading.specs.Steps.{IsRead}
 use Rattle.pip_model.specs.Tree.{NewParm}

@@ -8,6 +8,7 @@ use kept_rows::{Kept, Lent, append_all_kept, append_entries, append_moved, appen
 use std::alloc::Global;
 
 // Adds a kept row that is lent.
+#[inline(always)]
 pub(crate) fn copy_kept(next: &mut FlatRows, lent: &Lent<'_>, one: Kept)
     requires room { length next.old.rows < next.old.most }
     requires over { IsOver next.old lent.now }

@@ -14,6 +14,7 @@ use kept_rows::{Kept, Lent, RowView, check_eliminated};
 
 // Checks the numbers of a row with row p, solved for column c, put in. They fit where both rows are short, and where
 // the row stays as it is under an entry of 1.
+#[inline(always)]
 fn check_row(p: &RowView<'_>, c: usize, row: &RowView<'_>) -> Result<(), Overflow>
     requires row { IsRow (length p.now.coefs.now) (length p.now.constant.now - 1) (row_of row.now) }
     requires p { IsOwnRow (row_of p.now) }
@@ -40,6 +41,7 @@ struct LentPivot<'t> {
 
 // Adds what a kept row is after the pivot. A row that is 0 in the column stays, since its numbers have no common
 // divisor.
+#[inline(always)]
 fn turn_row(next: &mut FlatRows, pivot: &LentPivot<'_>, one: Kept) -> Result<(), Overflow>
     requires room { length next.old.rows < next.old.most }
     requires over { IsOver next.old pivot.now.lent }
@@ -61,6 +63,7 @@ fn turn_row(next: &mut FlatRows, pivot: &LentPivot<'_>, one: Kept) -> Result<(),
 }
 
 // The same, where the row of the column itself is p solved for it, if p is short.
+#[inline(always)]
 fn turn_kept(next: &mut FlatRows, pivot: &LentPivot<'_>, one: Kept) -> Result<(), Overflow>
     requires room { length next.old.rows < next.old.most }
     requires over { IsOver next.old pivot.now.lent }
@@ -82,6 +85,7 @@ fn turn_kept(next: &mut FlatRows, pivot: &LentPivot<'_>, one: Kept) -> Result<()
 
 // The place behind the row's numbers, which stand at the place if it has any, where the row is known to stay as it is
 // in the pivot: the row of another column, or a short one under a short p that is 0 in the column.
+#[inline(always)]
 fn steady_end(pivot: &LentPivot<'_>, one: Kept, at: usize) -> Option<usize>
     requires one { IsLent pivot.now.lent one }
     ensures run { IfSome result (λ end.

@@ -100,6 +100,7 @@ impl FlatRows {
     }
 
     // The kept rows, and what they are lent from.
+    #[inline(always)]
     pub(crate) fn lent<'t>(&'t self, units: &'t [i128]) -> (Lent<'t>, &'t [Kept])
         requires { units.now ≡ unit_run self.now.unknowns self.now.width }
         ensures { AreLentOf self.now result.0 result.1.now }
@@ -115,6 +116,7 @@ impl FlatRows {
 
     // What the rows are lent from, the kept rows in front of row r, the row, the kept rows behind it, and the place
     // behind the row's numbers. The next rows are dropped, and can be made of these.
+    #[inline(always)]
     pub(crate) fn sides<'t>(
         &'t self,
         units: &'t [i128],
@@ -140,6 +142,7 @@ impl FlatRows {
     }
 
     // Row i, lent from the run of the columns' rows.
+    #[inline(always)]
     pub(crate) fn row<'t>(&'t self, units: &'t [i128], i: usize) -> RowView<'t>
         requires place { i < length self.now.rows }
         requires units { units.now ≡ unit_run self.now.unknowns self.now.width }
@@ -151,6 +154,7 @@ impl FlatRows {
     }
 
     // The column whose row row i is, none of any other row.
+    #[inline(always)]
     pub(crate) fn column(&self, i: usize) -> Option<usize>
         requires place { i < length self.now.rows }
         ensures some { IfSome result (λ c. (c < self.now.unknowns)

@@ -20,6 +20,7 @@ use kept_rows::{
 };
 
 // Appends the number, for which there is room.
+#[inline(always)]
 fn append_number(numbers: &mut Vec<i128>, number: i128)
     requires room { vec_len numbers.old < vec_capacity numbers.old }
     ensures items { numbers.new.items ≡ numbers.old.items ++ number ∷ [] }
@@ -30,6 +31,7 @@ fn append_number(numbers: &mut Vec<i128>, number: i128)
 }
 
 // Appends the numbers of a form's row, 1 and the entries; whether they are short.
+#[inline(always)]
 fn append_form(numbers: &mut Vec<i128>, form: &Form) -> bool
     requires room { vec_len numbers.old + (length form.now + 1) ≤ vec_capacity numbers.old }
     ensures items { numbers.new.items ≡ numbers.old.items ++ pos 1 ∷ form.now }
@@ -53,6 +55,7 @@ impl FlatRows {
     }
 
     // Adds the row of these numbers, which is not that of a column.
+    #[inline(always)]
     pub(crate) fn push_plain(&mut self, numbers: &[i128], short: bool)
         requires room { length self.old.rows < self.old.most }
         requires row { IsPlainRow self.old.unknowns self.old.width numbers.now short }

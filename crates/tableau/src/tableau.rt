@@ -166,6 +166,7 @@ impl Tableau {
     }
 
     /// Row i.
+    #[inline(always)]
     pub fn row(&self, i: usize) -> RowView<'_>
         requires { i < length self.now.rows }
         ensures value { row_of result ≡ model.row_at self.now.rows i }
@@ -175,6 +176,7 @@ impl Tableau {
     }
 
     /// The column whose row row i is, none of any other row.
+    #[inline(always)]
     pub fn column_of(&self, i: usize) -> Option<usize>
         requires { i < length self.now.rows }
         ensures some { IfSome result (λ c. (c < self.now.unknowns)

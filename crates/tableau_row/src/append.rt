@@ -35,6 +35,7 @@ pub fn append_entries(numbers: &mut Vec<i128>, entries: &[i128])
 }
 
 // Appends the number, for which there is room.
+#[inline(always)]
 pub(crate) fn append_one(numbers: &mut Vec<i128>, number: i128)
     requires room { vec_len numbers.old < vec_capacity numbers.old }
     ensures { Appends numbers.old numbers.new (number ∷ []) }
@@ -43,6 +44,7 @@ pub(crate) fn append_one(numbers: &mut Vec<i128>, number: i128)
 }
 
 /// Appends the numbers of a row: its denominator, its coefficients, the entries of its constant form.
+#[inline(always)]
 pub fn append_row(numbers: &mut Vec<i128>, row: &RowView<'_>)
     requires room { vec_len numbers.old + length (numbers_of (row_of row.now)) ≤ vec_capacity numbers.old }
     ensures { Appends numbers.old numbers.new (numbers_of (row_of row.now)) }
@@ -53,6 +55,7 @@ pub fn append_row(numbers: &mut Vec<i128>, row: &RowView<'_>)
 }
 
 // The same, in one piece where the numbers stand in one run.
+#[inline(always)]
 fn append_run(numbers: &mut Vec<i128>, row: &RowView<'_>, run: Option<&[i128]>)
     requires room { vec_len numbers.old + length (numbers_of (row_of row.now)) ≤ vec_capacity numbers.old }
     requires run { IfSome run (λ s. s.now ≡ numbers_of (row_of row.now)) }

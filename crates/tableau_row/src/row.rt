@@ -23,6 +23,7 @@ use affine_forms::{Overflow, divide_all, floor_div, gcd_with, round_form};
 use short_numbers::short_product;
 
 /// The row of these numbers over so many columns: its denominator, its coefficients, the entries of its constant form.
+#[inline(always)]
 pub fn view_of(numbers: &[i128], unknowns: usize, short: bool) -> RowView<'_>
     requires length { unknowns < length numbers.now }
     requires short { IsTrue short → IsShortRow (row_of_numbers unknowns numbers.now) }
@@ -70,6 +71,7 @@ fn unit_of(coefs: &[i128]) -> Option<usize>
 }
 
 /// The column whose row this is, none of any other row.
+#[inline(always)]
 pub fn unit_column(row: &RowView<'_>) -> Option<usize>
     requires { 0 < length row.now.constant.now }
     ensures some { IfSome result (λ c. c < length row.now.coefs.now) }

@@ -24,6 +24,7 @@ pub(crate) struct Step {
 
 // The greatest common divisor of two denominators.
 #[tactic(auto, using(pip_model::proofs::Gcd::gcd_one, row_laws::proofs::Lowest::gcd_with_one))]
+#[inline(always)]
 fn shared_divisor(first: i64, second: i64) -> i64
     requires first { pos 1 ≤ℤ first }
     requires short { AreShort first second }
@@ -55,6 +56,7 @@ fn are_half(a: i64, b: i64) -> bool
 
 impl Step {
     // The factors a and b in lowest terms, with the divisor.
+    #[inline(always)]
     fn lowest(a: i64, b: i64, divisor: i64) -> Step
         requires positive { pos 1 ≤ℤ a }
         requires short { AreShort a b }
@@ -86,6 +88,7 @@ impl Step {
     }
 
     // The step of a row with the denominator, and the entry in column c, in the pivot on row p and that column.
+    #[inline(always)]
     pub(crate) fn new(p: &RowView<'_>, c: usize, den: i128, entry: i128) -> Step
         requires column { c < length p.now.coefs.now }
         requires positive { pos 1 ≤ℤ entry_of p.now.coefs.now c }

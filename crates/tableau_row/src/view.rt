@@ -25,6 +25,7 @@ impl<'t> RowView<'t> {
     ghost use Rattle.tableau_row.specs.Views.{row_of, is_known_short};
 
     /// The row of these parts; `short` says that all its numbers are known to lie from `-(2^63 - 1)` to `2^63 - 1`.
+    #[inline(always)]
     pub fn new(den: i128, coefs: &'t [i128], constant: &'t [i128], short: bool) -> RowView<'t>
         requires short { IsTrue short → IsShortRow (row_from den coefs.now constant.now) }
         ensures value { row_of result ≡ row_from den coefs.now constant.now }
@@ -39,6 +40,7 @@ impl<'t> RowView<'t> {
     }
 
     /// Whether all its numbers are known to lie from `-(2^63 - 1)` to `2^63 - 1`.
+    #[inline(always)]
     pub fn is_known_short(&self) -> bool
         ensures value { result ≡ is_known_short self.now }
         ensures short { IsTrue result → IsShortRow (row_of self.now) }
@@ -47,6 +49,7 @@ impl<'t> RowView<'t> {
     }
 
     /// Its coefficient k times the other row's coefficient b. It overflows exactly where that does not fit.
+    #[inline(always)]
     pub fn product(&self, k: usize, other: &RowView<'_>, b: usize) -> Result<i128, Overflow>
         requires k { k < length self.now.coefs.now }
         requires b { b < length other.now.coefs.now }

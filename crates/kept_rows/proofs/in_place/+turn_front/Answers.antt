@@ -1,5 +1,6 @@
 use Rattle.kept_rows.proofs.Words.{rules, tests, arith, subst, true, drop, List, ◌++◌, ◌-◌, ℤ, IsTrue, slice_set, AreAlong, AreMade, rows_along, pivoted, is_ready, is_ready_middle, row_length, row_of}
 use Rattle.kept_rows.specs.declared.kept.Kept.TheVariants as kept
+use Rattle.kept_rows.proofs.Firsts.{front_short, made_first, size_first}
 use Rattle.kept_rows.proofs.InPlace.{is_first, part_unit, part_at, part_column, front_some, middle_long, copied_front, pivoted_behind}
 use Rattle.kept_rows.proofs.in_place.+turn_front.Goals as goal
 
@@ -37,6 +38,18 @@ returns-else-j-pivot t c =
     subst (λ (ys : List ℤ). AreMade n w (pivoted n w p v.c c.args.k (rows_along n w c.args.numbers.now c.args.kept.now)) c.args.to c.turn_middle-plain.result ys
     (slice_set c.split_at_mut-first.result.0.now 0 (kept.At (record { first = c.args.to; short = true })) ++ c.turn_middle-plain.new.kept))
     (copied_front (row_length n w) v.solved.now c.copy_from_slice.new.self c.split_at_mut-room.result.1.now c.turn_middle-plain.new.numbers (search rules) (search rules)) made
+
+pub split_at_mut-row-requires : goal.split_at_mut-row-requires
+split_at_mut-row-requires t c =
+    let v = c.args.pivot.now in
+    let h = is_first c.args.kept.now c.split_at_mut-first.result.0.now c.split_at_mut-first.result.1.now (kept.At c.in-At.field-0) (kept.At c.in-At.field-0) (search rules) (search rules) (search rules) (search rules) in
+    omega (arith, size_first v.unknowns v.width c.args.numbers.now _ _ _ c.requires.along c.in-At.field-0 h)
+
+pub turn_row-made-requires : goal.turn_row-made-requires
+turn_row-made-requires t c =
+    let v = c.args.pivot.now in
+    let h = is_first c.args.kept.now c.split_at_mut-first.result.0.now c.split_at_mut-first.result.1.now (kept.At c.in-At.field-0) (kept.At c.in-At.field-0) (search rules) (search rules) (search rules) (search rules) in
+    made_first v.unknowns v.width c.args.numbers.now _ _ _ c.requires.along c.in-At.field-0 _ h (search rules) (front_short v.c c.args.k _ _ _ _ h c.requires.ready)
 
 pub returns-in-At : goal.returns-in-At
 returns-in-At t c =

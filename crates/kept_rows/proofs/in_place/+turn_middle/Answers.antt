@@ -1,7 +1,32 @@
-use Rattle.kept_rows.proofs.Words.{rules, arith, sym, subst, drop, List, ◌++◌, ◌&&◌, ◌<◌, ◌-◌, ℤ, slice_set, AreMade, rows_along, pivoted, row_length, row_of}
+use Rattle.kept_rows.proofs.Words.{rules, arith, sym, subst, true, drop, List, ◌++◌, ◌&&◌, ◌<◌, ◌-◌, ℤ, slice_set, AreMade, rows_along, pivoted, row_length, row_of}
 use Rattle.kept_rows.specs.declared.kept.Kept.TheVariants as kept
-use Rattle.kept_rows.proofs.InPlace.{is_first, part_unit, part_at, ready_parts, room_behind, moved_up, pivoted_behind}
+use Rattle.kept_rows.proofs.Firsts.{along_unit, made_first}
+use Rattle.kept_rows.proofs.InPlace.{is_first, middle_long, part_unit, part_at, ready_parts, room_behind, moved_up, pivoted_behind}
 use Rattle.kept_rows.proofs.in_place.+turn_middle.Goals as goal
+
+pub split_at_mut-behind-requires : goal.split_at_mut-behind-requires
+split_at_mut-behind-requires t c =
+    let v = c.args.pivot.now in
+    omega (arith, middle_long v.unknowns v.width v.c c.args.k true c.args.numbers.now c.args.kept.now c.requires.along c.requires.ready)
+
+pub turn_middle-requires : goal.turn_middle-requires
+turn_middle-requires t c =
+    let v = c.args.pivot.now in
+    let h = is_first c.args.kept.now c.split_at_mut-first.result.0.now c.split_at_mut-first.result.1.now (kept.Unit c.in-Unit.field-0) (kept.Unit c.in-Unit.field-0) (search rules) (search rules) (search rules) (search rules) in
+    let some : 0 < c.args.k = omega (arith, c.if-k-eq0.false) in
+    (search rules, (along_unit v.unknowns v.width c.args.numbers.now _ _ _ c.requires.along c.in-Unit.field-0 h, ((ready_parts v.c c.args.k _ _ _ _ h some c.requires.ready).1, c.requires.places)))
+
+pub split_at_mut-row-requires : goal.split_at_mut-row-requires
+split_at_mut-row-requires t c =
+    let v = c.args.pivot.now in
+    omega (arith, middle_long v.unknowns v.width v.c c.args.k true c.args.numbers.now c.args.kept.now c.requires.along c.requires.ready)
+
+pub turn_row-made-requires : goal.turn_row-made-requires
+turn_row-made-requires t c =
+    let v = c.args.pivot.now in
+    let h = is_first c.args.kept.now c.split_at_mut-first.result.0.now c.split_at_mut-first.result.1.now (kept.At c.in-At.field-0) (kept.At c.in-At.field-0) (search rules) (search rules) (search rules) (search rules) in
+    let some : 0 < c.args.k = omega (arith, c.if-k-eq0.false) in
+    made_first v.unknowns v.width c.args.numbers.now _ _ _ c.requires.along c.in-At.field-0 _ h (search rules) (ready_parts v.c c.args.k _ _ _ _ h some c.requires.ready).0
 
 pub split_at_mut-room-requires : goal.split_at_mut-room-requires
 split_at_mut-room-requires t c =

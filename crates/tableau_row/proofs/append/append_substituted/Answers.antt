@@ -1,8 +1,33 @@
-use Rattle.tableau_row.proofs.Words.{rules, ◌≡◌, ◌∙◌, ◌++◌, row_from, substituted_by, ◌*ℤ◌, ◌+◌, ap, subst, refl, to_z, of_z, w64, slice_set, combine, fits, IsTrue, All, Fits, IsShort, numbers_of, row_of}
+use Rattle.tableau_row.proofs.Words.{rules, arith, length-append, ◌≡◌, ◌∙◌, ◌++◌, row_from, substituted_by, ◌*ℤ◌, ◌+◌, ap, subst, refl, to_z, of_z, w64, slice_set, combine, fits, IsTrue, All, Fits, IsShort, numbers_of, row_of}
 use Rattle.tableau_row.proofs.Found.{made_by, by_same}
 use Rattle.tableau_row.proofs.Lent.{appends}
 use Rattle.row_laws.proofs.Substituting.{substituted_numbers}
 use Rattle.tableau_row.proofs.append.append_substituted.Goals as goal
+
+pub short_product-den-requires : goal.short_product-den-requires
+short_product-den-requires c = record { first = search (rules, c.requires.short.second.den); second = search (rules, c.args.step.short.first) }
+
+pub short_product-entry-requires : goal.short_product-entry-requires
+short_product-entry-requires c = record { first = search (rules, c.args.step.short.second); second = search (rules, c.requires.short.first.den) }
+
+pub append_one-requires : goal.append_one-requires
+append_one-requires c = omega (arith, c.requires.room)
+
+pub append_combined-coefs_short-requires-clause-room : goal.append_combined-coefs_short-requires-clause-room
+append_combined-coefs_short-requires-clause-room c =
+    let r = row_of c.args.row.now in
+    omega (arith, c.requires.room, length-append r.coefs r.constant, c.append_one.ensures.count, c.append_one.ensures.room)
+
+pub append_combined-coefs_short-requires-clause-factors : goal.append_combined-coefs_short-requires-clause-factors
+append_combined-coefs_short-requires-clause-factors c = record { first = search (rules, c.args.step.short.first); second = search (rules, c.args.step.short.second) }
+
+pub append_combined-constant_short-requires-clause-room : goal.append_combined-constant_short-requires-clause-room
+append_combined-constant_short-requires-clause-room c =
+    let r = row_of c.args.row.now in
+    omega (arith, c.requires.room, length-append r.coefs r.constant, c.append_one.ensures.count, c.append_one.ensures.room, c.append_combined-coefs_short.ensures.length, c.append_combined-coefs_short.ensures.appended.room)
+
+pub append_combined-constant_short-requires-clause-factors : goal.append_combined-constant_short-requires-clause-factors
+append_combined-constant_short-requires-clause-factors c = record { first = search (rules, c.args.step.short.first); second = search (rules, c.args.step.short.second) }
 
 pub append_combined-coefs_short-requires-clause-lists : goal.append_combined-coefs_short-requires-clause-lists
 append_combined-coefs_short-requires-clause-lists c = record { lengths = c.requires.elimination.coefs; first = c.requires.short.second.coefs; second = c.requires.short.first.coefs }

@@ -1,6 +1,7 @@
 use Rattle.tableau_row.proofs.Words.{arith, rules, ◌≡◌, pos, ◌*ℤ◌, ◌-ℤ◌, ◌++◌, ◌∷◌, [], subst, get_or, All, Multiple}
 use Rattle.row_laws.proofs.Combining.{combine_taken}
 use Rattle.tableau_row.proofs.Found.{quotients_step, quotients_short, quotients_whole}
+use Rattle.tableau_row.proofs.Lent.{keeps}
 use Rattle.tableau_row.proofs.quotients.append_quotients.Goals as goal
 
 pub loop-i-preserved : goal.loop-i-preserved
@@ -19,6 +20,12 @@ loop-i-preserved c =
       length = search rules;
       room = search rules;
     }
+
+pub returns-in-None-clause-kept : goal.returns-in-None-clause-kept
+returns-in-None-clause-kept c = keeps c.args.numbers.now c.loop-i.numbers _ c.loop-i.invariant.items c.loop-i.invariant.room
+
+pub returns-clause-kept : goal.returns-clause-kept
+returns-clause-kept c = keeps c.args.numbers.now c.loop-i.numbers _ c.loop-i.invariant.items c.loop-i.invariant.room
 
 pub returns-clause-whole : goal.returns-clause-whole
 returns-clause-whole c = λ _.

@@ -1,6 +1,6 @@
-use Rattle.tableau_row.proofs.Words.{rules, ◌≡◌, ◌∙◌, ◌+◌, ◌++◌, ◌∷◌, [], ◌*ℤ◌, sym, ap, subst, refl, IsTrue, IsShortRow, Row, slice_set, floor_div, floor_divided, combine, numbers_of, row_of, row_from, eliminated}
+use Rattle.tableau_row.proofs.Words.{rules, arith, length-append, ◌≡◌, ◌∙◌, ◌+◌, ◌++◌, ◌∷◌, [], ◌*ℤ◌, sym, ap, subst, refl, IsTrue, IsShortRow, Row, slice_set, floor_div, floor_divided, combine, numbers_of, row_of, row_from, eliminated}
 use Rattle.tableau_row.proofs.Found.{shared, shared_is, shared_short, kept_one, kept_all}
-use Rattle.tableau_row.proofs.Lent.{appends}
+use Rattle.tableau_row.proofs.Lent.{appends, untried}
 use Rattle.row_laws.proofs.Substituting.{substituted_numbers}
 use Rattle.tableau_row.proofs.quotients.append_tried.Goals as goal
 
@@ -13,6 +13,38 @@ returns-then-not-append_quotients c = record {
     room = search rules;
   };
 }
+
+pub returns-then-not-is_half : goal.returns-then-not-is_half
+returns-then-not-is_half c = untried c.args.numbers.now (eliminated (row_of c.args.p.now) c.args.c (row_of c.args.row.now))
+
+pub returns-in-None : goal.returns-in-None
+returns-in-None c = untried c.args.numbers.now (eliminated (row_of c.args.p.now) c.args.c (row_of c.args.row.now))
+
+pub returns-in-None-share : goal.returns-in-None-share
+returns-in-None-share c = untried c.args.numbers.now (eliminated (row_of c.args.p.now) c.args.c (row_of c.args.row.now))
+
+pub append_one-requires : goal.append_one-requires
+append_one-requires c = omega (arith, c.requires.room)
+
+pub append_quotients-requires-clause-room : goal.append_quotients-requires-clause-room
+append_quotients-requires-clause-room c =
+    let r = row_of c.args.row.now in
+    omega (arith, c.requires.room, length-append r.coefs r.constant, c.append_one.ensures.count, c.append_one.ensures.room)
+
+pub append_quotients-requires-2-clause-room : goal.append_quotients-requires-2-clause-room
+append_quotients-requires-2-clause-room c =
+    let r = row_of c.args.row.now in
+    let first : IsTrue c.append_quotients.result = c.if-not-append_quotients.false in
+    omega (arith, c.requires.room, length-append r.coefs r.constant, c.append_one.ensures.count, c.append_one.ensures.room, c.append_quotients.ensures.length first, c.append_quotients.ensures.kept.room)
+
+pub append_quotients-requires-clause-half : goal.append_quotients-requires-clause-half
+append_quotients-requires-clause-half c = c.is_half.ensures c.if-not-is_half.false
+
+pub append_quotients-requires-clause-lists : goal.append_quotients-requires-clause-lists
+append_quotients-requires-clause-lists c = record { lengths = c.requires.elimination.coefs; first = c.requires.short.second.coefs; second = c.requires.short.first.coefs }
+
+pub append_quotients-requires-2-clause-lists : goal.append_quotients-requires-2-clause-lists
+append_quotients-requires-2-clause-lists c = record { lengths = c.requires.elimination.constant; first = c.requires.short.second.constant; second = c.requires.short.first.constant }
 
 pub append_quotients-requires-2-clause-half : goal.append_quotients-requires-2-clause-half
 append_quotients-requires-2-clause-half c = c.is_half.ensures c.if-not-is_half.false

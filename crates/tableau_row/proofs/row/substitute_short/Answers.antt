@@ -2,6 +2,32 @@ use Rattle.tableau_row.proofs.Words.{rules, arith, ◌≡◌, ◌*ℤ◌, subst,
 use Rattle.tableau_row.proofs.Found.{parts_are, made_by}
 use Rattle.tableau_row.proofs.row.substitute_short.Goals as goal
 
+pub short_product-made-requires : goal.short_product-made-requires
+short_product-made-requires c = record { first = search (rules, c.requires.short.second.den); second = search (rules, c.args.step.short.first) }
+
+pub short_product-entry-requires : goal.short_product-entry-requires
+short_product-entry-requires c = record { first = search (rules, c.args.step.short.second); second = search (rules, c.requires.short.first.den) }
+
+pub combine_short-coefs_short-requires-clause-factors : goal.combine_short-coefs_short-requires-clause-factors
+combine_short-coefs_short-requires-clause-factors c = record { first = search (rules, c.args.step.short.first); second = search (rules, c.args.step.short.second) }
+
+pub combine_short-coefs_short-requires-clause-lists : goal.combine_short-coefs_short-requires-clause-lists
+combine_short-coefs_short-requires-clause-lists c = record {
+  lengths = search (rules, c.requires.step.coefs);
+  first = search (rules, c.requires.short.second.coefs);
+  second = search (rules, c.requires.short.first.coefs);
+}
+
+pub combine_short-constant_short-requires-clause-factors : goal.combine_short-constant_short-requires-clause-factors
+combine_short-constant_short-requires-clause-factors c = record { first = search (rules, c.args.step.short.first); second = search (rules, c.args.step.short.second) }
+
+pub combine_short-constant_short-requires-clause-lists : goal.combine_short-constant_short-requires-clause-lists
+combine_short-constant_short-requires-clause-lists c = record {
+  lengths = search (rules, c.requires.step.constant);
+  first = search (rules, c.requires.short.second.constant);
+  second = search (rules, c.requires.short.first.constant);
+}
+
 pub returns-clause-value : goal.returns-clause-value
 returns-clause-value c =
     let zs = c.args.numbers.now in
