@@ -1,4 +1,5 @@
 mod Words
+pub mod SameParts
 pub mod Running
 pub mod Begun
 pub mod Going

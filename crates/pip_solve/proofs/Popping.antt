@@ -1,5 +1,5 @@
 -- Frames that are closed over a tree.
-use Rattle.pip_solve.proofs.Words.{◌≡◌, refl, sym, ap, subst, ◌∙◌, ℕ, ◌+◌, ◌-◌, ◌<◌, ◌≤◌, ◌∷◌, [], List, ℤ, length, arith, max, append-nil, length-append, opposite, If, NewParm, nesting, Work, TableauRows, ContextMark, Scope, ScopedTree, Path, Frame, IsBelow, IsBack, IsCondition, Waiting, finished, whole_run, HasRoom, AreMarks, Waits, IsClosing, IsNextNode, dues}
+use Rattle.pip_solve.proofs.Words.{◌≡◌, refl, sym, ap, subst, ◌∙◌, ℕ, ◌+◌, ◌-◌, ◌≤◌, ◌∷◌, [], List, ℤ, length, arith, max, append-nil, length-append, opposite, If, NewParm, nesting, Work, TableauRows, ContextMark, Scope, ScopedTree, Path, Frame, IsBelow, IsBack, IsCondition, Waiting, finished, whole_run, HasRoom, AreMarks, Waits, IsClosing, IsNextNode, dues}
 use Rattle.pip_solve.specs.declared.pending.Frame.TheVariants as frame
 use Rattle.pip_solve.proofs.Running.{Grown, finished_grown, waits_grown}
 use Rattle.pip_solve.proofs.Going.{second_on}

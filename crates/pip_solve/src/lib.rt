@@ -4,6 +4,7 @@
 mod closing;
 mod node;
 mod pending;
+mod plain;
 mod rooms;
 mod solver;
 mod solving;

@@ -1,12 +1,15 @@
 use crate::pending::Pending;
 use node_turn::KnownForms;
+use plain_run::ShortTableau;
 use std::alloc::Global;
 
-// What a run keeps beside its rows and its path: the forms that are known, and the frames that wait.
+// What a run keeps beside its rows and its path: the forms that are known, the frames that wait, and the rows of a
+// problem without parameters.
 #[derive(Drop)]
 pub(crate) struct Rooms {
     pub known: KnownForms,
     pub pending: Pending,
+    pub plain: ShortTableau,
 }
 
 impl Rooms {
@@ -15,6 +18,7 @@ impl Rooms {
         Rooms {
             known: KnownForms::new(alloc),
             pending: Pending::new(alloc),
+            plain: ShortTableau::new(alloc, 0),
         }
     }
 }

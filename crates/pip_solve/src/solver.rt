@@ -13,6 +13,7 @@ ghost use Rattle.pip_solve.specs.Frames.{HasRoom};
 ghost use Rattle.pip_solve.specs.Starts.{IsFirstPath};
 
 use crate::node::run;
+use crate::plain::plain_tree;
 use crate::rooms::Rooms;
 use crate::starting::{start_path, start_rows};
 use node_turn::{NodeRows, Path, Work};
@@ -46,7 +47,12 @@ impl Solver {
 
     // The tree of a problem whose context has a point, from the path to its first node. Room for all frames that may
     // wait is made first.
-    fn tree(&mut self, problem: &Problem, levels: usize, work: &mut Work) -> Result<Quast, Refusal>
+    fn tree_by_nodes(
+        &mut self,
+        problem: &Problem,
+        levels: usize,
+        work: &mut Work,
+    ) -> Result<Quast, Refusal>
         requires path { IsFirstPath problem.now self.old.path }
         requires room { HasRoom levels self.old.path }
         requires nesting { levels ≡ work.old.budget.nesting }
@@ -60,6 +66,26 @@ impl Solver {
         self.rows.reshape(problem.unknowns(), problem.params());
         start_rows(alloc, problem, &mut self.rows)?;
         run(&mut self.rows, &mut self.path, &mut self.rooms, work)
+    }
+
+    // The tree of a problem whose context has a point, from the path to its first node: over rows of 64 bits where there
+    // are no parameters and all numbers have that many, else node by node.
+    fn tree(&mut self, problem: &Problem, levels: usize, work: &mut Work) -> Result<Quast, Refusal>
+        requires path { IsFirstPath problem.now self.old.path }
+        requires room { HasRoom levels self.old.path }
+        requires nesting { levels ≡ work.old.budget.nesting }
+        requires few { levels ≤ most_nesting }
+        ensures gives { AgreesCounted tree_in run_fault result work.new
+            (run_from (setting problem.now) (first_node problem.now) work.old) }
+        ensures width { IfOk result (λ tree. tree.width ≡ problem.now.params) }
+    {
+        let alloc = self.rows.allocator();
+        if problem.params() == 0 {
+            if let Some(made) = plain_tree(alloc, &mut self.rooms.plain, problem, work) {
+                return made;
+            }
+        }
+        self.tree_by_nodes(problem, levels, work)
     }
 
     // The tree of a problem whose context has a point.

@@ -59,7 +59,7 @@ pub(crate) fn start_path(
 }
 
 // Tightened copies of the rows.
-fn tighten_rows(alloc: Global, rows: &[Form]) -> Result<Vec<Form>, WantOfMemory>
+pub(crate) fn tighten_rows(alloc: Global, rows: &[Form]) -> Result<Vec<Form>, WantOfMemory>
     ensures { IfOk result (λ forms. forms.items ≡ map tighten rows.now) }
 {
     let mut forms = Vec::with_capacity(alloc, rows.len())?;
@@ -72,7 +72,7 @@ fn tighten_rows(alloc: Global, rows: &[Form]) -> Result<Vec<Form>, WantOfMemory>
 }
 
 // Whether tightening leaves each row as it is.
-fn are_tight(rows: &[Form]) -> bool
+pub(crate) fn are_tight(rows: &[Form]) -> bool
     ensures { IsTrue result → map tighten rows.now ≡ rows.now }
 {
     for row in rows {

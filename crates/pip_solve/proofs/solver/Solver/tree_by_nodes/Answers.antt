@@ -1,6 +1,6 @@
-use Rattle.pip_solve.proofs.Words.{◌≡◌, sym, subst, ap, [], List, Frame, Waiting, HasRoom}
+use Rattle.pip_solve.proofs.Words.{◌≡◌, ap, [], Waiting}
 use Rattle.pip_solve.proofs.Paths.{starts_running}
-use Rattle.pip_solve.proofs.solver.Solver.tree.Goals as goal
+use Rattle.pip_solve.proofs.solver.Solver.tree_by_nodes.Goals as goal
 
 pub run-requires-clause-running : goal.run-requires-clause-running
 run-requires-clause-running c =

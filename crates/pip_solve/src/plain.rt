@@ -1,0 +1,58 @@
+ghost use Rattle.std.specs.Prelude.{◌≡◌, map, IfOk, IfSome, IfNone};
+ghost use Rattle.pip_model.specs.Run.{first_node, run_from, setting};
+ghost use Rattle.pip_problem.specs.Faults.{run_fault};
+ghost use Rattle.quast.specs.Trees.{ScopedTree};
+ghost use Rattle.run_counts.specs.Counts.{IsCountedRun};
+ghost use Rattle.node_turn.specs.Turns.{tree_in};
+ghost use Rattle.pip_model.specs.Rows.{started};
+
+use crate::starting::{are_tight, tighten_rows};
+use affine_forms::Form;
+use node_turn::Work;
+use pip_problem::{Problem, Refusal};
+use plain_run::{ShortTableau, tree_shortly};
+use quast::Quast;
+use std::alloc::Global;
+
+// The tree of a problem without parameters whose first rows are these, where all numbers on the way have 64 bits. None
+// else, and nothing is counted then.
+fn tree_of_rows(
+    alloc: Global,
+    room: &mut ShortTableau,
+    problem: &Problem,
+    forms: &[Form],
+    work: &mut Work,
+) -> Option<Result<Quast, Refusal>>
+    requires none { problem.now.params ≡ 0 }
+    requires rows { forms.now ≡ started problem.now.integer problem.now.rows }
+    ensures gives { IfSome result (λ r. IsCountedRun tree_in run_fault r work.old work.new
+        (run_from (setting problem.now) (first_node problem.now))) }
+    ensures width { IfSome result (λ r. IfOk r (λ tree. tree.width ≡ problem.now.params)) }
+    ensures none { IfNone result (work.new ≡ work.old) }
+{
+    let integer = problem.integer();
+    tree_shortly(alloc, room, problem.unknowns(), forms, integer, work)
+}
+
+// The tree of a problem without parameters, where all numbers on the way have 64 bits, and no copy of its rows is made.
+// None else, and nothing is counted then.
+pub(crate) fn plain_tree(
+    alloc: Global,
+    room: &mut ShortTableau,
+    problem: &Problem,
+    work: &mut Work,
+) -> Option<Result<Quast, Refusal>>
+    requires none { problem.now.params ≡ 0 }
+    ensures gives { IfSome result (λ r. IsCountedRun tree_in run_fault r work.old work.new
+        (run_from (setting problem.now) (first_node problem.now))) }
+    ensures width { IfSome result (λ r. IfOk r (λ tree. tree.width ≡ problem.now.params)) }
+    ensures none { IfNone result (work.new ≡ work.old) }
+{
+    if problem.integer() && !are_tight(problem.rows()) {
+        let Ok(forms) = tighten_rows(alloc, problem.rows()) else {
+            return None;
+        };
+        return tree_of_rows(alloc, room, problem, &forms, work);
+    }
+    tree_of_rows(alloc, room, problem, problem.rows(), work)
+}

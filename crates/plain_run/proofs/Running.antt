@@ -1,0 +1,61 @@
+-- The run of rows without parameters, in either mode, from one turn to the next.
+use Rattle.std.proofs.Common.{◌≡◌, refl, ap, sym, ◌∙◌, ◌<◌, ◌≤◌, Bool, Option, Some, None, List, length, arith}
+use Rattle.std.specs.Prelude.{IfSome, Ok, Err}
+use Rattle.pip_model.specs.Tree.{Tree}
+use Rattle.pip_model.specs.Rows.{Row}
+use Rattle.pip_model.specs.Run.{Work, Outcome, Done, Refused, Refusal, Counted, Turn, Again, Closed, left, turn, run_from}
+use Rattle.pip_model.proofs.Fuel.{again_less, again_run, closed_run_from, refused_run_from, falls-constant_class}
+use Rattle.run_counts.specs.Counts.{IsCountedRun, HasCounted}
+use Rattle.run_counts.proofs.Counting.{counted_none, counted_on}
+use Rattle.point_turns.specs.Tableaus.{TableauRows}
+use Rattle.point_turns.specs.Turns.{node_of, HasSameScope}
+use Rattle.point_turns.specs.Points.{ended}
+use Rattle.point_turns.proofs.Leaving.{scope_none, scope_on}
+use Rattle.plain_laws.specs.Plain.{plain_setting}
+
+-- ---- turn by turn
+
+-- a run from these rows and counts that goes on from others
+pub record IsPlainRun (b : Bool) (first now : TableauRows) (before w : Work) : Type 0 where
+  pub scope : HasSameScope first now
+  pub rows : now.unknowns ≤ length now.rows
+  pub counted : HasCounted before w
+  pub same : run_from (plain_setting now.unknowns b) (node_of now.rows) w ≡ run_from (plain_setting first.unknowns b) (node_of first.rows) before
+
+pub starts_run : (b : Bool) (first : TableauRows) (before : Work) → first.unknowns ≤ length first.rows → IsPlainRun b first first before before
+starts_run b first before h = record { scope = scope_none first; rows = h; counted = counted_none before; same = refl }
+
+module _ (b : Bool) (first rows : TableauRows) (before w v : Work) (is : IsPlainRun b first rows before w) (counted : HasCounted w v) where
+  abbrev pub one_turn : Outcome Turn
+  one_turn = turn (plain_setting rows.unknowns b) (node_of rows.rows) w
+
+  abbrev pub whole : Counted Tree
+  whole = run_from (plain_setting first.unknowns b) (node_of first.rows)
+
+  pub run_goes_on : (next : TableauRows) → HasSameScope rows next → one_turn ≡ Done (Again (node_of next.rows)) v → IsPlainRun b first next before v
+  run_goes_on next scope e = record {
+    scope = scope_on first rows next is.scope scope;
+    rows = omega (arith, scope.unknowns, scope.rows is.rows);
+    counted = counted_on before w v is.counted counted;
+    same = ap (λ k. run_from (plain_setting k b) (node_of next.rows) v) scope.unknowns
+        ∙ sym (again_run (plain_setting rows.unknowns b) falls-constant_class (node_of rows.rows) (node_of next.rows) w v e) ∙ is.same;
+  }
+
+  pub run_less : (next : List Row) → one_turn ≡ Done (Again (node_of next)) v → left v < left w
+  run_less next e = again_less (plain_setting rows.unknowns b) falls-constant_class (node_of rows.rows) (node_of next) w v e
+
+  pub run_closed : {E : Type 0} (fault : E → Option Refusal) (next : List Row) (found : Bool) → one_turn ≡ Done (Closed (ended rows.unknowns next found)) v
+      → IsCountedRun (ended first.unknowns next) fault (Ok found) before v whole
+  run_closed fault next found e = record {
+    agrees = sym is.same ∙ closed_run_from (plain_setting rows.unknowns b) falls-constant_class (node_of rows.rows) w v (ended rows.unknowns next found) e
+        ∙ ap (λ k. Done (ended k next found) v) is.scope.unknowns;
+    counted = counted_on before w v is.counted counted;
+  }
+
+  refused : (o : Option Refusal) → IfSome o (λ f. one_turn ≡ Refused f v) → IfSome o (λ f. whole before ≡ Refused f v)
+  refused None e = e
+  refused (Some f) e = sym is.same ∙ refused_run_from (plain_setting rows.unknowns b) falls-constant_class (node_of rows.rows) w v f e
+
+  pub run_refused : {E : Type 0} (fault : E → Option Refusal) (next : List Row) (f : E) → IfSome (fault f) (λ e. one_turn ≡ Refused e v)
+      → IsCountedRun (ended first.unknowns next) fault (Err f) before v whole
+  run_refused fault next f e = record { agrees = refused (fault f) e; counted = counted_on before w v is.counted counted }

@@ -1,0 +1,133 @@
+ghost use Rattle.std.specs.Prelude.{◌≡◌, ◌<◌, ◌≤◌, [], ◌∷◌, length, map, take, All, IfOk, IfSome, IfNone};
+ghost use Rattle.pip_model.specs.Contexts.{IsContext};
+ghost use Rattle.pip_model.specs.Forms.{widen_to};
+ghost use Rattle.pip_model.specs.Limits.{most_unknowns};
+ghost use Rattle.pip_model.specs.Rows.{row_at, start};
+ghost use Rattle.pip_model.specs.Run.{row_component, run_from};
+ghost use Rattle.pip_model.specs.Tree.{Leaf};
+ghost use Rattle.quast.specs.Components.{IsComponent};
+ghost use Rattle.pip_problem.specs.Faults.{run_fault};
+ghost use Rattle.run_counts.specs.Counts.{IsCountedRun};
+ghost use Rattle.short_run.specs.Stops.{stop_fault};
+ghost use Rattle.point_turns.specs.Turns.{node_of};
+ghost use Rattle.plain_laws.specs.Plain.{plain_setting};
+ghost use Rattle.plain_run.specs.Trees.{tree_in};
+
+use crate::run::run_out;
+use affine_forms::{Form, WantOfMemory};
+use pip_problem::Refusal;
+use point_turns::ShortTableau;
+use quast::{Component, Quast};
+use run_counts::Work;
+use short_run::{Stop, start_short};
+use std::alloc::Global;
+use std::slice::from_ref;
+
+// The same number.
+#[inline(always)]
+fn wide(x: i64) -> i128
+    ensures { result ≡ x }
+{
+    x as i128
+}
+
+// The constant of a row without parameters.
+#[inline(always)]
+fn constant_of(constant: &[i64]) -> i128
+    requires { length constant.now ≡ 1 }
+    ensures { result ∷ [] ≡ constant.now }
+{
+    wide(constant[0])
+}
+
+// The component of row i: its constant over the denominator, in lowest terms.
+fn component(alloc: Global, rows: &ShortTableau, i: usize) -> Result<Component, WantOfMemory>
+    requires { i < length rows.now.rows }
+    ensures value { IfOk result (λ c. c ≡ row_component (row_at rows.now.rows i)) }
+    ensures component { IfOk result (IsComponent 0) }
+{
+    let row = rows.row(i);
+    let number = constant_of(row.constant);
+    let constant = Form::try_new(alloc, from_ref(&number))?;
+    Ok(Component::reduced(wide(row.den), constant))
+}
+
+// The components of the unknowns' rows.
+fn components(alloc: Global, rows: &ShortTableau) -> Result<Vec<Component>, WantOfMemory>
+    requires { rows.now.unknowns ≤ length rows.now.rows }
+    ensures value { IfOk result (λ v. v.items ≡ map row_component (take rows.now.unknowns rows.now.rows)) }
+    ensures components { IfOk result (λ v. All (IsComponent 0) v.items) }
+{
+    let mut made = Vec::with_capacity(alloc, rows.unknowns())?;
+    for i in 0..rows.unknowns() {
+        let component = component(alloc, rows, i)?;
+        made.push(component)?;
+    }
+    Ok(made)
+}
+
+// The list of the unknowns' values.
+fn leaf(alloc: Global, rows: &ShortTableau) -> Result<Quast, WantOfMemory>
+    requires rows { rows.now.unknowns ≤ length rows.now.rows }
+    requires some { 1 ≤ rows.now.unknowns }
+    requires few { rows.now.unknowns ≤ most_unknowns }
+    ensures tree { IfOk result (λ tree. tree.tree ≡ Leaf (map row_component (take rows.now.unknowns rows.now.rows))) }
+    ensures width { IfOk result (λ tree. tree.width ≡ 0) }
+{
+    Ok(Quast::list(components(alloc, rows)?))
+}
+
+// The tree of the run of these forms as rows over so many unknowns, in the room of other rows: the list of the values
+// found, or bottom.
+fn plain_tree(
+    alloc: Global,
+    rows: &mut ShortTableau,
+    places: usize,
+    forms: &[Form],
+    integer: bool,
+    work: &mut Work,
+) -> Result<Quast, Stop>
+    requires forms { IsContext places forms.now }
+    requires some { 1 ≤ places }
+    requires few { places ≤ most_unknowns }
+    ensures gives { IsCountedRun tree_in stop_fault result work.old work.new
+        (run_from (plain_setting places integer) (node_of (start places 0 (map (widen_to places) forms.now)))) }
+    ensures width { IfOk result (λ tree. tree.width ≡ 0) }
+{
+    start_short(rows, places, forms)?;
+    if run_out(rows, integer, work)? {
+        Ok(leaf(alloc, rows)?)
+    } else {
+        Ok(Quast::bottom(0))
+    }
+}
+
+/// The tree of the run of these forms as rows over so many unknowns, without parameters, in the room of other rows: the
+/// list of the values found, or bottom, with the counts and the refusals of that run. None where a number on the way has
+/// more than 64 bits, and nothing is counted then.
+pub fn tree_shortly(
+    alloc: Global,
+    rows: &mut ShortTableau,
+    places: usize,
+    forms: &[Form],
+    integer: bool,
+    work: &mut Work,
+) -> Option<Result<Quast, Refusal>>
+    requires forms { IsContext places forms.now }
+    requires some { 1 ≤ places }
+    requires few { places ≤ most_unknowns }
+    ensures gives { IfSome result (λ r. IsCountedRun tree_in run_fault r work.old work.new
+        (run_from (plain_setting places integer) (node_of (start places 0 (map (widen_to places) forms.now))))) }
+    ensures width { IfSome result (λ r. IfOk r (λ tree. tree.width ≡ 0)) }
+    ensures none { IfNone result (work.new ≡ work.old) }
+{
+    let before = work.counts();
+    match plain_tree(alloc, rows, places, forms, integer, work) {
+        Ok(tree) => Some(Ok(tree)),
+        Err(Stop::Refused(refusal)) => Some(Err(refusal)),
+        Err(Stop::Long) => {
+            work.back_to(before);
+            None
+        }
+    }
+}
