@@ -1,4 +1,5 @@
 mod Words
+pub mod Alone
 pub mod Digits
 pub mod Folds
 pub mod Giving

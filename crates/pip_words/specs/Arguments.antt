@@ -34,8 +34,12 @@ rule_given (given.Values name) = values_rule name.now
 abbrev pub with_argument : App → Argument → App
 with_argument a x = with_rule a (rule_given x)
 
+-- an entry as a program of its own
+abbrev pub app_given : Entry → App
+app_given e = fold with_argument (new_app e.name.now) e.arguments.now
+
 abbrev pub shape_given : Entry → Shape
-shape_given e = (fold with_argument (new_app e.name.now) e.arguments.now).top
+shape_given e = (app_given e).top
 
 -- a program with one command more
 abbrev pub with_entry : App → Entry → App

@@ -1,7 +1,8 @@
-ghost use Rattle.std.specs.Prelude.{◌≡◌, IfOk, fold, false};
-ghost use Rattle.clap.specs.Words.{app_of, shape_of, rule_of};
+ghost use Rattle.std.specs.Prelude.{◌≡◌, IfOk, find, fold, false};
+ghost use Rattle.std.specs.Str.{bytes_eq};
+ghost use Rattle.clap.specs.Words.{app_of, rule_of};
 ghost use Rattle.clap.specs.declared.builder.Command.TheViews.{out-Command};
-ghost use Rattle.pip_words.specs.Arguments.{rule_given, shape_given, with_entry};
+ghost use Rattle.pip_words.specs.Arguments.{rule_given, app_given, with_entry};
 
 use clap::{Arg, ArgAction, Command};
 use std::alloc::{AllocError, Global};
@@ -40,8 +41,8 @@ fn made_argument<'a>(alloc: Global, argument: Argument<'a>) -> Arg<'a>
 }
 
 // The command for `clap`.
-fn made_command<'a>(alloc: Global, entry: Entry<'a>) -> Result<Command<'a>, AllocError>
-    ensures shape { IfOk result (λ command. shape_of command ≡ shape_given entry.entry) }
+pub(crate) fn made_command<'a>(alloc: Global, entry: Entry<'a>) -> Result<Command<'a>, AllocError>
+    ensures made { IfOk result (λ command. app_of command ≡ app_given entry.entry) }
     ensures local { IfOk result (λ command. (out-Command command).has_globals ≡ false) }
 {
     let mut command = Command::new(alloc, entry.name);
@@ -64,4 +65,16 @@ pub(crate) fn with_commands<'a>(
         program = program.subcommand(made_command(alloc, *entry)?)?;
     }
     Ok(program)
+}
+
+// The first of these commands that has this name.
+pub(crate) fn first_named<'a>(entries: &[Entry<'a>], name: &str) -> Option<Entry<'a>>
+    ensures { result ≡ find (λ entry. bytes_eq entry.name.now name.entry.now) entries.entry.now }
+{
+    for entry in entries {
+        if *entry.name == *name {
+            return Some(*entry);
+        }
+    }
+    None
 }

@@ -1,8 +1,10 @@
-ghost use Rattle.std.specs.Prelude.{◌≡◌, IfOk, drop};
+ghost use Rattle.std.specs.Prelude.{◌≡◌, IfOk, drop, option_map};
 ghost use Rattle.clap.specs.Words.{app_of, rows_of, found_of};
+ghost use Rattle.pip_words.specs.Alone.{app_alone, spelling_named};
+ghost use Rattle.pip_words.specs.Arguments.{app_given};
 ghost use Rattle.pip_words.specs.Words.{Gives, meaning_of, pip_app, command_named, named_in, spellings, solve_of, eval_of, trial_of};
 
-use crate::arguments::{Argument, Entry, with_commands};
+use crate::arguments::{Argument, Entry, first_named, with_commands};
 use crate::command::{Command, PiecesOptions, SimplifyOptions, SolveOptions, TrialOptions};
 use crate::names;
 use crate::parameter_vector::ParameterVector;
@@ -13,83 +15,89 @@ use std::alloc::{AllocError, Global};
 
 const MOST_DRAWN: u64 = 10_000;
 
-// The program's commands with their arguments, for `clap`.
+// The program's commands with their arguments.
+static ENTRIES: [Entry<'static>; 10] = [
+    Entry {
+        name: "solve",
+        arguments: &[
+            Argument::Flag(names::POLYLIB),
+            Argument::Flag(names::SIMPLIFY),
+            Argument::Flag(names::CERTIFICATE),
+            Argument::Setting(names::PIVOTS),
+            Argument::Setting(names::CUTS),
+            Argument::Setting(names::SPLITS),
+            Argument::Setting(names::NESTING),
+        ],
+    },
+    Entry {
+        name: "eval",
+        arguments: &[Argument::Values(names::PARAMETER)],
+    },
+    Entry {
+        name: "simplify",
+        arguments: &[Argument::Needed(names::PARAMETERS)],
+    },
+    Entry {
+        name: "check",
+        arguments: &[],
+    },
+    Entry {
+        name: "share",
+        arguments: &[],
+    },
+    Entry {
+        name: "trial",
+        arguments: &[
+            Argument::Needed(names::SEED),
+            Argument::Needed(names::COUNT),
+        ],
+    },
+    Entry {
+        name: "pieces",
+        arguments: &[Argument::Needed(names::PARAMETERS)],
+    },
+    Entry {
+        name: "restrict",
+        arguments: &[
+            Argument::Needed(names::PARAMETERS),
+            Argument::Setting(names::PIVOTS),
+            Argument::Setting(names::CUTS),
+        ],
+    },
+    Entry {
+        name: "same",
+        arguments: &[
+            Argument::Needed(names::PARAMETERS),
+            Argument::Setting(names::PIVOTS),
+            Argument::Setting(names::CUTS),
+            Argument::Setting(names::SPLITS),
+        ],
+    },
+    Entry {
+        name: "least",
+        arguments: &[
+            Argument::Needed(names::PARAMETERS),
+            Argument::Setting(names::PIVOTS),
+            Argument::Setting(names::CUTS),
+            Argument::Setting(names::SPLITS),
+            Argument::Setting(names::NESTING),
+        ],
+    },
+];
+
+// The program with all its commands, for `clap`.
 pub(crate) fn pip<'a>(alloc: Global) -> Result<clap::Command<'a>, AllocError>
     ensures { IfOk result (λ command. app_of command ≡ pip_app) }
 {
     let program = clap::Command::new(alloc, "pip").subcommand_required(true);
-    with_commands(
-        alloc,
-        program,
-        &[
-            Entry {
-                name: "solve",
-                arguments: &[
-                    Argument::Flag(names::POLYLIB),
-                    Argument::Flag(names::SIMPLIFY),
-                    Argument::Flag(names::CERTIFICATE),
-                    Argument::Setting(names::PIVOTS),
-                    Argument::Setting(names::CUTS),
-                    Argument::Setting(names::SPLITS),
-                    Argument::Setting(names::NESTING),
-                ],
-            },
-            Entry {
-                name: "eval",
-                arguments: &[Argument::Values(names::PARAMETER)],
-            },
-            Entry {
-                name: "simplify",
-                arguments: &[Argument::Needed(names::PARAMETERS)],
-            },
-            Entry {
-                name: "check",
-                arguments: &[],
-            },
-            Entry {
-                name: "share",
-                arguments: &[],
-            },
-            Entry {
-                name: "trial",
-                arguments: &[
-                    Argument::Needed(names::SEED),
-                    Argument::Needed(names::COUNT),
-                ],
-            },
-            Entry {
-                name: "pieces",
-                arguments: &[Argument::Needed(names::PARAMETERS)],
-            },
-            Entry {
-                name: "restrict",
-                arguments: &[
-                    Argument::Needed(names::PARAMETERS),
-                    Argument::Setting(names::PIVOTS),
-                    Argument::Setting(names::CUTS),
-                ],
-            },
-            Entry {
-                name: "same",
-                arguments: &[
-                    Argument::Needed(names::PARAMETERS),
-                    Argument::Setting(names::PIVOTS),
-                    Argument::Setting(names::CUTS),
-                    Argument::Setting(names::SPLITS),
-                ],
-            },
-            Entry {
-                name: "least",
-                arguments: &[
-                    Argument::Needed(names::PARAMETERS),
-                    Argument::Setting(names::PIVOTS),
-                    Argument::Setting(names::CUTS),
-                    Argument::Setting(names::SPLITS),
-                    Argument::Setting(names::NESTING),
-                ],
-            },
-        ],
-    )
+    with_commands(alloc, program, &ENTRIES)
+}
+
+// The command of this name with its arguments.
+pub(crate) fn entry_named(name: &str) -> Option<Entry<'static>>
+    ensures { option_map app_given result ≡ option_map app_alone (spelling_named name.now) }
+{
+    first_named(&ENTRIES, name)
 }
 
 // The command of a name.

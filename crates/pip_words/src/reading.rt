@@ -1,12 +1,17 @@
-ghost use Rattle.std.specs.Prelude.{◌≡◌, IfOk, IfErr, Some, None};
-ghost use Rattle.clap.specs.Words.{subcommand_rows_of};
-ghost use Rattle.pip_words.specs.Words.{command_given, meaning_of, Gives, command_in};
+ghost use Rattle.std.specs.Prelude.{◌≡◌, ◌≢◌, IfOk, IfErr, Some, None, map, true, string_bytes};
+ghost use Rattle.clap.specs.Words.{is_simple_and_free, kind_of, subcommand_rows_of};
+ghost use Rattle.clap.specs.declared.error.ErrorKind.TheVariants.{OutOfMemory};
+ghost use Rattle.pip_words.specs.Alone.{command_alone};
+ghost use Rattle.pip_words.specs.Arguments.{app_given};
+ghost use Rattle.pip_words.specs.declared.refusal.WordsRefusal.TheVariants as refused;
+ghost use Rattle.pip_words.specs.Words.{command_given, command_of, meaning_of, Gives, command_in};
 
+use crate::arguments::{Entry, made_command};
 use crate::command::Command;
-use crate::commands::{command_of_name, pip};
+use crate::commands::{command_of_name, entry_named, pip};
 use crate::refusal::WordsRefusal;
-use clap::ArgMatches;
 use clap::error::ErrorKind;
+use clap::{ArgMatches, Error};
 use std::alloc::Global;
 
 /// The command that the words of the command line give; the first word is the program's name and is not looked at.
@@ -17,13 +22,51 @@ pub fn read_words(alloc: Global, words: &Vec<String>) -> Result<Command, WordsRe
     ensures ok { IfOk result (λ command. command_given words.now ≡ Some (meaning_of command)) }
     ensures usage { IfErr result (λ e. e ≡ WordsRefusal.Usage → command_given words.now ≡ None) }
 {
+    let words = words.as_slice();
+    if let Some(word) = words.get(1) {
+        let name = word.as_str();
+        if let Some(entry) = entry_named(name) {
+            return named(alloc, entry, name, &words[1..]);
+        }
+    }
+    unnamed(alloc, words)
+}
+
+// The command that the words give by this entry alone, whose name is the first word.
+fn named(
+    alloc: Global,
+    entry: Entry<'_>,
+    name: &str,
+    words: &[String],
+) -> Result<Command, WordsRefusal>
+    requires { is_simple_and_free (app_given entry) ≡ true }
+    ensures { Gives meaning_of (command_alone (app_given entry.entry) name.now (map string_bytes words.now)) result }
+{
+    let command = made_command(alloc, entry)?;
+    match command.try_get_matches_from(words) {
+        Ok(matches) => command_of_name(alloc, name, &matches),
+        Err(error) => Err(refusal(&error)),
+    }
+}
+
+// The command that the words give by all entries.
+fn unnamed(alloc: Global, words: &[String]) -> Result<Command, WordsRefusal>
+    ensures { Gives meaning_of (command_of (map string_bytes words.now)) result }
+{
     let pip = pip(alloc)?;
-    match pip.try_get_matches_from(words.as_slice()) {
+    match pip.try_get_matches_from(words) {
         Ok(matches) => command(alloc, &matches),
-        Err(error) => match error.kind() {
-            ErrorKind::OutOfMemory => Err(WordsRefusal::WantOfMemory),
-            _ => Err(WordsRefusal::Usage),
-        },
+        Err(error) => Err(refusal(&error)),
+    }
+}
+
+// Why `clap` refuses the words.
+fn refusal(error: &Error) -> WordsRefusal
+    ensures { result ≡ refused.Usage → kind_of error.now ≢ OutOfMemory }
+{
+    match error.kind() {
+        ErrorKind::OutOfMemory => WordsRefusal::WantOfMemory,
+        _ => WordsRefusal::Usage,
     }
 }
 
