@@ -26,16 +26,33 @@ fn any_above(numbers: &[i64]) -> bool
     numbers.iter().any(|number| is_above(*number))
 }
 
+// What is compared of two columns at a row.
+#[derive(Clone, Copy)]
+struct Products {
+    of_k: i128,
+    of_b: i128,
+}
+
 impl ShortTableau {
-    // The product for column k at row i, which is compared with that for column b.
-    fn product_at(&self, i: usize, p: &ShortRow<'_>, k: usize, b: usize) -> i128
+    // The products for columns k and b at row i, which are compared. Most rows are 0 in both.
+    #[inline(always)]
+    fn products_at(&self, i: usize, p: &ShortRow<'_>, k: usize, b: usize) -> Products
         requires row { i < length self.now.rows }
         requires p { IsShortReduced self.now.unknowns 0 (row_of p.now) }
         requires k { k < self.now.unknowns }
         requires b { b < self.now.unknowns }
-        ensures { result ≡ product_at self.now.rows i (row_of p.now) k b }
+        ensures of_k { result.of_k ≡ product_at self.now.rows i (row_of p.now) k b }
+        ensures of_b { result.of_b ≡ product_at self.now.rows i (row_of p.now) b k }
     {
-        product(self.coef(i, k), p.coefs[b])
+        let of_k = self.coef(i, k);
+        let of_b = self.coef(i, b);
+        if of_k == 0 && of_b == 0 {
+            return Products { of_k: 0, of_b: 0 };
+        }
+        Products {
+            of_k: product(of_k, p.coefs[b]),
+            of_b: product(of_b, p.coefs[k]),
+        }
     }
 
     // Whether column k has the smaller list of quotients a_ik / a_pk over the unknowns' rows than column b.
@@ -47,8 +64,7 @@ impl ShortTableau {
         ensures { result ≡ model.is_better (take self.now.unknowns self.now.rows) (row_of p.now) k b }
     {
         for i in 0..self.unknowns() {
-            let of_k = self.product_at(i, p, k, b);
-            let of_b = self.product_at(i, p, b, k);
+            let Products { of_k, of_b } = self.products_at(i, p, k, b);
             if of_k != of_b {
                 return of_k < of_b;
             }

@@ -209,8 +209,7 @@ fn substitute_long(
     exact_product(den, a)
 }
 
-// Makes of a row what it is after the pivot on row p and column c; the new denominator, and whether the numbers are
-// short.
+// Makes of a row that after the pivot on row p and column c; the new denominator, and whether the numbers are short.
 pub(crate) fn eliminate_parts(
     p: &RowView<'_>,
     c: usize,

@@ -89,8 +89,7 @@ pub fn unit_column(row: &RowView<'_>) -> Option<usize>
     }
 }
 
-// Makes of a row's numbers those of the row divided by their greatest common divisor; whether they are known to be
-// short, as before where nothing is divided.
+// Divides a row's numbers by their greatest common divisor; whether they are known to be short, as before if by 1.
 pub(crate) fn divide(numbers: &mut [i128], unknowns: usize, short: bool) -> bool
     requires length { unknowns < length numbers.old }
     requires row { IsOwnRow (row_of_numbers unknowns numbers.old) }
@@ -208,8 +207,7 @@ pub fn eliminate(numbers: &mut [i128], p: &RowView<'_>, c: usize, short: bool) -
     eliminate_long(numbers, p, c)
 }
 
-// The parts of the row rounded by the quotient at place q, and its new denominator; a refusal leaves the parts as they
-// were.
+// The row's parts, rounded by the quotient at place q, and its new denominator; a refusal leaves them as they were.
 fn round_parts(
     den: i128,
     coefs: &mut [i128],

@@ -5,7 +5,7 @@ use Rattle.short_tableau.proofs.short_table.ShortTableau.is_better.Goals as goal
 pub returns-then-of_k-of_b : goal.returns-then-of_k-of_b
 returns-then-of_k-of_b c =
     let differ : product_at c.args.self.now.rows c.loop-i.i (row_of c.args.p.now) c.args.k c.args.b ≡ product_at c.args.self.now.rows c.loop-i.i (row_of c.args.p.now) c.args.b c.args.k → ⊥ = search rules in
-    let is : int_lt (to_z w128 (of_z w128 c.product_at-of_k.result)) (to_z w128 (of_z w128 c.product_at-of_b.result))
+    let is : int_lt (to_z w128 (of_z w128 c.products_at-of_k.result.of_k)) (to_z w128 (of_z w128 c.products_at-of_k.result.of_b))
     ≡ int_lt (product_at c.args.self.now.rows c.loop-i.i (row_of c.args.p.now) c.args.k c.args.b) (product_at c.args.self.now.rows c.loop-i.i (row_of c.args.p.now) c.args.b c.args.k) = search rules in
     is ∙ sym (better_differ c.args.self.now.unknowns c.args.self.now.rows (row_of c.args.p.now) c.args.k c.args.b c.loop-i.i c.requires.rows (omega arith) differ) ∙ c.loop-i.invariant
 
