@@ -10,6 +10,6 @@ mod shared_forms;
 mod stepping;
 mod steps;
 
-pub use node_rows::NodeRows;
+pub use node_rows::{NodeRows, are_read_off};
 pub use point_run::count_and_cut;
 pub use stepping::enter_and_pivot;

@@ -41,8 +41,8 @@ impl Model for NodeRows {
     ghost invariant = { λ t. All (IsRead t.made t.basis) t.forms × All (λ f. norm_of f ≤ t.norm) t.forms };
 }
 
-// Whether so many forms are read off so many unknowns' rows. Fewer take longer to read than to keep as rows.
-fn are_many(forms: usize, unknowns: usize) -> bool {
+/// Whether so many forms are read off so many unknowns' rows. Fewer take longer to read than to keep as rows.
+pub fn are_read_off(forms: usize, unknowns: usize) -> bool {
     forms >= unknowns.saturating_mul(8).saturating_add(8)
 }
 
@@ -162,7 +162,7 @@ impl NodeRows {
             ≡ record self.old { rows = model.start self.old.unknowns self.old.width forms.now }) }
         ensures err { OnErr result (self.new ≡ record self.old { rows = [] }) }
     {
-        if !are_many(forms.len(), self.made.unknowns()) {
+        if !are_read_off(forms.len(), self.made.unknowns()) {
             return self.restart_made(forms);
         }
         match greatest_norm(forms) {

@@ -9,7 +9,7 @@ mod scan;
 mod turn;
 
 pub use known::KnownForms;
-pub use node_rows::NodeRows;
+pub use node_rows::{NodeRows, are_read_off};
 pub use path::Path;
 pub use sign_split::{Context, ContextMark, Point, Work};
 pub use turn::{Turn, take_turn};

@@ -8,7 +8,7 @@ ghost use Rattle.pip_model.specs.Rows.{started};
 
 use crate::starting::{are_tight, tighten_rows};
 use affine_forms::Form;
-use node_turn::Work;
+use node_turn::{Work, are_read_off};
 use pip_problem::{Problem, Refusal};
 use plain_run::{ShortTableau, tree_shortly};
 use quast::Quast;
@@ -34,8 +34,8 @@ fn tree_of_rows(
     tree_shortly(alloc, room, problem.unknowns(), forms, integer, work)
 }
 
-// The tree of a problem without parameters, where all numbers on the way have 64 bits, and no copy of its rows is made.
-// None else, and nothing is counted then.
+// The tree of a problem without parameters, where all numbers on the way have 64 bits; its rows are copied where they
+// are tightened. None else, and where its rows are so many that they are read off faster; nothing is counted then.
 pub(crate) fn plain_tree(
     alloc: Global,
     room: &mut ShortTableau,
@@ -48,6 +48,9 @@ pub(crate) fn plain_tree(
     ensures width { IfSome result (λ r. IfOk r (λ tree. tree.width ≡ problem.now.params)) }
     ensures none { IfNone result (work.new ≡ work.old) }
 {
+    if are_read_off(problem.rows().len(), problem.unknowns()) {
+        return None;
+    }
     if problem.integer() && !are_tight(problem.rows()) {
         let Ok(forms) = tighten_rows(alloc, problem.rows()) else {
             return None;
