@@ -3,3 +3,4 @@ pub mod Finished
 pub mod Puts
 pub mod ShortParts
 pub mod UnitNumbers
+pub mod Wholes

@@ -4,3 +4,4 @@ pub mod Rows
 pub mod Sized
 pub mod Terms
 pub mod Turned
+pub mod Whole

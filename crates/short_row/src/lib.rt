@@ -7,6 +7,7 @@ mod numbers;
 mod put;
 mod row;
 mod turning;
+mod whole;
 mod wide;
 
 pub use numbers::{floor_mod, narrow, product, wide_entry};

@@ -12,8 +12,9 @@ ghost use Rattle.short_row.specs.Turned.{IsTurned};
 use crate::begun::{Begun, finish};
 use crate::numbers::{combine, divide_all, gcd_with, narrow, product};
 use crate::row::view_of;
+use crate::whole::divide_common;
 use crate::wide::Factors;
-use short_numbers::short_gcd;
+use short_numbers::{is_half, short_gcd};
 
 // A row that the pivot's row is put into: what the two rows are multiplied by, the column, and how many of the numbers
 // behind the denominator are made. The others, and the denominator, are still those of the row before.
@@ -71,7 +72,8 @@ fn common(a: i64, b: i64) -> i64
 
 // Divides a row by the greatest common divisor of its numbers, which is found from that of a number and those behind
 // the denominator.
-fn divide_row(row: &mut [i64], unknowns: usize, start: i64)
+#[inline(never)]
+fn divide_found(row: &mut [i64], unknowns: usize, start: i64)
     requires some { 1 ≤ length row.old }
     requires short { All IsShort row.old }
     requires start { IsShortDivisor start }
@@ -86,8 +88,29 @@ fn divide_row(row: &mut [i64], unknowns: usize, start: i64)
     }
 }
 
+// The same, where the number is mostly the greatest common divisor.
+#[inline(always)]
+fn divide_row(row: &mut [i64], unknowns: usize, start: i64)
+    requires some { 1 ≤ length row.old }
+    requires short { All IsShort row.old }
+    requires start { IsShortDivisor start }
+    requires content { content (row_of_numbers unknowns row.old) ≡ gcd_of_two start (gcd_of (drop 1 row.old)) }
+    ensures value { row_of_numbers unknowns row.new ≡ model.divided (row_of_numbers unknowns row.old) }
+    ensures short { All IsShort row.new }
+{
+    if start == 1 {
+        return;
+    }
+    if is_half(start) {
+        divide_common(row, start);
+    } else {
+        divide_found(row, unknowns, start);
+    }
+}
+
 // Ends a row whose numbers behind the denominator are all made: puts the denominator and the entry in the column where
 // they belong, and divides. Whether these two are short; the row stays otherwise.
+#[inline(always)]
 fn close(row: &mut [i64], unknowns: usize, p: &[i64], put: &Put) -> bool
     requires put { IsPut unknowns put.now p.now row.old }
     requires made { put.now.made + 1 ≡ length row.old }
@@ -143,15 +166,9 @@ fn finish_put(row: &mut [i64], unknowns: usize, p: &[i64], by: Factors, at: Reac
     }
 }
 
-// Ends a row. Whether its numbers are short.
+// Ends a row, of which more numbers may be made first. Whether its numbers are short.
 #[inline(never)]
-pub(crate) fn put_rest(
-    row: &mut [i64],
-    unknowns: usize,
-    p: &[i64],
-    by: Factors,
-    at: Reached,
-) -> bool
+fn put_rest(row: &mut [i64], unknowns: usize, p: &[i64], by: Factors, at: Reached) -> bool
     requires { IsPut unknowns (record { by = by; column = at.column; made = at.made }) p.now row.old }
     ensures { IsTurned unknowns
         (model.divided (put_row unknowns (record { by = by; column = at.column; made = at.made }) p.now row.old))
@@ -169,4 +186,20 @@ pub(crate) fn put_rest(
         return true;
     }
     finish_put(row, unknowns, p, by, Reached { column, made })
+}
+
+// Ends a row, whose numbers are mostly all made. Whether its numbers are short.
+#[inline(always)]
+pub(crate) fn end_put(row: &mut [i64], unknowns: usize, p: &[i64], put: &Put) -> bool
+    requires { IsPut unknowns put.now p.now row.old }
+    ensures { IsTurned unknowns (model.divided (put_row unknowns put.now p.now row.old)) result row.new }
+{
+    if put.made + 1 == row.len() && close(row, unknowns, p, put) {
+        return true;
+    }
+    let at = Reached {
+        column: put.column,
+        made: put.made,
+    };
+    put_rest(row, unknowns, p, put.by, at)
 }

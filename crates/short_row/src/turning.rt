@@ -10,7 +10,7 @@ ghost use Rattle.short_row.specs.Terms.{AreTerms, IsShortDivisor};
 ghost use Rattle.short_row.specs.Turned.{IsTurned};
 
 use crate::halves::combine_halves;
-use crate::put::{Reached, put_rest};
+use crate::put::{Put, end_put};
 use crate::wide::Factors;
 use short_numbers::{short_floor_div, short_gcd};
 
@@ -60,7 +60,12 @@ fn turn_lowest(row: &mut [i64], unknowns: usize, p: &[i64], c: usize) -> bool
 {
     let by = lowest(p[c + 1], row[c + 1]);
     let made = put_halves(by, row, p);
-    put_rest(row, unknowns, p, by, Reached { column: c, made })
+    let put = Put {
+        by,
+        column: c,
+        made,
+    };
+    end_put(row, unknowns, p, &put)
 }
 
 // The same where the pivot is 1: where its row has the denominator 1 too, nothing is to be divided.
@@ -79,7 +84,12 @@ fn turn_unit(row: &mut [i64], unknowns: usize, p: &[i64], c: usize) -> bool
         row[c + 1] = by.of_pivot;
         return true;
     }
-    put_rest(row, unknowns, p, by, Reached { column: c, made })
+    let put = Put {
+        by,
+        column: c,
+        made,
+    };
+    end_put(row, unknowns, p, &put)
 }
 
 /// Makes of the numbers of a row those after the pivot on row p and column c; whether they are short.

@@ -11,8 +11,8 @@ lowest-by-requires-clause-b c =
 pub put_halves-made-requires-clause-terms : goal.put_halves-made-requires-clause-terms
 put_halves-made-requires-clause-terms c = turning_terms c.args.unknowns c.args.p.now c.args.c c.args.row.now c.lowest-by.result.of_row c.lowest-by.result.of_pivot c.requires c.lowest-by.ensures.of_row.short c.lowest-by.ensures.of_pivot
 
-pub put_rest-requires : goal.put_rest-requires
-put_rest-requires c =
+pub end_put-requires : goal.end_put-requires
+end_put-requires c =
     let p_is : to_z w64 (of_z w64 (slice_index_or c.args.p.now (c.args.c + 1) (pos 0))) ≡ entry (row_of_numbers c.args.unknowns c.args.p.now).coefs c.args.c =
     let there = entry_there c.args.unknowns c.args.c c.args.p.now c.requires.pivot.candidate.column in search (rules, there) in
     let row_is : to_z w64 (of_z w64 (slice_index_or c.args.row.now (c.args.c + 1) (pos 0))) ≡ entry (row_of_numbers c.args.unknowns c.args.row.now).coefs c.args.c =
@@ -30,4 +30,4 @@ returns c =
     let low = low_there c.args.unknowns c.args.c c.args.p.now c.args.row.now _ _ c.lowest-by.result.of_row c.lowest-by.result.of_pivot p_is row_is c.lowest-by.ensures.lowest in
     put_turned c.args.unknowns (record { by = c.lowest-by.result; column = c.args.c; made = c.put_halves-made.result }) c.args.p.now c.args.row.now c.put_halves-made.new.row c.requires low c.lowest-by.ensures.of_row c.lowest-by.ensures.of_pivot
     c.put_halves-made.ensures.den c.put_halves-made.auto.row c.put_halves-made.ensures.short c.put_halves-made.ensures.count c.put_halves-made.ensures.value
-    c.put_rest.result c.put_rest.new.row c.put_rest.ensures
+    c.end_put.result c.end_put.new.row c.end_put.ensures

@@ -12,8 +12,8 @@ put_halves-made-requires-clause-terms c =
     turning_terms c.args.unknowns c.args.p.now c.args.c c.args.row.now (pos 1) (to_z w64 (of_z w64 (slice_index_or c.args.row.now (c.args.c + 1) (pos 0)))) c.requires.turning (search rules)
     (subst IsShort (sym row_is) (c.requires.turning.row.short.coefs c.args.c (pos 0) (omega (arith, c.requires.turning.row.row.coefs, c.requires.turning.pivot.candidate.column))))
 
-pub put_rest-requires : goal.put_rest-requires
-put_rest-requires c =
+pub end_put-requires : goal.end_put-requires
+end_put-requires c =
     let row_is : to_z w64 (of_z w64 (slice_index_or c.args.row.now (c.args.c + 1) (pos 0))) ≡ entry (row_of_numbers c.args.unknowns c.args.row.now).coefs c.args.c =
     let there = entry_there c.args.unknowns c.args.c c.args.row.now c.requires.turning.pivot.candidate.column in search (rules, there) in
     let short = subst IsShort (sym row_is) (c.requires.turning.row.short.coefs c.args.c (pos 0) (omega (arith, c.requires.turning.row.row.coefs, c.requires.turning.pivot.candidate.column))) in
@@ -31,7 +31,7 @@ returns c =
     let one : IsShortDivisor (pos 1) = search rules in
     put_turned c.args.unknowns (record { by = record { of_row = pos 1; of_pivot = to_z w64 (of_z w64 (slice_index_or c.args.row.now (c.args.c + 1) (pos 0))) }; column = c.args.c; made = c.put_halves-made.result }) c.args.p.now c.args.row.now c.put_halves-made.new.row c.requires.turning low one short
     c.put_halves-made.ensures.den c.put_halves-made.auto.row c.put_halves-made.ensures.short c.put_halves-made.ensures.count c.put_halves-made.ensures.value
-    c.put_rest.result c.put_rest.new.row c.put_rest.ensures
+    c.end_put.result c.end_put.new.row c.end_put.ensures
 
 pub returns-then-p-eq1 : goal.returns-then-p-eq1
 returns-then-p-eq1 c =
