@@ -2,6 +2,7 @@
 #![tactic(auto)]
 
 mod begun;
+mod divisors;
 mod halves;
 mod numbers;
 mod put;

@@ -10,11 +10,12 @@ ghost use Rattle.short_row.specs.Terms.{IsShortDivisor};
 ghost use Rattle.short_row.specs.Turned.{IsTurned};
 
 use crate::begun::{Begun, finish};
+use crate::divisors::gcd;
 use crate::numbers::{combine, divide_all, gcd_with, narrow, product};
 use crate::row::view_of;
 use crate::whole::divide_common;
 use crate::wide::Factors;
-use short_numbers::{is_half, short_gcd};
+use short_numbers::is_half;
 
 // A row that the pivot's row is put into: what the two rows are multiplied by, the column, and how many of the numbers
 // behind the denominator are made. The others, and the denominator, are still those of the row before.
@@ -67,7 +68,7 @@ fn common(a: i64, b: i64) -> i64
     if a == 1 || b == 1 {
         return 1;
     }
-    short_gcd(a, b)
+    gcd(a, b)
 }
 
 // Divides a row by the greatest common divisor of its numbers, which is found from that of a number and those behind

@@ -9,10 +9,11 @@ ghost use Rattle.short_row.specs.Put.{IsTurning};
 ghost use Rattle.short_row.specs.Terms.{AreTerms, IsShortDivisor};
 ghost use Rattle.short_row.specs.Turned.{IsTurned};
 
+use crate::divisors::gcd;
 use crate::halves::combine_halves;
 use crate::put::{Put, end_put};
 use crate::wide::Factors;
-use short_numbers::{short_floor_div, short_gcd};
+use short_numbers::short_floor_div;
 
 // The factors in lowest terms.
 fn lowest(a: i64, b: i64) -> Factors
@@ -22,7 +23,7 @@ fn lowest(a: i64, b: i64) -> Factors
     ensures of_row { IsShortDivisor result.of_row }
     ensures of_pivot { IsShort result.of_pivot }
 {
-    let divisor = short_gcd(a, b);
+    let divisor = gcd(a, b);
     if divisor == 1 {
         return Factors {
             of_row: a,

@@ -4,7 +4,8 @@ ghost use Rattle.pip_model.specs.Numbers.{gcd as gcd_of_two, gcd_of};
 ghost use Rattle.short_numbers.specs.Short.{IsShort, IsHalf};
 ghost use Rattle.short_row.specs.Whole.{IsHalfDivisor, scaled_front};
 
-use short_numbers::{is_half, short_floor_div, short_gcd};
+use crate::divisors::gcd;
+use short_numbers::{is_half, short_floor_div};
 
 // The quotient of numbers of 32 bits, where nothing is left.
 fn half_quotient(z: i32, d: i32) -> Option<i32>
@@ -60,7 +61,7 @@ fn divide_less(entries: &mut [i64], i: usize, d: i64) -> i64
     ensures short { All IsShort entries.new }
 {
     let number = entries[i];
-    let divisor = short_gcd(d, number);
+    let divisor = gcd(d, number);
     let (front, _) = entries.split_at_mut(i);
     multiply_all(front, short_floor_div(d, divisor));
     entries[i] = short_floor_div(number, divisor);
