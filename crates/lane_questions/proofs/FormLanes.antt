@@ -1,10 +1,11 @@
 -- Forms in lanes: the sum of their sizes, and their lanes one after the other.
-use Rattle.std.proofs.Common.{get_or, ◌≡◌, ◌∙◌, refl, ap, sym, ℕ, zero, suc, ◌+◌, ◌-◌, ◌<◌, ◌≤◌, ℤ, pos, unsigned_abs, arith, List, [], ◌∷◌, ◌++◌, length, take, set, replicate, append_assoc, length-append}
+use Rattle.std.proofs.Common.{get_or, ◌≡◌, ◌∙◌, refl, ap, sym, ℕ, zero, suc, ◌+◌, ◌-◌, ◌^◌, ◌<◌, ◌≤◌, ℤ, pos, ◌-ℤ◌, neg_ℤ, unsigned_abs, arith, List, [], ◌∷◌, ◌++◌, length, take, set, replicate, append_assoc, length-append}
 use Rattle.std.proofs.Math.Seq.{take-suc, set-append_seam}
 use Rattle.std.proofs.lemmas.List.{map-append, length-take-le}
 use Rattle.std.proofs.lemmas.List.Elements.{All-append, All-cons, All-nil}
+use Rattle.std.proofs.lemmas.Int.{ints}
 use Rattle.std.specs.Prelude.{slice_set}
-use Rattle.pip_model.specs.Forms.{entry, constant}
+use Rattle.pip_model.specs.Forms.{entry, constant, negate}
 use Rattle.form_laws.specs.Bounds.{norm}
 use Rattle.lanes.specs.Narrow.{AreLanes}
 use Rattle.lane_questions.specs.InLanes.{lanes_of, all_lanes, IsWithin, AreWithin, AreFirst}
@@ -21,6 +22,24 @@ norm_step (z ∷ zs) zero (suc zero) e = omega arith
 norm_step (z ∷ zs) zero (suc (suc i)) e = absurd (omega arith)
 norm_step (z ∷ zs) (suc k) zero e = absurd (omega arith)
 norm_step (z ∷ zs) (suc k) (suc i) e = omega (arith, norm_step zs k i (omega arith))
+
+-- opposites have the same sizes
+norm_negate : (zs : List ℤ) → norm (negate zs) ≡ norm zs
+norm_negate [] = refl
+norm_negate (z ∷ zs) = let one : unsigned_abs (neg_ℤ z) ≡ unsigned_abs z = omega (arith, ints) in omega (arith, one, norm_negate zs)
+
+-- one less in a lane is one more at most
+pub norm_opposite : (zs new : List ℤ) (z : ℤ) → AreLanes zs → z ≡ neg_ℤ (entry zs 0) -ℤ pos 1 → new ≡ slice_set (negate zs) 0 z → norm new ≤ norm zs + 1
+norm_opposite [] new z h e is = absurd (omega (arith, h.long))
+norm_opposite (x ∷ zs) new z h e is =
+    let one : unsigned_abs z ≤ unsigned_abs x + 1 = omega (arith, ints, e) in
+    let all : norm new ≡ unsigned_abs z + norm (negate zs) = ap norm is in
+    omega (arith, one, all, norm_negate zs)
+
+-- none of them is greater
+pub small_first : (zs : List ℤ) (z : ℤ) → AreLanes zs → norm zs < 2 ^ 30 → z ≡ entry (negate zs) 0 → unsigned_abs z < 2 ^ 30
+small_first [] z h small e = absurd (omega (arith, h.long))
+small_first (x ∷ zs) z h small e = omega (arith, ints, e, small)
 
 -- ---- lanes of a form
 
@@ -53,7 +72,7 @@ lane_step es now new k i z was inside few is e next =
 
 -- ---- lists of forms
 
-within_more : (m n : ℕ) (forms : List (List ℤ)) → m ≤ n → AreWithin m forms → AreWithin n forms
+pub within_more : (m n : ℕ) (forms : List (List ℤ)) → m ≤ n → AreWithin m forms → AreWithin n forms
 within_more m n forms le h k d lt = record { lanes = (h k d lt).lanes; norm = omega (arith, (h k d lt).norm) }
 
 pub within_pushed : (m s n : ℕ) (forms : List (List ℤ)) (form : List ℤ) → m ≤ n → s ≤ n → AreWithin m forms → AreLanes form → s ≡ norm form → AreWithin n (forms ++ form ∷ [])

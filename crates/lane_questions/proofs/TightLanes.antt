@@ -1,5 +1,5 @@
 -- A form in lanes tightened, and put back.
-use Rattle.std.proofs.Common.{◌≡◌, ◌∙◌, refl, ap, sym, ℕ, zero, suc, ◌+◌, ◌-◌, ◌^◌, ◌<◌, ◌≤◌, ℤ, pos, negsuc, ◌≤ℤ◌, ◌<ℤ◌, unsigned_abs, arith, List, [], ◌∷◌, ◌++◌, length, take, drop, replicate, length-append}
+use Rattle.std.proofs.Common.{◌≡◌, ◌∙◌, refl, ap, sym, ℕ, zero, suc, ◌+◌, ◌-◌, ◌%◌, ◌^◌, ◌<◌, ◌≤◌, ℤ, pos, negsuc, ◌≤ℤ◌, ◌<ℤ◌, unsigned_abs, arith, List, [], ◌∷◌, ◌++◌, length, take, drop, replicate, length-append}
 use Rattle.std.proofs.lemmas.Int.{ints}
 use Rattle.std.proofs.lemmas.List.{get_or-map, length-map, map-append, take-map}
 use Rattle.std.proofs.lemmas.Bool.{lt-ltb}
@@ -7,10 +7,10 @@ use Rattle.std.proofs.lemmas.List.Elements.{All-append, All-cons, All-from_recur
 use Rattle.std.proofs.Math.Nat.{div-le_self}
 use Rattle.std.specs.List.{AllByRecursion}
 use Rattle.std.proofs.Math.Seq.{take-append_seam}
-use Rattle.pip_model.specs.Numbers.{floor_div, gcd, gcd_of}
+use Rattle.pip_model.specs.Numbers.{floor_div, euclid, gcd, gcd_of}
 use Rattle.pip_model.specs.Forms.{entry, constant, coefficients, width, floor_divided, tighten}
 use Rattle.pip_model.proofs.Division.{form-parts}
-use Rattle.pip_model.proofs.Gcd.{euclid_below}
+use Rattle.pip_model.proofs.Gcd.{euclid_below, gcd_one}
 use Rattle.affine_forms.specs.Checks.{Fits}
 use Rattle.affine_forms.specs.Forms.{IsForm}
 use Rattle.affine_forms.proofs.Divisors.{gcd_step}
@@ -54,6 +54,21 @@ common_in_lanes c = padded_common (coefficients c) (7 - width c)
 pub common_more : (lanes : List ℤ) (k : ℕ) (found new : ℤ) → AreLanes lanes → k < 8 → new ≡ gcd found (entry lanes k) → gcd new (gcd_of (drop (k + 1) lanes)) ≡ gcd found (gcd_of (drop k lanes))
 common_more lanes k found new h few e =
     ap (λ (g : ℤ). gcd g (gcd_of (drop (k + 1) lanes))) e ∙ gcd_step found lanes k (omega (arith, h.long, few))
+
+-- 1 has no other divisor
+last_one : (z : ℤ) → gcd z (pos 1) ≡ pos 1
+last_one z = let none : unsigned_abs z % 1 ≡ 0 = omega arith in ap (λ (r : ℕ). pos (euclid 1 1 r)) none
+
+-- a number of size 1 divides all
+unit_common : (zs : List ℤ) (k : ℕ) → k < length zs → unsigned_abs (entry zs k) ≡ 1 → gcd_of zs ≡ pos 1
+unit_common [] k h one = absurd (omega arith)
+unit_common (z ∷ zs) zero h one = ap (λ (m : ℕ). pos (euclid (unsigned_abs (gcd_of zs) + 1) m (unsigned_abs (gcd_of zs)))) one ∙ gcd_one (gcd_of zs)
+unit_common (z ∷ zs) (suc k) h one = ap (gcd z) (unit_common zs k (omega (arith, h)) one) ∙ last_one z
+
+pub unit_behind : (lanes : List ℤ) (k : ℕ) → AreLanes lanes → 1 ≤ k → k < 8 → unsigned_abs (entry lanes k) ≡ 1 → gcd_of (drop 1 lanes) ≡ pos 1
+unit_behind [] k h some few one = absurd (omega (arith, h.long))
+unit_behind (z ∷ zs) zero h some few one = absurd (omega (arith, some))
+unit_behind (z ∷ zs) (suc k) h some few one = unit_common zs k (omega (arith, h.long, few)) one
 
 -- ---- division
 

@@ -1,5 +1,5 @@
 -- Forms in lanes.
-use Rattle.std.specs.Prelude.{◌≡◌, ℕ, ◌-◌, ◌^◌, ◌<◌, ◌≤◌, ℤ, pos, List, [], ◌∷◌, ◌++◌, length, map, replicate, take, drop, All}
+use Rattle.std.specs.Prelude.{◌≡◌, ℕ, ◌-◌, ◌^◌, ◌<◌, ◌≤◌, ℤ, pos, List, [], ◌∷◌, ◌++◌, length, map, replicate, take, drop}
 use Rattle.pip_model.specs.Forms.{width, entry, coefficients, constant}
 pub use Rattle.lane_run.specs.Within.{IsWithin, AreWithin}
 

@@ -151,7 +151,8 @@ pub fn in_lanes(entries: &[i128]) -> Option<Lanes>
 }
 
 /// The tightened form of these entries in lanes, where `in_lanes` gives one.
-#[inline(always)]
+// It is called, and not taken in: what it gives comes by memory, from where whole rows are read, and not number by number.
+#[inline(never)]
 pub fn tightened(entries: &[i128]) -> Option<Lanes>
     requires { IsForm entries.now }
     ensures value { IfSome result (λ form. form ≡ lanes_of (tighten entries.now)) }
@@ -165,20 +166,38 @@ pub fn tightened(entries: &[i128]) -> Option<Lanes>
     Some(divided(form, d))
 }
 
+// Whether a number behind the first is 1 or -1.
+#[inline(always)]
+fn has_unit(form: Lanes) -> bool
+    ensures { IsTrue result → gcd_of (drop 1 form) ≡ pos 1 }
+{
+    for k in 1..8 {
+        if form.get(k).unsigned_abs() == 1 {
+            return true;
+        }
+    }
+    false
+}
+
+// The greatest common divisor of the numbers behind the first, one by one.
+fn common(form: Lanes) -> i32
+    ensures value { result ≡ gcd_of (drop 1 form) }
+    ensures low { pos 0 ≤ℤ result }
+{
+    let mut found = 0;
+    for k in 1..8 {
+        found = gcd(found, form.get(k));
+    }
+    found
+}
+
 // The greatest common divisor of the numbers behind the first.
 #[inline(always)]
 fn divisor(form: Lanes) -> i32
     ensures value { result ≡ gcd_of (drop 1 form) }
     ensures low { pos 0 ≤ℤ result }
 {
-    let mut found = 0;
-    for k in 1..8 {
-        if found == 1 {
-            return 1;
-        }
-        found = gcd(found, form.get(k));
-    }
-    found
+    if has_unit(form) { 1 } else { common(form) }
 }
 
 // The greatest common divisor of narrow numbers.
@@ -237,7 +256,7 @@ fn narrow(z: i128) -> Option<i32>
     ensures value { IfSome result (λ x. x ≡ z) }
     ensures narrow { IfSome result IsNarrow }
 {
-    if z.unsigned_abs() < 1073741824 {
+    if -1073741824 < z && z < 1073741824 {
         Some(z as i32)
     } else {
         None

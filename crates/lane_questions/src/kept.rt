@@ -10,7 +10,7 @@ ghost use Rattle.point_turns.specs.Turns.{negative_from};
 ghost use Rattle.form_laws.specs.Bounds.{norm};
 ghost use Rattle.lanes.specs.Narrow.{AreLanes};
 ghost use Rattle.lane_run.specs.Laned.{AreUnused};
-ghost use Rattle.lane_questions.specs.InLanes.{lanes_of, all_lanes, AreWithin};
+ghost use Rattle.lane_questions.specs.InLanes.{lanes_of, all_lanes, AreWithin, IsWithin};
 ghost use Rattle.lane_questions.specs.Kept.{LaneVertex, IsKeptLanes, IsEndedLanes, IsQuestion};
 ghost use Rattle.lane_run.specs.Runs.{run_rows, forms_of, AreModest, IsRowBelow};
 ghost use Rattle.lane_questions.specs.Behind.{IsBehind};
@@ -205,6 +205,32 @@ impl KeptLanes {
         self.cut_behind(room, forms, work)
     }
 
+    // Whether the forms with one more have a point, where no row that is read has a number of more than 31 bits.
+    #[inline(always)]
+    fn ask_readable(
+        &self,
+        room: &mut LaneRows,
+        forms: ReadForms<'_>,
+        form: Lanes,
+        work: &mut Work,
+    ) -> Result<bool, Stop>
+        requires within { AreWithin forms.norm forms.forms.now }
+        requires form { IsWithin forms.norm form }
+        requires readable { forms.norm * self.now.table.most < 2 ^ 31 }
+        requires small { forms.norm < 2 ^ 31 }
+        ensures gives { (n : ℕ) (K : List (List ℤ)) (c : List ℤ) → IsQuestion n K c forms.entry.forms.now form self.now
+            → IsCountedRun (λ b. b) stop_fault result work.old work.new (has_point n (K ++ c ∷ [])) }
+        ensures counted { HasCounted work.old work.new }
+    {
+        let read = ReadForms {
+            forms: forms.forms,
+            further: from_ref(&form),
+            norm: forms.norm,
+        };
+        let row = self.rows.read(form);
+        self.find(room, read, row, work)
+    }
+
     // Whether the forms with one more have a point, where no number passes 31 bits.
     #[inline(always)]
     fn ask_shortly(
@@ -223,14 +249,13 @@ impl KeptLanes {
         };
         let read = ReadForms {
             forms: forms.as_slice(),
-            further: from_ref(&form),
+            further: &[],
             norm: forms.norm().max(size),
         };
         if !read.are_readable(&self.rows) {
             return Err(Stop::Long);
         }
-        let row = self.rows.read(form);
-        self.find(room, read, row, work)
+        self.ask_readable(room, read, form, work)
     }
 
     /// Whether a context with one form more has a point, by the kept run of its forms: with the counts and the refusals
@@ -322,13 +347,22 @@ impl KeptLanes {
             → IsCountedRun (class_of_sign c) stop_fault result work.old work.new (model.class_by_points n K c) }
         ensures counted { HasCounted work.old work.new }
     {
-        let Some(below) = opposite(form) else {
+        let Some(size) = small_norm(form) else {
             return Err(Stop::Long);
         };
-        if !self.ask_shortly(room, forms, below, work)? {
+        let read = ReadForms {
+            forms: forms.as_slice(),
+            further: &[],
+            norm: forms.norm().max(size + 1),
+        };
+        if !read.are_readable(&self.rows) {
+            return Err(Stop::Long);
+        }
+        let below = opposite(form);
+        if !self.ask_readable(room, read, below, work)? {
             return Ok(LaneSign::Plus);
         }
-        if !self.ask_shortly(room, forms, form, work)? {
+        if !self.ask_readable(room, read, form, work)? {
             return Ok(LaneSign::Minus);
         }
         Ok(LaneSign::Unknown)
@@ -363,15 +397,14 @@ impl KeptLanes {
 
 // The opposite `-c - 1` of a form.
 #[inline(always)]
-fn opposite(form: Lanes) -> Option<Lanes>
-    ensures value { IfSome result (λ o. (c : List ℤ) → 1 ≤ length c → form ≡ lanes_of c → o ≡ lanes_of (opposite c)) }
+fn opposite(form: Lanes) -> Lanes
+    requires { norm form < 2 ^ 30 }
+    ensures value { (c : List ℤ) → 1 ≤ length c → form ≡ lanes_of c → result ≡ lanes_of (opposite c) }
     ensures lanes { AreLanes form }
+    ensures within { IsWithin (norm form + 1) result }
 {
     let _ = form.get(0);
     let negated = form.minus();
     let constant = negated.get(0);
-    if constant <= -(1 << 30) {
-        return None;
-    }
-    Some(negated.with(0, constant - 1))
+    negated.with(0, constant - 1)
 }

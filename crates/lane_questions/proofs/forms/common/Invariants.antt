@@ -1,7 +1,7 @@
 use Rattle.std.proofs.Common.{◌≡◌, pos, ◌≤ℤ◌, drop}
 use Rattle.pip_model.specs.Numbers.{gcd, gcd_of}
 use Rattle.lanes.specs.Narrow.{IsNarrow}
-use Rattle.lane_questions.proofs.forms.divisor.Given as goal
+use Rattle.lane_questions.proofs.forms.common.Given as goal
 
 abbrev pub invariant-loop-k : goal.invariant-loop-k
 invariant-loop-k l = record { value : gcd l.found (gcd_of (drop l.k l.form)) ≡ gcd_of (drop 1 l.form); low : pos 0 ≤ℤ l.found; narrow : IsNarrow l.found }

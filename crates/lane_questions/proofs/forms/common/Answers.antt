@@ -5,7 +5,7 @@ use Rattle.pip_model.specs.Forms.{entry}
 use Rattle.pip_model.specs.Numbers.{gcd}
 use Rattle.pip_model.proofs.Gcd.{gcd_zero}
 use Rattle.lane_questions.proofs.TightLanes.{common_more}
-use Rattle.lane_questions.proofs.forms.divisor.Goals as goal
+use Rattle.lane_questions.proofs.forms.common.Goals as goal
 
 pub loop-k-init : goal.loop-k-init
 loop-k-init c = record { value = gcd_zero (drop 1 c.args.form); low = omega (arith, ints); narrow = omega arith }
