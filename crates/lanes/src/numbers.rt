@@ -120,6 +120,9 @@ pub(crate) fn quotient(z: i32, l: i32) -> Option<i32>
     requires { pos 1 ≤ℤ l }
     ensures { IfSome result (λ q. l *ℤ q ≡ z) }
 {
+    if z == 0 {
+        return Some(0);
+    }
     let q = z / l;
     if q * l == z { Some(q) } else { None }
 }
