@@ -17,6 +17,7 @@ use crate::constants::are_nonnegative;
 use crate::spares::Spares;
 use affine_forms::{Form, WantOfMemory};
 use certificate_parts::Refutation;
+use form_run::ask_by_forms;
 use kept_run::{
     Point, Question, Remembered, ask_plainly, ask_shortly, find_point, go_further, refute_forms,
     remember,
@@ -352,7 +353,8 @@ impl Context {
         None
     }
 
-    // Whether the context has a point, by the runs in rows of more than 32 bits.
+    // Whether the context has a point, by the runs in rows of more than 32 bits: in those of the kept run, where it is
+    // short, else in rows that are read off their forms, and where a number is long by the run in 128 bits.
     fn has_point_wider(&mut self, alloc: Global, work: &mut Work) -> Result<bool, Refusal>
         ensures gives { IsCountedRun (λ b. b) run_fault result work.old work.new
             (has_point self.old.width self.old.forms) }
@@ -360,6 +362,9 @@ impl Context {
     {
         self.prepare();
         if let Some(answer) = self.ask_known(&[], work) {
+            return answer;
+        }
+        if let Some(answer) = ask_by_forms(alloc, self.width, &self.forms, &[], work) {
             return answer;
         }
         let point = find_point(alloc, self.width, &self.forms, work)?;
@@ -426,6 +431,9 @@ impl Context {
         self.prepare();
         let _ = form.width();
         if let Some(answer) = self.ask_known(from_ref(form), work) {
+            return answer;
+        }
+        if let Some(answer) = ask_by_forms(alloc, self.width, &self.forms, from_ref(form), work) {
             return answer;
         }
         ask_plainly(alloc, self.width, &self.forms, form, work)

@@ -12,6 +12,9 @@ ghost use Rattle.point_turns.specs.Points.{finds_point, IsTurnOf};
 use crate::stop::Stop;
 use point_turns::{PointTurn, ShortTableau, Work};
 
+// How many cuts a question's run makes in short rows.
+const MOST_CUTS: usize = 64;
+
 // At a row below 0: no point where no column enters, else a pivot.
 fn pivot_turn(rows: &mut ShortTableau, work: &mut Work, r: usize) -> Result<PointTurn, Stop>
     requires rows { rows.old.unknowns ≤ length rows.old.rows }
@@ -135,15 +138,20 @@ fn turn_or_end(rows: &mut ShortTableau, work: &mut Work) -> Result<Option<bool>,
     }
 }
 
-/// The run of a question over short rows to its end: whether it finds a point. A last pivot is counted and not made.
+/// The run of a question over short rows to its end: whether it finds a point. A last pivot is counted and not made. It
+/// stops behind its 64th cut, since each cut is a row more that every pivot turns.
 pub fn run_short(rows: &mut ShortTableau, work: &mut Work) -> Result<bool, Stop>
     requires { rows.old.unknowns ≤ length rows.old.rows }
     ensures gives { IsCountedRun (λ b. b) stop_fault result work.old work.new
         (finds_point rows.old.unknowns rows.old.rows) }
 {
+    let most = rows.rows().saturating_add(MOST_CUTS);
     loop {
         if let Some(found) = turn_or_end(rows, work)? {
             return Ok(found);
+        }
+        if rows.rows() > most {
+            return Err(Stop::Long);
         }
     }
 }

@@ -1,5 +1,5 @@
 -- The cut by a short row.
-use Rattle.short_tableau.proofs.Words.{◌≡◌, refl, ap, sym, ◌∙◌, subst, ℕ, ◌+◌, ◌-◌, ◌*◌, ◌<◌, ◌≤◌, ℤ, neg_ℤ, List, length, map, take, drop, arith, append-nil, slice_range, take_all, drop_all, length-map, constant_cut, fractional_parts, residue_of, negate, residue, floor_mod, Row, row_at, mapped, row_of_numbers, numbers_of, IsShortRow, row_from, content-divided, row_size, rows_in, IsShortReduced, IsDense}
+use Rattle.short_tableau.proofs.Words.{◌≡◌, refl, ap, sym, ◌∙◌, subst, ℕ, ◌+◌, ◌-◌, ◌*◌, ◌<◌, ◌≤◌, ℤ, pos, ◌≤ℤ◌, neg_ℤ, divided, length-drop, length-take-le, List, length, map, take, drop, arith, append-nil, slice_range, take_all, drop_all, length-map, constant_cut, fractional_parts, residue_of, negate, residue, floor_mod, Row, row_at, mapped, row_of_numbers, numbers_of, IsShortRow, row_from, content-divided, row_size, rows_in, IsShortReduced, IsDense}
 use Rattle.std.proofs.lemmas.Simd.{map-map}
 use Rattle.row_laws.proofs.Numbers.{numbers_again}
 use Rattle.short_tableau.proofs.Places.{IsSplit, split_twice, split_read, split_row}
@@ -17,6 +17,19 @@ cut_row n r made h e short =
     subst (IsShortReduced n 0) (sym e) (record {
       row = short_row n 0 (constant_cut r) (divided_positive before h.row.positive) coefs constant (subst IsShortRow e short);
       reduced = content-divided before h.row.positive;
+      short = subst IsShortRow e short;
+    })
+
+-- the row of these numbers, divided, where its numbers are short, is a short row
+pub divided_row : (n : ℕ) (zs : List ℤ) (made : Row) → length zs ≡ row_size n → pos 1 ≤ℤ (row_of_numbers n zs).den → made ≡ divided (row_of_numbers n zs) → IsShortRow made → IsShortReduced n 0 made
+divided_row n zs made size positive e short =
+    let before = row_of_numbers n zs in
+    let behind = length-drop 1 zs in
+    let coefs : length (divided before).coefs ≡ n = length-map before.coefs _ ∙ length-take-le n (drop 1 zs) (omega (arith, size, behind)) in
+    let constant : length (divided before).constant ≡ 0 + 1 = length-map before.constant _ ∙ length-drop n (drop 1 zs) ∙ omega (arith, size, behind) in
+    subst (IsShortReduced n 0) (sym e) (record {
+      row = short_row n 0 (divided before) (divided_positive before positive) coefs constant (subst IsShortRow e short);
+      reduced = content-divided before positive;
       short = subst IsShortRow e short;
     })
 

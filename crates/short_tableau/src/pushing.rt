@@ -1,16 +1,16 @@
-ghost use Rattle.std.specs.Prelude.{◌≡◌, ◌+◌, ◌<◌, ◌≤◌, pos, ◌++◌, length, take, replicate, false, IsTrue, IsFalse, IfOk, OnOk, OnErr, vec_len};
+ghost use Rattle.std.specs.Prelude.{◌≡◌, ◌+◌, ◌<◌, ◌≤◌, pos, ◌≤ℤ◌, ◌++◌, length, take, replicate, false, IsTrue, IsFalse, IfOk, OnOk, OnErr, vec_len};
 ghost use Rattle.std.specs.List.{list_all};
 ghost use Rattle.pip_model.specs.Forms.{widen_to};
-ghost use Rattle.pip_model.specs.Rows.{form_row, unit_row};
+ghost use Rattle.pip_model.specs.Rows.{divided, form_row, unit_row};
 ghost use Rattle.affine_forms.specs.Forms.{IsForm};
-ghost use Rattle.row_laws.specs.Flat.{numbers_of};
+ghost use Rattle.row_laws.specs.Flat.{numbers_of, row_of_numbers};
 ghost use Rattle.row_laws.specs.Short.{is_short, IsShortRow};
-ghost use Rattle.short_row.specs.Sized.{row_size};
+ghost use Rattle.short_row.specs.Sized.{IsShortReduced, row_size};
 ghost use Rattle.short_row.specs.Rows.{row_of};
 ghost use Rattle.short_row.specs.Terms.{AreNarrowed};
 
 use affine_forms::WantOfMemory;
-use short_row::{ShortRow, make_unit, narrow};
+use short_row::{ShortRow, divide_parts, make_unit, narrow};
 
 // Appends the numbers of a row, or some of them.
 fn append_row(numbers: &mut Vec<i64>, row: &ShortRow<'_>) -> Result<(), WantOfMemory>
@@ -52,6 +52,40 @@ pub(crate) fn push_unit_row(
     numbers.resize(size, 0)?;
     let (_, row) = numbers.split_at_mut(before);
     make_unit(row, unknowns, c);
+    Ok(())
+}
+
+// Divides the numbers of a row by their greatest common divisor.
+fn divide_row(row: &mut [i64], unknowns: usize)
+    requires size { length row.old ≡ row_size unknowns }
+    requires positive { pos 1 ≤ℤ (row_of_numbers unknowns row.old).den }
+    requires short { IsShortRow (row_of_numbers unknowns row.old) }
+    ensures value { row_of_numbers unknowns row.new ≡ divided (row_of_numbers unknowns row.old) }
+    ensures row { IsShortReduced unknowns 0 (row_of_numbers unknowns row.new) }
+{
+    let (den, rest) = row.split_at_mut(1);
+    let (coefs, constant) = rest.split_at_mut(unknowns);
+    den[0] = divide_parts(den[0], coefs, constant);
+}
+
+// Appends the numbers of a row, divided by their greatest common divisor. A refusal leaves all as it was.
+pub(crate) fn push_divided_row(
+    numbers: &mut Vec<i64>,
+    unknowns: usize,
+    row: &[i64],
+) -> Result<(), WantOfMemory>
+    requires size { length row.now ≡ row_size unknowns }
+    requires positive { pos 1 ≤ℤ (row_of_numbers unknowns row.now).den }
+    requires short { IsShortRow (row_of_numbers unknowns row.now) }
+    ensures ok { OnOk result (numbers.new.items
+        ≡ numbers.old.items ++ numbers_of (divided (row_of_numbers unknowns row.now))) }
+    ensures row { OnOk result (IsShortReduced unknowns 0 (divided (row_of_numbers unknowns row.now))) }
+    ensures err { OnErr result (numbers.new.items ≡ numbers.old.items) }
+{
+    let before = numbers.len();
+    numbers.extend_from_slice(row)?;
+    let (_, made) = numbers.split_at_mut(before);
+    divide_row(made, unknowns);
     Ok(())
 }
 

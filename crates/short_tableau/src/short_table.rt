@@ -1,4 +1,4 @@
-ghost use Rattle.std.specs.Prelude.{◌≡◌, ◌+◌, ◌^◌, ◌<◌, ◌≤◌, false, not, [], All, length, map, flat_map, IsTrue, IsFalse, IfOk, OnOk, OnErr, IfSome};
+ghost use Rattle.std.specs.Prelude.{◌≡◌, ◌+◌, ◌^◌, ◌<◌, ◌≤◌, pos, ◌≤ℤ◌, false, not, [], All, length, map, flat_map, IsTrue, IsFalse, IfOk, OnOk, OnErr, IfSome};
 ghost use Rattle.std.specs.List.{list_all};
 ghost use Rattle.pip_model.specs.Cuts.{constant_cut};
 ghost use Rattle.pip_model.specs.Forms.{constant, entry, widen_to};
@@ -7,7 +7,7 @@ ghost use Rattle.pip_model.specs.Numbers.{is_nonneg};
 ghost use Rattle.pip_model.specs.Rows as model;
 ghost use Rattle.affine_forms.specs.Forms.{IsForm};
 ghost use Rattle.row_laws.specs.Flat.{row_of_numbers};
-ghost use Rattle.row_laws.specs.Short.{is_short, IsShort};
+ghost use Rattle.row_laws.specs.Short.{is_short, IsShort, IsShortRow};
 ghost use Rattle.row_laws.specs.Tableaus.{with_row};
 ghost use Rattle.row_laws.specs.Choices.{IsCandidate};
 ghost use Rattle.short_tableau.specs.Below.{negative_from};
@@ -16,7 +16,7 @@ ghost use Rattle.short_row.specs.Rows.{row_of};
 ghost use Rattle.short_row.specs.Turned.{is_short_row};
 
 use crate::cuts::push_cut_row;
-use crate::pushing::{append_form, push_row, push_unit_row};
+use crate::pushing::{append_form, push_divided_row, push_row, push_unit_row};
 use crate::rows::{
     coef_at, constant_at, first_below_in, numbers_in, pivot_rows, row_in, turn_rows,
 };
@@ -191,6 +191,21 @@ impl ShortTableau {
         ensures err { OnErr result (self.new ≡ self.old) }
     {
         push_row(&mut self.numbers, &t.row(i))?;
+        self.count += 1;
+        Ok(())
+    }
+
+    /// Adds the row of these numbers - the denominator, the coefficients, the constant -, divided by their greatest
+    /// common divisor. A refusal leaves all as it was.
+    pub fn push_divided(&mut self, row: &[i64]) -> Result<(), WantOfMemory>
+        requires size { length row.now ≡ row_size self.old.unknowns }
+        requires positive { pos 1 ≤ℤ (row_of_numbers self.old.unknowns row.now).den }
+        requires short { IsShortRow (row_of_numbers self.old.unknowns row.now) }
+        ensures ok { OnOk result (self.new
+            ≡ with_row self.old (model.divided (row_of_numbers self.old.unknowns row.now))) }
+        ensures err { OnErr result (self.new ≡ self.old) }
+    {
+        push_divided_row(&mut self.numbers, self.unknowns, row)?;
         self.count += 1;
         Ok(())
     }

@@ -1,4 +1,4 @@
-use Rattle.context.proofs.Words.{rules, arith, ◌≡◌, sym, [], ◌∷◌}
+use Rattle.context.proofs.Words.{rules, arith, ◌≡◌, ◌∙◌, sym, [], ◌∷◌}
 use Rattle.kept_run.proofs.Leaving.{run_same}
 use Rattle.kept_run.proofs.OneFormMore.{has_point_is}
 use Rattle.context.proofs.context.Context.point_with_wider.Goals as goal
@@ -11,7 +11,9 @@ ask_known-requires c = record {
 pub returns-clause-gives : goal.returns-clause-gives
 returns-clause-gives c =
     let width : c.self.inside.width ≡ c.args.self.now.width = search rules in
-    let forms : c.deref.result.now ≡ c.args.self.now.forms = search rules in
-    let same : c.ask_known.new.work ≡ c.args.work.now = search rules in
-    let run = sym (has_point_is c.self.inside.width c.deref.result.now (c.args.form.now ∷ []) c.ask_known.new.work) in
+    let forms : c.deref-2.result.now ≡ c.args.self.now.forms = search rules in
+    let known : c.ask_known.new.work ≡ c.args.work.now = search rules in
+    let by_forms : c.ask_by_forms.new.work ≡ c.ask_known.new.work = search rules in
+    let same = by_forms ∙ known in
+    let run = sym (has_point_is c.self.inside.width c.deref-2.result.now (c.args.form.now ∷ []) c.ask_by_forms.new.work) in
     rw (← width, ← forms, ← same) (run_same c.ask_plainly.ensures.gives run)

@@ -1,0 +1,16 @@
+-- The factors of a scale, and the columns of a basis.
+use Rattle.std.proofs.Common.{◌≡◌, ◌∙◌, refl, ap, sym, subst, ℕ, ◌+◌, ◌<◌, ℤ, ◌*ℤ◌, arith, List, [], ◌∷◌, ◌++◌, length, map, take, get_or}
+use Rattle.std.proofs.lemmas.List.{map_more, get_or-map, take_all}
+use Rattle.pip_model.specs.Numbers.{floor_div}
+use Rattle.pip_model.specs.Rows.{Row, row_at, form_row}
+use Rattle.form_run.specs.ReadRows.{factors_of}
+
+pub factors_more : (L : ℤ) (rows : List Row) (j : ℕ) (old new : List ℤ) (q : ℤ) → j < length rows → old ≡ factors_of L (take j rows) → q ≡ floor_div L (row_at rows j).den → new ≡ old ++ q ∷ []
+    → new ≡ factors_of L (take (j + 1) rows)
+factors_more L rows j old new q lt e f g = g ∙ rw (e, f) (sym (map_more (λ (r : Row). floor_div L r.den) rows j (form_row 0 []) lt))
+
+pub factors_all : (L : ℤ) (rows : List Row) (j : ℕ) → length rows ≡ j → factors_of L (take j rows) ≡ factors_of L rows
+factors_all L rows j e = ap (factors_of L) (take_all j rows (omega arith))
+
+pub factor_here : (L : ℤ) (rows : List Row) (j : ℕ) (factors : List ℤ) (d : ℤ) → factors ≡ factors_of L rows → j < length rows → get_or factors j d ≡ floor_div L (row_at rows j).den
+factor_here L rows j factors d e lt = rw e (get_or-map (λ (r : Row). floor_div L r.den) rows j (form_row 0 []) d lt)

@@ -1,0 +1,118 @@
+-- Rows of forms behind the places' rows: the column that enters, the first fraction, a pivot.
+use Rattle.std.proofs.Common.{◌≡◌, ◌∙◌, refl, ap, sym, subst, ℕ, zero, suc, ◌+◌, ◌-◌, ◌*◌, ◌^◌, ◌<◌, ◌≤◌, ℤ, pos, ◌≤ℤ◌, ◌<ℤ◌, arith, true, List, [], ◌∷◌, ◌++◌, length, map, take, get_or, length-append, All}
+use Rattle.std.proofs.lemmas.Int.{ints}
+use Rattle.std.proofs.lemmas.Nat.{mul-le}
+use Rattle.std.proofs.lemmas.List.{take-append-le, length-map, get_or-map, get_or_append_left, get_or-append-add}
+use Rattle.pip_model.specs.Forms.{entry}
+use Rattle.pip_model.specs.Listed.{all_fit}
+use Rattle.pip_model.specs.Rows.{Row, row_at, form_row, eliminated, pivot, pivot_listed, entering, entering_of, entering_listed, entering_of_listed, candidates, first_fraction, fraction_from}
+use Rattle.row_laws.specs.Tableaus.{TableauRows}
+use Rattle.form_laws.specs.ByForm.{by_form, Kept, Form, turned, rows_by}
+use Rattle.form_laws.specs.Bounds.{norm}
+use Rattle.form_laws.proofs.Invariant.{pivot_made}
+use Rattle.form_laws.proofs.Within.{are_made, made_forms, none_refused, all_over}
+use Rattle.form_run.specs.declared.basis.Basis.{Basis}
+use Rattle.form_run.specs.FlatLists.{NumberLists}
+use Rattle.form_run.specs.ReadRows.{IsMeasured, IsRead, read, all_rows}
+use Rattle.form_run.specs.Held.{IsHeld}
+
+-- ---- what is held
+
+pub reads : (t : TableauRows) (b : Basis) (forms columns : NumberLists) (most : ℕ) → IsHeld t b forms columns most → All (IsRead t b) forms.lists
+reads t b forms columns most h k d lt = record {
+  basis = h.basis;
+  wide = h.wide k d lt;
+  bound = omega (arith, mul-le (norm (get_or forms.lists k d)) b.most most b.most (h.norms k d lt) (omega arith), h.bound);
+}
+
+pub empty_held : (t : TableauRows) (b : Basis) (forms columns : NumberLists) (most : ℕ) → t ≡ record { unknowns = 0; width = 0; rows = [] } → b.scale ≡ pos 1 → b.most ≡ 1 → b.columns.items ≡ []
+    → forms ≡ record { size = 1; lists = [] } → columns ≡ record { size = 1; lists = [] } → most < 2 ^ 63 → IsHeld t b forms columns most
+empty_held t b forms columns most e scale greatest numbers none alone small =
+    rw (e, none, alone) (record {
+      basis = rw (scale, greatest, numbers) (record {
+        size = refl;
+        rows = λ k d lt. absurd (omega (arith, lt));
+        positive = omega (arith, ints);
+        columns = refl;
+        common = omega (arith, ints);
+        within = λ k d lt. absurd (omega (arith, lt));
+        small = omega arith;
+      });
+      size = refl;
+      wide = λ k d lt. absurd (omega (arith, lt));
+      norms = λ k d lt. absurd (omega (arith, lt));
+      bound = rw greatest (omega (arith, small));
+      columns_size = refl;
+      columns_count = refl;
+    })
+
+pub all_long : (t : TableauRows) (b : Basis) (forms : List (List ℤ)) → length (all_rows t b forms).rows ≡ length t.rows + length forms
+all_long t b forms = length-append t.rows (map (read t b) forms) ∙ ap (λ (k : ℕ). length t.rows + k) (length-map forms (read t b))
+
+-- so many rows are counted in 64 bits
+pub few : (n k s i : ℕ) → s ≡ n + 1 → k * s < 2 ^ 63 → i < k → n + i < 2 ^ 64
+few n k s i e small lt = omega (arith, e, small, lt, mul-le 1 s k s (omega arith) (omega arith), mul-le k 1 k s (omega arith) (omega arith))
+
+-- ---- rows by their places
+
+pub row_front : (R S : List Row) (j : ℕ) → j < length R → row_at (R ++ S) j ≡ row_at R j
+row_front R S j lt = get_or_append_left R S (form_row 0 []) j lt
+
+pub row_behind : (R S : List Row) (j : ℕ) → row_at (R ++ S) (length R + j) ≡ row_at S j
+row_behind R S j = get_or-append-add R S j (form_row 0 [])
+
+pub form_at : (t : TableauRows) (b : Basis) (forms : List (List ℤ)) (r n : ℕ) (f : List ℤ) → n ≡ length t.rows → n ≤ r → r < length (all_rows t b forms).rows → f ≡ get_or forms (r - n) []
+    → row_at (all_rows t b forms).rows r ≡ read t b f
+form_at t b forms r n f e le lt is =
+    let place : r ≡ length t.rows + (r - n) = omega (arith, e, le) in
+    let inside : r - n < length forms = omega (arith, e, le, lt, all_long t b forms) in
+    ap (row_at (all_rows t b forms).rows) place
+    ∙ row_behind t.rows (map (read t b) forms) (r - n)
+    ∙ get_or-map (read t b) forms (r - n) [] (form_row 0 []) inside
+    ∙ ap (read t b) (sym is)
+
+-- ---- the entering column asks the places' rows and the row alone
+
+module _ (P S : List Row) (p : Row) (r n : ℕ) (long : length P ≡ n) (narrow : length p.coefs ≡ n) (is : row_at (P ++ S) r ≡ p) where
+  last : row_at (P ++ p ∷ []) (length P + 0) ≡ p
+  last = row_behind P (p ∷ []) 0
+
+  front : take (length p.coefs) (P ++ p ∷ []) ≡ take (length p.coefs) (P ++ S)
+  front = take-append-le (length p.coefs) P (p ∷ []) (omega (arith, long, narrow)) ∙ sym (take-append-le (length p.coefs) P S (omega (arith, long, narrow)))
+
+  pub entering_with : entering (P ++ p ∷ []) (length P + 0) ≡ entering (P ++ S) r
+  entering_with = rw (last, is) (ap (λ (u : List Row). entering_of u p (candidates p)) front)
+
+  pub listed_with : entering_listed (P ++ p ∷ []) (length P + 0) ≡ entering_listed (P ++ S) r
+  listed_with = rw (last, is) (ap (λ (u : List Row). entering_of_listed u p (candidates p)) front)
+
+pub fraction_front : (n : ℕ) (P S : List Row) → n ≤ length P → first_fraction n (P ++ S) ≡ first_fraction n P
+fraction_front n P S le = ap (fraction_from 0) (take-append-le n P S le)
+
+-- ---- a pivot of all rows
+
+turned_forms : (p : Row) (c : ℕ) (forms : List (List ℤ)) → map (turned p c) (map Form forms) ≡ map Form forms
+turned_forms p c [] = refl
+turned_forms p c (f ∷ forms) = rw (turned_forms p c forms) refl
+
+module _ (t : TableauRows) (b : Basis) (forms columns : NumberLists) (most : ℕ) (h : IsHeld t b forms columns most) where
+  pub all_listed : (r c : ℕ) → r < length (all_rows t b forms.lists).rows → c < t.unknowns → all_fit (pivot_listed (all_rows t b forms.lists).rows r c) ≡ true
+  all_listed r c lt inside = none_refused t.unknowns 0 t.rows b.scale b.most b.columns.items h.basis forms.lists h.wide (λ k d less. (reads t b forms columns most h k d less).bound) r c lt inside
+
+  pub all_pivot : (r c : ℕ) (a : Basis) → r < length (all_rows t b forms.lists).rows → c < t.unknowns → pos 1 ≤ℤ entry (row_at (all_rows t b forms.lists).rows r).coefs c
+      → IsMeasured (record t { rows = map (eliminated (row_at (all_rows t b forms.lists).rows r) c) t.rows }) a
+      → all_rows (record t { rows = map (eliminated (row_at (all_rows t b forms.lists).rows r) c) t.rows }) a forms.lists ≡ record (all_rows t b forms.lists) { rows = pivot (all_rows t b forms.lists).rows r c }
+  all_pivot r c a lt inside above now =
+      let p = row_at (all_rows t b forms.lists).rows r in
+      let basis = map (eliminated p c) t.rows in
+      let after = pivot_made t.unknowns 0 t.rows (map Form forms.lists) (all_rows t b forms.lists).rows r c
+      (are_made t.unknowns 0 t.rows b.scale b.most b.columns.items h.basis forms.lists h.wide) lt inside (omega (arith, ints, above)) in
+      let is : pivot (all_rows t b forms.lists).rows r c ≡ rows_by t.unknowns 0 a.scale basis (map (turned p c) (map Form forms.lists)) =
+      after.is a.scale (omega (arith, ints, now.positive)) (all_over t.unknowns 0 a.scale basis now.rows) in
+      let same : rows_by t.unknowns 0 a.scale basis (map (turned p c) (map Form forms.lists)) ≡ basis ++ map (by_form t.unknowns 0 a.scale basis) forms.lists =
+      ap (λ (kept : List Kept). rows_by t.unknowns 0 a.scale basis kept) (turned_forms p c forms.lists)
+      ∙ ap (λ (rows : List Row). basis ++ rows) (made_forms t.unknowns 0 basis a.scale a.most a.columns.items now a.scale basis forms.lists) in
+      ap (λ (rows : List Row). record { unknowns = t.unknowns; width = 0; rows = rows }) (sym (is ∙ same))
+
+  pub mapped_long : (p : Row) (c : ℕ) → length (map (eliminated p c) t.rows) ≡ t.unknowns
+  mapped_long p c = length-map t.rows (eliminated p c) ∙ h.basis.size

@@ -1,0 +1,7 @@
+pub mod HeldRows
+pub mod Lists
+pub mod Below
+pub mod Factors
+pub mod MadeCuts
+pub mod ReadForms
+pub mod Started

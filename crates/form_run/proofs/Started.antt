@@ -1,0 +1,50 @@
+-- The first rows of a question's run, and what the run tells of the question.
+use Rattle.std.proofs.Common.{◌≡◌, ◌∙◌, refl, ap, sym, ℕ, zero, suc, ◌+◌, ◌<◌, ◌≤◌, ℤ, arith, Some, None, List, [], ◌∷◌, ◌++◌, length, map, append-nil, is_some, All}
+use Rattle.std.proofs.lemmas.List.{length-map, map-append}
+use Rattle.std.proofs.lemmas.List.Elements.{All-cons, All-append}
+use Rattle.pip_model.specs.Contexts.{IsContext}
+use Rattle.pip_model.specs.Forms.{widen_to}
+use Rattle.pip_model.specs.Tree.{Tree}
+use Rattle.pip_model.specs.Rows.{start, unit_row, count_from}
+use Rattle.pip_model.specs.Run.{Work, Outcome, Done, Refused, go_on, give, run_from, numbers_of, point, point_run, point_setting}
+use Rattle.pip_model.proofs.Forms.{length-count, length-widened}
+use Rattle.row_laws.specs.Tableaus.{TableauRows}
+use Rattle.point_turns.specs.Points.{has_point, finds_point, first_rows}
+use Rattle.point_turns.specs.Turns.{node_of}
+use Rattle.short_run.proofs.Ending.{finds_here}
+
+pub start_long : (n w : ℕ) → length (start n w []) ≡ n
+start_long n w = ap length (append-nil (map (unit_row n w) (count_from 0 n))) ∙ length-map (count_from 0 n) (unit_row n w) ∙ length-count 0 n
+
+pub all_wide : (n : ℕ) (K : List (List ℤ)) → IsContext n K → All (λ f. length f ≡ n + 1) (map (widen_to n) K)
+all_wide n [] h = λ k d lt. absurd (omega (arith, lt))
+all_wide n (f ∷ K) h = All-cons (λ (g : List ℤ). length g ≡ n + 1) (widen_to n f) (map (widen_to n) K) (length-widened n f (omega (arith, h.0.most))) (all_wide n K h.1)
+
+pub both_wide : (n : ℕ) (K M : List (List ℤ)) → IsContext n K → IsContext n M → All (λ f. length f ≡ n + 1) (map (widen_to n) K ++ map (widen_to n) M)
+both_wide n K M h k = All-append (λ (g : List ℤ). length g ≡ n + 1) (map (widen_to n) K) (map (widen_to n) M) (all_wide n K h) (all_wide n M k)
+
+pub first_is : (n : ℕ) (K M lists : List (List ℤ)) (t : TableauRows) → t ≡ record { unknowns = n; width = 0; rows = start n 0 lists } → lists ≡ map (widen_to n) K ++ map (widen_to n) M
+    → t ≡ record { unknowns = n; width = 0; rows = first_rows n (K ++ M) }
+first_is n K M lists t e is = e ∙ ap (λ (l : List (List ℤ)). record { unknowns = n; width = 0; rows = start n 0 l }) (is ∙ sym (map-append (widen_to n) K M))
+
+-- ---- whether a context has a point
+
+by_run : (n : ℕ) (K : List (List ℤ)) (w : Work) → point n K ≡ point_run n K → has_point n K w ≡ finds_point n (first_rows n K) w
+by_run n K w is =
+    ap (λ part. go_on (part w) (λ p. give (is_some p))) is
+    ∙ each (run_from (point_setting n) (node_of (first_rows n K)) w)
+  where
+    each : (o : Outcome Tree) → go_on (go_on o (λ t. give (numbers_of t))) (λ p. give (is_some p)) ≡ go_on o (λ t. give (is_some (numbers_of t)))
+    each (Done x v) = refl
+    each (Refused f v) = refl
+
+alone_is : (n : ℕ) (K : List (List ℤ)) (w : Work) → has_point n K w ≡ finds_point n (first_rows n K) w
+alone_is zero [] w = sym (finds_here 0 [] [] w (omega arith) refl refl refl)
+alone_is zero (c ∷ K) w = by_run zero (c ∷ K) w refl
+alone_is (suc n) K w = by_run (suc n) K w refl
+
+pub finds_is : (n : ℕ) (K : List (List ℤ)) (t : TableauRows) (w : Work) → t ≡ record { unknowns = n; width = 0; rows = first_rows n K } → finds_point t.unknowns t.rows w ≡ has_point n K w
+finds_is n K t w e = ap (λ (s : TableauRows). finds_point s.unknowns s.rows w) e ∙ sym (alone_is n K w)
+
+pub first_enough : (n : ℕ) (K : List (List ℤ)) (t : TableauRows) → t ≡ record { unknowns = n; width = 0; rows = first_rows n K } → n ≤ length (first_rows n K) → t.unknowns ≤ length t.rows
+first_enough n K t e h = rw e h

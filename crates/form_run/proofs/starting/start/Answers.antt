@@ -1,0 +1,17 @@
+use Rattle.std.proofs.Common.{rules, ◌≡◌, ◌∙◌, sym, subst, ℕ, ◌+◌, ◌++◌, [], List, ℤ, length, map, All}
+use Rattle.pip_model.specs.Forms.{widen_to}
+use Rattle.pip_model.specs.Rows.{start}
+use Rattle.form_run.proofs.Started.{start_long, both_wide}
+use Rattle.form_run.proofs.starting.start.Goals as goal
+
+pub measured-requires-clause-places : goal.measured-requires-clause-places
+measured-requires-clause-places c =
+    let e : c.start_short.new.rows ≡ record { unknowns = c.args.n; width = 0; rows = start c.args.n 0 [] } = search rules in
+    rw e (start_long c.args.n 0)
+
+pub measured-requires-clause-wide : goal.measured-requires-clause-wide
+measured-requires-clause-wide c =
+    let n : c.start_short.new.rows.unknowns ≡ c.args.n = search rules in
+    let lists : c.push_forms-2.new.all.lists ≡ map (widen_to c.args.n) c.args.forms.now ++ map (widen_to c.args.n) c.args.further.now = search rules in
+    subst (λ (k : ℕ). All (λ (f : List ℤ). length f ≡ k + 1) c.push_forms-2.new.all.lists) (sym n)
+    (subst (All (λ (f : List ℤ). length f ≡ c.args.n + 1)) (sym lists) (both_wide c.args.n c.args.forms.now c.args.further.now c.requires.forms c.requires.further))

@@ -1,0 +1,28 @@
+-- What a run keeps: the places' rows and what they are measured by, the forms behind them, and those of the columns.
+use Rattle.std.specs.Prelude.{◌≡◌, ℕ, ◌+◌, ◌*◌, ◌^◌, ◌<◌, ◌≤◌, Option, Some, None, [], ◌∷◌, length, All}
+use Rattle.pip_model.specs.Rows.{row_at}
+use Rattle.row_laws.specs.Tableaus.{TableauRows}
+use Rattle.form_laws.specs.Bounds.{norm}
+use Rattle.form_run.specs.declared.basis.Basis.{Basis}
+use Rattle.form_run.specs.FlatLists.{NumberLists}
+use Rattle.form_run.specs.ReadRows.{IsMeasured}
+
+-- the forms' rows can be read off the places' rows, none of the forms has a norm greater than `most`, and each column has
+-- the form of its quantity
+pub record IsHeld (t : TableauRows) (b : Basis) (forms columns : NumberLists) (most : ℕ) : Type 0 where
+  pub basis : IsMeasured t b
+  pub size : forms.size ≡ t.unknowns + 1
+  pub wide : All (λ f. length f ≡ t.unknowns + (0 + 1)) forms.lists
+  pub norms : All (λ f. norm f ≤ most) forms.lists
+  pub bound : most * b.most < 2 ^ 63
+  pub columns_size : columns.size ≡ t.unknowns + 1
+  pub columns_count : length columns.lists ≡ t.unknowns
+
+-- a place among rows, k rows on
+abbrev pub behind : ℕ → Option ℕ → Option ℕ
+behind k None = None
+behind k (Some i) = Some (k + i)
+
+-- row r of the one tableau is the only row of the other
+abbrev pub IsOneRow : TableauRows → ℕ → TableauRows → Type 0
+IsOneRow t r one = one ≡ record { unknowns = t.unknowns; width = 0; rows = row_at t.rows r ∷ [] }

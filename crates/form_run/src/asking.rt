@@ -1,0 +1,59 @@
+ghost use Rattle.std.specs.Prelude.{◌≡◌, ◌++◌, IfSome, IfNone};
+ghost use Rattle.pip_model.specs.Contexts.{IsContext};
+ghost use Rattle.pip_problem.specs.Faults.{run_fault};
+ghost use Rattle.run_counts.specs.Counts.{IsCountedRun};
+ghost use Rattle.short_run.specs.Stops.{stop_fault};
+ghost use Rattle.point_turns.specs.Points.{has_point};
+
+use crate::room::new_room;
+use crate::run::run;
+use crate::starting::start;
+use affine_forms::Form;
+use pip_problem::Refusal;
+use run_counts::Work;
+use short_run::Stop;
+use std::alloc::Global;
+
+// Whether the forms have a point.
+fn ask(
+    alloc: Global,
+    places: usize,
+    forms: &[Form],
+    further: &[Form],
+    work: &mut Work,
+) -> Result<bool, Stop>
+    requires forms { IsContext places forms.now }
+    requires further { IsContext places further.now }
+    ensures gives { IsCountedRun (λ b. b) stop_fault result work.old work.new
+        (has_point places (forms.now ++ further.now)) }
+{
+    let mut room = new_room(alloc);
+    let mut rows = start(alloc, places, forms, further, &mut room)?;
+    run(&mut rows, &mut room, work)
+}
+
+/// Whether these forms, which are those of a context and further ones, have a point; None where a number is not short, or
+/// the form of a cut is not found, and nothing is counted then.
+pub fn ask_by_forms(
+    alloc: Global,
+    places: usize,
+    forms: &[Form],
+    further: &[Form],
+    work: &mut Work,
+) -> Option<Result<bool, Refusal>>
+    requires forms { IsContext places forms.now }
+    requires further { IsContext places further.now }
+    ensures gives { IfSome result (λ r. IsCountedRun (λ b. b) run_fault r work.old work.new
+        (has_point places (forms.now ++ further.now))) }
+    ensures none { IfNone result (work.new ≡ work.old) }
+{
+    let before = work.counts();
+    match ask(alloc, places, forms, further, work) {
+        Ok(found) => Some(Ok(found)),
+        Err(Stop::Refused(refusal)) => Some(Err(refusal)),
+        Err(Stop::Long) => {
+            work.back_to(before);
+            None
+        }
+    }
+}

@@ -1,0 +1,108 @@
+ghost use Rattle.std.specs.Prelude.{◌≡◌, ◌+◌, ◌*◌, ◌^◌, ◌<◌, ◌≤◌, [], ◌∷◌, ◌++◌, length, map, All, IsTrue, IfSome, OnOk, OnErr};
+ghost use Rattle.pip_model.specs.Listed.{all_fit};
+ghost use Rattle.pip_model.specs.Rows as model;
+ghost use Rattle.pip_model.specs.Rows.{row_at};
+ghost use Rattle.row_laws.specs.Choices.{IsCandidate};
+ghost use Rattle.row_laws.specs.Rows.{IsRow};
+ghost use Rattle.point_turns.specs.Turns.{negative_from};
+ghost use Rattle.form_run.specs.ReadRows.{IsRead, read};
+ghost use Rattle.form_run.specs.Held.{IsOneRow, behind};
+
+use crate::basis::Basis;
+use crate::flat_lists::FlatLists;
+use crate::reading::value;
+use crate::room::{Room, read_form};
+use affine_forms::WantOfMemory;
+use short_run::ShortTableau;
+use std::marker::Model;
+
+// The rows of a run without parameters: those of the places are kept, and behind them stand those of forms, which are
+// read off them. Each column has the form of its quantity too. Contracts see the rows as a tableau's.
+#[derive(Drop)]
+pub(crate) struct FormRows {
+    pub(crate) places: ShortTableau,
+    pub(crate) basis: Basis,
+    pub(crate) forms: FlatLists,
+    pub(crate) columns: FlatLists,
+    pub(crate) norm: u64,
+}
+
+impl Model for FormRows {
+    ghost use Rattle.row_laws.specs.Tableaus.{TableauRows};
+    ghost use Rattle.form_run.specs.ReadRows.{all_rows};
+    ghost use Rattle.form_run.specs.Held.{IsHeld};
+
+    ghost Value = { TableauRows };
+
+    ghost view = { λ t. all_rows t.places t.basis t.forms.lists };
+
+    ghost invariant = { λ t. IsHeld t.places t.basis t.forms t.columns t.norm };
+}
+
+// The first of the forms whose row is below 0.
+fn form_below(places: &ShortTableau, basis: &Basis, forms: &FlatLists) -> Option<usize>
+    requires { All (IsRead places.now basis.now) forms.now.lists }
+    ensures value { behind (length places.now.rows) result
+        ≡ negative_from (length places.now.rows) (map (read places.now basis.now) forms.now.lists) }
+    ensures bound { IfSome result (λ i. i < length forms.now.lists) }
+{
+    for i in 0..forms.len() {
+        if value(places, basis, forms.at(i)) < 0 {
+            return Some(i);
+        }
+    }
+    None
+}
+
+impl FormRows {
+    // The first row below 0.
+    pub(crate) fn first_below(&self) -> Option<usize>
+        ensures value { result ≡ negative_from 0 self.now.rows }
+        ensures bound { IfSome result (λ r. r < length self.now.rows) }
+    {
+        if let Some(r) = self.places.first_below() {
+            return Some(r);
+        }
+        let _ = self.forms.len();
+        match form_below(&self.places, &self.basis, &self.forms) {
+            Some(i) => Some(self.places.rows() + i),
+            None => None,
+        }
+    }
+
+    // Reads row r.
+    pub(crate) fn read_row(&self, r: usize, room: &mut Room) -> Result<(), WantOfMemory>
+        requires { r < length self.now.rows }
+        ensures { OnOk result (IsOneRow self.now r room.new.row) }
+    {
+        let n = self.places.rows();
+        if r < n {
+            room.row.restart(self.places.unknowns());
+            room.row.push_copy(&self.places, r)
+        } else {
+            let form = self.forms.at(r - n);
+            read_form(room, &self.places, &self.basis, form)
+        }
+    }
+
+    // The column that enters at row r, which was read.
+    pub(crate) fn entering(&self, row: &ShortTableau, r: usize) -> Option<usize>
+        requires row { r < length self.now.rows }
+        requires read { IsOneRow self.now r row.now }
+        ensures listed { IsTrue (all_fit (model.entering_listed self.now.rows r)) }
+        ensures value { result ≡ model.entering self.now.rows r }
+        ensures candidate { IfSome result (IsCandidate self.now.unknowns (row_at self.now.rows r)) }
+        ensures row { IsRow self.now.unknowns 0 (row_at self.now.rows r) }
+    {
+        self.places.entering_behind(row, 0)
+    }
+
+    // The first of the places' rows whose constant the row's denominator does not divide.
+    pub(crate) fn first_fraction(&self) -> Option<usize>
+        ensures value { result ≡ model.first_fraction self.now.unknowns self.now.rows }
+        ensures bound { IfSome result (λ i. i < self.now.unknowns) }
+        ensures row { IfSome result (λ i. IsRow self.now.unknowns 0 (row_at self.now.rows i)) }
+    {
+        self.places.first_fraction()
+    }
+}

@@ -1,0 +1,17 @@
+//! The run of a point in rows that are read off their forms, those of its cuts too: the rows of the places alone are
+//! kept.
+#![tactic(auto)]
+
+mod asking;
+mod basis;
+mod cutting;
+mod flat_lists;
+mod form_rows;
+mod pivoting;
+mod products;
+mod reading;
+mod room;
+mod run;
+mod starting;
+
+pub use asking::ask_by_forms;
