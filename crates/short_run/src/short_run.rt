@@ -13,7 +13,7 @@ use crate::stop::Stop;
 use point_turns::{PointTurn, ShortTableau, Work};
 
 // How many cuts a question's run makes in short rows.
-const MOST_CUTS: usize = 64;
+const MOST_CUTS: usize = 128;
 
 // At a row below 0: no point where no column enters, else a pivot.
 fn pivot_turn(rows: &mut ShortTableau, work: &mut Work, r: usize) -> Result<PointTurn, Stop>
@@ -139,7 +139,7 @@ fn turn_or_end(rows: &mut ShortTableau, work: &mut Work) -> Result<Option<bool>,
 }
 
 /// The run of a question over short rows to its end: whether it finds a point. A last pivot is counted and not made. It
-/// stops behind its 64th cut, since each cut is a row more that every pivot turns.
+/// stops behind its 128th cut, since each cut is a row more that every pivot turns.
 pub fn run_short(rows: &mut ShortTableau, work: &mut Work) -> Result<bool, Stop>
     requires { rows.old.unknowns ≤ length rows.old.rows }
     ensures gives { IsCountedRun (λ b. b) stop_fault result work.old work.new

@@ -24,6 +24,7 @@ const REFUSED: &[&str] = &[
     "no pivot allowed in a point || pip solve --pivots 0 || ((c) 1 1 1 0 -1 0 (#[2 0 -1]) ()) || 5 || pip: budget of pivots 0\n || ",
     "three of six cuts || pip solve --cuts 3 || ((t) 2 1 2 0 -1 1 (#[3 0 0 -1] #[0 3 0 -1]) ()) || 5 || pip: budget of cuts 3\n || ",
     "five of six cuts || pip solve --cuts 5 || ((t) 2 1 2 0 -1 1 (#[3 0 0 -1] #[0 3 0 -1]) ()) || 5 || pip: budget of cuts 5\n || ",
+    "a cut too many, of questions of more than 128 || pip solve --cuts 771 || ((f) 2 1 2 0 -1 1 (#[89 -55 0 -1] #[-89 55 0 1]) ()) || 5 || pip: budget of cuts 771\n || ",
     "the least 128-bit number || pip solve || ((w) 1 0 1 0 -1 1 (#[-170141183460469231731687303715884105728 -3]) ()) || 9 || pip: number too wide at byte 21\n || ",
     "a flag that is not known || pip solve --certificates || ((a) 1 0 1 0 -1 1 (#[1 -3]) ()) || 1 || pip: usage\n || ",
 ];
