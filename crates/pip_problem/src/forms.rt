@@ -37,6 +37,13 @@ impl FormList {
         Ok(FormList { items })
     }
 
+    /// The forms, none of which is copied.
+    pub fn into_items(self) -> Vec<Form>
+        ensures { result.items ≡ self }
+    {
+        self.items
+    }
+
     /// The forms.
     pub fn as_slice(&self) -> &[Form]
         ensures { result.now ≡ self.now }

@@ -122,6 +122,14 @@ impl Problem {
         }
     }
 
+    /// The tableau's rows and those of the context, none of which is copied.
+    pub fn into_rows(self) -> (Vec<Form>, Vec<Form>)
+        ensures rows { result.0.items ≡ self.rows }
+        ensures context { result.1.items ≡ self.context }
+    {
+        (self.rows.into_items(), self.context.into_items())
+    }
+
     /// The number of unknowns, at least 1.
     pub fn unknowns(&self) -> usize
         ensures value { result ≡ self.now.unknowns }
