@@ -13,7 +13,7 @@ pub loop-init : goal.loop-init
 loop-init c =
     let bytes = c.args.bytes.now in
     let start = c.skip_space.result in
-    let items : c.in_ok-read.read.items ≡ [] = c.in_ok-read.ensures.items in
+    let items : c.args.read.items ≡ [] = c.requires.empty in
     let size : length c.split_at.result.1.now ≡ length c.args.bytes.now - c.skip_space.result = ap length c.split_at.ensures.back ∙ length-drop start bytes in
     let at : length c.args.bytes.now - length c.split_at.result.1.now ≡ c.skip_space.result = omega (arith, size, c.skip_space.ensures.order.1) in
     let all : c.args.count - 0 ≡ c.args.count = omega arith in
@@ -30,7 +30,7 @@ loop-init c =
 pub returns-in_err-entry-in-None-clause-reads : goal.returns-in_err-entry-in-None-clause-reads
 returns-in_err-entry-in-None-clause-reads c =
     let at = length c.args.bytes.now - length c.loop.rest.now in
-    let p = err_from_is_err_and c.from_residual-in_err-entry-in-None.result c.from_residual-in_err-entry-in-None.ensures.1 in
+    let p = err_from_is_err_and c.from_residual.result c.from_residual.ensures.1 in
     rw (p.1, p.2) (refused_more (fault_of c.in_err-entry-in-None.field-0.0) c.loop.read.items (number c.args.bytes.now at)
     (λ q. numbers c.args.bytes.now (c.args.count - (c.loop.counter + 1)) q)
     _ _ (numbers_more c.args.bytes.now c.args.count c.loop.counter at (omega arith)) c.loop.invariant.so_far c.in_err-entry-in-None.ensures.reads)

@@ -3,7 +3,7 @@ use Rattle.std.proofs.lemmas.Result.{err_from_is_err_and}
 use Rattle.pip_model.specs.Reading.{row, rows}
 use Rattle.text_reading.specs.Steps.{fault_of}
 use Rattle.text_reading.proofs.Fronts.{step_more, refused_more, rows_more}
-use Rattle.text_reading.proofs.lists.rows.Goals as goal
+use Rattle.text_reading.proofs.lists.rows_in.Goals as goal
 
 pub returns-in_err-entries : goal.returns-in_err-entries
 returns-in_err-entries c =

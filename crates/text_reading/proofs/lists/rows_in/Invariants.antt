@@ -1,7 +1,7 @@
 use Rattle.std.proofs.Common.{◌≡◌, ◌-◌, ◌≤◌, length}
 use Rattle.pip_model.specs.Reading.{rows}
 use Rattle.text_reading.specs.Fronts.{with_front}
-use Rattle.text_reading.proofs.lists.rows.Given as goal
+use Rattle.text_reading.proofs.lists.rows_in.Given as goal
 
 abbrev pub invariant-loop : goal.invariant-loop
 invariant-loop l =
