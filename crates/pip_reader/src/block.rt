@@ -6,13 +6,12 @@ ghost use Rattle.pip_reader.specs.Rows as model;
 use crate::row::form_row;
 use affine_forms::Form;
 use pip_problem::ReadRefusal;
-use std::alloc::Global;
-use text_reading::{Reads, expect};
+use text_reading::{Reads, SpareRows, expect};
 use text_tokens::Kind;
 
 // So many rows of `width` numbers as forms, and the place behind them.
 fn form_rows(
-    alloc: Global,
+    spare: &mut SpareRows,
     bytes: &[u8],
     count: usize,
     width: usize,
@@ -24,10 +23,10 @@ fn form_rows(
     ensures { AreRead (λ v. v.items) read_fault bytes.now place result
         (model.form_rows bytes.now count width coefficients place) }
 {
-    let mut forms = Vec::with_capacity(alloc, count)?;
+    let mut forms = spare.list(count)?;
     let mut at = place;
     for _ in 0..count {
-        let (form, after) = form_row(alloc, bytes, width, coefficients, at)?;
+        let (form, after) = form_row(spare, bytes, width, coefficients, at)?;
         forms.push(form)?;
         at = after;
     }
@@ -36,7 +35,7 @@ fn form_rows(
 
 // So many rows between brackets, the constant of each behind its first coefficients, and the place behind them.
 pub(crate) fn form_block(
-    alloc: Global,
+    spare: &mut SpareRows,
     bytes: &[u8],
     count: usize,
     width: usize,
@@ -49,7 +48,7 @@ pub(crate) fn form_block(
         (model.form_block bytes.now count width coefficients place) }
 {
     let at = expect(bytes, Kind::LeftParen, place)?;
-    let (forms, at) = form_rows(alloc, bytes, count, width, coefficients, at)?;
+    let (forms, at) = form_rows(spare, bytes, count, width, coefficients, at)?;
     let after = expect(bytes, Kind::RightParen, at)?;
     Ok((forms, after))
 }

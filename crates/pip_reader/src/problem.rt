@@ -15,7 +15,7 @@ use crate::header::{Sizes, read_mode, read_sizes};
 use affine_forms::Form;
 use pip_problem::{Bytes, Problem, ReadRefusal};
 use std::alloc::Global;
-use text_reading::{Reads, block, expect, group};
+use text_reading::{Reads, SpareRows, block_in, expect, group};
 use text_tokens::{Kind, next_open};
 
 // What stands before a problem's rows.
@@ -59,37 +59,42 @@ fn head_at(alloc: Global, bytes: &[u8], place: usize) -> Reads<Head, ReadRefusal
 }
 
 // The rows of these sizes, and the place behind them.
-fn blocks_at(alloc: Global, bytes: &[u8], sizes: Sizes, place: usize) -> Reads<Blocks, ReadRefusal>
+fn blocks_at(
+    spare: &mut SpareRows,
+    bytes: &[u8],
+    sizes: Sizes,
+    place: usize,
+) -> Reads<Blocks, ReadRefusal>
     requires place { place ≤ length bytes.now }
     requires unknowns { sizes.unknowns ≤ most_unknowns }
     requires params { sizes.params ≤ most_params }
     ensures { IsRead blocks_of read_fault bytes.now place result (blocks_by_sizes bytes.now sizes place) }
 {
     let width = sizes.unknowns + 1 + sizes.params;
-    let (rows, at) = form_block(alloc, bytes, sizes.rows, width, sizes.unknowns, place)?;
-    let (context, at) = block(alloc, bytes, sizes.context_rows, sizes.params + 1, at)?;
+    let (rows, at) = form_block(spare, bytes, sizes.rows, width, sizes.unknowns, place)?;
+    let (context, at) = block_in(spare, bytes, sizes.context_rows, sizes.params + 1, at)?;
     Ok((Blocks { rows, context }, at))
 }
 
 // The parts of a problem, and the place behind its last `)`.
-fn parts_at(alloc: Global, bytes: &[u8], place: usize) -> Reads<ProblemParts, ReadRefusal>
+fn parts_at(spare: &mut SpareRows, bytes: &[u8], place: usize) -> Reads<ProblemParts, ReadRefusal>
     requires { place ≤ length bytes.now }
     ensures { IsRead problem_of read_fault bytes.now place result (problem_by_steps bytes.now place) }
 {
     let first = expect(bytes, Kind::LeftParen, place)?;
-    let (head, at) = head_at(alloc, bytes, first)?;
-    let (blocks, at) = blocks_at(alloc, bytes, head.sizes, at)?;
+    let (head, at) = head_at(spare.allocator(), bytes, first)?;
+    let (blocks, at) = blocks_at(spare, bytes, head.sizes, at)?;
     let after = expect(bytes, Kind::RightParen, at)?;
     Ok((ProblemParts { head, blocks }, after))
 }
 
 // The problem that begins at a place, and the place behind its last `)`.
-fn problem_at(alloc: Global, bytes: &[u8], place: usize) -> Reads<Problem, ReadRefusal>
+fn problem_at(spare: &mut SpareRows, bytes: &[u8], place: usize) -> Reads<Problem, ReadRefusal>
     requires { place ≤ length bytes.now }
     ensures reads { IsRead (λ p. p) read_fault bytes.now place result (problem_at_of bytes.now place) }
     ensures group { IfOk result (λ x. IsGroup x.0.comment) }
 {
-    let (parts, after) = parts_at(alloc, bytes, place)?;
+    let (parts, after) = parts_at(spare, bytes, place)?;
     let ProblemParts { head, blocks } = parts;
     let problem = Problem::from_parts(
         head.sizes.unknowns,
@@ -108,9 +113,9 @@ fn problem_at(alloc: Global, bytes: &[u8], place: usize) -> Reads<Problem, ReadR
 /// The first token that differs from the format decides the refusal, which keeps the place of that token's first byte
 /// (the number of bytes at their end), the count that is out of its range, or the big parameter's column. A number of
 /// more than 127 bits where one is expected is `Wide`. It never answers `OptionWord`. `start` is at most the number of
-/// bytes.
-pub fn read_problem(
-    alloc: Global,
+/// bytes. The rows are read into spare rooms.
+pub fn read_problem_in(
+    spare: &mut SpareRows,
     bytes: &[u8],
     start: usize,
 ) -> Result<Option<(Problem, usize)>, ReadRefusal>
@@ -123,6 +128,25 @@ pub fn read_problem(
 {
     match next_open(bytes, start) {
         None => Ok(None),
-        Some(place) => Ok(Some(problem_at(alloc, bytes, place)?)),
+        Some(place) => Ok(Some(problem_at(spare, bytes, place)?)),
     }
+}
+
+/// The same, in new rooms.
+pub fn read_problem(
+    alloc: Global,
+    bytes: &[u8],
+    start: usize,
+) -> Result<Option<(Problem, usize)>, ReadRefusal>
+    requires { start ≤ length bytes.now }
+    ensures agrees { Agrees (λ x. x) read_fault result (read_native bytes.now start) }
+    ensures none { IfOk result (λ o. (o ≡ None) ↔ IsTrue (list_all is_closed (drop start bytes.now))) }
+    ensures place { IfOk result (λ o. IfSome o (λ x. (start < x.1) × (x.1 ≤ length bytes.now))) }
+    ensures group { IfOk result (λ o. IfSome o (λ x. IsGroup x.0.comment)) }
+    ensures no_option { IfErr result IsNoOption }
+{
+    let mut spare = SpareRows::new(alloc);
+    let read = read_problem_in(&mut spare, bytes, start);
+    drop(spare);
+    read
 }

@@ -7,8 +7,7 @@ ghost use Rattle.pip_reader.specs.Rows as model;
 
 use affine_forms::Form;
 use pip_problem::ReadRefusal;
-use std::alloc::Global;
-use text_reading::{Reads, row};
+use text_reading::{Reads, SpareRows, row_in};
 
 // Moves the constant, which stands behind the first coefficients, to the end.
 fn constant_last(row: &mut [i128], coefficients: usize)
@@ -31,7 +30,7 @@ fn form_of(mut row: Vec<i128>, coefficients: usize) -> Form
 
 // A row of so many numbers, the constant among them behind the first coefficients, and the place behind it.
 pub(crate) fn form_row(
-    alloc: Global,
+    spare: &mut SpareRows,
     bytes: &[u8],
     count: usize,
     coefficients: usize,
@@ -41,6 +40,6 @@ pub(crate) fn form_row(
     requires constant { coefficients < count }
     ensures { IsRead (λ c. c) read_fault bytes.now place result (model.form_row bytes.now count coefficients place) }
 {
-    let (entries, after) = row(alloc, bytes, count, place)?;
+    let (entries, after) = row_in(spare, bytes, count, place)?;
     Ok((form_of(entries, coefficients), after))
 }

@@ -1,7 +1,7 @@
 use Rattle.pip_reader.proofs.Words.{rules, sym, ◌∙◌, drop, length, err_from_is_err_and, problem_at}
 use Rattle.pip_reader.proofs.FaultPlaces.{problem_at-fault}
 use Rattle.pip_reader.proofs.Found.{told_no_option, none_left, one_left}
-use Rattle.pip_reader.proofs.problem.read_problem.Goals as goal
+use Rattle.pip_reader.proofs.problem.read_problem_in.Goals as goal
 
 pub returns-in-None-clause-none : goal.returns-in-None-clause-none
 returns-in-None-clause-none c = none_left c.args.start (drop c.args.start c.args.bytes.now) (sym c.next_open.ensures.value ∙ c.in-None.is)
