@@ -8,14 +8,14 @@ use Rattle.pip_model.specs.Forms.{entry, constant}
 use Rattle.pip_model.specs.Rows.{Row, row_at, form_row}
 use Rattle.pip_model.proofs.Forms.{entry-scale}
 use Rattle.row_laws.specs.Tableaus.{TableauRows}
-use Rattle.form_laws.specs.ByForm.{place}
-use Rattle.form_laws.proofs.Divided.{undivided}
-use Rattle.form_laws.proofs.Invariant.{wide_by_form}
+use Rattle.form_basis.specs.ByForm.{place}
+use Rattle.form_basis.proofs.Divided.{undivided}
+use Rattle.form_basis.proofs.Invariant.{wide_by_form}
 use Rattle.point_turns.specs.Turns.{negative_from}
-use Rattle.form_run.specs.declared.basis.Basis.{Basis}
-use Rattle.form_run.specs.ReadRows.{IsRead, valued, combined, read}
+use Rattle.form_basis.specs.declared.basis.Basis.{Basis}
+use Rattle.form_basis.specs.ReadRows.{IsRead, valued, combined, read}
 use Rattle.form_run.specs.Held.{behind}
-use Rattle.form_run.proofs.ReadForms.{constant_is}
+use Rattle.form_basis.proofs.ReadForms.{constant_is}
 
 same_sign : (x : ℕ) (z k : ℤ) → 0 < x → pos x *ℤ z ≡ k → is_nonneg z ≡ is_nonneg k
 same_sign x (pos n) (pos k) h e = refl

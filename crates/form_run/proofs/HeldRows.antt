@@ -7,14 +7,14 @@ use Rattle.pip_model.specs.Forms.{entry}
 use Rattle.pip_model.specs.Listed.{all_fit}
 use Rattle.pip_model.specs.Rows.{Row, row_at, form_row, eliminated, pivot, pivot_listed, entering, entering_of, entering_listed, entering_of_listed, candidates, first_fraction, fraction_from}
 use Rattle.row_laws.specs.Tableaus.{TableauRows}
-use Rattle.form_laws.specs.ByForm.{by_form, Kept, Form, turned, rows_by}
-use Rattle.form_laws.specs.Bounds.{norm}
-use Rattle.form_laws.proofs.Invariant.{pivot_made}
-use Rattle.form_laws.proofs.Within.{are_made, made_forms, none_refused, all_over}
-use Rattle.form_run.specs.declared.basis.Basis.{Basis}
+use Rattle.form_basis.specs.ByForm.{by_form, Kept, Form, turned, rows_by}
+use Rattle.form_basis.specs.Bounds.{norm}
+use Rattle.form_basis.proofs.Invariant.{pivot_made}
+use Rattle.form_basis.proofs.Within.{are_made, made_forms, none_refused, all_over}
+use Rattle.form_basis.specs.declared.basis.Basis.{Basis}
 use Rattle.form_run.specs.FlatLists.{NumberLists}
-use Rattle.form_run.specs.ReadRows.{IsMeasured, IsRead, read, all_rows}
-use Rattle.form_run.specs.Held.{IsHeld}
+use Rattle.form_basis.specs.ReadRows.{IsMeasured, IsRead, read}
+use Rattle.form_run.specs.Held.{IsHeld, all_rows}
 
 -- ---- what is held
 

@@ -3,5 +3,4 @@ pub mod Lists
 pub mod Below
 pub mod Factors
 pub mod MadeCuts
-pub mod ReadForms
 pub mod Started

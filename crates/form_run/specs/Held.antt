@@ -1,14 +1,19 @@
--- What a run keeps: the places' rows and what they are measured by, the forms behind them, and those of the columns.
-use Rattle.std.specs.Prelude.{◌≡◌, ℕ, ◌+◌, ◌*◌, ◌^◌, ◌<◌, ◌≤◌, Option, Some, None, [], ◌∷◌, length, All}
+-- What a run keeps: the places' rows and what they are measured by, the forms behind them, and a list for each column.
+use Rattle.std.specs.Prelude.{◌≡◌, ℕ, ◌+◌, ◌*◌, ◌^◌, ◌<◌, ◌≤◌, ℤ, Option, Some, None, List, [], ◌∷◌, ◌++◌, length, map, All}
 use Rattle.pip_model.specs.Rows.{row_at}
 use Rattle.row_laws.specs.Tableaus.{TableauRows}
-use Rattle.form_laws.specs.Bounds.{norm}
-use Rattle.form_run.specs.declared.basis.Basis.{Basis}
+use Rattle.form_basis.specs.Bounds.{norm}
+use Rattle.form_basis.specs.declared.basis.Basis.{Basis}
+use Rattle.form_basis.specs.ReadRows.{IsMeasured, read}
 use Rattle.form_run.specs.FlatLists.{NumberLists}
-use Rattle.form_run.specs.ReadRows.{IsMeasured}
 
--- the forms' rows can be read off the places' rows, none of the forms has a norm greater than `most`, and each column has
--- the form of its quantity
+-- the rows, and then those of the forms
+abbrev pub all_rows : TableauRows → Basis → List (List ℤ) → TableauRows
+all_rows t b forms = record { unknowns = t.unknowns; width = 0; rows = t.rows ++ map (read t b) forms }
+
+-- the forms' rows can be read off the places' rows, none of the forms has a norm greater than `most`, and there is a list
+-- as long as a form for each column. It is the form of the column's quantity, of which nothing is said: a cut's form that is
+-- made of these lists is tested
 pub record IsHeld (t : TableauRows) (b : Basis) (forms columns : NumberLists) (most : ℕ) : Type 0 where
   pub basis : IsMeasured t b
   pub size : forms.size ≡ t.unknowns + 1

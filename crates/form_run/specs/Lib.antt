@@ -1,4 +1,4 @@
+pub mod Factors
 pub mod FlatLists
 pub mod Held
-pub mod ReadRows
 pub use Rattle.short_run.specs.Stops

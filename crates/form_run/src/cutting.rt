@@ -1,56 +1,15 @@
-ghost use Rattle.std.specs.Prelude.{◌≡◌, ◌+◌, ◌*◌, ◌^◌, ◌<◌, ◌≤◌, None, pos, ◌≤ℤ◌, ◌*ℤ◌, unsigned_abs, length, IsTrue, IfErr, IfSome, OnOk, OnErr};
+ghost use Rattle.std.specs.Prelude.{◌≡◌, ◌+◌, ◌<◌, None, length, IsTrue, IfErr, OnOk, OnErr};
 ghost use Rattle.pip_model.specs.Cuts.{constant_cut};
-ghost use Rattle.pip_model.specs.Rows.{divided, row_at};
-ghost use Rattle.row_laws.specs.Flat.{row_of_numbers};
+ghost use Rattle.pip_model.specs.Rows.{row_at};
 ghost use Rattle.row_laws.specs.Tableaus.{with_row};
 ghost use Rattle.short_run.specs.Stops.{stop_fault};
-ghost use Rattle.form_laws.specs.Bounds.{norm as norm_of};
-ghost use Rattle.form_run.specs.ReadRows.{IsMeasured, IsRead, read};
 
-use crate::basis::{Basis, push};
 use crate::flat_lists::FlatLists;
 use crate::form_rows::FormRows;
-use crate::products::{are_short, greater, norm};
-use crate::reading::{coefficient, value};
 use crate::room::Room;
 use affine_forms::WantOfMemory;
+use form_basis::{checked_norm, push, wide_product};
 use short_run::{ShortTableau, Stop};
-
-// The product.
-fn wide_product(x: i64, y: i64) -> i128
-    ensures { result ≡ x *ℤ y }
-{
-    (x as i128) * (y as i128)
-}
-
-// Whether the products are the same.
-fn are_same(a: i64, x: i64, b: i64, y: i64) -> bool
-    ensures { IsTrue result → a *ℤ x ≡ b *ℤ y }
-{
-    wide_product(a, x) == wide_product(b, y)
-}
-
-// Whether the form makes the row of these numbers: each over the row's denominator is the row's over the scale.
-fn makes_row(places: &ShortTableau, basis: &Basis, form: &[i64], row: &[i64]) -> bool
-    requires read { IsRead places.now basis.now form.now }
-    requires size { length row.now ≡ places.now.unknowns + 2 }
-    requires den { pos 1 ≤ℤ (row_of_numbers places.now.unknowns row.now).den }
-    ensures { IsTrue result → read places.now basis.now form.now ≡ divided (row_of_numbers places.now.unknowns row.now) }
-{
-    let n = places.unknowns();
-    let den = row[0];
-    for k in 0..n {
-        if !are_same(
-            coefficient(places, basis, form, k),
-            den,
-            row[k + 1],
-            basis.scale,
-        ) {
-            return false;
-        }
-    }
-    are_same(value(places, basis, form), den, row[n + 1], basis.scale)
-}
 
 // Number u of a sum: that of each list times its coefficient, and a number more; none where it is too great.
 fn sum_at(columns: &FlatLists, coefs: &[i64], u: usize, more: i64) -> Option<i128>
@@ -116,33 +75,6 @@ fn read_cut(row: &mut ShortTableau, places: &ShortTableau, i: usize) -> Result<(
     row.restart(places.unknowns());
     row.push_copy(places, i)?;
     row.push_cut(0)
-}
-
-// A number that is no less than the first and than the norm of the form, where the form makes the row of these numbers
-// and all are short.
-fn checked_norm(
-    most: u64,
-    places: &ShortTableau,
-    basis: &Basis,
-    form: &[i64],
-    row: &[i64],
-) -> Option<u64>
-    requires basis { IsMeasured places.now basis.now }
-    requires form { length form.now ≡ places.now.unknowns + 1 }
-    requires size { length row.now ≡ places.now.unknowns + 2 }
-    requires den { pos 1 ≤ℤ (row_of_numbers places.now.unknowns row.now).den }
-    ensures most { IfSome result (λ k. most ≤ k) }
-    ensures norm { IfSome result (λ k. norm_of form.now ≤ k) }
-    ensures bound { IfSome result (λ k. k * basis.now.most < 2 ^ 63) }
-    ensures row { IfSome result (λ _. read places.now basis.now form.now
-        ≡ divided (row_of_numbers places.now.unknowns row.now)) }
-{
-    let greatest = greater(most, norm(form)?);
-    if are_short(greatest, basis.most) && makes_row(places, basis, form, row) {
-        Some(greatest)
-    } else {
-        None
-    }
 }
 
 impl FormRows {

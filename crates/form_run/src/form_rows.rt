@@ -5,19 +5,19 @@ ghost use Rattle.pip_model.specs.Rows.{row_at};
 ghost use Rattle.row_laws.specs.Choices.{IsCandidate};
 ghost use Rattle.row_laws.specs.Rows.{IsRow};
 ghost use Rattle.point_turns.specs.Turns.{negative_from};
-ghost use Rattle.form_run.specs.ReadRows.{IsRead, read};
+ghost use Rattle.form_basis.specs.ReadRows.{IsRead, read};
 ghost use Rattle.form_run.specs.Held.{IsOneRow, behind};
 
-use crate::basis::Basis;
 use crate::flat_lists::FlatLists;
-use crate::reading::value;
 use crate::room::{Room, read_form};
 use affine_forms::WantOfMemory;
+use form_basis::{Basis, value};
 use short_run::ShortTableau;
 use std::marker::Model;
 
 // The rows of a run without parameters: those of the places are kept, and behind them stand those of forms, which are
-// read off them. Each column has the form of its quantity too. Contracts see the rows as a tableau's.
+// read off them. For each column the form of its quantity is kept too, of which contracts say its length alone. They see
+// the rows as a tableau's.
 #[derive(Drop)]
 pub(crate) struct FormRows {
     pub(crate) places: ShortTableau,
@@ -29,8 +29,7 @@ pub(crate) struct FormRows {
 
 impl Model for FormRows {
     ghost use Rattle.row_laws.specs.Tableaus.{TableauRows};
-    ghost use Rattle.form_run.specs.ReadRows.{all_rows};
-    ghost use Rattle.form_run.specs.Held.{IsHeld};
+    ghost use Rattle.form_run.specs.Held.{IsHeld, all_rows};
 
     ghost Value = { TableauRows };
 

@@ -3,13 +3,11 @@
 #![tactic(auto)]
 
 mod asking;
-mod basis;
 mod cutting;
 mod flat_lists;
 mod form_rows;
+mod measuring;
 mod pivoting;
-mod products;
-mod reading;
 mod room;
 mod run;
 mod starting;

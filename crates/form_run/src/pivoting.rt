@@ -3,13 +3,13 @@ ghost use Rattle.pip_model.specs.Listed.{all_fit};
 ghost use Rattle.pip_model.specs.Rows as model;
 ghost use Rattle.pip_model.specs.Rows.{row_at};
 ghost use Rattle.row_laws.specs.Choices.{IsCandidate};
-ghost use Rattle.form_run.specs.ReadRows.{IsMeasured};
+ghost use Rattle.form_basis.specs.ReadRows.{IsMeasured};
 ghost use Rattle.form_run.specs.Held.{IsHeld, IsOneRow};
 
-use crate::basis::Basis;
 use crate::flat_lists::FlatLists;
 use crate::form_rows::FormRows;
-use crate::products::are_short;
+use crate::measuring::measure;
+use form_basis::{Basis, are_short};
 use short_run::ShortTableau;
 
 // Gives column c the form of the quantity of row r: of n places' rows or behind them.
@@ -65,7 +65,7 @@ fn turn(
     if !places.eliminate(row, 0, c) {
         return false;
     }
-    if !basis.measure(places) {
+    if !measure(basis, places) {
         return false;
     }
     are_short(norm, basis.most)

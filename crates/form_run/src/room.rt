@@ -1,9 +1,9 @@
 ghost use Rattle.std.specs.Prelude.{◌≡◌, [], ◌∷◌, OnOk};
-ghost use Rattle.form_run.specs.ReadRows.{IsRead, read as read_row};
+ghost use Rattle.row_laws.specs.Flat.{numbers_of};
+ghost use Rattle.form_basis.specs.ReadRows.{IsRead, combined, read as read_row};
 
-use crate::basis::Basis;
-use crate::reading::read;
 use affine_forms::WantOfMemory;
+use form_basis::{Basis, coefficient, value};
 use short_run::ShortTableau;
 use std::alloc::Global;
 
@@ -20,6 +20,25 @@ pub(crate) fn new_room(alloc: Global) -> Room {
         numbers: Vec::new(alloc),
         row: ShortTableau::new(alloc, 0),
     }
+}
+
+// Makes of the numbers those of the form's row before it is divided.
+fn read(
+    numbers: &mut Vec<i64>,
+    places: &ShortTableau,
+    basis: &Basis,
+    form: &[i64],
+) -> Result<(), WantOfMemory>
+    requires { IsRead places.now basis.now form.now }
+    ensures { OnOk result (numbers.new.items ≡ numbers_of (combined places.now basis.now form.now)) }
+{
+    numbers.clear();
+    numbers.push(basis.scale)?;
+    for k in 0..places.unknowns() {
+        numbers.push(coefficient(places, basis, form, k))?;
+    }
+    numbers.push(value(places, basis, form))?;
+    Ok(())
 }
 
 // Reads the form's row.

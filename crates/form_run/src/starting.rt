@@ -1,17 +1,17 @@
 ghost use Rattle.std.specs.Prelude.{◌≡◌, ◌+◌, ◌*◌, ◌^◌, ◌<◌, ◌≤◌, None, [], ◌∷◌, ◌++◌, length, map, All, IfErr, IfOk, IfSome, OnOk};
 ghost use Rattle.pip_model.specs.Contexts.{IsContext};
 ghost use Rattle.pip_model.specs.Forms.{widen_to};
-ghost use Rattle.form_laws.specs.Bounds.{norm as norm_of};
+ghost use Rattle.form_basis.specs.Bounds.{norm as norm_of};
 ghost use Rattle.pip_model.specs.Rows.{start as start_of};
 ghost use Rattle.point_turns.specs.Points.{first_rows};
 ghost use Rattle.short_run.specs.Stops.{stop_fault};
 
-use crate::basis::no_basis;
 use crate::flat_lists::FlatLists;
 use crate::form_rows::FormRows;
-use crate::products::{are_short, greater, norm};
+use crate::measuring::measure;
 use crate::room::Room;
 use affine_forms::{Form, WantOfMemory};
+use form_basis::{are_short, greater, no_basis, norm};
 use short_run::{ShortTableau, Stop, push_short, start_short};
 use std::alloc::Global;
 
@@ -91,7 +91,7 @@ fn measured(
     let Some(norm) = greatest_norm(&forms) else {
         return Err(Stop::Long);
     };
-    if !basis.measure(&places) || !are_short(norm, basis.most) {
+    if !measure(&mut basis, &places) || !are_short(norm, basis.most) {
         return Err(Stop::Long);
     }
     Ok(FormRows {

@@ -1,7 +1,7 @@
 use Rattle.std.proofs.Common.{rules, arith, ◌≡◌, pos, ◌<ℤ◌, ◌≤ℤ◌, ◌<◌, [], map, length, get_or, to_z, of_z}
 use Rattle.std.proofs.lemmas.Int.{ints}
 use Rattle.std.specs.Int.{w64}
-use Rattle.form_run.specs.ReadRows.{read, valued}
+use Rattle.form_basis.specs.ReadRows.{read, valued}
 use Rattle.form_run.proofs.Below.{starts_below, form_read, form_above, form_negative, none_negative}
 use Rattle.form_run.proofs.form_rows.form_below.Goals as goal
 

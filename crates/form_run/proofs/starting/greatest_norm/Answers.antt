@@ -1,6 +1,6 @@
 use Rattle.std.proofs.Common.{rules, ◌≤◌, subst, List, ℤ}
-use Rattle.form_laws.proofs.Columns.{all_taken, norms_more}
-use Rattle.form_laws.specs.Bounds as bounds
+use Rattle.form_basis.proofs.Columns.{all_taken, norms_more}
+use Rattle.form_basis.specs.Bounds as bounds
 use Rattle.form_run.proofs.starting.greatest_norm.Goals as goal
 
 pub loop-i-preserved : goal.loop-i-preserved

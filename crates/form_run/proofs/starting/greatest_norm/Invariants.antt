@@ -1,5 +1,5 @@
 use Rattle.std.proofs.Common.{◌≤◌, take, All}
-use Rattle.form_laws.specs.Bounds as bounds
+use Rattle.form_basis.specs.Bounds as bounds
 use Rattle.form_run.proofs.starting.greatest_norm.Given as goal
 
 abbrev pub invariant-loop-i : goal.invariant-loop-i

@@ -1,14 +1,14 @@
 use Rattle.std.proofs.Common.{rules, arith, ◌≡◌, ◌∙◌, ap, sym, ◌+◌, length, List, ℤ, All}
 use Rattle.pip_model.specs.Rows.{Row}
-use Rattle.form_laws.proofs.Within.{start_read}
-use Rattle.form_run.specs.ReadRows.{IsMeasured}
+use Rattle.form_basis.proofs.Within.{start_read}
+use Rattle.form_basis.specs.ReadRows.{IsMeasured}
 use Rattle.form_run.proofs.starting.measured.Goals as goal
 
 pub returns-clause-value : goal.returns-clause-value
 returns-clause-value c =
     let t = c.args.places in
-    let b = c.measure.new.self in
-    let basis : IsMeasured c.args.places c.measure.new.self = search rules in
+    let b = c.measure.new.basis in
+    let basis : IsMeasured c.args.places c.measure.new.basis = search rules in
     let none : c.args.places.unknowns + 0 + 1 ≡ c.args.places.unknowns + 1 = omega arith in
     let wide : All (λ (f : List ℤ). length f ≡ c.args.places.unknowns + 0 + 1) c.args.forms.lists = λ k d lt. c.requires.wide k d lt ∙ sym none in
     ap (λ (rows : List Row). record { unknowns = c.args.places.unknowns; width = 0; rows = rows })

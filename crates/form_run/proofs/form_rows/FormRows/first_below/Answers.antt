@@ -2,7 +2,7 @@ use Rattle.std.proofs.Common.{rules, arith, ◌≡◌, ◌∙◌, ◌+◌, ap, s
 use Rattle.row_laws.specs.Tableaus.{TableauRows}
 use Rattle.short_run.proofs.FurtherRows.{negative-front}
 use Rattle.point_turns.specs.Turns.{negative_from}
-use Rattle.form_run.specs.ReadRows.{read}
+use Rattle.form_basis.specs.ReadRows.{read}
 use Rattle.form_run.specs.Held.{behind}
 use Rattle.form_run.proofs.Below.{behind_all}
 use Rattle.form_run.proofs.HeldRows.{reads, all_long, few}

@@ -3,7 +3,8 @@ use Rattle.pip_model.specs.Forms.{entry}
 use Rattle.pip_model.specs.Listed.{all_fit}
 use Rattle.pip_model.specs.Rows.{Row, row_at, eliminated, pivot, pivot_listed}
 use Rattle.row_laws.specs.Tableaus.{TableauRows}
-use Rattle.form_run.specs.ReadRows.{IsMeasured, all_rows}
+use Rattle.form_basis.specs.ReadRows.{IsMeasured}
+use Rattle.form_run.specs.Held.{all_rows}
 use Rattle.form_run.proofs.HeldRows.{all_listed, all_pivot}
 use Rattle.form_run.proofs.form_rows.FormRows.pivot.Goals as goal
 

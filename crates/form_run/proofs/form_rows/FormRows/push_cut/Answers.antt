@@ -4,7 +4,8 @@ use Rattle.pip_model.specs.Rows.{Row, row_at, form_row, divided}
 use Rattle.row_laws.specs.Flat.{row_of_numbers}
 use Rattle.row_laws.specs.Tableaus.{TableauRows, with_row}
 use Rattle.form_run.specs.FlatLists.{NumberLists}
-use Rattle.form_run.specs.ReadRows.{read, all_rows}
+use Rattle.form_basis.specs.ReadRows.{read}
+use Rattle.form_run.specs.Held.{all_rows}
 use Rattle.form_run.proofs.HeldRows.{row_front}
 use Rattle.form_run.proofs.MadeCuts.{cut_divided, row_added}
 use Rattle.form_run.proofs.form_rows.FormRows.push_cut.Goals as goal

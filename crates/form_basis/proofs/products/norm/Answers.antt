@@ -1,0 +1,6 @@
+use Rattle.std.proofs.Common.{rules}
+use Rattle.form_laws.proofs.Columns.{norm_more}
+use Rattle.form_basis.proofs.products.norm.Goals as goal
+
+pub loop-number-preserved : goal.loop-number-preserved
+loop-number-preserved c = search (rules, norm_more c.args.numbers.now c.loop-number.number-index (search rules))

@@ -1,0 +1,6 @@
+use Rattle.std.proofs.Common.{rules}
+use Rattle.form_laws.proofs.Columns.{part_coef}
+use Rattle.form_basis.proofs.reading.coefficient.Goals as goal
+
+pub returns : goal.returns
+returns c = search (rules, part_coef c.args.places.now.unknowns c.args.k c.args.basis.now.scale c.args.places.now.rows c.requires.column)

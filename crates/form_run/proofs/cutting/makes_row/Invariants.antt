@@ -1,7 +1,0 @@
-use Rattle.std.proofs.Common.{◌≡◌, ℕ, ◌+◌, ◌<◌, ◌*ℤ◌}
-use Rattle.pip_model.specs.Forms.{entry}
-use Rattle.form_run.specs.ReadRows.{summed}
-use Rattle.form_run.proofs.cutting.makes_row.Given as goal
-
-abbrev pub invariant-loop-k : goal.invariant-loop-k
-invariant-loop-k l = (j : ℕ) → j < l.k → summed l.places l.basis l.form j *ℤ l.den ≡ entry l.row (j + 1) *ℤ l.basis.scale
