@@ -1,3 +1,5 @@
+ghost use Rattle.std.specs.Prelude.{◌≡◌, []};
+
 use short_run::ShortTableau;
 use std::alloc::Global;
 
@@ -11,7 +13,10 @@ pub struct Question {
 
 impl Question {
     /// No rows. It takes no memory.
-    pub fn new(alloc: Global) -> Question {
+    pub fn new(alloc: Global) -> Question
+        ensures row { result.row.rows ≡ [] }
+        ensures run { result.run.rows ≡ [] }
+    {
         Question {
             row: ShortTableau::new(alloc, 0),
             run: ShortTableau::new(alloc, 0),

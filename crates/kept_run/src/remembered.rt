@@ -1,4 +1,4 @@
-ghost use Rattle.std.specs.Prelude.{◌≡◌, ℕ, ◌+◌, ◌<◌, ◌≤◌, ℤ, Some, List, [], ◌∷◌, ◌++◌, length, map, IfOk, OnOk};
+ghost use Rattle.std.specs.Prelude.{◌≡◌, ℕ, ◌+◌, ◌<◌, ◌≤◌, ℤ, Some, List, [], ◌∷◌, ◌++◌, false, length, map, IfOk, OnOk};
 ghost use Rattle.pip_model.specs.Contexts.{IsContext};
 ghost use Rattle.pip_model.specs.Rows.{Row};
 ghost use Rattle.refutation_steps.specs.Turns.{negative_from};
@@ -29,7 +29,13 @@ pub struct Remembered {
 
 impl Remembered {
     /// No run yet. It takes no memory.
-    pub fn new(alloc: Global) -> Remembered {
+    pub fn new(alloc: Global) -> Remembered
+        ensures pivots { result.run.pivots.rows ≡ [] }
+        ensures rows { result.run.rows.items ≡ [] }
+        ensures columns { result.run.columns.items ≡ [] }
+        ensures end { result.run.end.rows ≡ [] }
+        ensures at_end { result.at_end ≡ false }
+    {
         let run = Replay {
             pivots: ShortTableau::new(alloc, 0),
             rows: Vec::new(alloc),

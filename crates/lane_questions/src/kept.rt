@@ -10,6 +10,7 @@ ghost use Rattle.point_turns.specs.Turns.{negative_from};
 ghost use Rattle.form_laws.specs.Bounds.{norm};
 ghost use Rattle.lanes.specs.Narrow.{AreLanes};
 ghost use Rattle.lane_run.specs.Laned.{AreUnused};
+ghost use Rattle.scaled_laws.specs.Tables.{no_rows};
 ghost use Rattle.lane_questions.specs.InLanes.{lanes_of, all_lanes, AreWithin, IsWithin};
 ghost use Rattle.lane_questions.specs.Kept.{LaneVertex, IsKeptLanes, IsEndedLanes, IsQuestion};
 ghost use Rattle.lane_run.specs.Runs.{run_rows, forms_of, AreModest, IsRowBelow};
@@ -45,7 +46,10 @@ impl Model for KeptLanes {
 
 impl KeptLanes {
     /// The run of no forms over no places. It takes no memory.
-    pub fn new(alloc: Global) -> KeptLanes {
+    pub fn new(alloc: Global) -> KeptLanes
+        ensures rows { result.table ≡ no_rows 0 0 }
+        ensures pivots { result.pivots ≡ 0 }
+    {
         KeptLanes {
             rows: LaneRows::new(alloc),
             pivots: 0,

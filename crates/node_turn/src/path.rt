@@ -1,4 +1,4 @@
-ghost use Rattle.std.specs.Prelude.{◌≡◌, ◌^◌, ◌+◌, ◌-◌, ◌<◌, ◌≤◌, [], ◌∷◌, length, take, IfOk, OnOk, IsTrue};
+ghost use Rattle.std.specs.Prelude.{◌≡◌, ◌^◌, ◌+◌, ◌-◌, ◌<◌, ◌≤◌, [], ◌∷◌, false, length, take, IfOk, OnOk, IsTrue};
 ghost use Rattle.pip_model.specs.Contexts.{IsContext};
 ghost use Rattle.pip_model.specs.Forms as model;
 ghost use Rattle.pip_model.specs.Listed.{all_fit, opposite_listed};
@@ -36,8 +36,14 @@ fn opposite(context: &mut Context, condition: &Form) -> Result<Form, WantOfMemor
 }
 
 impl Path {
-    /// A path to no node. It takes no memory.
-    pub fn new(alloc: Global) -> Path {
+    /// A path to no node: no mode, no depth, no context and no quotients yet. It takes no memory.
+    pub fn new(alloc: Global) -> Path
+        ensures mode { result.integer ≡ false }
+        ensures depth { result.depth ≡ 0 }
+        ensures width { result.context.width ≡ 0 }
+        ensures forms { result.context.forms ≡ [] }
+        ensures quotients { result.quotients ≡ record { params = 0; quotients = [] } }
+    {
         Path {
             integer: false,
             depth: 0,

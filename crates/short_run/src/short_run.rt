@@ -139,7 +139,7 @@ fn turn_or_end(rows: &mut ShortTableau, work: &mut Work) -> Result<Option<bool>,
 }
 
 /// The run of a question over short rows to its end: whether it finds a point. A last pivot is counted and not made. It
-/// stops behind its 128th cut, since each cut is a row more that every pivot turns.
+/// stops at its 129th cut, since each cut is a row more that every pivot turns.
 pub fn run_short(rows: &mut ShortTableau, work: &mut Work) -> Result<bool, Stop>
     requires { rows.old.unknowns ≤ length rows.old.rows }
     ensures gives { IsCountedRun (λ b. b) stop_fault result work.old work.new
