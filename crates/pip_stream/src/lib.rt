@@ -7,5 +7,6 @@ mod next;
 mod open;
 mod refusal;
 
-pub use next::{MOST_INPUT_BYTES, next_problem};
+pub use next::{MOST_INPUT_BYTES, next_problem, next_problem_in};
+pub use pip_reader::SpareRows;
 pub use refusal::NextRefusal;

@@ -2,6 +2,7 @@
 #![tactic(auto)]
 
 mod certified;
+mod kept;
 mod problems;
 mod solve;
 mod trial;

@@ -10,17 +10,17 @@ ghost use Rattle.solve_items.specs.Answered.{AnswersNext};
 ghost use Rattle.item_writing.specs.Outputs.{EndsByFaults};
 ghost use Rattle.item_writing.specs.ByProblem.{WritesByProblem, FailsInTime, CallsBy};
 
+use crate::kept::Kept;
 use crate::solve::write_solution;
 use item_writing::Ending;
 use pip_outside::{Sink, Source, Window, write_all};
-use pip_stream::next_problem;
-use pip_trial::Solver;
+use pip_stream::next_problem_in;
 use pip_words::SolveOptions;
 use std::alloc::Global;
 
-// The same as `answer_next`, in the room that a solver keeps.
+// The same as `answer_next`, in the rooms that are kept.
 fn answer_next_in<S: Source, K: Sink>(
-    solver: &mut Solver,
+    kept: &mut Kept,
     options: &SolveOptions,
     window: &mut Window,
     source: &mut S,
@@ -42,12 +42,12 @@ fn answer_next_in<S: Source, K: Sink>(
     ensures faults { EndsByFaults (S.faults source.old) (S.faults source.new) (K.faults sink.old) (K.faults sink.new)
         result }
 {
-    let alloc = solver.allocator();
-    match next_problem(alloc, window, source)? {
+    match next_problem_in(&mut kept.spare, window, source)? {
         Some((problem, _)) => {
-            let mut text = Vec::new(alloc);
-            write_solution(solver, options, &problem, &mut text)?;
-            write_all(sink, &text)?;
+            kept.text.clear();
+            write_solution(&mut kept.solver, options, &problem, &mut kept.text)?;
+            write_all(sink, &kept.text)?;
+            kept.keep(problem);
             Ok(true)
         }
         None => Ok(false),
@@ -88,15 +88,15 @@ pub fn answer_next<S: Source, K: Sink>(
     ensures faults { EndsByFaults (S.faults source.old) (S.faults source.new) (K.faults sink.old) (K.faults sink.new)
         result }
 {
-    let mut solver = Solver::new(alloc);
-    let answered = answer_next_in(&mut solver, options, window, source, sink);
-    drop(solver);
+    let mut kept = Kept::new(alloc);
+    let answered = answer_next_in(&mut kept, options, window, source, sink);
+    drop(kept);
     answered
 }
 
-// The same as `write_problems`, in the room that a solver keeps.
+// The same as `write_problems`, in the rooms that are kept.
 fn write_problems_in<S: Source, K: Sink>(
-    solver: &mut Solver,
+    kept: &mut Kept,
     options: &SolveOptions,
     source: &mut S,
     sink: &mut K,
@@ -112,14 +112,15 @@ fn write_problems_in<S: Source, K: Sink>(
     ensures faults { EndsByFaults (S.faults source.old) (S.faults source.new) (K.faults sink.old) (K.faults sink.new)
         result }
 {
-    let alloc = solver.allocator();
+    let alloc = kept.solver.allocator();
     let mut window = Window::try_new(alloc)?;
-    while answer_next_in(solver, options, &mut window, source, sink)? {}
+    while answer_next_in(kept, options, &mut window, source, sink)? {}
     Ok(())
 }
 
 /// Answers the native problems of an input one by one, up to the first refusal. No more is held than a problem, a piece
-/// less one, one answer and the room of the solver.
+/// less one, one answer and what is kept for the next: the room of the solver, at most 1,024 rows of at most 64
+/// coefficients, and 1 MiB for a text.
 pub fn write_problems<S: Source, K: Sink>(
     alloc: Global,
     options: &SolveOptions,
@@ -137,8 +138,8 @@ pub fn write_problems<S: Source, K: Sink>(
     ensures faults { EndsByFaults (S.faults source.old) (S.faults source.new) (K.faults sink.old) (K.faults sink.new)
         result }
 {
-    let mut solver = Solver::new(alloc);
-    let written = write_problems_in(&mut solver, options, source, sink);
-    drop(solver);
+    let mut kept = Kept::new(alloc);
+    let written = write_problems_in(&mut kept, options, source, sink);
+    drop(kept);
     written
 }

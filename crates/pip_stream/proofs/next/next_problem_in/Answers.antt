@@ -2,7 +2,7 @@ use Rattle.pip_stream.proofs.Words.{◌≡◌, refl, sym, ap, ◌∙◌, ◌≤�
 use Rattle.pip_stream.specs.declared.refusal.NextRefusal.TheVariants as next
 use Rattle.pip_stream.proofs.Asking.{seeks-restart, seeks-then, seeks-skips, seeks-calls, calls-item, held-restart, held-opens, held-ends}
 use Rattle.pip_stream.proofs.Nexting.{finds-unopened, finds-none, finds-unended, finds-item, leaves-by, limit-by, none-leaves, item-leaves, item-taken, item-not_none, item-not_failed}
-use Rattle.pip_stream.proofs.next.next_problem.Goals as goal
+use Rattle.pip_stream.proofs.next.next_problem_in.Goals as goal
 
 pub find_open-requires : goal.find_open-requires
 find_open-requires g c = record {
