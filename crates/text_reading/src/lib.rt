@@ -12,6 +12,6 @@ mod steps;
 pub use fault::{Reads, TextFault};
 pub use groups::group;
 pub use header::{no_big_parameter, within};
-pub use lists::{block, block_in, numbers, row, row_in, rows};
+pub use lists::{block_in, numbers, row, row_in};
 pub use spare::SpareRows;
 pub use steps::{expect, expect_word, number, same_bracket, same_bytes, spells};

@@ -144,24 +144,6 @@ fn rows_in(
     Ok((forms, at))
 }
 
-/// So many rows of `width` numbers as forms, and the place behind them.
-pub fn rows(
-    alloc: Global,
-    bytes: &[u8],
-    count: usize,
-    width: usize,
-    place: usize,
-) -> Reads<Vec<Form>, TextFault>
-    requires place { place ≤ length bytes.now }
-    requires width { 0 < width }
-    ensures { AreRead (λ v. v.items) fault_of bytes.now place result (model.rows bytes.now count width place) }
-{
-    let mut spare = SpareRows::new(alloc);
-    let read = rows_in(&mut spare, bytes, count, width, place);
-    drop(spare);
-    read
-}
-
 /// So many rows of `width` numbers between brackets, as forms, read into spare rooms, and the place behind them.
 pub fn block_in(
     spare: &mut SpareRows,
@@ -178,22 +160,4 @@ pub fn block_in(
     let (forms, at) = rows_in(spare, bytes, count, width, at)?;
     let after = expect(bytes, Kind::RightParen, at)?;
     Ok((forms, after))
-}
-
-/// So many rows of `width` numbers between brackets, as forms, and the place behind them.
-pub fn block(
-    alloc: Global,
-    bytes: &[u8],
-    count: usize,
-    width: usize,
-    place: usize,
-) -> Reads<Vec<Form>, TextFault>
-    requires place { place ≤ length bytes.now }
-    requires width { 0 < width }
-    ensures { IsRead (λ v. v.items) fault_of bytes.now place result (model.block bytes.now count width place) }
-{
-    let mut spare = SpareRows::new(alloc);
-    let read = block_in(&mut spare, bytes, count, width, place);
-    drop(spare);
-    read
 }
