@@ -1,4 +1,4 @@
-ghost use Rattle.std.specs.Prelude.{◌≡◌, ◌+◌, ◌*◌, ◌^◌, ◌<◌, ◌≤◌, pos, ◌≤ℤ◌, ◌*ℤ◌, unsigned_abs, [], ◌∷◌, ◌++◌, length, All, IsTrue, IfSome};
+ghost use Rattle.std.specs.Prelude.{◌≡◌, ◌+◌, ◌*◌, ◌<◌, ◌≤◌, pos, ◌≤ℤ◌, ◌*ℤ◌, unsigned_abs, [], ◌++◌, length, All, IsTrue, IfSome};
 ghost use Rattle.pip_model.specs.Numbers as model;
 ghost use Rattle.pip_model.specs.Rows.{row_at};
 ghost use Rattle.row_laws.specs.Short.{IsShort};

@@ -1,4 +1,4 @@
-ghost use Rattle.std.specs.Prelude.{◌≡◌, ◌+◌, ◌*◌, ◌^◌, ◌<◌, ◌≤◌, pos, ◌≤ℤ◌, ◌*ℤ◌, unsigned_abs, [], ◌∷◌, ◌++◌, length, All, IsTrue, IfSome, OnSome};
+ghost use Rattle.std.specs.Prelude.{◌≡◌, ◌+◌, ◌*◌, ◌^◌, ◌<◌, ◌≤◌, pos, ◌≤ℤ◌, ◌*ℤ◌, unsigned_abs, [], ◌++◌, length, All, IsTrue, IfSome, OnSome};
 ghost use Rattle.pip_model.specs.Numbers as model;
 ghost use Rattle.pip_model.specs.Rows.{row_at};
 ghost use Rattle.row_laws.specs.Rows.{IsRow};
@@ -7,7 +7,7 @@ ghost use Rattle.tableau_row.specs.Views.{row_of};
 ghost use Rattle.form_laws.specs.ByForm.{over};
 ghost use Rattle.form_laws.specs.Columns.{IsBasis, IsScaled, columns_of, part};
 
-use short_numbers::{short_floor_div, short_gcd};
+use form_basis::{are_short, factor, multiple, push, with_size};
 use tableau::{RowView, Tableau};
 
 // The numbers of the unknowns' rows over a common multiple of their denominators, column after column, and a number
@@ -31,18 +31,6 @@ fn short(z: i128) -> Option<i64>
     }
 }
 
-// A common multiple of two numbers.
-fn multiple(a: i64, b: i64) -> Option<i64>
-    requires positive { pos 1 ≤ℤ a }
-    requires first { IsShort a }
-    requires second { IsShort b }
-    ensures positive { IfSome result (λ l. pos 1 ≤ℤ l) }
-    ensures short { IfSome result (λ l. IsShort l) }
-{
-    let product = short_floor_div(a, short_gcd(a, b)).checked_mul(b)?;
-    if product < 1 { None } else { Some(product) }
-}
-
 // A common multiple of the denominators.
 fn common(rows: &Tableau) -> Option<i64>
     ensures positive { IfSome result (λ l. pos 1 ≤ℤ l) }
@@ -58,8 +46,8 @@ fn common(rows: &Tableau) -> Option<i64>
     Some(found)
 }
 
-// The quotient of a multiple of a denominator.
-fn factor(scale: i64, den: i128) -> Option<i64>
+// What the scale has of a denominator, where it is a multiple of it.
+fn factor_of(scale: i64, den: i128) -> Option<i64>
     requires scale { pos 1 ≤ℤ scale }
     requires short { IsShort scale }
     requires den { pos 1 ≤ℤ den }
@@ -67,13 +55,7 @@ fn factor(scale: i64, den: i128) -> Option<i64>
     ensures multiple { IfSome result (λ q. scale ≡ den *ℤ q) }
 {
     let den = short(den)?;
-    let quotient = short_floor_div(scale, den);
-    let product = den.checked_mul(quotient)?;
-    if product == scale {
-        Some(quotient)
-    } else {
-        None
-    }
+    factor(scale, den)
 }
 
 // Whether the number is a multiple of the denominator of row j.
@@ -84,7 +66,7 @@ fn is_multiple_at(rows: &Tableau, scale: i64, j: usize) -> bool
     ensures { IsTrue result → IsScaled rows.now.unknowns rows.now.width scale (row_at rows.now.rows j) }
 {
     let row = rows.row(j);
-    factor(scale, row.den).is_some()
+    factor_of(scale, row.den).is_some()
 }
 
 // Whether the number is a multiple of each denominator.
@@ -123,7 +105,7 @@ fn scaled(scale: i64, row: &RowView<'_>, k: usize) -> Option<i64>
     ensures { IfSome result (λ z.
         z ≡ model.floor_div scale row.now.den *ℤ part (length row.now.coefs.now) k (row_of row.now)) }
 {
-    let factor = factor(scale, row.den)?;
+    let factor = factor_of(scale, row.den)?;
     let number = short(number(row, k))?;
     factor.checked_mul(number)
 }
@@ -139,22 +121,6 @@ fn scaled_at(rows: &Tableau, scale: i64, j: usize, k: usize) -> Option<i64>
 {
     let row = rows.row(j);
     scaled(scale, &row, k)
-}
-
-// The greater of a number and a size.
-fn with_size(most: u64, z: i64) -> u64
-    ensures most { most ≤ result }
-    ensures size { unsigned_abs z ≤ result }
-{
-    let size = z.unsigned_abs();
-    if size > most { size } else { most }
-}
-
-// Adds the number where there is memory for it.
-fn push(columns: &mut Vec<i64>, z: i64) -> bool
-    ensures { IsTrue result → columns.new.items ≡ columns.old.items ++ z ∷ [] }
-{
-    columns.push(z).is_ok()
 }
 
 // Adds number k of each row over the scale; a number that is no less than the size of any.
@@ -202,17 +168,6 @@ fn push_columns(columns: &mut Vec<i64>, rows: &Tableau, scale: i64, most: u64) -
     Some(greatest)
 }
 
-// Whether norms of that size and numbers of the other make short rows.
-fn are_short(norm: u64, most: u64) -> bool
-    ensures most { IsTrue result → most < 2 ^ 63 }
-    ensures product { IsTrue result → norm * most < 2 ^ 63 }
-{
-    match norm.checked_mul(most) {
-        None => false,
-        Some(product) => most < 9223372036854775808 && product < 9223372036854775808,
-    }
-}
-
 // How many numbers the rows have, where that is no great number.
 fn row_numbers(rows: &Tableau) -> Option<usize>
     ensures { OnSome result (rows.now.unknowns + rows.now.width + 1 < 2 ^ 64) }
@@ -235,7 +190,7 @@ pub(crate) fn measure(rows: &Tableau, norm: u64) -> Option<Basis>
     }
     let mut columns = Vec::new(rows.allocator());
     let most = push_columns(&mut columns, rows, scale, scale.unsigned_abs())?;
-    if are_short(norm, most) {
+    if most < 9223372036854775808 && are_short(norm, most) {
         Some(Basis {
             scale,
             most,

@@ -1,19 +1,11 @@
-ghost use Rattle.std.specs.Prelude.{◌≡◌, ◌^◌, ◌<◌, ◌≤◌, ◌+ℤ◌, ◌*ℤ◌, unsigned_abs, All, IfSome};
+ghost use Rattle.std.specs.Prelude.{◌≡◌, ◌≤◌, All, IfSome};
 ghost use Rattle.pip_model.specs.Forms as model;
 ghost use Rattle.form_laws.specs.Bounds as bounds;
 ghost use Rattle.form_laws.specs.Columns.{IsSummable};
 
 use affine_forms::Form;
+use form_basis::{add_product, greater};
 use short_numbers::narrow;
-
-// A sum, and the product of two numbers more.
-pub(crate) fn add_product(sum: i64, x: i64, y: i64) -> i64
-    requires product { unsigned_abs (x *ℤ y) < 2 ^ 63 }
-    requires all { unsigned_abs (sum +ℤ x *ℤ y) < 2 ^ 63 }
-    ensures { result ≡ sum +ℤ x *ℤ y }
-{
-    sum + x * y
-}
 
 // The sum of the products of a form's first entries and the numbers of a column.
 pub(crate) fn dot(form: &[i128], column: &[i64]) -> i64
@@ -40,14 +32,6 @@ fn norm(entries: &[i128]) -> Option<u64>
         sum = sum.checked_add(size as u64)?;
     }
     Some(sum)
-}
-
-// The greater of two numbers.
-fn greater(a: u64, b: u64) -> u64
-    ensures first { a ≤ result }
-    ensures second { b ≤ result }
-{
-    if a < b { b } else { a }
 }
 
 // A number that is no less than the norms of all forms, none where one is too great.

@@ -1,4 +1,4 @@
-ghost use Rattle.std.specs.Prelude.{◌≡◌, ◌+◌, ◌-◌, ◌*◌, ◌^◌, ◌<◌, ◌≤◌, pos, ◌≤ℤ◌, ◌+ℤ◌, ◌*ℤ◌, unsigned_abs, true, ◌++◌, All, length, map, take, drop, IsTrue, IfOk, OnOk, OnErr};
+ghost use Rattle.std.specs.Prelude.{◌≡◌, ◌+◌, ◌-◌, ◌^◌, ◌<◌, ◌≤◌, pos, ◌≤ℤ◌, ◌+ℤ◌, ◌*ℤ◌, unsigned_abs, true, ◌++◌, All, length, map, IsTrue, IfOk, OnOk, OnErr};
 ghost use Rattle.std.specs.List.{list_all};
 ghost use Rattle.pip_model.specs.Numbers.{gcd, gcd_of, is_nonneg};
 ghost use Rattle.pip_model.specs.Forms as model;
@@ -12,20 +12,11 @@ ghost use Rattle.form_laws.specs.Columns.{part};
 ghost use Rattle.node_rows.specs.ReadRows.{IsRead, combined, placed, read, summed};
 
 use crate::basis::Basis;
-use crate::products::{add_product, dot};
+use crate::products::dot;
 use affine_forms::{Form, WantOfMemory, divide_all, gcd_with};
+use form_basis::{add_product, column};
 use short_numbers::narrow;
 use tableau::Tableau;
-
-// Column k of n numbers.
-fn column(columns: &[i64], n: usize, k: usize) -> &[i64]
-    requires { k * n + n ≤ length columns.now }
-    ensures { result.now ≡ take n (drop (k * n) columns.now) }
-{
-    let (_, behind) = columns.split_at(k * n);
-    let (column, _) = behind.split_at(n);
-    column
-}
 
 // The form's sum over number k of each row.
 fn sum(rows: &Tableau, basis: &Basis, form: &Form, k: usize) -> i64

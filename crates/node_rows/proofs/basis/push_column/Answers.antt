@@ -5,8 +5,8 @@ use Rattle.node_rows.proofs.basis.push_column.Goals as goal
 
 pub loop-j-preserved : goal.loop-j-preserved
 loop-j-preserved c = record {
-  items = items_more c.args.columns.now.items c.loop-j.columns.items c.push.new.columns.items _ (part c.args.rows.now.unknowns c.args.k) c.args.rows.now.rows c.loop-j.j c.in_ok-z.z (search rules) c.loop-j.invariant.items (search rules) (search rules);
-  within = within_more c.loop-j.columns.items c.push.new.columns.items c.in_ok-z.z c.loop-j.greatest c.with_size-greatest.result c.loop-j.invariant.within (search rules) c.with_size-greatest.ensures.most (search rules);
+  items = items_more c.args.columns.now.items c.loop-j.columns.items c.push.new.numbers.items _ (part c.args.rows.now.unknowns c.args.k) c.args.rows.now.rows c.loop-j.j c.in_ok-z.z (search rules) c.loop-j.invariant.items (search rules) (search rules);
+  within = within_more c.loop-j.columns.items c.push.new.numbers.items c.in_ok-z.z c.loop-j.greatest c.with_size-greatest.result c.loop-j.invariant.within (search rules) c.with_size-greatest.ensures.most (search rules);
   most = omega (arith, c.loop-j.invariant.most, c.with_size-greatest.ensures.most);
 }
 
