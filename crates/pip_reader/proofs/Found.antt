@@ -1,6 +1,7 @@
 -- A native text has no option words, and is found exactly where a `(` is left.
 use Rattle.pip_reader.proofs.Words.{Ok, ap, drop, Reads, ◌>>=◌, item_at, ◌≡◌, ℕ, refl, subst, List, Option, Some, None, Result, Err, IfErr, IfSome, IsTrue, ◌↔◌, ◌∙◌, sym, list_all, is_closed, Fault, ReadRefusal, read_fault, next_open, next_open-none, next_open-closed}
 use Rattle.pip_model.specs.Reading.{item}
+use Rattle.text_reading.proofs.Binds.{refused_by}
 use Rattle.pip_problem.specs.declared.refusal.ReadRefusal.TheVariants as refusal
 use Rattle.pip_reader.specs.Refusals.{IsNoOption}
 use Rattle.pip_reader.proofs.FaultPlaces.{FaultWithin}
@@ -23,3 +24,6 @@ module _ {A : Type 0} (read : ℕ → Reads A) (bytes : List ℕ) (start : ℕ) 
 
   pub one_found : (place : ℕ) (x : A × ℕ) → next_open start (drop start bytes) ≡ Some place → read place ≡ Ok x → item read bytes start ≡ Ok (Some x)
   one_found place x h e = ap (item_at read) h ∙ ap (λ r. r >>= λ y. Ok (Some y)) e
+
+  pub one_refused : (place : ℕ) (fault : Option Fault) → next_open start (drop start bytes) ≡ Some place → IfSome fault (λ f. read place ≡ Err f) → IfSome fault (λ f. item read bytes start ≡ Err f)
+  one_refused place fault h told = refused_by fault (read place) (item read bytes start) (λ f e. ap (item_at read) h ∙ ap (λ r. r >>= λ y. Ok (Some y)) e) told
