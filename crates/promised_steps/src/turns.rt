@@ -1,0 +1,53 @@
+ghost use Rattle.std.specs.Prelude.{◌≡◌, ◌≤◌, length, map, IfOk, IfSome, IfNone};
+ghost use Rattle.pip_model.specs.Contexts.{IsContext};
+ghost use Rattle.pip_model.specs.Forms.{widen_to};
+ghost use Rattle.pip_model.specs.Limits.{most_unknowns};
+ghost use Rattle.pip_model.specs.Rows.{start};
+ghost use Rattle.pip_model.specs.Run as model;
+ghost use Rattle.pip_model.specs.Run.{point_setting, run_from};
+ghost use Rattle.pip_problem.specs.Faults.{run_fault};
+ghost use Rattle.run_counts.specs.Counts.{IsCountedRun};
+ghost use Rattle.point_turns.specs.TurnAt.{IsTurnAt};
+ghost use Rattle.point_turns.specs.Turns.{made, node_of};
+ghost use Rattle.plain_laws.specs.Plain.{plain_setting};
+ghost use Rattle.plain_run.specs.Trees.{tree_in};
+
+use affine_forms::Form;
+use pip_problem::Refusal;
+use plain_run::ShortTableau;
+use point_run::PointTurn;
+use quast::Quast;
+use run_counts::Work;
+use std::alloc::Global;
+use tableau::Tableau;
+
+/// One turn of the run of a point.
+pub fn take_turn(rows: &mut Tableau, work: &mut Work) -> Result<PointTurn, Refusal>
+    requires width { rows.old.width ≡ 0 }
+    requires rows { rows.old.unknowns ≤ length rows.old.rows }
+    ensures gives { IsCountedRun (made rows.old.unknowns rows.new.rows) run_fault result work.old work.new
+        (model.turn (point_setting rows.old.unknowns) (node_of rows.old.rows)) }
+    ensures place { IfOk result (IsTurnAt rows.old.unknowns rows.old.rows rows.new.rows) }
+{
+    point_run::take_turn(rows, work)
+}
+
+/// The tree of a problem without parameters over rows of 64 bits; none where a number has more, and nothing is counted
+/// then.
+pub fn tree_shortly(
+    alloc: Global,
+    rows: &mut ShortTableau,
+    places: usize,
+    forms: &[Form],
+    integer: bool,
+    work: &mut Work,
+) -> Option<Result<Quast, Refusal>>
+    requires forms { IsContext places forms.now }
+    requires some { 1 ≤ places }
+    requires few { places ≤ most_unknowns }
+    ensures gives { IfSome result (λ r. IsCountedRun tree_in run_fault r work.old work.new
+        (run_from (plain_setting places integer) (node_of (start places 0 (map (widen_to places) forms.now))))) }
+    ensures none { IfNone result (work.new ≡ work.old) }
+{
+    plain_run::tree_shortly(alloc, rows, places, forms, integer, work)
+}
