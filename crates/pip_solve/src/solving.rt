@@ -44,7 +44,9 @@ pub fn context_point(
         (model.point problem.now.params problem.now.context) }
 {
     let mut context = Context::new(alloc, problem.params());
-    point_on(alloc, problem, &mut context, work)
+    let point = point_on(alloc, problem, &mut context, work);
+    drop(context);
+    point
 }
 
 // The tree of a problem whose context has a point.
@@ -61,7 +63,9 @@ fn tree_from(
     ensures width { IfOk result (λ tree. tree.width ≡ problem.now.params) }
 {
     let mut solver = Solver::new(alloc);
-    solver.tree_anew(problem, levels, work)
+    let tree = solver.tree_anew(problem, levels, work);
+    drop(solver);
+    tree
 }
 
 /// The answer of the run, after the point that it found for the context and what was counted for it.
@@ -99,5 +103,7 @@ pub fn solve(alloc: Global, problem: &Problem, limits: &Limits) -> Result<Answer
     ensures scope { IfOk result (IsOver problem.now.params) }
 {
     let mut solver = Solver::new(alloc);
-    solver.solve(problem, limits)
+    let answer = solver.solve(problem, limits);
+    drop(solver);
+    answer
 }
