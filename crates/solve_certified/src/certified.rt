@@ -75,10 +75,12 @@ fn certificate_of_tree(
     ensures { AgreesCounted (λ c. c) run_fault result work.new
         (model.run_certificate problem.now point.now (Solved tree.now.tree) work.old) }
 {
-    let mut trail = Trail::new(alloc, problem.params());
     let mut made = Certificate::try_new(alloc, numbers(point))?;
+    let mut trail = Trail::new(alloc, problem.params());
     let walk = Walk { alloc, problem };
-    walk.make_node(&mut trail, tree.root(), &mut made, work)?;
+    let walked = walk.make_node(&mut trail, tree.root(), &mut made, work);
+    drop(trail);
+    walked?;
     Ok(made)
 }
 
@@ -126,7 +128,9 @@ fn certificate_of_void(
         (model.run_certificate problem.now p Void work.old) }
 {
     let known = void_forms(alloc, problem)?;
-    certificate_by_forms(alloc, problem, &known, work)
+    let made = certificate_by_forms(alloc, problem, &known, work);
+    drop(known);
+    made
 }
 
 // The certificate of an answer, by the point of the context.

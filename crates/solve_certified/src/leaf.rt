@@ -124,6 +124,9 @@ impl LeafMaking<'_> {
     {
         let mut known = self.leaf.start(self.scope.alloc)?;
         let mut refuter = Refuter::new(self.scope.alloc);
-        self.refute_each(&mut refuter, &mut known, work)
+        let proofs = self.refute_each(&mut refuter, &mut known, work);
+        drop(refuter);
+        drop(known);
+        proofs
     }
 }

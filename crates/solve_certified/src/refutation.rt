@@ -104,6 +104,8 @@ impl Scope<'_> {
         ensures { AgreesCounted (λ r. r) run_fault result work.new (refuted_by self.now 0 known.now.forms work.old) }
     {
         let mut refuter = Refuter::new(self.alloc);
-        self.refute(&mut refuter, known, 0, 0, work)
+        let steps = self.refute(&mut refuter, known, 0, 0, work);
+        drop(refuter);
+        steps
     }
 }
