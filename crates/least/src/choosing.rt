@@ -56,7 +56,9 @@ fn chosen(
 {
     let room = levels(first) + levels(second) + MOST_COMPONENTS;
     let mut context = context_of(alloc, rows, room)?;
-    chosen_on(alloc, first, second, &mut context, work)
+    let found = chosen_on(alloc, first, second, &mut context, work);
+    drop(context);
+    found
 }
 
 /// The answer whose value at each whole vector of numbers from 0 on that satisfies the rows is the lexicographically

@@ -141,7 +141,9 @@ fn restricted(
         (model.restrict rows.now.width rows.now.forms (answer_of answer.now) work.old) }
 {
     let mut context = context_of(alloc, rows, levels(answer))?;
-    restricted_on(alloc, answer, &mut context, work)
+    let found = restricted_on(alloc, answer, &mut context, work);
+    drop(context);
+    found
 }
 
 /// The answer at the whole vectors of numbers from 0 on that satisfy the rows: `void` where it is void or there are

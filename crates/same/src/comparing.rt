@@ -55,7 +55,9 @@ fn compared(
         (answer_of first.now) (answer_of second.now) work.old) }
 {
     let mut context = context_of(alloc, rows, levels(first) + levels(second) + 1)?;
-    compared_on(alloc, first, second, &mut context, work)
+    let found = compared_on(alloc, first, second, &mut context, work);
+    drop(context);
+    found
 }
 
 /// Whether two answers have the same value at each whole vector of numbers from 0 on that satisfies the rows, fractions
