@@ -3,13 +3,13 @@
 //! no walk, so that a wrong result is tried at the least cost.
 #![tactic(auto)]
 
-mod lanes;
+mod laned;
 mod numbers;
 mod questions;
 mod rows;
 mod turns;
 
-pub use lanes::{are_readable, entering_in_lanes, turned};
+pub use laned::{are_readable, entering_in_lanes, turned};
 pub use numbers::{count_pivot, floor_div};
 pub use questions::back_to;
 pub use rows::{entering, parametric_cut};
