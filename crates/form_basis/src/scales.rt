@@ -4,7 +4,7 @@ ghost use Rattle.row_laws.specs.Short.{IsShort};
 
 use short_numbers::{short_floor_div, short_gcd};
 
-/// A common multiple of two numbers, where it is short.
+/// A short number above 0, meant as a common multiple of the two: `factor` tests that it is one.
 pub fn multiple(a: i64, b: i64) -> Option<i64>
     requires positive { pos 1 ≤ℤ a }
     requires first { IsShort a }
