@@ -1,5 +1,5 @@
 -- The greatest common divisors of the definitions.
-use Rattle.affine_forms.proofs.Words.{◌≡◌, ℕ, zero, suc, ◌+◌, ◌<◌, ℤ, pos, negsuc, ◌≤ℤ◌, ◌+ℤ◌, ◌*ℤ◌, true, refl, arith, List, [], ◌∷◌, length, drop, get_or, ints, drop_more, All, IsTrue, Fits, fits-floor, All-from_recursion, recursion_from_All, gcd, gcd_of, floor_div, floor_mod, divides, is_zero, floor_divided, scale, Multiple, gcd-divides, gcd_of-divides, all_through, floor-exact}
+use Rattle.affine_forms.proofs.Words.{◌≡◌, ℕ, zero, suc, ◌+◌, ◌<◌, ℤ, pos, negsuc, ◌≤ℤ◌, ◌+ℤ◌, ◌*ℤ◌, true, refl, ◌∙◌, arith, List, [], ◌∷◌, length, drop, get_or, ints, drop_more, All, IsTrue, Fits, fits-floor, All-from_recursion, recursion_from_All, gcd, gcd_of, floor_div, floor_mod, divides, is_zero, floor_divided, scale, Multiple, gcd-divides, gcd_of-divides, all_through, floor-exact}
 use Rattle.std.specs.List.{AllByRecursion}
 pub use Rattle.pip_model.proofs.Gcd.{gcd_assoc, gcd_one, floor_divided_one}
 use Rattle.pip_model.proofs.Laws.{floor_mod-law}
@@ -7,6 +7,17 @@ use Rattle.pip_model.proofs.Laws.{floor_mod-law}
 pub gcd_step : (found : ℤ) (entries : List ℤ) (i : ℕ) → i < length entries
     → gcd (gcd found (get_or entries i (pos 0))) (gcd_of (drop (i + 1) entries)) ≡ gcd found (gcd_of (drop i entries))
 gcd_step found entries i h = rw (drop_more entries i (pos 0) h) (gcd_assoc found (get_or entries i (pos 0)) (gcd_of (drop (i + 1) entries)))
+
+-- one more entry is taken in
+pub gcd_through : (found y start : ℤ) (entries : List ℤ) (i : ℕ) → i < length entries → y ≡ gcd found (get_or entries i (pos 0))
+    → gcd found (gcd_of (drop i entries)) ≡ gcd start (gcd_of entries) → gcd y (gcd_of (drop (i + 1) entries)) ≡ gcd start (gcd_of entries)
+gcd_through found y start entries i h is e = rw is (gcd_step found entries i h ∙ e)
+
+pub gcd_narrower : (found y start : ℤ) → (pos 1 ≤ℤ found → (pos 1 ≤ℤ y) × (y ≤ℤ found)) → (pos 1 ≤ℤ start → (pos 1 ≤ℤ found) × (found ≤ℤ start)) → pos 1 ≤ℤ start → (pos 1 ≤ℤ y) × (y ≤ℤ start)
+gcd_narrower found y start p q h =
+    let kept = q h in
+    let next = p kept.0 in
+    (next.0, omega (arith, ints, next.1, kept.1))
 
 positive_is : (n : ℕ) → pos 1 ≤ℤ pos n → 0 < n
 positive_is n h = omega (arith, ints)

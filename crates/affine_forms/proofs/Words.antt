@@ -1,6 +1,6 @@
 -- The words of other modules that the proofs of this crate cite, passed on from one place. Declares nothing.
 pub use Rattle.std.proofs.Common.{◌≡◌, refl, sym, ◌^◌, ◌-◌, ◌<◌, ℤ, ◌*ℤ◌, ◌-ℤ◌, unsigned_abs, arith, [], ◌∷◌, ℕ, ◌+◌, pos, negsuc, ◌+ℤ◌, neg_ℤ, List, length, ap, ◌∙◌, zero, suc, ◌≤◌, ◌++◌, replicate, ◌≤ℤ◌, to_z, of_z, true, drop, get_or, Bool, ◌&&◌, map, take, subst, ◌<ℤ◌, set, append_assoc, append-nil, length-append, rules}
-pub use Rattle.std.specs.Prelude.{IsTrue, slice_set, All, IsFalse, if◌then◌else◌, swap}
+pub use Rattle.std.specs.Prelude.{FitsSigned, IsTrue, slice_set, All, IsFalse, if◌then◌else◌, swap}
 pub use Rattle.std.proofs.lemmas.Int.{unsigned_abs-mul, ints, to_z-of_z, fits_signed_from_abs}
 pub use Rattle.std.proofs.lemmas.Bool.{lt-ltb, ltb-true}
 pub use Rattle.std.proofs.lemmas.List.{length-map, get_or-map, drop_more, take_more, take_all, set_at, get_or_at, length-take, length-replicate, map_more, drop_all, take-append-le}

@@ -9,7 +9,6 @@ use crate::numbers::{divides, floor_div, floor_mod, gcd};
 use std::alloc::Global;
 
 // The greatest common divisor of a number and all entries.
-#[tactic(auto, using(pip_model::proofs::Gcd::gcd_one, crate::proofs::Divisors::gcd_step))]
 fn fold_gcd(start: i128, entries: &[i128]) -> i128
     requires start_nonnegative { pos 0 ≤ℤ start }
     requires start_fits { Fits start }

@@ -34,7 +34,6 @@ pub(crate) fn is_short(z: i128) -> bool
 }
 
 // The product of short numbers, in one multiplication.
-#[tactic(auto, using(crate::proofs::Short::product_fits))]
 fn exact_product(a: i128, b: i128) -> i128
     requires a { unsigned_abs a < 2 ^ 63 }
     requires b { unsigned_abs b < 2 ^ 63 }

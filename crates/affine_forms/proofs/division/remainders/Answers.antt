@@ -1,4 +1,4 @@
-use Rattle.affine_forms.proofs.Words.{pos, get_or, arith, to_z, of_z, w128, floor_mod, Fits}
+use Rattle.affine_forms.proofs.Words.{pos, get_or, take_all, arith, to_z, of_z, to_z-of_z, w128, floor_mod, Fits}
 use Rattle.affine_forms.proofs.Bits.{remainder_made, held_fits}
 use Rattle.affine_forms.proofs.Mapped.{pushed_made, pushed_all}
 use Rattle.affine_forms.proofs.division.remainders.Goals as goal
@@ -13,3 +13,10 @@ loop-entry-preserved c =
           (remainder_made (get_or xs i (pos 0)) d c.floor_mod.result fits c.floor_mod.ensures.fits c.floor_mod.ensures.value),
       pushed_all Fits c.loop-entry.found.items c.push.new.self.items _ c.in_ok-push.ensures.items c.loop-entry.invariant.1 (held_fits c.floor_mod.result c.floor_mod.ensures.fits),
     )
+
+pub floor_mod-requires-clause-fits : goal.floor_mod-requires-clause-fits
+floor_mod-requires-clause-fits c = held_fits (get_or c.args.entries.now c.loop-entry.entry-index (pos 0)) (c.requires.fits c.loop-entry.entry-index (pos 0) (omega arith))
+
+pub returns-clause-value : goal.returns-clause-value
+returns-clause-value c =
+    rw (take_all c.loop-entry.entry-index c.args.entries.now c.loop-entry-test.false, to_z-of_z w128 c.args.d c.ranges.d) at c.loop-entry.invariant.0
