@@ -1,9 +1,28 @@
 -- The cut by a short row.
-use Rattle.short_tableau.proofs.Words.{◌≡◌, refl, ap, sym, ◌∙◌, subst, ℕ, ◌+◌, ◌-◌, ◌*◌, ◌<◌, ◌≤◌, ℤ, pos, ◌≤ℤ◌, neg_ℤ, divided, length-drop, length-take-le, List, length, map, take, drop, arith, append-nil, slice_range, take_all, drop_all, length-map, constant_cut, fractional_parts, residue_of, negate, residue, floor_mod, Row, row_at, mapped, row_of_numbers, numbers_of, IsShortRow, row_from, content-divided, row_size, rows_in, IsShortReduced, IsDense}
+use Rattle.short_tableau.proofs.Words.{◌≡◌, refl, ap, sym, ◌∙◌, subst, ℕ, ◌+◌, ◌-◌, ◌*◌, ◌<◌, ◌≤◌, ℤ, pos, ◌≤ℤ◌, neg_ℤ, ◌-ℤ◌, ints, to_z, of_z, to_z-of_z, w64, fits_signed_from_abs, FitsSigned, IsShort, divided, length-drop, length-take-le, List, length, map, take, drop, arith, append-nil, slice_range, take_all, drop_all, length-map, constant_cut, fractional_parts, residue_of, negate, residue, floor_mod, Row, row_at, mapped, row_of_numbers, numbers_of, IsShortRow, row_from, content-divided, row_size, rows_in, IsShortReduced, IsDense}
 use Rattle.std.proofs.lemmas.Simd.{map-map}
 use Rattle.row_laws.proofs.Numbers.{numbers_again}
 use Rattle.short_tableau.proofs.Places.{IsSplit, split_twice, split_read, split_row}
 use Rattle.short_row.proofs.ShortParts.{short_row, divided_positive}
+
+-- ---- the opposite of a short number, as code holds it
+
+held : (z : ℤ) → IsShort z → to_z w64 (of_z w64 z) ≡ z
+held z h = to_z-of_z w64 z (fits_signed_from_abs w64 z h)
+
+pub opposite_short : (z : ℤ) → IsShort z → IsShort (neg_ℤ z)
+opposite_short z h = omega (arith, ints, h)
+
+negated : (z : ℤ) → pos 0 -ℤ z ≡ neg_ℤ z
+negated z = omega (arith, ints)
+
+pub opposite_fits : (z : ℤ) → IsShort z → FitsSigned w64 (pos 0 -ℤ to_z w64 (of_z w64 z))
+opposite_fits z h = rw (held z h, negated z) (fits_signed_from_abs w64 (neg_ℤ z) (opposite_short z h))
+
+pub opposite_held : (z : ℤ) → IsShort z → to_z w64 (of_z w64 (pos 0 -ℤ to_z w64 (of_z w64 z))) ≡ neg_ℤ z
+opposite_held z h = rw (held z h, negated z) (held (neg_ℤ z) (opposite_short z h))
+
+-- ---- the cut
 
 pub ceiled : (d : ℤ) (xs : List ℤ) (i : ℕ) → length xs ≤ i → mapped (λ x. neg_ℤ (floor_mod (neg_ℤ x) d)) i xs ≡ negate (residue d xs)
 ceiled d xs i h = rw (take_all i xs h, drop_all i xs h) (append-nil (map (λ x. neg_ℤ (floor_mod (neg_ℤ x) d)) xs) ∙ sym (map-map neg_ℤ (λ x. floor_mod (neg_ℤ x) d) xs))
