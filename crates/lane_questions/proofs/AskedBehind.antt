@@ -1,7 +1,5 @@
 -- A question in lanes is one form more behind the kept run of a context's forms.
-use Rattle.std.proofs.Common.{◌≡◌, ◌∙◌, ap, ap₂, sym, subst, ℕ, ◌^◌, ◌<◌, ℤ, List, [], ◌∷◌, ◌++◌, take}
-use Rattle.std.proofs.lemmas.List.{map-append}
-use Rattle.pip_model.specs.Contexts.{IsContext, IsNarrow}
+use Rattle.lane_questions.proofs.Words.{◌≡◌, ◌∙◌, ap, ap₂, sym, subst, ℕ, ◌^◌, ◌<◌, ℤ, List, [], ◌∷◌, ◌++◌, take, map-append, IsContext, IsNarrow}
 use Rattle.form_laws.specs.ByForm.{combination}
 use Rattle.scaled_laws.specs.Scaled.{row_over}
 use Rattle.scaled_laws.specs.Tables.{ScaledTable}

@@ -1,6 +1,5 @@
 -- The kept run goes on with all forms of a context, read in lanes.
-use Rattle.std.proofs.Common.{◌≡◌, ◌∙◌, ap, subst, ℕ, ◌^◌, ◌<◌, arith, None, ℤ, List, [], ◌++◌, map, append-nil}
-use Rattle.pip_model.specs.Forms.{widen_to}
+use Rattle.lane_questions.proofs.Words.{◌≡◌, ◌∙◌, ap, subst, ℕ, ◌^◌, ◌<◌, arith, None, ℤ, List, [], ◌++◌, map, append-nil, widen_to}
 use Rattle.scaled_laws.specs.Tables.{ScaledTable}
 use Rattle.point_turns.specs.Turns.{negative_from}
 use Rattle.lane_questions.specs.InLanes.{all_lanes, AreWithin}

@@ -1,13 +1,7 @@
 -- Forms in lanes: the sum of their sizes, and their lanes one after the other.
-use Rattle.std.proofs.Common.{get_or, ◌≡◌, ◌∙◌, refl, ap, sym, ℕ, zero, suc, ◌+◌, ◌-◌, ◌^◌, ◌<◌, ◌≤◌, ℤ, pos, ◌-ℤ◌, neg_ℤ, unsigned_abs, arith, List, [], ◌∷◌, ◌++◌, length, take, set, replicate, append_assoc, length-append}
-use Rattle.std.proofs.Math.Seq.{take-suc, set-append_seam}
-use Rattle.std.proofs.lemmas.List.{map-append, length-take-le}
-use Rattle.std.proofs.lemmas.List.Elements.{All-append, All-cons, All-nil}
-use Rattle.std.proofs.lemmas.Int.{ints}
-use Rattle.std.specs.Prelude.{slice_set}
-use Rattle.pip_model.specs.Forms.{entry, constant, negate}
+use Rattle.lane_questions.proofs.Words.{get_or, ◌≡◌, ◌∙◌, refl, ap, sym, ℕ, zero, suc, ◌+◌, ◌-◌, ◌^◌, ◌<◌, ◌≤◌, ℤ, pos, ◌-ℤ◌, neg_ℤ, unsigned_abs, to_z, of_z, w32, to_z-of_z, fits_signed_from_abs, FitsSigned, arith, List, [], ◌∷◌, ◌++◌, length, take, set, replicate, append_assoc, length-append, take-suc, set-append_seam, map-append, length-take-le, All-append, All-cons, All-nil, ints, slice_set, entry, constant, negate}
 use Rattle.form_laws.specs.Bounds.{norm}
-use Rattle.lanes.specs.Narrow.{AreLanes}
+use Rattle.lanes.specs.Narrow.{AreLanes, IsNarrow}
 use Rattle.lane_questions.specs.InLanes.{lanes_of, all_lanes, IsWithin, AreWithin, AreFirst}
 
 -- ---- the sum of sizes
@@ -40,6 +34,22 @@ norm_opposite (x ∷ zs) new z h e is =
 pub small_first : (zs : List ℤ) (z : ℤ) → AreLanes zs → norm zs < 2 ^ 30 → z ≡ entry (negate zs) 0 → unsigned_abs z < 2 ^ 30
 small_first [] z h small e = absurd (omega (arith, h.long))
 small_first (x ∷ zs) z h small e = omega (arith, ints, e, small)
+
+-- one less than a number of 30 bits, as code holds it
+held : (z : ℤ) → unsigned_abs z < 2 ^ 31 → to_z w32 (of_z w32 z) ≡ z
+held z h = to_z-of_z w32 z (fits_signed_from_abs w32 z h)
+
+smaller : (z : ℤ) → unsigned_abs z < 2 ^ 30 → unsigned_abs (z -ℤ pos 1) < 2 ^ 31
+smaller z h = omega (arith, ints, h)
+
+pub less_fits : (z : ℤ) → unsigned_abs z < 2 ^ 30 → FitsSigned w32 (to_z w32 (of_z w32 z) -ℤ pos 1)
+less_fits z h = rw (held z (omega (arith, h))) (fits_signed_from_abs w32 (z -ℤ pos 1) (smaller z h))
+
+pub less_held : (z : ℤ) → unsigned_abs z < 2 ^ 30 → to_z w32 (of_z w32 (to_z w32 (of_z w32 z) -ℤ pos 1)) ≡ z -ℤ pos 1
+less_held z h = rw (held z (omega (arith, h))) (held (z -ℤ pos 1) (smaller z h))
+
+pub less_narrow : (z : ℤ) → unsigned_abs z < 2 ^ 30 → IsNarrow (to_z w32 (of_z w32 (to_z w32 (of_z w32 z) -ℤ pos 1)))
+less_narrow z h = rw (less_held z h) (smaller z h)
 
 -- ---- lanes of a form
 

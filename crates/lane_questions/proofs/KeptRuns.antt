@@ -1,13 +1,5 @@
 -- The kept run of a context's forms: where it starts, that it goes on with further forms, and what it counts.
-use Rattle.std.proofs.Common.{◌≡◌, ◌∙◌, refl, ap, ap₂, sym, subst, ℕ, zero, suc, ◌+◌, ◌<◌, ◌≤◌, ℤ, pos, arith, true, List, [], ◌∷◌, ◌++◌, length, map, take, drop, append-nil, append_assoc}
-use Rattle.std.proofs.lemmas.List.{take_all, drop_all, length-map, take-append-drop}
-use Rattle.std.specs.Prelude.{nat_lt, is_some}
-use Rattle.pip_model.specs.Forms.{widen_to}
-use Rattle.pip_model.specs.Contexts.{IsContext}
-use Rattle.pip_model.specs.Tree.{Tree}
-use Rattle.pip_model.specs.Rows.{Row, start, unit_row, count_from}
-use Rattle.pip_model.specs.Run.{Work, Outcome, Done, Refused, go_on, give, count_pivot, run_from, numbers_of, point, point_run, point_setting}
-use Rattle.pip_model.proofs.Forms.{length-count}
+use Rattle.lane_questions.proofs.Words.{◌≡◌, ◌∙◌, refl, ap, ap₂, sym, subst, ℕ, zero, suc, ◌+◌, ◌<◌, ◌≤◌, ℤ, pos, arith, true, List, [], ◌∷◌, ◌++◌, length, map, take, drop, append-nil, append_assoc, take_all, drop_all, length-map, take-append-drop, nat_lt, is_some, widen_to, IsContext, Tree, Row, start, unit_row, count_from, Work, Outcome, Done, Refused, go_on, give, count_pivot, run_from, numbers_of, point, point_run, point_setting, length-count}
 use Rattle.run_counts.specs.Counts.{HasCounted, HasRoomFor, counted_more}
 use Rattle.point_turns.specs.Points.{has_point, finds_point, first_rows}
 use Rattle.point_turns.specs.Turns.{node_of}

@@ -1,8 +1,5 @@
 -- A kept run makes one pivot more.
-use Rattle.std.proofs.Common.{◌≡◌, ◌∙◌, refl, ap, sym, subst, ℕ, zero, suc, ◌+◌, arith, ℤ, List, ◌++◌, length, map}
-use Rattle.std.proofs.lemmas.List.{length-map, map-append}
-use Rattle.pip_model.specs.Forms.{widen_to}
-use Rattle.pip_model.specs.Run.{Work, Outcome, Done, Refused, Counted, go_on, count_pivot}
+use Rattle.lane_questions.proofs.Words.{◌≡◌, ◌∙◌, refl, ap, sym, subst, ℕ, zero, suc, ◌+◌, arith, ℤ, List, ◌++◌, length, map, length-map, map-append, widen_to, Work, Outcome, Done, Refused, Counted, go_on, count_pivot}
 use Rattle.scaled_laws.specs.Tables.{ScaledTable}
 use Rattle.point_turns.specs.Points.{finds_point}
 use Rattle.lane_questions.specs.Kept.{LaneVertex, counted_pivots, IsKeptLanes}

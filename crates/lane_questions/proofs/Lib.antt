@@ -1,3 +1,4 @@
+mod Words
 pub mod Widened
 pub mod KeptRuns
 pub mod SignsByPoints

@@ -1,12 +1,5 @@
 -- One form more behind the kept run of a context's forms: its row is the last one.
-use Rattle.std.proofs.Common.{◌≡◌, ◌∙◌, refl, ap, sym, subst, ℕ, suc, ◌+◌, ◌<◌, ℤ, pos, ◌≤ℤ◌, ◌<ℤ◌, arith, Bool, true, false, Option, Some, None, List, [], ◌∷◌, ◌++◌, length, map, take, length-append}
-use Rattle.std.proofs.lemmas.List.{map-append, get_or_at}
-use Rattle.std.specs.Prelude.{if◌then◌else◌, IfSome, is_some}
-use Rattle.pip_model.specs.Numbers.{is_nonneg}
-use Rattle.pip_model.specs.Forms.{entry, constant, widen_to}
-use Rattle.pip_model.specs.Rows.{Row, row_at, divided, form_row}
-use Rattle.pip_model.specs.Run.{Work, Done, Refused, Refusal, go_on, give, numbers_of, count_pivot, turn, point_setting}
-use Rattle.pip_model.proofs.Fuel.{refused_run_from, falls-constant_class}
+use Rattle.lane_questions.proofs.Words.{◌≡◌, ◌∙◌, refl, ap, sym, subst, ℕ, suc, ◌+◌, ◌<◌, ℤ, pos, ◌≤ℤ◌, ◌<ℤ◌, arith, Bool, true, false, Option, Some, None, List, [], ◌∷◌, ◌++◌, length, map, take, length-append, map-append, get_or_at, if◌then◌else◌, IfSome, is_some, is_nonneg, entry, constant, widen_to, Row, row_at, divided, form_row, Work, Done, Refused, Refusal, go_on, give, numbers_of, count_pivot, turn, point_setting, refused_run_from, falls-constant_class}
 use Rattle.run_counts.specs.Counts.{HasRoomFor, counted_more}
 use Rattle.point_turns.specs.Points.{has_point, finds_point}
 use Rattle.point_turns.specs.Turns.{negative_from, node_of}

@@ -1,7 +1,5 @@
 -- The point of a context itself, behind the kept run of its forms.
-use Rattle.std.proofs.Common.{◌≡◌, ◌∙◌, ap, sym, subst, ℕ, ◌^◌, ◌<◌, ◌≤◌, arith, ℤ, List, [], ◌++◌, map, append-nil}
-use Rattle.pip_model.specs.Forms.{widen_to}
-use Rattle.pip_model.specs.Run.{Work}
+use Rattle.lane_questions.proofs.Words.{◌≡◌, ◌∙◌, ap, sym, subst, ℕ, ◌^◌, ◌<◌, ◌≤◌, arith, ℤ, List, [], ◌++◌, map, append-nil, widen_to, Work}
 use Rattle.run_counts.specs.Counts.{HasRoomFor, counted_more}
 use Rattle.point_turns.specs.Points.{has_point, finds_point, first_rows}
 use Rattle.lane_questions.specs.InLanes.{all_lanes, AreWithin}

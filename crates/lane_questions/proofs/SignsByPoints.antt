@@ -1,15 +1,5 @@
 -- The sign of a form by two questions: one with its opposite, one with the form.
-use Rattle.std.proofs.Common.{◌≡◌, ◌∙◌, refl, ap, ap₂, sym, subst, ℕ, zero, suc, ◌-◌, ◌^◌, ◌<◌, ◌≤◌, ℤ, pos, ◌-ℤ◌, unsigned_abs, arith, true, false, Option, Some, None, List, [], ◌∷◌, ◌++◌, length, replicate}
-use Rattle.std.proofs.Math.Seq.{set-append_seam}
-use Rattle.std.proofs.lemmas.Int.{ints}
-use Rattle.std.proofs.lemmas.List.{map-append, length-map}
-use Rattle.std.specs.Prelude.{neg_ℤ, slice_set, is_some, IfSome}
-use Rattle.pip_model.specs.Forms.{width, entry, coefficients, constant, negate, opposite}
-use Rattle.pip_model.specs.Listed.{all_fit, opposite_listed}
-use Rattle.pip_model.specs.Run.{Work, Outcome, Done, Refused, Refusal, Plus, Minus, Unknown, go_on, give, point, class_below, class_above, class_by_points}
-use Rattle.pip_model.proofs.Division.{form-parts}
-use Rattle.pip_model.proofs.Fitting.{fit_cons, fits-le}
-use Rattle.pip_model.proofs.Forms.{length-opposite}
+use Rattle.lane_questions.proofs.Words.{◌≡◌, ◌∙◌, refl, ap, ap₂, sym, subst, ℕ, zero, suc, ◌-◌, ◌^◌, ◌<◌, ◌≤◌, ℤ, pos, ◌-ℤ◌, unsigned_abs, arith, true, false, Option, Some, None, List, [], ◌∷◌, ◌++◌, length, replicate, set-append_seam, ints, map-append, length-map, neg_ℤ, slice_set, is_some, IfSome, width, entry, coefficients, constant, negate, opposite, all_fit, opposite_listed, Work, Outcome, Done, Refused, Refusal, Plus, Minus, Unknown, go_on, give, point, class_below, class_above, class_by_points, form-parts, fit_cons, fits-le, length-opposite}
 use Rattle.run_laws.proofs.Scopes.{coefficients-end, constant-end}
 use Rattle.affine_forms.proofs.Opposites.{opposite_set}
 use Rattle.point_turns.specs.Points.{has_point}

@@ -1,16 +1,5 @@
 -- A form in lanes tightened, and put back.
-use Rattle.std.proofs.Common.{◌≡◌, ◌∙◌, refl, ap, sym, ℕ, zero, suc, ◌+◌, ◌-◌, ◌%◌, ◌^◌, ◌<◌, ◌≤◌, ℤ, pos, negsuc, ◌≤ℤ◌, ◌<ℤ◌, unsigned_abs, arith, List, [], ◌∷◌, ◌++◌, length, take, drop, replicate, length-append}
-use Rattle.std.proofs.lemmas.Int.{ints}
-use Rattle.std.proofs.lemmas.List.{get_or-map, length-map, map-append, take-map}
-use Rattle.std.proofs.lemmas.Bool.{lt-ltb}
-use Rattle.std.proofs.lemmas.List.Elements.{All-append, All-cons, All-from_recursion, All-nil, All-take}
-use Rattle.std.proofs.Math.Nat.{div-le_self}
-use Rattle.std.specs.List.{AllByRecursion}
-use Rattle.std.proofs.Math.Seq.{take-append_seam}
-use Rattle.pip_model.specs.Numbers.{floor_div, euclid, gcd, gcd_of}
-use Rattle.pip_model.specs.Forms.{entry, constant, coefficients, width, floor_divided, tighten}
-use Rattle.pip_model.proofs.Division.{form-parts}
-use Rattle.pip_model.proofs.Gcd.{euclid_below, gcd_one}
+use Rattle.lane_questions.proofs.Words.{◌≡◌, ◌∙◌, refl, ap, sym, ℕ, zero, suc, ◌+◌, ◌-◌, ◌%◌, ◌^◌, ◌<◌, ◌≤◌, ℤ, pos, negsuc, ◌≤ℤ◌, ◌<ℤ◌, unsigned_abs, arith, List, [], ◌∷◌, ◌++◌, length, take, drop, replicate, get_or, append_assoc, length-append, length-drop, ints, get_or-map, get_or-drop, take_more, length-map, map-append, take-map, lt-ltb, All-append, All-cons, All-from_recursion, All-nil, All-take, div-le_self, AllByRecursion, take-append_seam, floor_div, euclid, gcd, gcd_of, entry, constant, coefficients, width, floor_divided, tighten, form-parts, euclid_below, gcd_one}
 use Rattle.affine_forms.specs.Checks.{Fits}
 use Rattle.affine_forms.specs.Forms.{IsForm}
 use Rattle.affine_forms.proofs.Divisors.{gcd_step}
@@ -120,6 +109,16 @@ narrow_fits z h = lt-ltb (unsigned_abs z) (2 ^ 127) (omega (arith, h))
 narrow_fit : (zs : List ℤ) → ((k : ℕ) → IsNarrow (entry zs k)) → AllByRecursion Fits zs
 narrow_fit [] h = tt
 narrow_fit (z ∷ zs) h = (narrow_fits z (h 0), narrow_fit zs (λ k. h (suc k)))
+
+-- a form is put behind a list, number by number
+pub put_more : (old room now lanes : List ℤ) (k : ℕ) (z : ℤ) → AreLanes lanes → k + 1 < 8 → now ≡ room ++ z ∷ [] → room ≡ old ++ take k (drop 1 lanes) → z ≡ entry lanes (k + 1) → now ≡ old ++ take (k + 1) (drop 1 lanes)
+put_more old room now lanes k z h few p e is =
+    let next : get_or (drop 1 lanes) k (pos 0) ≡ z = get_or-drop 1 lanes k (pos 0) ∙ ap (entry lanes) (omega arith) ∙ sym is in
+    let one : take (k + 1) (drop 1 lanes) ≡ take k (drop 1 lanes) ++ z ∷ [] = take_more (drop 1 lanes) k (pos 0) (simp length-drop (omega (arith, h.long, few))) ∙ ap (λ (y : ℤ). take k (drop 1 lanes) ++ y ∷ []) next in
+    rw (p, e, one) (append_assoc old (take k (drop 1 lanes)) (z ∷ []))
+
+pub put_last : (old room now lanes : List ℤ) (k w : ℕ) (z : ℤ) → now ≡ room ++ z ∷ [] → room ≡ old ++ take k (drop 1 lanes) → k ≡ w → z ≡ entry lanes 0 → now ≡ old ++ form_in w lanes
+put_last old room now lanes k w z p e all is = rw (p, e, all, is) (append_assoc old (take w (drop 1 lanes)) (entry lanes 0 ∷ []))
 
 pub is_form_in : (w : ℕ) (lanes : List ℤ) → AreLanes lanes → IsForm (form_in w lanes)
 is_form_in w [] h = absurd (omega (arith, h.long))

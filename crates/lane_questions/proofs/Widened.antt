@@ -1,9 +1,5 @@
 -- Forms in lanes are the forms read over n places.
-use Rattle.std.proofs.Common.{◌≡◌, ◌∙◌, refl, ap, sym, subst, ℕ, zero, suc, ◌+◌, ◌-◌, ◌^◌, ◌<◌, ◌≤◌, ℤ, pos, arith, List, [], ◌∷◌, ◌++◌, length, map, take, replicate}
-use Rattle.std.proofs.lemmas.List.{take-replicate}
-use Rattle.pip_model.specs.Forms.{width, coefficients, constant, widen_to}
-use Rattle.pip_model.specs.Contexts.{IsContext, IsNarrow}
-use Rattle.pip_model.proofs.Division.{form-parts}
+use Rattle.lane_questions.proofs.Words.{◌≡◌, ◌∙◌, refl, ap, sym, subst, ℕ, zero, suc, ◌+◌, ◌-◌, ◌^◌, ◌<◌, ◌≤◌, ℤ, pos, arith, List, [], ◌∷◌, ◌++◌, length, map, take, replicate, take-replicate, width, coefficients, constant, widen_to, IsContext, IsNarrow, form-parts}
 use Rattle.lane_run.specs.Laned.{numbers_of}
 use Rattle.lane_questions.specs.InLanes.{lanes_of, all_lanes, AreWithin}
 use Rattle.lane_run.specs.Runs.{forms_of, AreModest}

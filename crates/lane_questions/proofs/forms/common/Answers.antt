@@ -1,9 +1,4 @@
-use Rattle.std.proofs.Common.{rules, arith, ◌≡◌, ◌∙◌, drop, to_z, of_z}
-use Rattle.std.specs.Int.{w32}
-use Rattle.std.proofs.lemmas.Int.{ints}
-use Rattle.pip_model.specs.Forms.{entry}
-use Rattle.pip_model.specs.Numbers.{gcd}
-use Rattle.pip_model.proofs.Gcd.{gcd_zero}
+use Rattle.lane_questions.proofs.Words.{rules, arith, ◌≡◌, ◌∙◌, drop, to_z, of_z, w32, ints, entry, gcd, gcd_zero}
 use Rattle.lane_questions.proofs.TightLanes.{common_more}
 use Rattle.lane_questions.proofs.forms.common.Goals as goal
 

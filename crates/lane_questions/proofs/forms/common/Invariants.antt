@@ -1,5 +1,4 @@
-use Rattle.std.proofs.Common.{◌≡◌, pos, ◌≤ℤ◌, drop}
-use Rattle.pip_model.specs.Numbers.{gcd, gcd_of}
+use Rattle.lane_questions.proofs.Words.{◌≡◌, pos, ◌≤ℤ◌, drop, gcd, gcd_of}
 use Rattle.lanes.specs.Narrow.{IsNarrow}
 use Rattle.lane_questions.proofs.forms.common.Given as goal
 

@@ -1,8 +1,4 @@
-use Rattle.std.proofs.Common.{rules, arith, ◌≡◌, ◌∙◌, pos, to_z, of_z}
-use Rattle.std.specs.Int.{w32}
-use Rattle.std.specs.Prelude.{slice_set}
-use Rattle.pip_model.specs.Forms.{entry}
-use Rattle.pip_model.specs.Numbers.{floor_div}
+use Rattle.lane_questions.proofs.Words.{rules, arith, ◌≡◌, ◌∙◌, pos, to_z, of_z, w32, slice_set, entry, floor_div}
 use Rattle.affine_forms.proofs.Mapped.{mapped_step}
 use Rattle.lane_questions.proofs.forms.divided.Goals as goal
 

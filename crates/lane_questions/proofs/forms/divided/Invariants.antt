@@ -1,5 +1,4 @@
-use Rattle.std.proofs.Common.{◌≡◌}
-use Rattle.pip_model.specs.Numbers.{floor_div}
+use Rattle.lane_questions.proofs.Words.{◌≡◌, floor_div}
 use Rattle.affine_forms.proofs.Mapped.{mapped}
 use Rattle.lanes.specs.Narrow.{AreLanes}
 use Rattle.lane_questions.proofs.forms.divided.Given as goal

@@ -1,7 +1,4 @@
-use Rattle.std.proofs.Common.{rules, arith, ◌≡◌, ◌∙◌, to_z, of_z}
-use Rattle.std.specs.Int.{w64, w32}
-use Rattle.std.proofs.lemmas.Int.{fits_signed_from_abs, to_z-of_z, ints}
-use Rattle.pip_model.specs.Numbers.{gcd}
+use Rattle.lane_questions.proofs.Words.{rules, arith, ◌≡◌, ◌∙◌, to_z, of_z, w64, w32, fits_signed_from_abs, to_z-of_z, ints, gcd}
 use Rattle.lane_questions.proofs.TightLanes.{gcd_narrow}
 use Rattle.lane_questions.proofs.forms.gcd.Goals as goal
 

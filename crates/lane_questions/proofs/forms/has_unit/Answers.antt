@@ -1,5 +1,4 @@
-use Rattle.std.proofs.Common.{rules, arith, ◌≡◌, ◌∙◌, sym, unsigned_abs}
-use Rattle.pip_model.specs.Forms.{entry}
+use Rattle.lane_questions.proofs.Words.{rules, arith, ◌≡◌, ◌∙◌, sym, unsigned_abs, entry}
 use Rattle.lane_questions.proofs.TightLanes.{unit_behind}
 use Rattle.lane_questions.proofs.forms.has_unit.Goals as goal
 

@@ -1,6 +1,4 @@
-use Rattle.std.proofs.Common.{rules, refl, ◌≡◌, ◌+◌}
-use Rattle.std.specs.Prelude.{slice_set}
-use Rattle.pip_model.specs.Forms.{entry}
+use Rattle.lane_questions.proofs.Words.{rules, refl, ◌≡◌, ◌+◌, slice_set, entry}
 use Rattle.lane_questions.proofs.FormLanes.{lane_step}
 use Rattle.lane_questions.proofs.forms.in_lanes.Goals as goal
 

@@ -1,4 +1,4 @@
-use Rattle.std.proofs.Common.{◌≡◌}
+use Rattle.lane_questions.proofs.Words.{◌≡◌}
 use Rattle.lane_questions.proofs.FormLanes.{first_lanes}
 use Rattle.lane_questions.proofs.forms.in_lanes.Given as goal
 

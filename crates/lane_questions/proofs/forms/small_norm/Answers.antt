@@ -1,5 +1,4 @@
-use Rattle.std.proofs.Common.{rules, refl, arith, ◌≡◌, ◌+◌, unsigned_abs}
-use Rattle.pip_model.specs.Forms.{entry}
+use Rattle.lane_questions.proofs.Words.{rules, refl, arith, ◌≡◌, ◌+◌, unsigned_abs, entry}
 use Rattle.lane_questions.proofs.FormLanes.{norm_step}
 use Rattle.lane_questions.proofs.forms.small_norm.Goals as goal
 

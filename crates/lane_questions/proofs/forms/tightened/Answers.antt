@@ -1,6 +1,4 @@
-use Rattle.std.proofs.Common.{rules, ◌≡◌, ◌∙◌, drop}
-use Rattle.pip_model.specs.Forms.{floor_divided}
-use Rattle.pip_model.specs.Numbers.{gcd_of}
+use Rattle.lane_questions.proofs.Words.{rules, ◌≡◌, ◌∙◌, drop, floor_divided, gcd_of}
 use Rattle.lane_questions.specs.InLanes.{lanes_of}
 use Rattle.lane_questions.proofs.TightLanes.{kept_lanes, divided_lanes}
 use Rattle.lane_questions.proofs.forms.tightened.Goals as goal

@@ -1,4 +1,4 @@
-use Rattle.std.proofs.Common.{◌≡◌, ◌++◌, take, drop}
+use Rattle.lane_questions.proofs.Words.{◌≡◌, ◌++◌, take, drop}
 use Rattle.lane_questions.proofs.forms.write_form.Given as goal
 
 abbrev pub invariant-loop-k : goal.invariant-loop-k

@@ -1,4 +1,4 @@
-use Rattle.std.proofs.Common.{◌≡◌, length}
+use Rattle.lane_questions.proofs.Words.{◌≡◌, length}
 use Rattle.lane_questions.specs.InLanes.{AreFirst}
 use Rattle.lane_questions.proofs.forms.LaneForms.read.Given as goal
 

@@ -1,4 +1,4 @@
-use Rattle.std.proofs.Common.{rules, arith, refl, ap, sym, subst, ◌≡◌, ◌++◌, [], ◌∷◌, ℤ, List}
+use Rattle.lane_questions.proofs.Words.{rules, arith, refl, ap, sym, subst, ◌≡◌, ◌++◌, [], ◌∷◌, ℤ, List}
 use Rattle.form_laws.specs.Bounds.{norm}
 use Rattle.lane_questions.specs.Behind.{IsBehind}
 use Rattle.lane_questions.specs.InLanes.{AreWithin}

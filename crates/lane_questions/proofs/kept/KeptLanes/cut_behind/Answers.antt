@@ -1,7 +1,4 @@
-use Rattle.std.proofs.Common.{rules, ◌≡◌, ◌∙◌, ◌++◌, ap, sym, subst, Bool, true, None, ℤ, List}
-use Rattle.pip_model.specs.Agreement.{AgreesCounted}
-use Rattle.pip_model.specs.Rows.{first_fraction}
-use Rattle.pip_model.specs.Run.{Done}
+use Rattle.lane_questions.proofs.Words.{rules, ◌≡◌, ◌∙◌, ◌++◌, ap, sym, subst, Bool, true, None, ℤ, List, AgreesCounted, first_fraction, Done}
 use Rattle.run_counts.proofs.Counting.{counted_none}
 use Rattle.scaled_laws.specs.Tables.{ScaledTable}
 use Rattle.lane_run.specs.Stops.{stop_fault}

@@ -1,5 +1,4 @@
-use Rattle.std.proofs.Common.{◌≡◌, ℕ, ℤ, List, take}
-use Rattle.pip_model.specs.Contexts.{IsContext}
+use Rattle.lane_questions.proofs.Words.{◌≡◌, ℕ, ℤ, List, take, IsContext}
 use Rattle.lane_questions.specs.InLanes.{all_lanes}
 use Rattle.lane_questions.specs.Kept.{IsKeptLanes}
 use Rattle.lane_questions.proofs.kept.KeptLanes.extend.Given as goal

@@ -1,7 +1,4 @@
-use Rattle.std.proofs.Common.{rules, arith, refl, ◌≡◌, ap, sym, subst, pos, ◌<ℤ◌, ◌≤ℤ◌, to_z, of_z, Bool, ◌++◌}
-use Rattle.std.proofs.lemmas.Int.{ints}
-use Rattle.std.specs.Int.{w32}
-use Rattle.pip_model.specs.Agreement.{AgreesCounted}
+use Rattle.lane_questions.proofs.Words.{rules, arith, refl, ◌≡◌, ap, sym, subst, pos, ◌<ℤ◌, ◌≤ℤ◌, to_z, of_z, Bool, ◌++◌, ints, w32, AgreesCounted}
 use Rattle.run_counts.proofs.Counting.{counted_on}
 use Rattle.scaled_laws.specs.Tables.{ScaledTable}
 use Rattle.lane_run.specs.Stops.{stop_fault}

@@ -1,5 +1,4 @@
-use Rattle.std.proofs.Common.{rules, refl, ◌∙◌, ap, sym, subst, Bool}
-use Rattle.pip_model.specs.Agreement.{AgreesCounted}
+use Rattle.lane_questions.proofs.Words.{rules, refl, ◌∙◌, ap, sym, subst, Bool, AgreesCounted}
 use Rattle.run_counts.proofs.Counting.{counted_on}
 use Rattle.lane_run.specs.Stops.{stop_fault}
 use Rattle.lane_questions.specs.Kept.{LaneVertex}

@@ -1,7 +1,4 @@
-use Rattle.std.proofs.Common.{rules, arith, ◌≡◌, ◌∙◌, ap, sym, subst, Bool, Some, None}
-use Rattle.std.proofs.lemmas.Grind.{common_steps}
-use Rattle.pip_model.specs.Agreement.{AgreesCounted}
-use Rattle.pip_model.specs.Run.{Done, count_pivot}
+use Rattle.lane_questions.proofs.Words.{rules, arith, ◌≡◌, ◌∙◌, ap, sym, subst, Bool, Some, None, common_steps, AgreesCounted, Done, count_pivot}
 use Rattle.pip_problem.specs.Faults.{run_fault}
 use Rattle.run_counts.proofs.Counting.{counted_none, counted_on}
 use Rattle.scaled_laws.specs.Tables.{ScaledTable}

@@ -1,4 +1,4 @@
-use Rattle.std.proofs.Common.{rules, ◌≡◌, refl}
+use Rattle.lane_questions.proofs.Words.{rules, ◌≡◌, refl}
 use Rattle.scaled_laws.specs.Tables.{column_rows}
 use Rattle.lane_questions.proofs.KeptRuns.{begins}
 use Rattle.lane_questions.proofs.kept.KeptLanes.restart.Goals as goal

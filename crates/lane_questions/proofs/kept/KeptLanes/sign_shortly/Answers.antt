@@ -1,7 +1,4 @@
-use Rattle.std.proofs.Common.{rules, arith, sym, subst, ◌≡◌, [], ◌∷◌, ◌++◌, true, false, ℤ, List}
-use Rattle.std.proofs.lemmas.Grind.{common_steps}
-use Rattle.pip_model.specs.Forms.{opposite}
-use Rattle.pip_model.specs.Run.{Done}
+use Rattle.lane_questions.proofs.Words.{rules, arith, sym, subst, ◌≡◌, [], ◌∷◌, ◌++◌, true, false, ℤ, List, common_steps, opposite, Done}
 use Rattle.run_counts.proofs.Counting.{counted_on}
 use Rattle.point_turns.specs.Points.{has_point}
 use Rattle.lane_run.specs.Stops.{stop_fault}

@@ -1,5 +1,4 @@
-use Rattle.std.proofs.Common.{rules, ◌≡◌, sym, subst, ◌+◌, ℕ, map}
-use Rattle.pip_model.specs.Forms.{widen_to}
+use Rattle.lane_questions.proofs.Words.{rules, ◌≡◌, sym, subst, ◌+◌, ℕ, map, widen_to}
 use Rattle.lane_questions.specs.Kept.{LaneVertex, IsKeptLanes}
 use Rattle.lane_run.specs.Runs.{IsRowBelow}
 use Rattle.lane_questions.proofs.KeptSteps.{steps_on}

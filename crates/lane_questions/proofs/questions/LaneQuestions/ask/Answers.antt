@@ -1,7 +1,5 @@
-use Rattle.std.proofs.Common.{ap, sym, subst, arith, ◌≡◌, length, ◌∙◌}
+use Rattle.lane_questions.proofs.Words.{ap, sym, subst, arith, ◌≡◌, length, ◌∙◌, IsTrue, IsNarrow}
 use Rattle.lane_questions.specs.contracts.questions.LaneQuestions.{the_view}
-use Rattle.std.specs.Prelude.{IsTrue}
-use Rattle.pip_model.specs.Contexts.{IsNarrow}
 use Rattle.lane_questions.specs.InLanes.{lanes_of}
 use Rattle.lane_questions.specs.Asking.{LaneState, IsAsking}
 use Rattle.lane_questions.proofs.AskingLaws.{question, told}

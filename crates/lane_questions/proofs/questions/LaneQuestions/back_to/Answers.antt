@@ -1,4 +1,4 @@
-use Rattle.std.proofs.Common.{rules, refl, sym, subst, ◌∙◌, take}
+use Rattle.lane_questions.proofs.Words.{rules, refl, sym, subst, ◌∙◌, take}
 use Rattle.lane_questions.specs.contracts.questions.LaneQuestions.{the_view}
 use Rattle.lane_questions.specs.Asking.{LaneState, IsAsking}
 use Rattle.lane_questions.proofs.AskingLaws.{asking_front, kept_front, earlier_front}

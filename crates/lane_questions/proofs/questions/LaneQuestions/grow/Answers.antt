@@ -1,4 +1,4 @@
-use Rattle.std.proofs.Common.{refl, sym, subst}
+use Rattle.lane_questions.proofs.Words.{refl, sym, subst}
 use Rattle.lane_questions.specs.contracts.questions.LaneQuestions.{the_view}
 use Rattle.lane_questions.specs.Asking.{IsAsking}
 use Rattle.lane_questions.proofs.AskingLaws.{asking_longer}

@@ -1,4 +1,4 @@
-use Rattle.std.proofs.Common.{ap, sym, subst, ◌≡◌, ◌∙◌, false}
+use Rattle.lane_questions.proofs.Words.{ap, sym, subst, ◌≡◌, ◌∙◌, false}
 use Rattle.lane_questions.specs.contracts.questions.LaneQuestions.{the_view}
 use Rattle.lane_questions.specs.InLanes.{all_lanes}
 use Rattle.lane_questions.specs.Asking.{LaneState, IsAsking, IsBegun, unkept}

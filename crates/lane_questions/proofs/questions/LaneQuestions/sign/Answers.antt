@@ -1,6 +1,5 @@
-use Rattle.std.proofs.Common.{rules, sym, subst}
+use Rattle.lane_questions.proofs.Words.{rules, sym, subst, IsTrue}
 use Rattle.lane_questions.specs.contracts.questions.LaneQuestions.{the_view}
-use Rattle.std.specs.Prelude.{IsTrue}
 use Rattle.lane_questions.specs.Asking.{LaneState, IsAsking}
 use Rattle.lane_questions.proofs.AskingLaws.{question, told}
 use Rattle.lane_questions.proofs.questions.LaneQuestions.sign.Goals as goal
