@@ -1,8 +1,6 @@
 -- A row that is made in two steps, and what shows that it is not short.
-use Rattle.short_row.proofs.Words.{rules, ◌≡◌, refl, ap, sym, ◌∙◌, ℕ, zero, suc, ◌+◌, ◌<◌, ◌≤◌, ℤ, pos, negsuc, ◌≤ℤ◌, ◌*ℤ◌, ◌-ℤ◌, Bool, true, false, ◌&&◌, List, [], ◌∷◌, ◌++◌, length, take, drop, get_or, set, arith, append-nil, append_assoc, length-append, length-drop, length-set, ints, and-false, lt-ltb, take_at, drop_at, take_all, drop_all, take-append-drop, length-take, length-map, drop_more, take_more, set_at, get_or_at, map-set, map-append, get_or-map, get_or-set_same, list_all-append, list_all_at, slice_set, None, list_all, length-combine, entry-combine, gcd, gcd_of, floor_div, combine, floor_divided, Row, divided, gcd_assoc, gcd_zero, gcd_exchanged, gcd_step, combined, is_short, row_from, finished, begun_coefs, begun_constant, begun_row, begun_divisor, IsBegun, is_short_row, IsDenominatorOf}
-use Rattle.row_laws.proofs.Places.{take_combine, drop_combine}
+use Rattle.short_row.proofs.Words.{rules, ◌≡◌, refl, ap, sym, ◌∙◌, ℕ, zero, suc, ◌+◌, ◌<◌, ◌≤◌, ℤ, pos, negsuc, ◌≤ℤ◌, ◌*ℤ◌, ◌-ℤ◌, Bool, true, false, ◌&&◌, List, [], ◌∷◌, ◌++◌, length, take, drop, get_or, set, arith, append-nil, append_assoc, length-append, length-drop, length-set, ints, and-false, lt-ltb, take_at, drop_at, take_all, drop_all, take-append-drop, length-take, length-map, drop_more, take_more, set_at, get_or_at, map-set, map-append, get_or-map, get_or-set_same, list_all-append, list_all_at, slice_set, None, list_all, length-combine, entry-combine, gcd, gcd_of, floor_div, combine, floor_divided, Row, divided, gcd_assoc, gcd_zero, gcd_exchanged, gcd_step, combined, is_short, row_from, finished, begun_coefs, begun_constant, begun_row, begun_divisor, IsBegun, is_short_row, IsDenominatorOf, take_combine, drop_combine, divided_row}
 use Rattle.short_numbers.proofs.Quotients.{quotient_short}
-use Rattle.row_laws.proofs.RowLaws.{divided_row}
 use Rattle.short_row.specs.declared.begun.Begun.{Begun}
 
 -- ---- the entries in front of a place are made

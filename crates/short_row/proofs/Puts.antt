@@ -1,19 +1,13 @@
 -- A row that the pivot's row is put into, number after number.
-use Rattle.short_row.proofs.Words.{rules, All-cons, get_or-take, All-same, take-append-drop, length-map, length-set, take_at, drop_at, set, true, false, content-divided, IsShortRow, is_short_row, IsDenominatorOf, Some, None, begun_coefs, begun_constant, begun_row, IsBegun, floor_div, floor_divided, gcd_assoc, ◌≡◌, refl, ap, sym, ◌∙◌, subst, ℕ, zero, suc, ◌+◌, ◌-◌, ◌<◌, ◌≤◌, ℤ, pos, ◌≤ℤ◌, ◌*ℤ◌, ◌-ℤ◌, Bool, List, [], ◌∷◌, ◌++◌, length, take, drop, get_or, arith, ints, All, All-drop, All-take, All-append, length-append, length-take, length-drop, slice_set, gcd, gcd_of, combine, entry, Row, divided, eliminated, entry-combine, row_of_numbers, row_from, IsRow, IsShort, places_of, IsShortReduced, IsTurned, IsShortDivisor, finished, combined, combined_step, set-get_or}
+use Rattle.short_row.proofs.Words.{rules, All-cons, get_or-take, All-same, take-append-drop, length-map, length-set, take_at, drop_at, set, true, false, content-divided, IsShortRow, is_short_row, IsDenominatorOf, Some, None, begun_coefs, begun_constant, begun_row, IsBegun, floor_div, floor_divided, gcd_assoc, ◌≡◌, refl, ap, sym, ◌∙◌, subst, ℕ, zero, suc, ◌+◌, ◌-◌, ◌<◌, ◌≤◌, ℤ, pos, ◌≤ℤ◌, ◌*ℤ◌, ◌-ℤ◌, Bool, List, [], ◌∷◌, ◌++◌, length, take, drop, get_or, arith, ints, All, All-drop, All-take, All-append, length-append, length-take, length-drop, slice_set, gcd, gcd_of, combine, entry, Row, divided, eliminated, entry-combine, row_of_numbers, row_from, IsRow, IsShort, places_of, IsShortReduced, IsTurned, IsShortDivisor, finished, combined, combined_step, set-get_or, content, IsOwnRow, AreLowest, substituted_by, eliminated-lowest, divisor-lowest, take_combine, drop_combine, take-map, drop-map, divided_row, divided_one}
 use Rattle.pip_model.proofs.RingLaws.{*ℤ_left_comm}
 use Rattle.std.proofs.Math.IntN.{*ℤ_comm}
-use Rattle.row_laws.specs.Rows.{content, IsOwnRow}
 use Rattle.affine_forms.specs.Checks.{Fits}
-use Rattle.row_laws.specs.Lowest.{AreLowest, substituted_by}
 use Rattle.row_laws.specs.Steps.{IsElimination}
-use Rattle.row_laws.proofs.Lowest.{eliminated-lowest, divisor-lowest}
-use Rattle.row_laws.proofs.Places.{take_combine, drop_combine}
 use Rattle.short_row.specs.Put.{IsPut, IsTurning, put_numbers, put_row}
 use Rattle.short_row.specs.Terms.{AreTerms}
 use Rattle.short_row.specs.declared.put.Put.{Put}
 use Rattle.short_row.specs.declared.begun.Begun.{Begun}
-use Rattle.std.proofs.lemmas.List.{take-map, drop-map}
-use Rattle.row_laws.proofs.RowLaws.{divided_row, divided_one}
 use Rattle.row_laws.proofs.Substituting.{some_product}
 use Rattle.short_row.proofs.Finished.{finished_length, finished_all, gcd_of_append}
 use Rattle.short_row.proofs.ShortParts.{divided_positive, short_row, row_join}

@@ -1,6 +1,5 @@
 -- The numbers of the row of a column, and of a form's row.
-use Rattle.short_row.proofs.Words.{◌≡◌, refl, ap, sym, ◌∙◌, subst, ℕ, suc, ◌+◌, ◌-◌, ◌<◌, ◌≤◌, ℤ, pos, List, [], ◌∷◌, ◌++◌, length, map, take, drop, replicate, get_or, arith, append-nil, append_assoc, length-append, length-drop, length-set, All, slice_set, take_at, drop_at, take_all, drop_all, take_more, take-append-drop, length-replicate, set-append_left, set_at, length-take-le, drop_more, length_push, drop-replicate, take-replicate, ints, All-push, All-append, All-take, All-drop, All-replicate, width, coefficients, constant, widen_to, form_row, unit_row, mapped, row_of_numbers, numbers_of, IsShort, IsShortRow, content-one, IsShortReduced}
-use Rattle.std.proofs.lemmas.List.{replicate-append-replicate}
+use Rattle.short_row.proofs.Words.{◌≡◌, refl, ap, sym, ◌∙◌, subst, ℕ, suc, ◌+◌, ◌-◌, ◌<◌, ◌≤◌, ℤ, pos, List, [], ◌∷◌, ◌++◌, length, map, take, drop, replicate, get_or, arith, append-nil, append_assoc, length-append, length-drop, length-set, All, slice_set, take_at, drop_at, take_all, drop_all, take_more, take-append-drop, length-replicate, set-append_left, set_at, length-take-le, drop_more, length_push, drop-replicate, take-replicate, ints, All-push, All-append, All-take, All-drop, All-replicate, width, coefficients, constant, widen_to, form_row, unit_row, mapped, row_of_numbers, numbers_of, IsShort, IsShortRow, content-one, IsShortReduced, replicate-append-replicate}
 use Rattle.short_row.proofs.ShortParts.{short_row}
 
 const_map : (xs : List ℤ) → map (λ x. pos 0) xs ≡ replicate (length xs) (pos 0)

@@ -1,17 +1,12 @@
 -- Numbers that are divided by their greatest common divisor.
-use Rattle.short_row.proofs.Words.{◌≡◌, refl, ap, sym, ◌∙◌, subst, ℕ, zero, suc, ◌+◌, ◌<◌, ◌≤◌, ℤ, pos, negsuc, ◌≤ℤ◌, ◌*ℤ◌, List, [], ◌∷◌, ◌++◌, length, take, drop, get_or, set, arith, ints, All, All-take, All-same, take_at, take-append-drop, get_or-map, length-map, gcd, gcd_of, gcd_assoc, floor_div, Row, divided, row_of_numbers, IsShort, mapped}
-use Rattle.std.proofs.Common.{add-one, unsigned_abs}
+use Rattle.short_row.proofs.Words.{◌≡◌, refl, ap, sym, ◌∙◌, subst, ℕ, zero, suc, ◌+◌, ◌<◌, ◌≤◌, ℤ, pos, negsuc, ◌≤ℤ◌, ◌*ℤ◌, List, [], ◌∷◌, ◌++◌, length, take, drop, get_or, set, arith, ints, All, All-take, All-same, take_at, take-append-drop, get_or-map, length-map, gcd, gcd_of, gcd_assoc, floor_div, Row, divided, row_of_numbers, IsShort, mapped, add-one, unsigned_abs, unsigned_abs-mul, take-map, drop-map, scale, content}
 use Rattle.std.specs.List.{AllByRecursion}
-use Rattle.std.proofs.lemmas.Int.{unsigned_abs-mul}
-use Rattle.std.proofs.lemmas.List.{take-map, drop-map}
 use Rattle.std.proofs.lemmas.List.Elements.{All-from_recursion, recursion_from_All}
 use Rattle.std.proofs.lemmas.Nat.Gcd.{dvd_antisymm, dvd_refl, IsGcd-swap}
 use Rattle.affine_forms.proofs.Mapped.{mapped_read}
 use Rattle.pip_model.proofs.RingLaws.{*ℤ_assoc}
 use Rattle.pip_model.proofs.Division.{Multiple, floor-exact, gcd-divides, gcd_of-divides}
 use Rattle.pip_model.proofs.Gcd.{common-IsGcd, euclid_only, multiple-dvd, gcd_of-greatest, times-one}
-use Rattle.pip_model.specs.Forms.{scale}
-use Rattle.row_laws.specs.Rows.{content}
 use Rattle.row_laws.proofs.Contents.{content-divides}
 use Rattle.row_laws.proofs.Unchanged.{scaled, content-scaled, divided-scaled}
 use Rattle.short_row.specs.Whole.{scaled_front}

@@ -1,9 +1,9 @@
 -- The words of other modules that the proofs of this crate cite, passed on from one place. Declares nothing.
-pub use Rattle.std.proofs.Common.{rules, ◌≡◌, refl, ap, sym, ◌∙◌, ℕ, zero, suc, ◌+◌, ◌<◌, ◌≤◌, ℤ, pos, negsuc, ◌≤ℤ◌, ◌*ℤ◌, ◌-ℤ◌, Bool, true, false, ◌&&◌, List, [], ◌∷◌, ◌++◌, length, take, drop, get_or, set, arith, append-nil, append_assoc, length-append, length-drop, length-set, subst, ◌-◌, map, replicate, to_z, of_z}
-pub use Rattle.std.proofs.lemmas.Int.{ints, to_z-of_z}
+pub use Rattle.std.proofs.Common.{rules, ◌≡◌, refl, ap, sym, ◌∙◌, ℕ, zero, suc, ◌+◌, ◌<◌, ◌≤◌, ℤ, pos, negsuc, ◌≤ℤ◌, ◌*ℤ◌, ◌-ℤ◌, Bool, true, false, ◌&&◌, List, [], ◌∷◌, ◌++◌, length, take, drop, get_or, set, arith, append-nil, append_assoc, length-append, length-drop, length-set, subst, ◌-◌, map, replicate, to_z, of_z, add-one, unsigned_abs}
+pub use Rattle.std.proofs.lemmas.Int.{ints, to_z-of_z, unsigned_abs-mul, fits_signed_from_abs}
 pub use Rattle.std.proofs.Math.Bool.{and-false}
 pub use Rattle.std.proofs.lemmas.Bool.{lt-ltb}
-pub use Rattle.std.proofs.lemmas.List.{take_at, drop_at, take_all, drop_all, take-append-drop, length-take, length-map, drop_more, take_more, set_at, get_or_at, map-set, map-append, get_or-map, get_or-set_same, get_or-take, length-take-le, length-replicate, set-append_left, length_push, drop-replicate, take-replicate, set-get_or}
+pub use Rattle.std.proofs.lemmas.List.{take_at, drop_at, take_all, drop_all, take-append-drop, length-take, length-map, drop_more, take_more, set_at, get_or_at, map-set, map-append, get_or-map, get_or-set_same, get_or-take, length-take-le, length-replicate, set-append_left, length_push, drop-replicate, take-replicate, set-get_or, take-map, drop-map, replicate-append-replicate}
 pub use Rattle.std.proofs.lemmas.List.Folds.{list_all-append, list_all_at}
 pub use Rattle.std.specs.Prelude.{slice_set, None, All, slice_index_or, Some}
 pub use Rattle.std.specs.List.{list_all}
@@ -12,13 +12,13 @@ pub use Rattle.std.specs.Int.{w64, w128}
 pub use Rattle.std.proofs.lemmas.Grind.{common_steps}
 pub use Rattle.pip_model.proofs.Forms.{length-combine, entry-combine}
 pub use Rattle.pip_model.specs.Numbers.{gcd, gcd_of, floor_div}
-pub use Rattle.pip_model.specs.Forms.{combine, entry, floor_divided, constant, width, coefficients, widen_to}
+pub use Rattle.pip_model.specs.Forms.{combine, entry, floor_divided, constant, width, coefficients, widen_to, scale}
 pub use Rattle.pip_model.specs.Rows.{Row, divided, form_row, eliminated, unit_row}
 pub use Rattle.pip_model.proofs.Gcd.{gcd_assoc, gcd_zero, gcd_exchanged, gcd_between, quotient_positive, gcd_one}
 pub use Rattle.affine_forms.proofs.Divisors.{gcd_step}
 pub use Rattle.row_laws.proofs.Combining.{combined, combined_step}
 pub use Rattle.row_laws.specs.Short.{is_short, IsShort, IsShortRow}
-pub use Rattle.row_laws.specs.Rows.{row_from, IsRow}
+pub use Rattle.row_laws.specs.Rows.{row_from, IsRow, content, IsOwnRow}
 pub use Rattle.row_laws.proofs.ShortRows.{fits_short}
 pub use Rattle.affine_forms.proofs.Mapped.{mapped, mapped_step}
 pub use Rattle.row_laws.specs.Flat.{row_of_numbers, numbers_of}
@@ -29,3 +29,7 @@ pub use Rattle.short_row.specs.Turned.{is_short_row, IsDenominatorOf, IsTurned}
 pub use Rattle.short_row.specs.Sized.{IsShortReduced, row_size, places_of}
 pub use Rattle.short_row.specs.Rows.{row_of}
 pub use Rattle.short_row.specs.Terms.{IsDivisor, IsNarrowed, IsShortDivisor}
+pub use Rattle.row_laws.specs.Lowest.{AreLowest, substituted_by}
+pub use Rattle.row_laws.proofs.Lowest.{eliminated-lowest, divisor-lowest, lowest-alone, lowest-divided}
+pub use Rattle.row_laws.proofs.Places.{take_combine, drop_combine}
+pub use Rattle.row_laws.proofs.RowLaws.{divided_row, divided_one, divided_whole}

@@ -1,5 +1,4 @@
-use Rattle.short_row.proofs.Words.{rules, ◌≡◌, ap, ◌∙◌, pos, row_of_numbers, floor_divided}
-use Rattle.row_laws.specs.Rows.{content}
+use Rattle.short_row.proofs.Words.{rules, ◌≡◌, ap, ◌∙◌, pos, row_of_numbers, floor_divided, content}
 use Rattle.short_row.proofs.Puts.{numbers_divided, divided_already}
 use Rattle.short_row.proofs.put.divide_found.Goals as goal
 

@@ -1,6 +1,4 @@
-use Rattle.short_row.proofs.Words.{rules, ◌≡◌, ap, ◌∙◌, pos, drop, gcd, gcd_of, gcd_one, row_of_numbers}
-use Rattle.pip_model.specs.Forms.{scale}
-use Rattle.row_laws.specs.Rows.{content}
+use Rattle.short_row.proofs.Words.{rules, ◌≡◌, ap, ◌∙◌, pos, drop, gcd, gcd_of, gcd_one, row_of_numbers, scale, content}
 use Rattle.short_row.proofs.Puts.{divided_already}
 use Rattle.short_row.proofs.Wholes.{row_divided}
 use Rattle.short_row.proofs.put.divide_row.Goals as goal

@@ -1,5 +1,4 @@
-use Rattle.short_row.proofs.Words.{rules, refl, ◌≡◌, divided, row_from, row_parts}
-use Rattle.row_laws.proofs.RowLaws.{divided_row, divided_one, divided_whole}
+use Rattle.short_row.proofs.Words.{rules, refl, ◌≡◌, divided, row_from, row_parts, divided_row, divided_one, divided_whole}
 use Rattle.short_row.proofs.row.divide_parts.Goals as goal
 
 pub returns-clause-value : goal.returns-clause-value

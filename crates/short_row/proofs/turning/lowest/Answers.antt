@@ -1,5 +1,4 @@
-use Rattle.short_row.proofs.Words.{rules, ◌≡◌, pos, ◌≤ℤ◌, gcd, quotient_positive}
-use Rattle.row_laws.proofs.Lowest.{lowest-divided, lowest-alone}
+use Rattle.short_row.proofs.Words.{rules, ◌≡◌, pos, ◌≤ℤ◌, gcd, quotient_positive, lowest-divided, lowest-alone}
 use Rattle.short_row.proofs.turning.lowest.Goals as goal
 
 pub returns-then-divisor-eq1-clause-lowest : goal.returns-then-divisor-eq1-clause-lowest

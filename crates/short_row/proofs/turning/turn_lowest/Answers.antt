@@ -1,6 +1,16 @@
-use Rattle.short_row.proofs.Words.{rules, ◌≡◌, sym, subst, ◌+◌, arith, pos, to_z, of_z, w64, slice_index_or, entry, row_of_numbers, IsShort}
+use Rattle.short_row.proofs.Words.{rules, ◌≡◌, sym, subst, ◌+◌, arith, pos, to_z, of_z, w64, slice_index_or, entry, row_of_numbers, IsShort, IsShortDivisor}
 use Rattle.short_row.proofs.Puts.{entry_there, low_there, turning_terms, put_begun, put_turned}
 use Rattle.short_row.proofs.turning.turn_lowest.Goals as goal
+
+pub bounds-p-c : goal.bounds-p-c
+bounds-p-c c = omega (arith, c.requires.size, c.requires.some, c.requires.pivot.candidate.column)
+
+pub lowest-by-requires-clause-a : goal.lowest-by-requires-clause-a
+lowest-by-requires-clause-a c =
+    let p_is : to_z w64 (of_z w64 (slice_index_or c.args.p.now (c.args.c + 1) (pos 0))) ≡ entry (row_of_numbers c.args.unknowns c.args.p.now).coefs c.args.c =
+    let there = entry_there c.args.unknowns c.args.c c.args.p.now c.requires.pivot.candidate.column in search (rules, there) in
+    let short = c.requires.pivot.row.short.coefs c.args.c (pos 0) (omega (arith, c.requires.pivot.row.row.coefs, c.requires.pivot.candidate.column)) in
+    subst IsShortDivisor (sym p_is) (record { positive = c.requires.pivot.candidate.positive; short = short })
 
 pub lowest-by-requires-clause-b : goal.lowest-by-requires-clause-b
 lowest-by-requires-clause-b c =

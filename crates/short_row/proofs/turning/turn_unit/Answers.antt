@@ -1,6 +1,4 @@
-use Rattle.short_row.proofs.Words.{rules, ◌≡◌, ap, sym, subst, ◌∙◌, ◌+◌, ◌*ℤ◌, arith, ints, pos, to_z, of_z, w64, length-set, length, slice_set, slice_index_or, set-get_or, All-set, true, gcd, gcd_of, gcd_one, entry, row_of_numbers, IsShort, IsShortDivisor}
-use Rattle.row_laws.proofs.Lowest.{lowest-alone}
-use Rattle.row_laws.specs.Rows.{content}
+use Rattle.short_row.proofs.Words.{rules, ◌≡◌, ap, sym, subst, ◌∙◌, ◌+◌, ◌*ℤ◌, arith, ints, pos, to_z, of_z, w64, length-set, length, slice_set, slice_index_or, set-get_or, All-set, true, gcd, gcd_of, gcd_one, entry, row_of_numbers, IsShort, IsShortDivisor, lowest-alone, content}
 use Rattle.short_row.specs.Put.{put_row}
 use Rattle.short_row.proofs.Puts.{entry_there, low_there, turning_terms, put_begun, put_turned, put_done, put_closed, divided_already, whole_short, numbers_short}
 use Rattle.short_row.proofs.turning.turn_unit.Goals as goal

@@ -1,5 +1,4 @@
-use Rattle.short_row.proofs.Words.{rules, ◌≡◌, ap, ◌∙◌, pos, ◌≤ℤ◌, take, drop, to_z, of_z, w64, All-append, All-drop, All-same, All-set, gcd, get_or, floor_div, IsShort}
-use Rattle.pip_model.specs.Forms.{scale}
+use Rattle.short_row.proofs.Words.{rules, ◌≡◌, ap, ◌∙◌, pos, ◌≤ℤ◌, take, drop, to_z, of_z, w64, All-append, All-drop, All-same, All-set, gcd, get_or, floor_div, IsShort, scale}
 use Rattle.short_row.proofs.Wholes.{gcd_first, gcd_second, factor_short, scaled_less}
 use Rattle.short_row.proofs.whole.divide_less.Goals as goal
 

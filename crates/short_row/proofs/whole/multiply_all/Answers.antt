@@ -1,5 +1,4 @@
-use Rattle.std.proofs.lemmas.Int.{fits_signed_from_abs}
-use Rattle.short_row.proofs.Words.{rules, ◌≡◌, ap, ◌∙◌, ◌*ℤ◌, arith, pos, to_z, of_z, w64, slice_index_or, get_or, to_z-of_z, mapped_step}
+use Rattle.short_row.proofs.Words.{rules, ◌≡◌, ap, ◌∙◌, ◌*ℤ◌, arith, pos, to_z, of_z, w64, slice_index_or, get_or, to_z-of_z, mapped_step, fits_signed_from_abs}
 use Rattle.short_row.proofs.Wholes.{scaled_short}
 use Rattle.short_row.proofs.whole.multiply_all.Goals as goal
 
