@@ -13,3 +13,4 @@ pub mod Tightening
 pub mod Units
 pub mod Values
 pub use Rattle.pip_model.proofs.Gcd
+pub mod Whole

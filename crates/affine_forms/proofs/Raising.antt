@@ -1,5 +1,6 @@
 -- Steps of a list whose entries are raised to multiples.
 use Rattle.affine_forms.proofs.Words.{◌≡◌, refl, ap, ◌∙◌, ℕ, ◌+◌, ◌<◌, ◌≤◌, ℤ, pos, Bool, true, ◌&&◌, List, [], ◌∷◌, ◌++◌, length, map, take, drop, get_or, subst, All, IsFalse, drop_more, take_more, take_all, All-push, fits, all_fit, Fits, raised}
+use Rattle.affine_forms.proofs.Mapped.{mapped, mapped_read}
 use Rattle.std.proofs.lemmas.List.Folds.{list_all-append}
 
 module _ (d : ℤ) (xs : List ℤ) (i : ℕ) where
@@ -14,6 +15,10 @@ module _ (d : ℤ) (xs : List ℤ) (i : ℕ) where
 
   pub raised_end : length xs ≤ i → All (λ x. Fits (raised d x)) (take i xs) → All (λ x. Fits (raised d x)) xs
   raised_end h all = subst (λ (ys : List ℤ). All (λ x. Fits (raised d x)) ys) (take_all i xs h) all
+
+-- the entry that is read next is raised to a number that fits
+pub raised_read : (d : ℤ) (old now : List ℤ) (i : ℕ) → now ≡ mapped (raised d) i old → i < length old → All (λ x. Fits (raised d x)) old → Fits (raised d (get_or now i (pos 0)))
+raised_read d old now i e h all = rw (e, mapped_read (raised d) old i (pos 0) h) (all i (pos 0) h)
 
 -- the numbers of a rounding
 pub rounded_parts : (xs : List ℤ) (z : ℤ) → all_fit (xs ++ z ∷ []) ≡ (all_fit xs && (fits z && true))

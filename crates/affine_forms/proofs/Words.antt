@@ -3,7 +3,7 @@ pub use Rattle.std.proofs.Common.{◌≡◌, refl, sym, ◌^◌, ◌-◌, ◌<�
 pub use Rattle.std.specs.Prelude.{FitsSigned, IsTrue, slice_set, All, IsFalse, if◌then◌else◌, swap}
 pub use Rattle.std.proofs.lemmas.Int.{unsigned_abs-mul, ints, to_z-of_z, fits_signed_from_abs}
 pub use Rattle.std.proofs.lemmas.Bool.{lt-ltb, ltb-true}
-pub use Rattle.std.proofs.lemmas.List.{length-map, get_or-map, drop_more, take_more, take_all, set_at, get_or_at, length-take, length-replicate, map_more, drop_all, take-append-le}
+pub use Rattle.std.proofs.lemmas.List.{take_at, length-map, get_or-map, drop_more, take_more, take_all, set_at, get_or_at, length-take, length-replicate, map_more, drop_all, take-append-le}
 pub use Rattle.std.specs.Int.{w64, w128, IsGcd}
 pub use Rattle.std.proofs.lemmas.List.Elements.{All-from_recursion, recursion_from_All, All-push, All-append, All-take, All-replicate, All-nil, All-cons, All-set}
 pub use Rattle.std.proofs.lemmas.Grind.{common_steps}
