@@ -1,21 +1,16 @@
 -- A row after a pivot, by the step's factors and from the step's divisor.
-use Rattle.tableau_row.proofs.Words.{fits, Fits, length-combine, ◌≡◌, ◌∙◌, refl, ap, sym, subst, ℕ, suc, ◌+◌, ◌<◌, ◌≤◌, ℤ, pos, negsuc, ◌≤ℤ◌, ◌-ℤ◌, ◌*ℤ◌, unsigned_abs, arith, List, [], ◌∷◌, ◌++◌, length, length-append, length-map, length-set, map-append, take, drop, take_at, drop_at, take-append-drop, get_or, append_assoc, slice_set, All, All-cons, All-append, All-take, All-drop, All-set, All-push, IsTrue, ints, floor_div, floor_divided, gcd, gcd_of, gcd_assoc, gcd_zero, entry, combine, Row, divided, substituted, eliminated, floor-unique, floor-exact, gcd-divides, length-take, Multiple, common-IsGcd, gcd-greatest, gcd_of-greatest, content, IsRow, IsOwnRow, IsReduced, IsShort, IsShortRow, IsElimination, IsMadeReduced, MakesRow, true, AreLowest, substituted_by, numbers_of, row_of_numbers, row_from}
-use Rattle.std.proofs.lemmas.List.{map-set, get_or-take, take-take, take-set-le}
+use Rattle.tableau_row.proofs.Words.{fits, Fits, length-combine, ◌≡◌, ◌∙◌, refl, ap, sym, subst, ℕ, suc, ◌+◌, ◌<◌, ◌≤◌, ℤ, pos, negsuc, ◌≤ℤ◌, ◌-ℤ◌, ◌*ℤ◌, unsigned_abs, arith, List, [], ◌∷◌, ◌++◌, length, length-append, length-map, length-set, map-append, take, drop, take_at, drop_at, take-append-drop, get_or, append_assoc, slice_set, All, All-cons, All-append, All-take, All-drop, All-set, All-push, IsTrue, ints, floor_div, floor_divided, gcd, gcd_of, gcd_assoc, gcd_zero, entry, combine, Row, divided, substituted, eliminated, floor-unique, floor-exact, gcd-divides, length-take, Multiple, common-IsGcd, gcd-greatest, gcd_of-greatest, content, IsRow, IsOwnRow, IsReduced, IsShort, IsShortRow, IsElimination, IsMadeReduced, MakesRow, true, AreLowest, substituted_by, numbers_of, row_of_numbers, row_from, map-set, get_or-take, take-take, take-set-le, content-divided, divided_one, short_fit, fits_short, AreReduced}
 use Rattle.std.proofs.lemmas.List.Elements.{recursion_from_All}
 use Rattle.std.proofs.lemmas.Nat.Gcd.{dvd_refl, dvd_antisymm}
 use Rattle.pip_model.proofs.Gcd.{gcd_between, multiple-dvd, quotient_positive}
 use Rattle.pip_model.proofs.RingLaws.{*ℤ_assoc}
 use Rattle.std.proofs.Math.IntN.{*ℤ_comm}
 use Rattle.row_laws.proofs.Combining.{combine_more, made_taken}
-use Rattle.row_laws.proofs.Contents.{content-divided}
 use Rattle.row_laws.proofs.Lowest.{eliminated-lowest, divisor-lowest, reduced-lowest}
-use Rattle.row_laws.proofs.RowLaws.{divided_one}
-use Rattle.row_laws.proofs.ShortRows.{short_fit, fits_short}
 use Rattle.row_laws.proofs.Multiples.{times-multiple}
 use Rattle.row_laws.proofs.Numbers.{row_again}
 use Rattle.row_laws.proofs.Stepping.{made_further, reduced_by}
 use Rattle.row_laws.proofs.Substituting.{some_product}
-use Rattle.row_laws.specs.Lowest.{AreReduced}
 use Rattle.tableau_row.specs.Stepped.{IsStep}
 use Rattle.tableau_row.specs.declared.step.Step.{Step}
 

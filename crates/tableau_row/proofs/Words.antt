@@ -4,7 +4,7 @@ pub use Rattle.std.specs.Prelude.{IsTrue, All, slice_set, Vec}
 pub use Rattle.std.proofs.lemmas.List.Elements.{All-append, All-take, All-drop, All-cons, All-set, All-push}
 pub use Rattle.std.specs.Int.{w128, w64}
 pub use Rattle.std.proofs.lemmas.Int.{to_z-of_z, ints}
-pub use Rattle.std.proofs.lemmas.List.{take_at, drop_at, take-append-drop, take_all, length-take, map-append, drop_all, length-map}
+pub use Rattle.std.proofs.lemmas.List.{take_at, drop_at, take-append-drop, take_all, length-take, map-append, drop_all, length-map, map-set, get_or-take, take-take, take-set-le}
 pub use Rattle.std.proofs.lemmas.Grind.{common_steps}
 pub use Rattle.pip_model.specs.Forms.{entry, width, combine, floor_divided, negate, add}
 pub use Rattle.pip_model.specs.Rows.{Row, divided, eliminated, widened, eliminated_listed, substituted}
@@ -17,12 +17,17 @@ pub use Rattle.affine_forms.proofs.Combined.{listed_step, listed_refused, listed
 pub use Rattle.pip_model.specs.Cuts.{residue_of, rounding, rounded_listed, rounded}
 pub use Rattle.affine_forms.specs.Forms.{raised}
 pub use Rattle.pip_model.proofs.Division.{floor-unique, floor-exact, gcd-divides, Multiple}
-pub use Rattle.pip_model.proofs.Gcd.{gcd-greatest, gcd_of-greatest, common-IsGcd, gcd_one, gcd_zero}
+pub use Rattle.pip_model.proofs.Gcd.{quotient_positive, gcd-greatest, gcd_of-greatest, common-IsGcd, gcd_one, gcd_zero}
 pub use Rattle.affine_forms.proofs.Mapped.{mapped, mapped_step}
-pub use Rattle.row_laws.specs.Lowest.{AreLowest, substituted_by}
+pub use Rattle.row_laws.specs.Lowest.{AreLowest, substituted_by, AreReduced}
 pub use Rattle.row_laws.specs.Rows.{IsRow, IsOwnRow, IsReduced, row_from, content}
 pub use Rattle.row_laws.specs.Short.{IsShortRow, is_short, IsShort, AreShortRows}
 pub use Rattle.row_laws.specs.Steps.{IsElimination, MakesRow, IsMadeReduced}
 pub use Rattle.tableau_row.specs.Room.{Appends}
 pub use Rattle.row_laws.specs.Flat.{numbers_of, row_of_numbers}
 pub use Rattle.tableau_row.specs.Views.{row_of}
+pub use Rattle.row_laws.proofs.Contents.{content-divided}
+pub use Rattle.row_laws.proofs.RowLaws.{divided_one, divided_row, divided_whole}
+pub use Rattle.row_laws.proofs.ShortRows.{short_fit, fits_short}
+pub use Rattle.row_laws.proofs.ShortHeld.{short_held, short_entry_held}
+pub use Rattle.row_laws.proofs.Places.{drop_two, eliminated_parts}

@@ -26,7 +26,6 @@ pub(crate) fn short_divisor_with(start: i64, entries: &[i128]) -> i64
 }
 
 // The quotient of a short number, rounded down; at least 1 where the number is at least d.
-#[tactic(auto, using(pip_model::proofs::Gcd::quotient_positive))]
 pub(crate) fn short_quotient(a: i128, d: i64) -> i128
     requires positive { pos 1 ≤ℤ d }
     requires short { IsShort a }

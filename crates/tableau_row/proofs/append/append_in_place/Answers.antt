@@ -1,5 +1,4 @@
-use Rattle.tableau_row.proofs.Words.{rules, ◌∙◌, ap, sym, subst, length, IsTrue, all_fit, Row, eliminated, eliminated_listed, numbers_of, AreShortRows, IsElimination, IsMadeReduced, row_of}
-use Rattle.row_laws.specs.Lowest.{AreReduced}
+use Rattle.tableau_row.proofs.Words.{rules, ◌∙◌, ap, sym, subst, length, IsTrue, all_fit, Row, eliminated, eliminated_listed, numbers_of, AreShortRows, IsElimination, IsMadeReduced, row_of, AreReduced}
 use Rattle.tableau_row.proofs.Lent.{lent, written_last}
 use Rattle.tableau_row.proofs.append.append_in_place.Goals as goal
 

@@ -1,5 +1,4 @@
-use Rattle.tableau_row.proofs.Words.{rules, arith, ◌∙◌, common_steps, row_of}
-use Rattle.row_laws.proofs.Places.{eliminated_parts}
+use Rattle.tableau_row.proofs.Words.{rules, arith, ◌∙◌, common_steps, row_of, eliminated_parts}
 use Rattle.tableau_row.proofs.elimination.check_eliminated.Goals as goal
 
 pub returns-in_err-check_but : goal.returns-in_err-check_but

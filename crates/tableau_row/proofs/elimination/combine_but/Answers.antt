@@ -1,6 +1,5 @@
-use Rattle.tableau_row.proofs.Words.{arith, rules, All-append, All-set, Fits}
+use Rattle.tableau_row.proofs.Words.{arith, rules, All-append, All-set, Fits, drop_two}
 use Rattle.row_laws.proofs.Combining.{listed_sides, set_sides}
-use Rattle.row_laws.proofs.Places.{drop_two}
 use Rattle.tableau_row.proofs.elimination.combine_but.Goals as goal
 
 pub combine_all-requires-clause-listed : goal.combine_all-requires-clause-listed

@@ -1,6 +1,4 @@
-use Rattle.tableau_row.proofs.Words.{rules, ◌≡◌, ◌-◌, ◌-ℤ◌, arith, refl, sym, ap, ◌∙◌, map, List, ℤ, length, slice_set, to_z-of_z, entry, all_fit, divided, raised, add, negate, width, rounding, residue_of, content, row_from}
-use Rattle.row_laws.proofs.Contents.{content-divided}
-use Rattle.row_laws.proofs.RowLaws.{divided_row}
+use Rattle.tableau_row.proofs.Words.{rules, ◌≡◌, ◌-◌, ◌-ℤ◌, arith, refl, sym, ap, ◌∙◌, map, List, ℤ, length, slice_set, to_z-of_z, entry, all_fit, divided, raised, add, negate, width, rounding, residue_of, content, row_from, content-divided, divided_row}
 use Rattle.row_laws.proofs.Rounding.{rounded_listed_is, rounded_form}
 use Rattle.tableau_row.proofs.row.round_parts.Goals as goal
 

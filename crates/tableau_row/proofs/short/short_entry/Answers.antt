@@ -1,6 +1,4 @@
-use Rattle.tableau_row.proofs.Words.{rules}
-use Rattle.row_laws.proofs.ShortHeld.{short_held}
-use Rattle.row_laws.proofs.ShortRows.{short_fit}
+use Rattle.tableau_row.proofs.Words.{rules, short_held, short_fit}
 use Rattle.tableau_row.proofs.short.short_entry.Goals as goal
 
 pub narrow-narrow_x-requires : goal.narrow-narrow_x-requires
