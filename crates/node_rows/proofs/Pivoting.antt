@@ -76,7 +76,7 @@ module _ (t : TableauRows) (b : Basis) (f : List ℤ) (h : IsRead t b f) where
   short_join n [] p all short e = (short, e, tt)
   short_join n (r ∷ rows) p all short e = (all.0, all.1, short_join n rows p all.2 short e)
 
-  with_long : length (t.rows ++ read t b f ∷ []) ≡ t.unknowns + 1
+  pub with_long : length (t.rows ++ read t b f ∷ []) ≡ t.unknowns + 1
   with_long = long t.rows (read t b f) t.unknowns h.basis.size
     where
       long : (rows : List Row) (p : Row) (n : ℕ) → length rows ≡ n → length (rows ++ p ∷ []) ≡ n + 1
