@@ -243,9 +243,9 @@ impl NodeRows {
     pub fn try_clone(&self, alloc: Global) -> Result<NodeRows, WantOfMemory>
         ensures { IfOk result (λ t. t ≡ self.now) }
     {
-        let made = self.made.try_clone(alloc)?;
-        let forms = self.forms.try_share()?;
         let basis = same_basis(alloc, &self.basis)?;
+        let forms = self.forms.try_share()?;
+        let made = self.made.try_clone(alloc)?;
         Ok(NodeRows {
             made,
             forms,

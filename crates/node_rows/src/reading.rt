@@ -106,7 +106,6 @@ fn coefficients(rows: &Tableau, basis: &Basis, form: &Form) -> Result<Vec<i128>,
 }
 
 // The greatest common divisor of all numbers of a row.
-#[tactic(auto, using(pip_model::proofs::Gcd::gcd_assoc))]
 fn divisor(den: i128, coefs: &[i128], constant: &[i128]) -> i128
     requires row { IsRow (length coefs.now) (length constant.now - 1) (row_from den coefs.now constant.now) }
     ensures value { result ≡ gcd den (gcd (gcd_of coefs.now) (gcd_of constant.now)) }
