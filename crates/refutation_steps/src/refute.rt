@@ -64,7 +64,6 @@ fn run(
 }
 
 /// The steps by which the forms have no point, none where they have one.
-#[tactic(auto, using(crate::proofs::Tracing::refute_by_run))]
 pub fn refute_forms(
     alloc: Global,
     forms: &[Form],

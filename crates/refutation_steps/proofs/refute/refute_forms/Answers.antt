@@ -1,0 +1,32 @@
+use Rattle.refutation_steps.proofs.Words.{◌≡◌, ◌∙◌, ap, sym, ℤ, refute_by, ℕ, zero, suc, Bool, false, refl, [], length, arith}
+use Rattle.std.specs.Int.{w128}
+use Rattle.std.proofs.lemmas.Int.{to_z-of_z}
+use Rattle.std.specs.Prelude.{◌==◌}
+use Rattle.std.proofs.lemmas.Bool.{false≢true}
+use Rattle.point_run.proofs.Leaving.{run_same}
+use Rattle.refutation_steps.proofs.Tracing.{refute_by_run}
+use Rattle.refutation_steps.proofs.refute.refute_forms.Goals.{else-is_empty-via-then-is_empty+else-is_empty-2, else-is_empty-via-else-is_empty}
+use Rattle.refutation_steps.proofs.refute.refute_forms.Goals as goal
+
+not_none : (n : ℕ) (b : Bool) → b ≡ (n == 0) → b ≡ false → n ≡ 0 → ⊥
+not_none zero b e f none = false≢true (sym f ∙ e)
+not_none (suc n) b e f none = absurd (omega (arith, none))
+
+pub returns-in-Some : goal.returns-in-Some
+returns-in-Some c =
+    let some : length c.args.places.now ≡ 0 → c.args.forms.now ≡ [] → ⊥ = elim c.else-is_empty.branch [
+      | else-is_empty-via-then-is_empty+else-is_empty-2 w ↦ λ n none. not_none (length c.args.forms.now) w.is_empty-then-is_empty.result w.is_empty-then-is_empty.ensures w.if-is_empty-2.false (rw none refl)
+      | else-is_empty-via-else-is_empty w ↦ λ n none. not_none (length c.args.places.now) c.is_empty.result c.is_empty.ensures w.if-is_empty.false n
+    ] in
+    let first = ap (λ (z : ℤ). refute_by (length c.args.places.now) c.args.forms.now c.args.places.now z c.args.work.now) (to_z-of_z w128 c.args.first c.ranges.first) in
+    record { gives = run_same c.in-Some.ensures.gives (first ∙ sym (refute_by_run (length c.args.places.now) c.args.forms.now c.args.places.now c.args.first c.args.work.now some)) }
+
+pub returns : goal.returns
+returns c =
+    let some : length c.args.places.now ≡ 0 → c.args.forms.now ≡ [] → ⊥ = elim c.else-is_empty.branch [
+      | else-is_empty-via-then-is_empty+else-is_empty-2 w ↦ λ n none. not_none (length c.args.forms.now) w.is_empty-then-is_empty.result w.is_empty-then-is_empty.ensures w.if-is_empty-2.false (rw none refl)
+      | else-is_empty-via-else-is_empty w ↦ λ n none. not_none (length c.args.places.now) c.is_empty.result c.is_empty.ensures w.if-is_empty.false n
+    ] in
+    let first = ap (λ (z : ℤ). refute_by (length c.args.places.now) c.args.forms.now c.args.places.now z c.args.work.now) (to_z-of_z w128 c.args.first c.ranges.first) in
+    let given = rw c.in_default.ensures.none at c.run.ensures.gives in
+    record { gives = run_same given (first ∙ sym (refute_by_run (length c.args.places.now) c.args.forms.now c.args.places.now c.args.first c.args.work.now some)) }
