@@ -105,6 +105,8 @@ impl Pending {
             let mut spare = rows;
             spare.reshape(0, 0);
             let _ = self.spares.push(spare);
+        } else {
+            drop(rows);
         }
     }
 
@@ -120,9 +122,7 @@ impl Pending {
         requires { length self.old.frames < self.old.most }
         ensures { self.new ≡ record self.old { frames = f ∷ self.old.frames } }
     {
-        if self.stack.len() + self.spares.len() >= self.most {
-            let _ = self.spares.pop();
-        }
+        self.spares.truncate(self.most - 1 - self.stack.len());
         self.stack.push(f).unwrap();
     }
 
