@@ -1,13 +1,13 @@
-use Rattle.std.proofs.Common.{rules, arith, ◌≡◌, ◌∙◌, [], ◌∷◌, ◌++◌, ap, sym, subst, ℕ, ◌<◌, pos, ◌≤ℤ◌, length}
+use Rattle.std.proofs.Common.{rules, arith, ◌≡◌, ◌∙◌, [], ◌∷◌, ◌++◌, ap, sym, subst, ℕ, ◌+◌, ◌<◌, pos, ◌≤ℤ◌, length}
 use Rattle.pip_model.specs.Cuts.{constant_cut}
 use Rattle.pip_model.specs.Rows.{Row, row_at, form_row, divided}
 use Rattle.row_laws.specs.Flat.{row_of_numbers}
 use Rattle.row_laws.specs.Tableaus.{TableauRows, with_row}
 use Rattle.form_run.specs.FlatLists.{NumberLists}
 use Rattle.form_basis.specs.ReadRows.{read}
-use Rattle.form_run.specs.Held.{all_rows}
+use Rattle.form_run.specs.Held.{IsHeld, all_rows}
 use Rattle.form_run.proofs.HeldRows.{row_front}
-use Rattle.form_run.proofs.MadeCuts.{cut_divided, row_added}
+use Rattle.form_run.proofs.MadeCuts.{cut_divided, row_added, held_more}
 use Rattle.form_run.proofs.form_rows.FormRows.push_cut.Goals as goal
 
 pub returns-clause-ok : goal.returns-clause-ok
@@ -27,3 +27,32 @@ returns-clause-ok c =
     ∙ row_added s.places s.basis s.forms.lists f (constant_cut (row_at s.places.rows i)) (made ∙ ap divided row ∙ cut_divided (row_at s.places.rows i) den)
     ∙ ap (λ (q : Row). with_row (all_rows s.places s.basis s.forms.lists) (constant_cut q)) (sym (row_front s.places.rows _ i lt))
     ∙ ap (λ (t : TableauRows). with_row t (constant_cut (row_at t.rows i))) c.self.view_is
+
+pub read_cut-requires : goal.read_cut-requires
+read_cut-requires c = omega (arith, c.requires, ap (λ (t : TableauRows). t.unknowns) c.self.view_is, c.self.invariant.basis.size)
+
+pub make_form-requires-clause-size : goal.make_form-requires-clause-size
+make_form-requires-clause-size c = omega (arith, c.row_numbers-row.ensures.length, c.in_ok-read_cut.ensures.unknowns, c.self.invariant.columns_size)
+
+pub make_form-requires-clause-lists : goal.make_form-requires-clause-lists
+make_form-requires-clause-lists c = omega (arith, c.self.invariant.columns_size, c.self.invariant.columns_count)
+
+pub checked_norm-requires-clause-basis : goal.checked_norm-requires-clause-basis
+checked_norm-requires-clause-basis c = c.self.invariant.basis
+
+pub checked_norm-requires-clause-size : goal.checked_norm-requires-clause-size
+checked_norm-requires-clause-size c = omega (arith, c.row_numbers-row.ensures.length, c.in_ok-read_cut.ensures.unknowns)
+
+pub invariant_of-self : goal.invariant_of-self
+invariant_of-self c =
+    let s = c.self.inside in
+    subst (λ (l : NumberLists). IsHeld s.places s.basis l s.columns s.norm) (sym c.in_err-push.ensures.err) c.self.invariant
+
+pub invariant_of-self-2 : goal.invariant_of-self-2
+invariant_of-self-2 c =
+    let s = c.self.inside in
+    let forms : c.push.new.self ≡ record s.forms { lists = s.forms.lists ++ c.deref-2.result.now ∷ [] } = c.in_ok-push.ensures.ok in
+    let same : c.deref-2.result.now ≡ c.deref.result.now = c.deref-2.ensures.value ∙ sym c.deref.ensures.value in
+    let wide : length c.deref.result.now ≡ s.places.unknowns + 1 = search rules in
+    held_more s.places s.basis s.forms s.columns c.push.new.self s.norm c.in-Some.norm c.deref-2.result.now c.self.invariant forms (rw same wide)
+    c.in-Some.ensures.most (rw same c.in-Some.ensures.norm) c.in-Some.ensures.bound
