@@ -1,6 +1,5 @@
-use Rattle.std.proofs.Common.{◌≤ℤ◌}
+use Rattle.std.proofs.Common.{◌≤ℤ◌, to_z, of_z}
 use Rattle.point_run.proofs.Words.{◌≡◌, ◌∙◌, ap, sym, subst, ℤ, pos, List, [], ◌∷◌, length, arith, floor_div, gcd, gcd_of, floor_divided, constant, Row, get_or}
-use Rattle.std.proofs.Common.{to_z, of_z}
 use Rattle.std.specs.Int.{w128}
 use Rattle.std.proofs.lemmas.Int.{ints}
 use Rattle.affine_forms.proofs.Bits.{held, held_fits}
