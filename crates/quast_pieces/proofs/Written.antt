@@ -1,6 +1,7 @@
 -- The text of an answer's pieces by the text of its tree's, and what its tree's pieces are.
 use Rattle.std.proofs.Common.{◌≡◌, ◌∙◌, sym, ap, ap₂, subst, List, [], ℕ}
 use Rattle.std.specs.Prelude.{Result, Ok, Err, OnOk}
+use Rattle.std.proofs.lemmas.List.{append-nil}
 use Rattle.pip_model.specs.Tree.{Tree}
 use Rattle.pip_model.specs.PieceText.{spell_answer_pieces}
 use Rattle.walk_laws.proofs.PieceLaws.{pieces-leaves, pieces-part}
@@ -9,7 +10,7 @@ use Rattle.quast.specs.Trees.{ScopedTree, IsQuast}
 use Rattle.quast.specs.Answers.{answer_of}
 use Rattle.quast.specs.declared.answer.Answer.{Answer}
 use Rattle.quast.specs.declared.answer.Answer.TheVariants as answer
-use Rattle.text_printing.specs.Printing.{Appends}
+use Rattle.text_printing.specs.Printing.{Appends, Begins}
 use Rattle.quast_pieces.specs.Pieces.{IsParted}
 
 -- from the root, where the path is empty
@@ -27,3 +28,7 @@ tree_parted a q is h =
 pub at_ok : {X E : Type 0} (r : Result X E) (P : Type 0) → P → OnOk r P
 at_ok (Ok x) P h = h
 at_ok (Err e) P h = tt
+
+-- what is left as it was goes on from itself
+pub begins_same : (a : List ℕ) → Begins a a
+begins_same a = record { rest = []; is = sym (append-nil a) }
