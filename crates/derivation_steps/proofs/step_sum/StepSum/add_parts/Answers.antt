@@ -1,4 +1,6 @@
 use Rattle.derivation_steps.proofs.Words.{◌≡◌, refl, ap, subst, [], ◌∷◌, ◌++◌, ◌+ℤ◌, ◌*ℤ◌, ℤ, List, to_z-of_z, w128, fit_never, take, length, IsFalse, all_fit, plus_term_listed}
+use Rattle.derivation_steps.proofs.Words.{rules}
+use Rattle.std.proofs.Common.{to_z, of_z}
 use Rattle.affine_forms.proofs.Combined.{refused}
 use Rattle.affine_forms.specs.Checks.{is_overflow}
 use Rattle.derivation_steps.specs.Sums.{PartSum}
@@ -12,3 +14,26 @@ returns-in_err-add_front-clause-listed c =
     let first = plus_term_listed (take (length c.args.front.now) c.args.self.now.coefficients) c.args.m c.args.front.now in
     let behind = (c.args.m *ℤ c.args.constant) ∷ (c.args.self.now.constant +ℤ c.args.m *ℤ c.args.constant) ∷ [] in
     refused is_overflow c.from_residual.result (first ++ behind) c.from_residual.ensures.0 (fit_never first behind (subst (λ (l : List ℤ). IsFalse (all_fit (plus_term_listed (take (length c.args.front.now) l) c.args.m c.args.front.now))) same over))
+
+pub invariant_of-self : goal.invariant_of-self
+invariant_of-self c = record {
+  within = rw c.in_err-add_front.ensures.same c.self.invariant.within;
+  fits = c.in_err-add_front.ensures.fits;
+  constant = c.self.invariant.constant;
+}
+
+pub invariant_of-self-in_err-self-inside : goal.invariant_of-self-in_err-self-inside
+invariant_of-self-in_err-self-inside c = record {
+  within = rw c.in_ok-add_front.ensures.same c.self.invariant.within;
+  fits = c.in_ok-add_front.ensures.fits;
+  constant = c.self.invariant.constant;
+}
+
+pub invariant_of-self-2 : goal.invariant_of-self-2
+invariant_of-self-2 c =
+    let number : to_z w128 (of_z w128 c.in_ok-self-inside.field-0) ≡ c.in_ok-self-inside.field-0 = search rules in
+    record {
+      within = rw c.in_ok-add_front.ensures.same c.self.invariant.within;
+      fits = c.in_ok-add_front.ensures.fits;
+      constant = rw number c.in_ok-self-inside.ensures.fits;
+    }
