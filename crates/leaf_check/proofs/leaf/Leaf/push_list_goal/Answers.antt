@@ -13,3 +13,21 @@ returns-clause-pushed c =
     let same : length c.rows-rows.result.now ≡ length c.args.self.now.problem.now.rows = ap length c.rows-rows.ensures.value in
     rw (own_least c.args.self.now.problem.now (case_of c.args.self.now) c.args.components.now c.args.r (c.args.r - length c.args.self.now.problem.now.rows - length c.args.components.now) c.split_at.result.0.now (omega arith) (omega arith) (search rules))
     c.push_least_goal.ensures.pushed
+
+pub overflow_sub-sign : goal.overflow_sub-sign
+overflow_sub-sign c = omega (arith, ap length c.rows-rows.ensures.value)
+
+pub overflow_sub-sign-2 : goal.overflow_sub-sign-2
+overflow_sub-sign-2 c = omega arith
+
+pub overflow_add-sign : goal.overflow_add-sign
+overflow_add-sign c = omega (arith, ap length c.rows-rows.ensures.value, c.requires.place)
+
+pub split_at-requires : goal.split_at-requires
+split_at-requires c = omega (arith, ap length c.rows-rows.ensures.value, c.requires.place)
+
+pub push_least_goal-requires-clause-leaf : goal.push_least_goal-requires-clause-leaf
+push_least_goal-requires-clause-leaf c = c.requires.leaf
+
+pub push_least_goal-requires-clause-width : goal.push_least_goal-requires-clause-width
+push_least_goal-requires-clause-width c = c.requires.width
