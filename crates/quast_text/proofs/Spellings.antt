@@ -2,6 +2,8 @@
 use Rattle.quast_text.proofs.Words.{◌≡◌, ◌∙◌, refl, ap, sym, append_assoc, codes, if◌then◌else◌, ℕ, ℤ, pos, negsuc, ◌≤ℤ◌, ◌<◌, unsigned_abs, Bool, true, false, arith, List, [], ◌∷◌, ◌++◌, flat_map, ints, append-nil, signed_decimal, pos_of_dvd_of_pos, OnOk, is_err, floor_div, gcd, same_number, Component, spell_fraction, spell_fractions, spell_components, spell_denominator, spell_term, spell_component, common-IsGcd}
 use Rattle.std.specs.Prelude.{Result, Ok, Err}
 use Rattle.text_printing.specs.Printing.{Begins}
+use Rattle.pip_model.specs.Tree.{Tree}
+use Rattle.pip_model.specs.TreeText.{spell_tree}
 
 pub fractions_flat : (d : ℤ) (cs : List ℤ) → flat_map (spell_term d) cs ≡ spell_fractions d cs
 fractions_flat d [] = refl
@@ -43,6 +45,16 @@ on_ok (Err e) P Q f h = h
 pub put_behind : {X E : Type 0} (r : Result X E) (old mid new first second : List ℕ) → mid ≡ old ++ first → OnOk r (new ≡ mid ++ second) → OnOk r (new ≡ old ++ (first ++ second))
 put_behind (Ok x) old mid new first second p h = h ∙ ap (λ t. t ++ second) p ∙ append_assoc old first second
 put_behind (Err e) old mid new first second p h = h
+
+pub then_behind : (old mid new first second : List ℕ) → mid ≡ old ++ first → new ≡ mid ++ second → new ≡ old ++ (first ++ second)
+then_behind old mid new first second p q = q ∙ ap (λ t. t ++ second) p ∙ append_assoc old first second
+
+-- the text of a choice
+pub choice_written : {X E : Type 0} (r : Result X E) (old m1 m2 m3 new head : List ℕ) (t a b : Tree) → head ++ spell_tree a ++ spell_tree b ++ codes ")\n" ≡ spell_tree t
+    → m1 ≡ old ++ head → m2 ≡ m1 ++ spell_tree a → m3 ≡ m2 ++ spell_tree b → OnOk r (new ≡ m3 ++ codes ")\n") → OnOk r (new ≡ old ++ spell_tree t)
+choice_written r old m1 m2 m3 new head t a b is p q s h =
+    let first = then_behind old m1 m2 head (spell_tree a) p q in
+    rw is at (put_behind r old m3 new _ _ (then_behind old m2 m3 (head ++ spell_tree a) (spell_tree b) first s) h)
 
 pub fraction_written : (old mid new : List ℕ) (c d g : ℤ) → g ≡ gcd c d → mid ≡ old ++ signed_decimal (floor_div c g) → new ≡ mid ++ spell_denominator d g → new ≡ old ++ spell_fraction c d
 fraction_written old mid new c d g is first second =
