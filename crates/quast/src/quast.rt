@@ -177,8 +177,13 @@ impl Quast {
     {
         match Quast::select(alloc, v, a, b) {
             Ok(tree) => Ok(tree),
-            Err((_, BuildRefusal::WantOfMemory)) => Err(WantOfMemory),
-            Err((_, BuildRefusal::Nesting)) => unreachable!(),
+            Err((parts, refusal)) => {
+                drop(parts);
+                match refusal {
+                    BuildRefusal::WantOfMemory => Err(WantOfMemory),
+                    BuildRefusal::Nesting => unreachable!(),
+                }
+            }
         }
     }
 
@@ -192,8 +197,13 @@ impl Quast {
     {
         match Quast::define(alloc, v, d, a) {
             Ok(tree) => Ok(tree),
-            Err((_, BuildRefusal::WantOfMemory)) => Err(WantOfMemory),
-            Err((_, BuildRefusal::Nesting)) => unreachable!(),
+            Err((parts, refusal)) => {
+                drop(parts);
+                match refusal {
+                    BuildRefusal::WantOfMemory => Err(WantOfMemory),
+                    BuildRefusal::Nesting => unreachable!(),
+                }
+            }
         }
     }
 
