@@ -48,13 +48,13 @@ pub(crate) fn close(
                 context,
                 quotients,
             } => {
-                take_rows(rows, due, pending);
                 path.back_to(context, quotients);
                 path.enter_opposite(&condition)?;
                 pending.push(Frame::FirstMade {
                     condition,
                     first: tree,
                 });
+                take_rows(rows, due, pending);
                 return Ok(Next::Node);
             }
             Frame::FirstMade { condition, first } => {

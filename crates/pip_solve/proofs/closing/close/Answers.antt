@@ -1,4 +1,4 @@
-use Rattle.pip_solve.proofs.Words.{rules, arith, ap, ◌∙◌, ◌≡◌, ◌+◌, ◌-◌, ◌∷◌, common_steps, to_z-of_z, NewParm, Waiting}
+use Rattle.pip_solve.proofs.Words.{rules, arith, ap, ◌≡◌, ◌+◌, ◌-◌, ◌∷◌, common_steps, to_z-of_z, NewParm, Waiting}
 use Rattle.pip_solve.specs.declared.pending.Frame.TheVariants as frame
 use Rattle.pip_solve.proofs.Popping.{popped, selected, defined, second_enters, second_room, second_next, second_same}
 use Rattle.pip_solve.proofs.closing.close.Goals as goal
@@ -10,8 +10,7 @@ returns-in-SecondDue-clause-gives c =
     let h = popped c.args.tree c.args.path.now c.args.pending.now c.loop-frame.tree c.loop-frame.path c.loop-frame.pending c.pop.new.self due c.loop-frame.invariant e in
     let entered = c.in_ok-enter_opposite-in-SecondDue.ensures in
     let deep : c.loop-frame.path.depth - 1 + 1 ≡ c.loop-frame.path.depth = omega (arith, h.closing.depth) in
-    let pushed = c.push.ensures ∙ ap (λ (p : Waiting). record p { frames = frame.FirstMade c.in-SecondDue.condition c.loop-frame.tree ∷ p.frames }) c.take_rows.ensures.kept in
-    rw c.take_rows.ensures.rows (second_same c.args.tree c.args.path.now c.args.pending.now c.loop-frame.tree c.loop-frame.path c.pop.new.self (c.loop-frame.path.depth - 1) c.in-SecondDue.condition c.in-SecondDue.due c.in-SecondDue.context c.in-SecondDue.quotients h c.back_to.new.self c.enter_opposite.new.self c.push.new.self deep c.back_to.ensures entered pushed)
+    rw (c.take_rows.ensures.rows, c.take_rows.ensures.kept) (second_same c.args.tree c.args.path.now c.args.pending.now c.loop-frame.tree c.loop-frame.path c.pop.new.self (c.loop-frame.path.depth - 1) c.in-SecondDue.condition c.in-SecondDue.due c.in-SecondDue.context c.in-SecondDue.quotients h c.back_to.new.self c.enter_opposite.new.self c.push.new.self deep c.back_to.ensures entered c.push.ensures)
 
 pub enter_opposite-requires-clause-room : goal.enter_opposite-requires-clause-room
 enter_opposite-requires-clause-room c =
@@ -40,8 +39,7 @@ returns-in-SecondDue-clause-next c =
     let h = popped c.args.tree c.args.path.now c.args.pending.now c.loop-frame.tree c.loop-frame.path c.loop-frame.pending c.pop.new.self due c.loop-frame.invariant e in
     let entered = c.in_ok-enter_opposite-in-SecondDue.ensures in
     let deep : c.loop-frame.path.depth - 1 + 1 ≡ c.loop-frame.path.depth = omega (arith, h.closing.depth) in
-    let pushed = c.push.ensures ∙ ap (λ (p : Waiting). record p { frames = frame.FirstMade c.in-SecondDue.condition c.loop-frame.tree ∷ p.frames }) c.take_rows.ensures.kept in
-    rw c.take_rows.ensures.rows (second_next c.args.tree c.args.path.now c.args.pending.now c.loop-frame.tree c.loop-frame.path c.pop.new.self (c.loop-frame.path.depth - 1) c.in-SecondDue.condition c.in-SecondDue.due c.in-SecondDue.context c.in-SecondDue.quotients h c.back_to.new.self c.enter_opposite.new.self c.push.new.self deep c.back_to.ensures entered pushed)
+    rw (c.take_rows.ensures.rows, c.take_rows.ensures.kept) (second_next c.args.tree c.args.path.now c.args.pending.now c.loop-frame.tree c.loop-frame.path c.pop.new.self (c.loop-frame.path.depth - 1) c.in-SecondDue.condition c.in-SecondDue.due c.in-SecondDue.context c.in-SecondDue.quotients h c.back_to.new.self c.enter_opposite.new.self c.push.new.self deep c.back_to.ensures entered c.push.ensures)
 
 pub loop-frame-preserved-in-FirstMade : goal.loop-frame-preserved-in-FirstMade
 loop-frame-preserved-in-FirstMade c =
