@@ -1,5 +1,6 @@
 -- A pivot of flat rows in place.
 use Rattle.tableau.proofs.Words.{◌≡◌, refl, ap, sym, ◌∙◌, subst, ℕ, zero, suc, ◌+◌, ◌-◌, ◌<◌, ◌≤◌, ℤ, pos, ◌≤ℤ◌, Bool, true, false, List, [], ◌∷◌, ◌++◌, length, map, take, drop, get_or, arith, append-nil, append_assoc, IsTrue, slice_set, ◌==◌, if◌then◌else◌, take-append-drop, take_all, drop_all, entry, all_fit, gcd_of, Row, row_at, form_row, divided, unit_row, eliminated, pivot, pivot_listed, divided_one, row_of_numbers, IsRow, IsReduced, IsShortRow, KeptRows, IsFlat, IsPivot, IsSolvable, kept_short, row_kept, row_length, rows_kept, with_more, with_rows, rows_along, IsMadeRow, AreAlong, AreMade, ArePair, IsSolvedPair, IsHere, flat_rows, is_ready, is_ready_middle, is_ready_front, pivoted, Kept, RowPlace}
+use Rattle.tableau.specs.KeptRows.{HasRoom}
 use Rattle.std.specs.List.{list_all}
 use Rattle.std.proofs.lemmas.List.Elements.{All-map}
 use Rattle.std.proofs.lemmas.List.Sums.{AllPass-from_list_all}
@@ -41,6 +42,10 @@ front_flags c (suc k) (kept.Unit j ∷ ks) e = either_flags (j == c) c k ks e (f
 front_flags c (suc k) (kept.At p ∷ ks) e =
     let parts = both p.short (is_ready_front c k ks) e in
     both_true p.short (list_all kept_short ks) parts.0 (front_flags c k ks parts.1)
+
+-- room for fewer rows
+pub room_kept : (n w most count kc nc fewer kc' nc' : ℕ) → HasRoom n w most count kc nc → fewer ≤ count → kc' ≡ kc → nc' ≡ nc → HasRoom n w most fewer kc' nc'
+room_kept n w most count kc nc fewer kc' nc' h e f g = rw (f, g) (record { few = omega (arith, h.few, e); kept = h.kept; numbers = h.numbers })
 
 -- ---- rows that are laid anew
 
