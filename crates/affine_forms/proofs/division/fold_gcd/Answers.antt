@@ -3,6 +3,9 @@ use Rattle.affine_forms.proofs.Bits.{held, held_fits}
 use Rattle.affine_forms.proofs.Divisors.{gcd_one, gcd_through, gcd_narrower}
 use Rattle.affine_forms.proofs.division.fold_gcd.Goals as goal
 
+pub gcd-found-requires-clause-a_fits : goal.gcd-found-requires-clause-a_fits
+gcd-found-requires-clause-a_fits c = c.loop-entry.invariant.2
+
 pub gcd-found-requires-clause-b_fits : goal.gcd-found-requires-clause-b_fits
 gcd-found-requires-clause-b_fits c = held_fits (get_or c.args.entries.now c.loop-entry.entry-index (pos 0)) (c.requires.fits c.loop-entry.entry-index (pos 0) (omega arith))
 

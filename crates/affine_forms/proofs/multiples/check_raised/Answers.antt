@@ -1,6 +1,11 @@
-use Rattle.affine_forms.proofs.Words.{arith, rules, sym, ◌∙◌}
+use Rattle.affine_forms.proofs.Words.{arith, rules, sym, ◌∙◌, get_or, pos}
+use Rattle.affine_forms.proofs.Bits.{held_fits}
 use Rattle.affine_forms.proofs.Raising.{raised_step, raised_more, raised_end}
 use Rattle.affine_forms.proofs.multiples.check_raised.Goals as goal
+
+pub raise_to_multiple-requires-clause-fits : goal.raise_to_multiple-requires-clause-fits
+raise_to_multiple-requires-clause-fits c =
+    held_fits (get_or c.args.entries.now c.loop-entry.entry-index (pos 0)) (c.requires.fits c.loop-entry.entry-index (pos 0) (omega arith))
 
 pub loop-entry-preserved : goal.loop-entry-preserved
 loop-entry-preserved c = (
