@@ -1,8 +1,9 @@
 //! Certificates that are made, checked, and written with the steps that their refutations share. The texts of those that
 //! are made come from an independent program.
-use crate::row::{are_answered, are_refused, ends_over, run};
-use std::alloc::Global;
-use std::process::Abort;
+use crate::row::{
+    Ends, Wanted, are_answered, are_refused, ends_over, line_ends_so, run_words, words_of,
+};
+use std::alloc::{AllocError, Global};
 use std::test::Fail;
 
 const CHECKED: &[&str] = &[
@@ -105,12 +106,28 @@ fn made(rt: HostRuntime) -> Result<(), Fail> {
     are_refused(&rt, rt.alloc(), REFUSED_MADE)
 }
 
-// What the program writes of an input, which it takes whole.
-fn written(rt: &impl Abort, alloc: Global, line: &str, input: Vec<u8>) -> Result<Vec<u8>, Fail> {
+// What the sink has where the status is 0, else nothing.
+fn output_of(alloc: Global, ends: &Ends, status: u8) -> Result<Vec<u8>, AllocError> {
+    match status {
+        0 => ends.sink.written().to_vec(alloc),
+        _ => Ok(Vec::new(alloc)),
+    }
+}
+
+// What these words write of an input, which they take whole.
+fn written(alloc: Global, words: &Vec<String>, input: Vec<u8>) -> Result<Vec<u8>, AllocError> {
     let mut ends = ends_over(alloc, input, 7);
-    let status = run(alloc, line, &mut ends)?;
-    assert!(rt; status == 0, "{line}");
-    Ok(ends.sink.written().to_vec(alloc)?)
+    let status = run_words(alloc, words, &mut ends);
+    output_of(alloc, &ends, status)
+}
+
+// A problem with the answer and the certificate that the program makes of it.
+fn triple(alloc: Global, problem: &str) -> Result<Vec<u8>, AllocError> {
+    let words = words_of(alloc, "pip solve --certificate")?;
+    let mut triple = problem.as_bytes().to_vec(alloc)?;
+    let made = written(alloc, &words, problem.as_bytes().to_vec(alloc)?)?;
+    triple.extend_from_slice(&made)?;
+    Ok(triple)
 }
 
 const PROBLEMS: &[&str] = &[
@@ -124,19 +141,20 @@ const PROBLEMS: &[&str] = &[
     "((t) 2 1 2 0 -1 1 (#[3 0 0 -1] #[0 3 0 -1]) ())",
 ];
 
-// The verdict of the certificate that the program makes of a problem.
-fn verdict(rt: &impl Abort, alloc: Global, problem: &str) -> Result<Vec<u8>, Fail> {
-    let mut triple = problem.as_bytes().to_vec(alloc)?;
-    let made = written(rt, alloc, "pip solve --certificate", triple.clone()?)?;
-    triple.extend_from_slice(&made)?;
-    written(rt, alloc, "pip check", triple)
+// Whether the certificate that the program makes of a problem is accepted.
+fn is_accepted(alloc: Global, problem: &str) -> Result<bool, AllocError> {
+    let wanted = Wanted {
+        output: b"accepted\n",
+        notes: "",
+        status: 0,
+    };
+    line_ends_so(alloc, "pip check", triple(alloc, problem)?, 7, &wanted)
 }
 
 #[test]
 fn what_is_made_is_accepted(rt: HostRuntime) -> Result<(), Fail> {
     for problem in PROBLEMS {
-        let verdict = verdict(&rt, rt.alloc(), problem)?;
-        assert!(rt; verdict.as_slice() == b"accepted\n".as_slice(), "{problem}");
+        assert!(rt; is_accepted(rt.alloc(), problem)?, "{problem}");
     }
     Ok(())
 }

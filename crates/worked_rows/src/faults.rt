@@ -9,40 +9,40 @@ const TWICE: &str = "((a) 1 0 1 0 -1 1 (#[1 -3]) ())((a) 1 0 1 0 -1 1 (#[1 -3]) 
 
 const TEXTS: &str = "((a)\n(list\n#[ 3]\n)\n)\n((a)\n(list\n#[ 3]\n)\n)\n";
 
-// The call that fails: of the source, the sink or the notes.
+// What fails: the source, the sink or the notes.
 #[derive(Drop)]
 enum Fault {
-    Read(u64),
-    Write(u64),
-    Note(u64),
+    Read,
+    Write,
+    Note,
 }
 
-// Ends over an input that move a byte a call, one of which fails.
-fn failing(alloc: Global, input: &str, fault: &Fault) -> Result<Ends, AllocError> {
-    let bytes = input.as_bytes().to_vec(alloc)?;
-    let mut reads = Vec::new(alloc);
-    let mut writes = Vec::new(alloc);
-    let mut lines = Vec::new(alloc);
-    match fault {
-        Fault::Read(call) => reads.push(*call)?,
-        Fault::Write(call) => writes.push(*call)?,
-        Fault::Note(call) => lines.push(*call)?,
-    }
-    Ok(Ends {
+// Ends over these bytes that move a byte a call. Of what fails, these calls do.
+fn failing(alloc: Global, bytes: Vec<u8>, fault: &Fault, calls: Vec<u64>) -> Ends {
+    let (reads, writes, lines) = match fault {
+        Fault::Read => (calls, Vec::new(alloc), Vec::new(alloc)),
+        Fault::Write => (Vec::new(alloc), calls, Vec::new(alloc)),
+        Fault::Note => (Vec::new(alloc), Vec::new(alloc), calls),
+    };
+    Ends {
         source: MemorySource::new(bytes, 1, reads),
         sink: MemorySink::new(Vec::new(alloc), 1, writes),
         notes: MemorySink::new(Vec::new(alloc), 1, lines),
-    })
+    }
 }
 
+// Whether a run over an input ends as wanted where this call of what fails does.
 fn fails_so(
     alloc: Global,
     input: &str,
     fault: &Fault,
+    call: u64,
     wanted: &Wanted<'_>,
 ) -> Result<bool, AllocError> {
-    let mut ends = failing(alloc, input, fault)?;
-    ends_so(alloc, "pip solve", &mut ends, wanted)
+    let bytes = input.as_bytes().to_vec(alloc)?;
+    let calls = [call].to_vec(alloc)?;
+    let words = words_of(alloc, "pip solve")?;
+    Ok(ends_so(alloc, &words, failing(alloc, bytes, fault, calls), wanted))
 }
 
 // The first and the last of the reads that fail, and what comes where one of them does.
@@ -91,7 +91,7 @@ fn is_read(alloc: Global, call: u64, reads: &Reads) -> Result<bool, AllocError> 
         notes: reads.notes,
         status: reads.status,
     };
-    fails_so(alloc, TWICE, &Fault::Read(call), &wanted)
+    fails_so(alloc, TWICE, &Fault::Read, call, &wanted)
 }
 
 #[test]
@@ -110,7 +110,7 @@ fn is_written(alloc: Global, call: usize, output: &[u8]) -> Result<bool, AllocEr
         notes: "pip: write fault\n",
         status: 7,
     };
-    fails_so(alloc, TWICE, &Fault::Write(call as u64), &wanted)
+    fails_so(alloc, TWICE, &Fault::Write, call as u64, &wanted)
 }
 
 #[test]
@@ -129,7 +129,7 @@ fn a_write_that_is_not_made_does_not_fail(rt: HostRuntime) -> Result<(), Fail> {
         notes: "",
         status: 0,
     };
-    assert!(rt; fails_so(rt.alloc(), TWICE, &Fault::Write(42), &wanted)?);
+    assert!(rt; fails_so(rt.alloc(), TWICE, &Fault::Write, 42, &wanted)?);
     Ok(())
 }
 
@@ -141,17 +141,25 @@ fn a_note_that_fails_changes_nothing_else(rt: HostRuntime) -> Result<(), Fail> {
         status: 2,
     };
     let input = "((s) 1 1 1 0 -1 1 (#[2 0]) ())";
-    assert!(rt; fails_so(rt.alloc(), input, &Fault::Note(0), &wanted)?);
+    assert!(rt; fails_so(rt.alloc(), input, &Fault::Note, 0, &wanted)?);
     Ok(())
+}
+
+// The status of a run of these words over an input, with ends that never fail.
+fn steady(alloc: Global, words: &Vec<String>, input: Vec<u8>) -> u8 {
+    let mut source = SteadySource::new(input);
+    let mut sink = SteadySink::new();
+    let mut notes = SteadySink::new();
+    pip_main(alloc, words, &mut source, &mut sink, &mut notes)
+}
+
+fn is_steady(alloc: Global) -> Result<bool, AllocError> {
+    let words = words_of(alloc, "pip solve")?;
+    Ok(steady(alloc, &words, TWICE.as_bytes().to_vec(alloc)?) == 0)
 }
 
 #[test]
 fn steady_ends_do_not_fail(rt: HostRuntime) -> Result<(), Fail> {
-    let alloc = rt.alloc();
-    let words = words_of(alloc, "pip solve")?;
-    let mut source = SteadySource::new(TWICE.as_bytes().to_vec(alloc)?);
-    let mut sink = SteadySink::new();
-    let mut notes = SteadySink::new();
-    assert!(rt; pip_main(alloc, &words, &mut source, &mut sink, &mut notes) == 0);
+    assert!(rt; is_steady(rt.alloc())?);
     Ok(())
 }

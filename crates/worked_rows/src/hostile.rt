@@ -1,5 +1,5 @@
 //! Texts that are made to overrun a reader: deep comments and wide numbers.
-use crate::row::{Wanted, are_answered, are_refused, ends_over, ends_so};
+use crate::row::{Wanted, are_answered, are_refused, line_ends_so};
 use crate::texts::{between, repeat};
 use std::alloc::{AllocError, Global};
 use std::test::Fail;
@@ -27,13 +27,12 @@ fn is_echoed(
 ) -> Result<bool, AllocError> {
     let input = bracketed(alloc, b"(", count, item)?;
     let output = bracketed(alloc, b"(", count, made)?;
-    let mut ends = ends_over(alloc, input, 4096);
     let wanted = Wanted {
         output: output.as_slice(),
         notes: "",
         status: 0,
     };
-    ends_so(alloc, words, &mut ends, &wanted)
+    line_ends_so(alloc, words, input, 4096, &wanted)
 }
 
 // Items of 5 MB.

@@ -1,5 +1,5 @@
 //! Texts that tests make: at a limit, or cut off at each of their bytes.
-use crate::row::{Wanted, ends_over, ends_so};
+use crate::row::{Wanted, line_ends_so};
 use crate::texts::{between, repeat};
 use std::alloc::{AllocError, Global};
 use std::process::Abort;
@@ -192,11 +192,16 @@ fn nested(alloc: Global, count: usize) -> Result<Vec<u8>, AllocError> {
     Ok(text)
 }
 
+// Appends an if node whose form is 1 and this number below 0.
+fn push_node(alloc: Global, text: &mut Vec<u8>, number: usize) -> Result<(), AllocError> {
+    let node = format!(in alloc; "(if #[ 1 -{number}]\n")?;
+    text.extend_from_slice(node.as_bytes())
+}
+
 // Appends so many if nodes on one path, each with a bottom beside it, and the end of their answer.
 fn chain(alloc: Global, text: &mut Vec<u8>, count: usize) -> Result<(), AllocError> {
     for i in 0..count {
-        let node = format!(in alloc; "(if #[ 1 -{}]\n", i.saturating_add(1))?;
-        text.extend_from_slice(node.as_bytes())?;
+        push_node(alloc, text, i.saturating_add(1))?;
     }
     text.extend_from_slice(b"()\n")?;
     repeat(text, b"()\n)\n", count)?;
@@ -220,55 +225,72 @@ fn write_over(text: &mut Vec<u8>, piece: &[u8]) {
     }
 }
 
+fn chained(alloc: Global, count: usize) -> Result<Vec<u8>, AllocError> {
+    let mut text = b"()((n)\n".to_vec(alloc)?;
+    chain(alloc, &mut text, count)?;
+    Ok(text)
+}
+
+fn unknowns(alloc: Global, count: usize) -> Result<Vec<u8>, AllocError> {
+    let text = format!(in alloc; "((u) {count} 0 0 0 -1 1 () ())")?;
+    text.as_bytes().to_vec(alloc)
+}
+
+fn rows(alloc: Global, count: usize) -> Result<Vec<u8>, AllocError> {
+    let front = format!(in alloc; "((r) 1 0 {count} 0 -1 1 (")?;
+    between(alloc, front.as_bytes(), b"#[1 -3]", count, b") ())")
+}
+
+fn parameters(alloc: Global, count: usize) -> Result<Vec<u8>, AllocError> {
+    let text = format!(in alloc; "((p) 1 {count} 0 0 -1 1 () ())")?;
+    text.as_bytes().to_vec(alloc)
+}
+
+fn context_rows(alloc: Global, count: usize) -> Result<Vec<u8>, AllocError> {
+    let front = format!(in alloc; "((c) 1 1 0 {count} -1 1 () (")?;
+    between(alloc, front.as_bytes(), b"#[1 -2]", count, b"))")
+}
+
+fn blanks(alloc: Global, count: usize) -> Result<Vec<u8>, AllocError> {
+    Ok(vec![in alloc; b' '; count]?)
+}
+
+fn behind(alloc: Global, count: usize) -> Result<Vec<u8>, AllocError> {
+    let mut text = blanks(alloc, count)?;
+    text.extend_from_slice(b"((e) (list #[7]))")?;
+    Ok(text)
+}
+
+fn padded(alloc: Global, length: usize) -> Result<Vec<u8>, AllocError> {
+    let mut text = blanks(alloc, length)?;
+    write_over(&mut text, PROBLEM.as_bytes());
+    Ok(text)
+}
+
 fn made(alloc: Global, text: &Text) -> Result<Vec<u8>, AllocError> {
     match text {
         Text::Nested(count) => nested(alloc, *count),
         Text::Listed(count) => between(alloc, b"((e)(list", b"#[0]", *count, b"))"),
         Text::Lists(count) => lists(alloc, *count),
         Text::Context(count) => between(alloc, b"(", b"#[0 0]", *count, b")"),
-        Text::Chained(count) => {
-            let mut text = b"()((n)\n".to_vec(alloc)?;
-            chain(alloc, &mut text, *count)?;
-            Ok(text)
-        }
-        Text::Unknowns(count) => {
-            let number = format!(in alloc; "((u) {} 0 0 0 -1 1 () ())", *count)?;
-            number.as_bytes().to_vec(alloc)
-        }
-        Text::Rows(count) => {
-            let front = format!(in alloc; "((r) 1 0 {} 0 -1 1 (", *count)?;
-            between(alloc, front.as_bytes(), b"#[1 -3]", *count, b") ())")
-        }
-        Text::Parameters(count) => {
-            let text = format!(in alloc; "((p) 1 {} 0 0 -1 1 () ())", *count)?;
-            text.as_bytes().to_vec(alloc)
-        }
-        Text::ContextRows(count) => {
-            let front = format!(in alloc; "((c) 1 1 0 {} -1 1 () (", *count)?;
-            between(alloc, front.as_bytes(), b"#[1 -2]", *count, b"))")
-        }
-        Text::Behind(count) => {
-            let mut text = vec![in alloc; b' '; *count]?;
-            text.extend_from_slice(b"((e) (list #[7]))")?;
-            Ok(text)
-        }
-        Text::Blanks(count) => Ok(vec![in alloc; b' '; *count]?),
-        Text::Padded(length) => {
-            let mut text = vec![in alloc; b' '; *length]?;
-            write_over(&mut text, PROBLEM.as_bytes());
-            Ok(text)
-        }
+        Text::Chained(count) => chained(alloc, *count),
+        Text::Unknowns(count) => unknowns(alloc, *count),
+        Text::Rows(count) => rows(alloc, *count),
+        Text::Parameters(count) => parameters(alloc, *count),
+        Text::ContextRows(count) => context_rows(alloc, *count),
+        Text::Behind(count) => behind(alloc, *count),
+        Text::Blanks(count) => blanks(alloc, *count),
+        Text::Padded(length) => padded(alloc, *length),
     }
 }
 
 fn is_kept(alloc: Global, limit: &Limit) -> Result<bool, AllocError> {
-    let mut ends = ends_over(alloc, made(alloc, &limit.text)?, 4096);
     let wanted = Wanted {
         output: limit.output.as_bytes(),
         notes: limit.notes,
         status: limit.status,
     };
-    ends_so(alloc, limit.words, &mut ends, &wanted)
+    line_ends_so(alloc, limit.words, made(alloc, &limit.text)?, 4096, &wanted)
 }
 
 // Asserts that each limit is kept.
@@ -298,8 +320,8 @@ fn is_walked(alloc: Global) -> Result<bool, AllocError> {
         notes: "",
         status: 0,
     };
-    let mut ends = ends_over(alloc, made(alloc, &Text::Chained(200))?, 4096);
-    ends_so(alloc, "pip restrict 1", &mut ends, &wanted)
+    let input = made(alloc, &Text::Chained(200))?;
+    line_ends_so(alloc, "pip restrict 1", input, 4096, &wanted)
 }
 
 #[test]
@@ -323,33 +345,24 @@ fn bytes_of_groups_are_limited(rt: HostRuntime) -> Result<(), Fail> {
     are_kept(&rt, rt.alloc(), LONGEST_GROUPS)
 }
 
-// Whether a text gives an answer with this front and a list of so many zeros.
-fn gives_zeros(
-    alloc: Global,
-    line: &str,
-    input: Vec<u8>,
-    front: &[u8],
-    count: usize,
-) -> Result<bool, AllocError> {
-    let output = between(alloc, front, b"#[ 0]\n", count, b")\n)\n")?;
-    let mut ends = ends_over(alloc, input, 7);
+// Whether a text gives an answer with this front and a list of 128 zeros.
+fn gives_zeros(alloc: Global, line: &str, text: &Text, front: &[u8]) -> Result<bool, AllocError> {
+    let input = made(alloc, text)?;
+    let output = between(alloc, front, b"#[ 0]\n", 128, b")\n)\n")?;
     let wanted = Wanted {
         output: output.as_slice(),
         notes: "",
         status: 0,
     };
-    ends_so(alloc, line, &mut ends, &wanted)
+    line_ends_so(alloc, line, input, 7, &wanted)
 }
 
 #[test]
 fn long_lists_are_answered(rt: HostRuntime) -> Result<(), Fail> {
     let alloc = rt.alloc();
-    let problem = made(alloc, &Text::Unknowns(128))?;
-    assert!(rt; gives_zeros(alloc, "pip solve", problem, b"((u)\n(list\n", 128)?);
-    let answer = made(alloc, &Text::Listed(128))?;
-    assert!(rt; gives_zeros(alloc, "pip eval", answer, b"((e)\n(list\n", 128)?);
-    let answers = made(alloc, &Text::Lists(128))?;
-    assert!(rt; gives_zeros(alloc, "pip least 0", answers, b"((e)\n(list\n", 128)?);
+    assert!(rt; gives_zeros(alloc, "pip solve", &Text::Unknowns(128), b"((u)\n(list\n")?);
+    assert!(rt; gives_zeros(alloc, "pip eval", &Text::Listed(128), b"((e)\n(list\n")?);
+    assert!(rt; gives_zeros(alloc, "pip least 0", &Text::Lists(128), b"((e)\n(list\n")?);
     Ok(())
 }
 
@@ -365,14 +378,14 @@ fn fault_at(length: usize) -> usize {
 
 // Whether a text that is cut to so many bytes is refused where it ends.
 fn is_cut_off(alloc: Global, text: &[u8], length: usize) -> Result<bool, AllocError> {
+    let input = text.to_vec(alloc)?;
     let notes = format!(in alloc; "pip: syntax at byte {}\n", fault_at(length))?;
-    let mut ends = ends_over(alloc, text.to_vec(alloc)?, 7);
     let wanted = Wanted {
         output: b"",
         notes: notes.as_str(),
         status: 2,
     };
-    ends_so(alloc, "pip solve", &mut ends, &wanted)
+    line_ends_so(alloc, "pip solve", input, 7, &wanted)
 }
 
 #[test]

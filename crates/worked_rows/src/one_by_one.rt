@@ -1,4 +1,6 @@
 //! Native problems that are answered one by one, by the call of the library.
+ghost use Rattle.std.specs.Prelude.{◌≡◌, []};
+
 use crate::row::{Ends, ends_over};
 use pip_cli::answer_next;
 use pip_outside::Window;
@@ -10,28 +12,34 @@ use std::test::Fail;
 const PROBLEM: &[u8] = b"((a) 1 0 1 0 -1 1 (#[1 -3]) ()) ";
 
 // Whether a problem is answered, and then none is left.
-fn is_answered(alloc: Global) -> Result<bool, Fail> {
+fn are_answered(alloc: Global, window: &mut Window, ends: &mut Ends) -> bool
+    requires { window.old ≡ record { held = []; base = 0; peak = 0 } }
+{
     let options = SolveOptions {
         polylib: false,
         simplify: false,
         certificate: false,
         limits: Limits::standard(),
     };
-    let mut window = Window::try_new(alloc)?;
-    let Ends {
-        mut source,
-        mut sink,
-        notes: _,
-    } = ends_over(alloc, PROBLEM.to_vec(alloc)?, 7);
-    match answer_next(alloc, &options, &mut window, &mut source, &mut sink) {
+    match answer_next(alloc, &options, window, &mut ends.source, &mut ends.sink) {
         Ok(true) => {}
-        _ => return Ok(false),
+        _ => return false,
     }
-    let written = sink.written() == b"((a)\n(list\n#[ 3]\n)\n)\n".as_slice();
-    match answer_next(alloc, &options, &mut window, &mut source, &mut sink) {
-        Ok(false) => Ok(written),
-        _ => Ok(false),
+    let written = ends.sink.written() == b"((a)\n(list\n#[ 3]\n)\n)\n".as_slice();
+    match answer_next(alloc, &options, window, &mut ends.source, &mut ends.sink) {
+        Ok(false) => written,
+        _ => false,
     }
+}
+
+fn is_answered(alloc: Global) -> Result<bool, Fail> {
+    let input = PROBLEM.to_vec(alloc)?;
+    let mut window = Window::try_new(alloc)?;
+    let mut ends = ends_over(alloc, input, 7);
+    let are_so = are_answered(alloc, &mut window, &mut ends);
+    drop(ends);
+    drop(window);
+    Ok(are_so)
 }
 
 #[test]

@@ -1,5 +1,5 @@
 //! Native problems are answered one by one, for every size of the pieces that the source gives.
-use crate::row::{Ends, Wanted, ends_so};
+use crate::row::{Ends, Wanted, ends_so, words_of};
 use pip_outside::{MemorySink, MemorySource};
 use std::alloc::{AllocError, Global};
 use std::test::Fail;
@@ -109,25 +109,25 @@ const READS: &[Read] = &[
     },
 ];
 
-// Ends over an input that is read in pieces of one size, some of whose reads fail.
-fn ends_of(alloc: Global, read: &Read, piece: usize) -> Result<Ends, AllocError> {
-    let bytes = read.input.as_bytes().to_vec(alloc)?;
-    let fails = read.fails.to_vec(alloc)?;
-    Ok(Ends {
+// Ends over these bytes, which are read in pieces of one size; these reads of them fail.
+fn ends_of(alloc: Global, bytes: Vec<u8>, piece: usize, fails: Vec<u64>) -> Ends {
+    Ends {
         source: MemorySource::new(bytes, piece.max(1), fails),
         sink: MemorySink::new(Vec::new(alloc), 7, Vec::new(alloc)),
         notes: MemorySink::new(Vec::new(alloc), 7, Vec::new(alloc)),
-    })
+    }
 }
 
 fn is_read(alloc: Global, read: &Read, piece: usize) -> Result<bool, AllocError> {
-    let mut ends = ends_of(alloc, read, piece)?;
     let wanted = Wanted {
         output: read.output.as_bytes(),
         notes: read.notes,
         status: read.status,
     };
-    ends_so(alloc, "pip solve", &mut ends, &wanted)
+    let bytes = read.input.as_bytes().to_vec(alloc)?;
+    let fails = read.fails.to_vec(alloc)?;
+    let words = words_of(alloc, "pip solve")?;
+    Ok(ends_so(alloc, &words, ends_of(alloc, bytes, piece, fails), &wanted))
 }
 
 #[test]

@@ -53,39 +53,45 @@ pub(crate) fn run_words(alloc: Global, words: &Vec<String>, ends: &mut Ends) -> 
     )
 }
 
-// Runs the words of a line, and gives the status.
-pub(crate) fn run(alloc: Global, line: &str, ends: &mut Ends) -> Result<u8, AllocError> {
-    let words = words_of(alloc, line)?;
-    Ok(run_words(alloc, &words, ends))
-}
-
 // Whether a run that is over ended as wanted.
-pub(crate) fn is_ended(ends: &Ends, status: u8, wanted: &Wanted<'_>) -> bool {
+fn is_ended(ends: &Ends, status: u8, wanted: &Wanted<'_>) -> bool {
     ends.sink.written() == wanted.output
         && ends.notes.written() == wanted.notes.as_bytes()
         && status == wanted.status
 }
 
-// Whether the words of a line end as wanted over these ends.
-pub(crate) fn ends_so(
-    alloc: Global,
-    line: &str,
-    ends: &mut Ends,
-    wanted: &Wanted<'_>,
-) -> Result<bool, AllocError> {
-    let status = run(alloc, line, ends)?;
-    Ok(is_ended(ends, status, wanted))
+// Whether these words end as wanted over these ends, which are owned here, where nothing is refused: a drop of them is
+// proved at each exit.
+pub(crate) fn ends_so(alloc: Global, words: &Vec<String>, ends: Ends, wanted: &Wanted<'_>) -> bool {
+    let mut ends = ends;
+    let status = run_words(alloc, words, &mut ends);
+    let is_so = is_ended(&ends, status, wanted);
+    drop(ends);
+    is_so
 }
 
-// Whether the words of a line end as wanted over this input, in pieces of seven bytes.
-fn ends_over_input(
+// Whether the words of a line end as wanted over this input, in pieces of so many bytes.
+pub(crate) fn line_ends_so(
+    alloc: Global,
+    line: &str,
+    input: Vec<u8>,
+    piece: usize,
+    wanted: &Wanted<'_>,
+) -> Result<bool, AllocError>
+    requires { 0 < piece }
+{
+    let words = words_of(alloc, line)?;
+    Ok(ends_so(alloc, &words, ends_over(alloc, input, piece), wanted))
+}
+
+// The same of an input in pieces of seven bytes.
+fn text_ends_so(
     alloc: Global,
     line: &str,
     input: &str,
     wanted: &Wanted<'_>,
 ) -> Result<bool, AllocError> {
-    let mut ends = ends_over(alloc, input.as_bytes().to_vec(alloc)?, 7);
-    ends_so(alloc, line, &mut ends, wanted)
+    line_ends_so(alloc, line, input.as_bytes().to_vec(alloc)?, 7, wanted)
 }
 
 // The text before the next double bar, with what stands behind that; all of it where there is none.
@@ -107,7 +113,7 @@ fn is_answered(alloc: Global, row: &str) -> Result<bool, AllocError> {
         notes: "",
         status: 0,
     };
-    ends_over_input(alloc, words, input, &wanted)
+    text_ends_so(alloc, words, input, &wanted)
 }
 
 // Whether a row is refused as it says: its name, the words, the input, the status, what the notes gain, and what the sink
@@ -123,7 +129,7 @@ fn is_refused(alloc: Global, row: &str) -> Result<bool, AllocError> {
         notes,
         status: status.parse().unwrap_or(0),
     };
-    ends_over_input(alloc, words, input, &wanted)
+    text_ends_so(alloc, words, input, &wanted)
 }
 
 // Asserts that each row is answered as it says.

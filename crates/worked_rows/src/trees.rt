@@ -44,14 +44,7 @@ fn deepest(alloc: Global) -> Result<Quast, Fail>
 
 type Made = Result<Quast, (Parts, BuildRefusal)>;
 
-// A choice between bottom and the deepest tree.
-fn selected(alloc: Global) -> Result<Made, Fail> {
-    let deepest = deepest(alloc)?;
-    let condition = condition(alloc)?;
-    Ok(Quast::select(alloc, condition, Quast::bottom(1), deepest))
-}
-
-// Whether that is refused, and its parts are handed back.
+// Whether a choice is refused, and its parts are handed back.
 fn is_select_refused(made: &Made) -> bool {
     match made {
         Err((Parts::Select(form, above, below), BuildRefusal::Nesting)) => {
@@ -63,21 +56,23 @@ fn is_select_refused(made: &Made) -> bool {
     }
 }
 
+// A choice between bottom and the deepest tree.
+fn is_choice_handed_back(alloc: Global) -> Result<bool, Fail> {
+    let condition = condition(alloc)?;
+    let deepest = deepest(alloc)?;
+    let made = Quast::select(alloc, condition, Quast::bottom(1), deepest);
+    let is_so = is_select_refused(&made);
+    drop(made);
+    Ok(is_so)
+}
+
 #[test]
 fn a_choice_too_deep_is_handed_back(rt: HostRuntime) -> Result<(), Fail> {
-    let made = selected(rt.alloc())?;
-    assert!(rt; is_select_refused(&made));
+    assert!(rt; is_choice_handed_back(rt.alloc())?);
     Ok(())
 }
 
-// A new parameter above the deepest tree.
-fn defined(alloc: Global) -> Result<Made, Fail> {
-    let deepest = deepest(alloc)?;
-    let dividend = three(alloc)?;
-    Ok(Quast::define(alloc, dividend, 2, deepest))
-}
-
-// Whether that is refused, and its parts are handed back.
+// Whether a definition is refused, and its parts are handed back.
 fn is_define_refused(made: &Made) -> bool {
     match made {
         Err((Parts::Define(form, divisor, below), BuildRefusal::Nesting)) => {
@@ -87,9 +82,18 @@ fn is_define_refused(made: &Made) -> bool {
     }
 }
 
+// A new parameter above the deepest tree.
+fn is_definition_handed_back(alloc: Global) -> Result<bool, Fail> {
+    let dividend = three(alloc)?;
+    let deepest = deepest(alloc)?;
+    let made = Quast::define(alloc, dividend, 2, deepest);
+    let is_so = is_define_refused(&made);
+    drop(made);
+    Ok(is_so)
+}
+
 #[test]
 fn a_definition_too_deep_is_handed_back(rt: HostRuntime) -> Result<(), Fail> {
-    let made = defined(rt.alloc())?;
-    assert!(rt; is_define_refused(&made));
+    assert!(rt; is_definition_handed_back(rt.alloc())?);
     Ok(())
 }

@@ -1,5 +1,5 @@
 //! The words of the command line.
-use crate::row::{Wanted, are_answered, are_refused, ends_over, ends_so, is_ended, run_words};
+use crate::row::{Wanted, are_answered, are_refused, ends_over, ends_so, line_ends_so};
 use std::alloc::{AllocError, Global};
 use std::test::Fail;
 
@@ -85,8 +85,7 @@ const USAGE: Wanted<'static> = Wanted {
 };
 
 fn is_refused(alloc: Global, line: &str) -> Result<bool, AllocError> {
-    let mut ends = ends_over(alloc, Vec::new(alloc), 7);
-    ends_so(alloc, line, &mut ends, &USAGE)
+    line_ends_so(alloc, line, Vec::new(alloc), 7, &USAGE)
 }
 
 #[test]
@@ -101,7 +100,5 @@ fn other_words_are_refused(rt: HostRuntime) -> Result<(), Fail> {
 fn no_words_give_no_command(rt: HostRuntime) {
     let alloc = rt.alloc();
     let words = Vec::new(alloc);
-    let mut ends = ends_over(alloc, Vec::new(alloc), 7);
-    let status = run_words(alloc, &words, &mut ends);
-    assert!(rt; is_ended(&ends, status, &USAGE));
+    assert!(rt; ends_so(alloc, &words, ends_over(alloc, Vec::new(alloc), 7), &USAGE));
 }
