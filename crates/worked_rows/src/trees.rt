@@ -27,7 +27,10 @@ fn chosen(alloc: Global, tree: Quast) -> Result<Quast, Fail>
 {
     match Quast::select(alloc, condition(alloc)?, tree, Quast::bottom(1)) {
         Ok(tree) => Ok(tree),
-        Err(_) => Err("select")?,
+        Err(refused) => {
+            drop(refused);
+            Err("select")?
+        }
     }
 }
 
