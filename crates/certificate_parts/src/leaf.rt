@@ -51,6 +51,10 @@ impl Refutation {
         ensures err { OnErr result (self.new ≡ self.old) }
     {
         let mut more = more;
+        if self.items.is_empty() {
+            self.items = more.items;
+            return Ok(());
+        }
         self.items.append(&mut more.items)?;
         Ok(())
     }

@@ -34,6 +34,14 @@ impl Terms {
         }
     }
 
+    /// No pairs, with room for so many.
+    pub fn with_capacity(alloc: Global, pairs: usize) -> Result<Terms, WantOfMemory>
+        ensures { IfOk result (λ made. made ≡ []) }
+    {
+        let items = Vec::with_capacity(alloc, pairs)?;
+        Ok(Terms { items })
+    }
+
     /// Puts a pair of index and multiplier behind the others. A refusal leaves them as they were.
     pub fn push(&mut self, item: (i128, i128)) -> Result<(), WantOfMemory>
         requires index { Fits item.0 }
