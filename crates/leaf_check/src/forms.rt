@@ -21,11 +21,12 @@ fn unit(alloc: Global, width: usize, place: usize) -> Result<Form, WantOfMemory>
     Ok(Form::from_entries(made))
 }
 
-// The entries of a form, read over so many places.
+// The entries of a form, read over so many places, with room for those of a form over the last number of places.
 pub(crate) fn widened_entries(
     alloc: Global,
     width: usize,
     form: &[i128],
+    room: usize,
 ) -> Result<Vec<i128>, WantOfMemory>
     requires form { IsForm form.now }
     requires narrow { length form.now ≤ width + 1 }
@@ -34,10 +35,7 @@ pub(crate) fn widened_entries(
     ensures fits { IfOk result (λ made. All Fits made.items) }
 {
     let (front, constant) = form.split_at(form.len() - 1);
-    let Some(entries) = width.checked_add(1) else {
-        return Err(WantOfMemory);
-    };
-    let mut made = Vec::with_capacity(alloc, entries)?;
+    let mut made = Vec::with_capacity(alloc, room.saturating_add(1))?;
     made.extend_from_slice(front)?;
     made.resize(width, 0)?;
     made.extend_from_slice(constant)?;
@@ -50,7 +48,7 @@ pub(crate) fn widen_form(alloc: Global, width: usize, form: &Form) -> Result<For
     ensures value { IfOk result (λ made. made ≡ widen_to width form.now) }
     ensures long { IfOk result (λ made. length made ≡ width + 1) }
 {
-    let entries = widened_entries(alloc, width, form.as_slice())?;
+    let entries = widened_entries(alloc, width, form.as_slice(), width)?;
     Ok(Form::from_entries(entries))
 }
 
@@ -69,7 +67,8 @@ fn turned_row(
 {
     let (front, rest) = row.as_slice().split_at(unknowns);
     let (coefficients, constant) = rest.split_at(rest.len() - 1);
-    let mut made = Vec::new(alloc);
+    let entries = scope.saturating_add(unknowns).saturating_add(1);
+    let mut made = Vec::with_capacity(alloc, entries)?;
     made.extend_from_slice(coefficients)?;
     made.resize(scope, 0)?;
     made.extend_from_slice(front)?;

@@ -24,6 +24,9 @@ fn add_component(sum: &mut [i128], a: i128, component: &Component) -> Result<(),
     ensures ok { OnOk result (sum.new ≡ model.plus_term sum.old a component.now.form) }
     ensures fits { All Fits sum.new }
 {
+    if a == 0 {
+        return Ok(());
+    }
     add_multiple(sum, a, component.form().as_slice())
 }
 
@@ -75,7 +78,7 @@ fn row_at(
     ensures long { IfOk result (λ r. length r ≡ scope + 1) }
 {
     let (_, rest) = row.as_slice().split_at(unknowns);
-    let mut sum = widened_entries(alloc, scope, rest)?;
+    let mut sum = widened_entries(alloc, scope, rest, scope.saturating_add(unknowns))?;
     put_in(&mut sum, row.as_slice(), components)?;
     Ok(Form::from_entries(sum))
 }
@@ -119,8 +122,9 @@ pub(crate) fn sign_goal(
     ensures value { IfOk result (λ made. made ≡ widen_to width (opposite component.now.form)) }
     ensures long { IfOk result (λ made. length made ≡ width + 1) }
 {
-    let form = component.form().try_clone(alloc)?;
-    opposite_over(width, form)
+    let form = component.form();
+    let entries = widened_entries(alloc, form.width(), form.as_slice(), width)?;
+    opposite_over(width, Form::from_entries(entries))
 }
 
 // That the unknown at a place is not above a component.

@@ -1,5 +1,17 @@
-use Rattle.leaf_check.proofs.Words.{◌≡◌, ◌∙◌, rules, w128, to_z-of_z}
+use Rattle.leaf_check.proofs.Words.{◌≡◌, ◌∙◌, sym, rules, pos, w128, to_z-of_z}
+use Rattle.derivation_steps.proofs.Spreading.{no_multiple, no_multiple_listed}
+use Rattle.quast.proofs.Conditions.{all_fit_from}
 use Rattle.leaf_check.proofs.goals.add_component.Goals as goal
+
+pub returns-then-a-eq0-clause-listed : goal.returns-then-a-eq0-clause-listed
+returns-then-a-eq0-clause-listed c =
+    let zero : c.args.a ≡ pos 0 = search rules in
+    rw zero (no_multiple_listed c.args.sum.now c.args.component.now.form (sym c.requires.width) (all_fit_from c.args.sum.now c.requires.fits))
+
+pub returns-then-a-eq0-clause-ok : goal.returns-then-a-eq0-clause-ok
+returns-then-a-eq0-clause-ok c =
+    let zero : c.args.a ≡ pos 0 = search rules in
+    rw zero (sym (no_multiple c.args.sum.now c.args.component.now.form (sym c.requires.width)))
 
 pub returns-clause-listed : goal.returns-clause-listed
 returns-clause-listed c =
