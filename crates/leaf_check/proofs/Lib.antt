@@ -5,3 +5,4 @@ pub mod Smaller
 pub mod Owned
 pub mod NextGoal
 pub mod Refuted
+pub mod Turned

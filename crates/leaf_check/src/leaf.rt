@@ -1,4 +1,4 @@
-ghost use Rattle.std.specs.Prelude.{◌≡◌, ◌^◌, ◌+◌, ◌≤◌, ◌<◌, ◌++◌, [], true, pos, Some, length, map, IfOk, OnOk, OnErr, IsTrue, slice_index_or, option_copied};
+ghost use Rattle.std.specs.Prelude.{◌≡◌, ◌^◌, ◌+◌, ◌-◌, ◌≤◌, ◌<◌, ◌++◌, [], true, pos, Some, length, take, map, IfOk, OnOk, OnErr, IsTrue, slice_index_or, option_copied};
 ghost use Rattle.std.specs.List.{list_all};
 ghost use Rattle.pip_model.specs.Numbers.{same_number};
 ghost use Rattle.pip_model.specs.Tree.{Component};
@@ -7,9 +7,11 @@ ghost use Rattle.pip_model.specs.Check as model;
 ghost use Rattle.affine_forms.specs.Checks.{is_form_overflow};
 ghost use Rattle.derivation_steps.specs.Faults.{fault_of};
 ghost use Rattle.leaf_check.specs.Leaves.{case_of, own_premises, AreWide, IsLeaf, nothing, goal_count, IsGoal, AreTurned, has_shape as has_shape_of};
+ghost use Rattle.leaf_check.specs.Goals.{without_last};
 ghost use Rattle.leaf_check.specs.Known.{ArePushed};
+ghost use Rattle.leaf_check.specs.Turned.{IsTurnedTo};
 
-use crate::derivation::Derivation;
+use crate::goal_forms::GoalForms;
 use crate::goals::{row_goal, sign_goal};
 use crate::known::Known;
 use affine_forms::{Form, FormRefusal, WantOfMemory};
@@ -296,26 +298,26 @@ impl Leaf<'_> {
         }
     }
 
-    // The forms of a refutation's own, from 0, with the place of the refutation where they are refused.
-    fn goal_at(&self, alloc: Global, r: usize) -> Result<Known, Fault>
+    // Turns the forms of the refutation before into those of refutation r, from 0, which the first one's own make of the
+    // leaf's alone. With the place of the refutation where they are refused.
+    pub(crate) fn turn_to(&self, alloc: Global, known: &mut Known, r: usize) -> Result<(), Fault>
         requires leaf { IsLeaf self.now.problem.now (case_of self.now) }
         requires whole { IsTrue (model.is_whole_list self.now.problem.now.unknowns (option_copied self.now.list)) }
+        requires before { IsTurnedTo self.now r known.old }
         requires place { r < length (own_premises self.now) }
         requires small { r + 1 < 2 ^ 64 }
-        ensures listed { Agrees (λ _. tt) fault_of result
-            (model.fit (model.spot self.now.number (r + 1) 0)
+        ensures listed { Agrees (λ _. tt) fault_of result (model.fit (model.spot self.now.number (r + 1) 0)
             (slice_index_or (own_premises self.now) r nothing).listed) }
-        ensures ok { IfOk result (λ goal. goal ≡ record {
-          width = self.now.scope + self.now.problem.now.unknowns;
-          forms = (slice_index_or (own_premises self.now) r nothing).known;
-        }) }
+        ensures turned { OnOk result (IsTurnedTo self.now (r + 1) known.new) }
+        ensures stay { OnOk result (take (length known.old.forms - 1) known.new.forms ≡ without_last known.old.forms) }
     {
-        let Some(width) = self.scope.checked_add(self.problem.unknowns()) else {
-            return Err(Fault::WantOfMemory);
+        let turned = if r == 0 {
+            self.push_goal(alloc, known, r)
+        } else {
+            self.next_goal(alloc, known, r - 1)
         };
-        let mut goal = Known::new(alloc, width);
-        match self.push_goal(alloc, &mut goal, r) {
-            Ok(()) => Ok(goal),
+        match turned {
+            Ok(()) => Ok(()),
             Err(FormRefusal::Overflow) => Err(Fault::Overflow(Spot {
                 leaf: self.number,
                 refutation: r + 1,
@@ -323,88 +325,6 @@ impl Leaf<'_> {
             })),
             Err(FormRefusal::WantOfMemory) => Err(Fault::WantOfMemory),
         }
-    }
-
-    // Puts the forms of a refutation's own, from 0, behind the others.
-    fn push_goal_at(&self, alloc: Global, known: &mut Derivation, r: usize) -> Result<(), Fault>
-        requires leaf { IsLeaf self.now.problem.now (case_of self.now) }
-        requires whole { IsTrue (model.is_whole_list self.now.problem.now.unknowns (option_copied self.now.list)) }
-        requires width { known.old.width ≡ self.now.scope + self.now.problem.now.unknowns }
-        requires place { r < length (own_premises self.now) }
-        requires small { r + 1 < 2 ^ 64 }
-        ensures listed { Agrees (λ _. tt) fault_of result
-            (model.fit (model.spot self.now.number (r + 1) 0)
-            (slice_index_or (own_premises self.now) r nothing).listed) }
-        ensures ok { OnOk result (known.new ≡ record known.old {
-          forms = known.old.forms ++ (slice_index_or
-              (own_premises self.now) r nothing).known;
-        }) }
-    {
-        let goal = self.goal_at(alloc, r)?;
-        known.push_all(alloc, goal.as_slice())?;
-        Ok(())
-    }
-
-    // Checks a refutation, from 0, behind the leaf's known forms, which are as they were where it succeeds.
-    #[tactic(auto, using(crate::proofs::Refuted::front_kept))]
-    fn refute_goal(
-        &self,
-        alloc: Global,
-        known: &mut Derivation,
-        r: usize,
-        steps: &[Step],
-    ) -> Result<(), Fault>
-        requires leaf { IsLeaf self.now.problem.now (case_of self.now) }
-        requires whole { IsTrue (model.is_whole_list self.now.problem.now.unknowns (option_copied self.now.list)) }
-        requires width { known.old.width ≡ self.now.scope + self.now.problem.now.unknowns }
-        requires place { r < length (own_premises self.now) }
-        requires small { r + 1 < 2 ^ 64 }
-        ensures gives { Agrees (λ _. tt) fault_of result (model.check_refutation self.now.number (r + 1) known.old.width
-            (model.joined (record { known = known.old.forms; listed = [] }) (slice_index_or
-            (own_premises self.now) r nothing)) steps.now) }
-        ensures ok { OnOk result (known.new ≡ known.old) }
-    {
-        let before = known.len();
-        self.push_goal_at(alloc, known, r)?;
-        known.refute(alloc, self.number, r + 1, steps)?;
-        known.truncate(before);
-        Ok(())
-    }
-
-    // Checks the refutations in order, behind the leaf's known forms.
-    fn refute_all(
-        &self,
-        alloc: Global,
-        known: &mut Derivation,
-        refutations: &[Refutation],
-    ) -> Result<(), Fault>
-        requires leaf { IsLeaf self.now.problem.now (case_of self.now) }
-        requires whole { IsTrue (model.is_whole_list self.now.problem.now.unknowns (option_copied self.now.list)) }
-        requires width { known.old.width ≡ self.now.scope + self.now.problem.now.unknowns }
-        requires count { length refutations.now
-            ≡ length (own_premises self.now) }
-        ensures { Agrees (λ _. tt) fault_of result (model.check_refutations self.now.number 1 known.old.width
-            (map (model.joined (record { known = known.old.forms; listed = [] }))
-            (own_premises self.now)) refutations.now) }
-    {
-        for r in 0..refutations.len() {
-            self.refute_goal(alloc, known, r, refutations[r].as_slice())?;
-        }
-        Ok(())
-    }
-
-    // The forms that each refutation of the leaf starts from, as the check keeps them.
-    fn start_derivation(&self, alloc: Global) -> Result<Derivation, WantOfMemory>
-        requires { IsLeaf self.now.problem.now (case_of self.now) }
-        ensures { IfOk result (λ k. k ≡ record {
-          width = self.now.scope + self.now.problem.now.unknowns;
-          forms = model.scope_forms self.now.problem.now (case_of self.now);
-        }) }
-    {
-        let start = self.start(alloc)?;
-        let mut known = Derivation::new(alloc, start.width());
-        known.push_all(alloc, start.as_slice())?;
-        Ok(known)
     }
 
     // Checks the shared steps and the refutations, of which there are as many as the leaf has.
@@ -417,9 +337,10 @@ impl Leaf<'_> {
             (self.now.scope + self.now.problem.now.unknowns) (model.leaf_forms self.now.problem.now (case_of self.now))
             (own_premises self.now) proofs.now) }
     {
-        let mut known = self.start_derivation(alloc)?;
-        known.add_steps(alloc, self.number, 0, proofs.shared().as_slice())?;
-        self.refute_all(alloc, &mut known, proofs.as_slice())
+        let mut forms = GoalForms::start(alloc, self, proofs.shared().as_slice())?;
+        let checked = forms.refute_all(alloc, self, proofs.as_slice());
+        drop(forms);
+        checked
     }
 
     /// Checks the leaf by its proofs: a list is whole, there are as many refutations as there are to be, and each

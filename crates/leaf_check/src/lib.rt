@@ -3,6 +3,7 @@
 
 mod derivation;
 mod forms;
+mod goal_forms;
 mod goals;
 mod known;
 mod leaf;
