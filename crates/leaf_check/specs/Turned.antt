@@ -1,5 +1,5 @@
 -- The forms of a leaf's refutations as they are turned from one to the next.
-use Rattle.std.specs.Prelude.{◌≡◌, ℕ, zero, suc, ◌+◌, ℤ, List, [], ◌++◌, length, slice_index_or}
+use Rattle.std.specs.Prelude.{◌≡◌, ℕ, zero, suc, ◌+◌, ℤ, List, [], ◌++◌, slice_index_or}
 use Rattle.pip_model.specs.Check.{scope_forms}
 use Rattle.leaf_check.specs.Known.{KnownForms}
 use Rattle.leaf_check.specs.Leaves.{case_of, own_premises, nothing}
