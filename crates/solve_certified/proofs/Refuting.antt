@@ -1,5 +1,5 @@
 -- One refutation: by its known forms, and as the definition makes it.
-use Rattle.solve_certified.proofs.Words.{◌≡◌, refl, ap, ap₂, sym, ◌∙◌, ℕ, ◌+◌, ◌<◌, ◌≤◌, ℤ, All, Bool, true, false, pos, List, [], ◌++◌, length, map, length-append, arith, Option, Some, None, IfSome, IsTrue, All-weaker, all_fit, Problem, Component, Refutation, LeafCase, Premises, joined, leaf_forms, scope_forms, Work, Outcome, Done, Refused, Refusal, Overflow, Counted, go_on, ◌>>=◌, give, unless, indices, refute, PathQuotient, narrow_to, quotient_steps, steps_or_none, made_refutation, steps_from, places_of, refuted_by, IsScopeOf}
+use Rattle.solve_certified.proofs.Words.{◌≡◌, ap, ap₂, sym, ◌∙◌, ℕ, ◌+◌, ◌<◌, ◌≤◌, ℤ, All, Bool, true, pos, List, [], ◌++◌, length, map, length-append, arith, Option, Some, None, IfSome, IsTrue, All-weaker, all_fit, Problem, Component, Refutation, LeafCase, Premises, joined, leaf_forms, scope_forms, Work, Outcome, Done, Refused, Refusal, Overflow, Counted, go_on, ◌>>=◌, give, unless, indices, refute, PathQuotient, narrow_to, quotient_steps, steps_or_none, made_refutation, steps_from, places_of, refuted_by, IsScopeOf}
 use Rattle.solve_certified.specs.declared.refutation.Scope.{Scope}
 use Rattle.solve_certified.proofs.QuotientLists.{length-indices, steps_same}
 

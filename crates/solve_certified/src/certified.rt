@@ -18,14 +18,14 @@ ghost use Rattle.solve_certified.specs.Walks.{are_whole, is_whole_answer};
 
 use crate::refutation::Scope;
 use crate::trail::Trail;
-use crate::walk::Walk;
+use crate::walk::{TreeMaking, Walk};
 use affine_forms::{Overflow, WantOfMemory};
 use certificate_check::{Known, void_forms};
 use certificate_parts::{Certificate, LeafProofs, Refutation};
 use pip_problem::{Limits, Problem, Refusal};
 use pip_solve::{answer_from, context_point};
 use quast::{Answer, Quast};
-use refuter::Point;
+use refuter::{Point, Refuter};
 use run_counts::Work;
 use std::alloc::Global;
 
@@ -75,13 +75,21 @@ fn certificate_of_tree(
     ensures { AgreesCounted (λ c. c) run_fault result work.new
         (model.run_certificate problem.now point.now (Solved tree.now.tree) work.old) }
 {
-    let mut made = Certificate::try_new(alloc, numbers(point))?;
+    let mut making = TreeMaking {
+        certificate: Certificate::try_new(alloc, numbers(point))?,
+        refuter: Refuter::new(alloc),
+    };
     let mut trail = Trail::new(alloc, problem.params());
     let walk = Walk { alloc, problem };
-    let walked = walk.make_node(&mut trail, tree.root(), &mut made, work);
+    let walked = walk.make_node(&mut trail, tree.root(), &mut making, work);
     drop(trail);
+    let TreeMaking {
+        certificate,
+        refuter,
+    } = making;
+    drop(refuter);
     walked?;
-    Ok(made)
+    Ok(certificate)
 }
 
 // The certificate of `void`, of the steps of its one refutation.

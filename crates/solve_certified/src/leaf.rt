@@ -116,16 +116,19 @@ impl LeafMaking<'_> {
         Ok(proofs)
     }
 
-    // The refutations of the leaf, in the order of the check.
-    pub(crate) fn refute_all(&self, work: &mut Work) -> Result<LeafProofs, Refusal>
+    // The refutations of the leaf, in the order of the check, by a refuter that may have made those of others.
+    pub(crate) fn refute_all(
+        &self,
+        refuter: &mut Refuter,
+        work: &mut Work,
+    ) -> Result<LeafProofs, Refusal>
         requires { IsMaking self.now }
         ensures { AgreesCounted (λ proofs. proofs) run_fault result work.new (made_proofs self.now.leaf.problem.now
             (case_of self.now.leaf) self.now.scope.quotients.now work.old) }
     {
         let mut known = self.leaf.start(self.scope.alloc)?;
-        let mut refuter = Refuter::new(self.scope.alloc);
-        let proofs = self.refute_each(&mut refuter, &mut known, work);
-        drop(refuter);
+        refuter.forget();
+        let proofs = self.refute_each(refuter, &mut known, work);
         drop(known);
         proofs
     }

@@ -52,7 +52,7 @@ impl PathQuotient {
         requires reads { length self.now.quotient.form ≡ length places.now + 1 }
         ensures { IfOk result (λ step. step ≡ model.quotient_step front places.now self.now) }
     {
-        let mut terms = Terms::new(alloc);
+        let mut terms = Terms::with_capacity(alloc, places.len().saturating_add(1))?;
         terms.push((front as i128 + self.bound as i128, 1))?;
         let (coefficients, _) = self.form.as_slice().split_at(self.form.width());
         push_positive(&mut terms, places, coefficients)?;

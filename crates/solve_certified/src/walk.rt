@@ -12,8 +12,16 @@ use certificate_check::Leaf;
 use certificate_parts::Certificate;
 use pip_problem::{Problem, Refusal};
 use quast::{Component, Node};
+use refuter::Refuter;
 use run_counts::Work;
 use std::alloc::Global;
+
+// What a walk makes: the certificate of the leaves so far. One refuter makes the refutations of all of them.
+#[derive(Drop)]
+pub(crate) struct TreeMaking {
+    pub(crate) certificate: Certificate,
+    pub(crate) refuter: Refuter,
+}
 
 // The walk over the tree of an answer, in whose order the refutations are made.
 #[derive(Drop)]
@@ -28,21 +36,22 @@ impl Walk<'_> {
         &self,
         trail: &Trail,
         list: Option<&[Component]>,
-        made: &mut Certificate,
+        making: &mut TreeMaking,
         work: &mut Work,
     ) -> Result<(), Refusal>
         requires at { IsAt self.now.problem.now trail.now (leaf_tree (option_copied list)) }
-        requires format { made.old.shares ≡ false }
-        ensures gives { AgreesCounted (λ _. made.new) run_fault result work.new
-            (made_below self.now.problem.now trail.now made.old (leaf_tree (option_copied list.entry)) work.old) }
-        ensures format { made.new.shares ≡ false }
+        requires format { making.old.certificate.shares ≡ false }
+        ensures gives { AgreesCounted (λ _. making.new.certificate) run_fault result work.new
+            (made_below self.now.problem.now trail.now making.old.certificate (leaf_tree (option_copied list.entry))
+            work.old) }
+        ensures format { making.new.certificate.shares ≡ false }
     {
         let params = self.problem.params();
         let front = params + self.problem.context().len();
         let Some(own) = front.checked_add(trail.forms().len()) else {
             return Err(Refusal::WantOfMemory);
         };
-        let making = LeafMaking {
+        let leaf_making = LeafMaking {
             leaf: Leaf {
                 number: 1,
                 problem: self.problem,
@@ -58,8 +67,8 @@ impl Walk<'_> {
                 quotients: trail.quotients(),
             },
         };
-        let proofs = making.refute_all(work)?;
-        made.push(proofs)?;
+        let proofs = leaf_making.refute_all(&mut making.refuter, work)?;
+        making.certificate.push(proofs)?;
         Ok(())
     }
 
@@ -68,35 +77,35 @@ impl Walk<'_> {
         &self,
         trail: &mut Trail,
         node: &Node,
-        made: &mut Certificate,
+        making: &mut TreeMaking,
         work: &mut Work,
     ) -> Result<(), Refusal>
         requires at { IsAt self.now.problem.now trail.old (tree_of node.now) }
-        requires format { made.old.shares ≡ false }
-        ensures gives { AgreesCounted (λ _. made.new) run_fault result work.new
-            (made_below self.now.problem.now trail.old made.old (tree_of node.now) work.old) }
-        ensures format { made.new.shares ≡ false }
+        requires format { making.old.certificate.shares ≡ false }
+        ensures gives { AgreesCounted (λ _. making.new.certificate) run_fault result work.new
+            (made_below self.now.problem.now trail.old making.old.certificate (tree_of node.now) work.old) }
+        ensures format { making.new.certificate.shares ≡ false }
         ensures trail { OnOk result (trail.new ≡ trail.old) }
     {
         match node {
-            Node::Bottom => self.make_leaf(trail, None, made, work),
+            Node::Bottom => self.make_leaf(trail, None, making, work),
             Node::Leaf(components) => {
-                self.make_leaf(trail, Some(components.as_slice()), made, work)
+                self.make_leaf(trail, Some(components.as_slice()), making, work)
             }
             Node::Select(v, a, b) => {
                 let mark = trail.mark();
                 trail.push(self.alloc, v)?;
-                self.make_node(trail, a, made, work)?;
+                self.make_node(trail, a, making, work)?;
                 trail.back_to(mark);
                 trail.push_opposite(self.alloc, v)?;
-                self.make_node(trail, b, made, work)?;
+                self.make_node(trail, b, making, work)?;
                 trail.back_to(mark);
                 Ok(())
             }
             Node::Define(v, d, a) => {
                 let mark = trail.mark();
                 trail.push_quotient(self.alloc, v, *d)?;
-                self.make_node(trail, a, made, work)?;
+                self.make_node(trail, a, making, work)?;
                 trail.back_to(mark);
                 Ok(())
             }

@@ -5,4 +5,4 @@ pub refute_each-proofs-requires-clause-before : goal.refute_each-proofs-requires
 refute_each-proofs-requires-clause-before c = record { width = search rules; forms = search rules }
 
 pub refute_each-proofs-requires-clause-first : goal.refute_each-proofs-requires-clause-first
-refute_each-proofs-requires-clause-first c = rw c.new-refuter.ensures (record { first = refl })
+refute_each-proofs-requires-clause-first c = record { first = rw c.forget.ensures refl }

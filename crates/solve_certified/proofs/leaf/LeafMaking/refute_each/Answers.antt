@@ -1,4 +1,4 @@
-use Rattle.solve_certified.proofs.Words.{rules, arith, refl, ◌≡◌, ◌∙◌, ap, sym, ◌+◌, ◌++◌, [], ◌∷◌, List, option_copied, err_from_is_err_and, Refutation, LeafProofs, run_fault, KnownForms, case_of}
+use Rattle.solve_certified.proofs.Words.{rules, arith, ◌≡◌, ◌∙◌, ap, sym, ◌+◌, ◌++◌, [], ◌∷◌, List, option_copied, err_from_is_err_and, Refutation, LeafProofs, run_fault, KnownForms, case_of}
 use Rattle.certificate_check.proofs.Owned.{own_goals}
 use Rattle.solve_certified.proofs.GoalsBefore.{before_next}
 use Rattle.solve_certified.proofs.MadeGoals.{from_here, leaf_start, leaf_next, leaf_stop, leaf_end}

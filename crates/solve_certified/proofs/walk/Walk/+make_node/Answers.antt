@@ -12,7 +12,7 @@ returns-in_err-make_node-in-Select-clause-gives t c =
     let b = tree_of c.in-Select.b.value in
     let is = ap tree_of c.in-Select.is in
     let p = err_from_is_err_and c.from_residual-in_err-make_node-in-Select.result c.from_residual-in_err-make_node-in-Select.ensures.1 in
-    rw (p.1, p.2) (select_stop P q c.args.made.now c.args.work.now T c.in-Select.v a b is c.push.new.self c.in_ok-push-in-Select.ensures (run_fault c.in_err-make_node-in-Select.field-0.0) c.make_node.new.work (rw c.deref.ensures at c.in_err-make_node-in-Select.ensures.gives))
+    rw (p.1, p.2) (select_stop P q c.args.making.now.certificate c.args.work.now T c.in-Select.v a b is c.push.new.self c.in_ok-push-in-Select.ensures (run_fault c.in_err-make_node-in-Select.field-0.0) c.make_node.new.work (rw c.deref.ensures at c.in_err-make_node-in-Select.ensures.gives))
 
 pub returns-in_err-push_opposite-in-Select-clause-gives : goal.returns-in_err-push_opposite-in-Select-clause-gives
 returns-in_err-push_opposite-in-Select-clause-gives t c =
@@ -23,7 +23,7 @@ returns-in_err-push_opposite-in-Select-clause-gives t c =
     let b = tree_of c.in-Select.b.value in
     let is = ap tree_of c.in-Select.is in
     let p = err_from_is_err_and c.from_residual-in_err-push_opposite-in-Select.result c.from_residual-in_err-push_opposite-in-Select.ensures.1 in
-    rw (p.1, p.2) (select_unfit P q c.args.made.now c.args.work.now T c.in-Select.v a b is c.push.new.self c.in_ok-push-in-Select.ensures c.make_node.new.made c.make_node.new.work (rw c.deref.ensures at c.in_ok-make_node-in-Select.ensures.gives)
+    rw (p.1, p.2) (select_unfit P q c.args.making.now.certificate c.args.work.now T c.in-Select.v a b is c.push.new.self c.in_ok-push-in-Select.ensures c.make_node.new.making.certificate c.make_node.new.work (rw c.deref.ensures at c.in_ok-make_node-in-Select.ensures.gives)
     c.in_err-push_opposite-in-Select.field-0.0 c.requires.at.some c.requires.at.whole c.in_err-push_opposite-in-Select.ensures.listed)
 
 pub make_node-requires-in-Select : goal.make_node-requires-in-Select
@@ -55,7 +55,7 @@ returns-in_err-make_node-in-Select-2-clause-gives t c =
     let up = pushed ∙ ap (λ (x : TrailForms). let r : TrailForms = record x { forms = x.forms ++ opposite c.in-Select.v ∷ [] } in r) (c.back_to.ensures ∙ back) in
     let fit : IsTrue (all_fit (opposite_listed c.in-Select.v)) = search rules in
     let p = err_from_is_err_and c.from_residual-in_err-make_node-in-Select-2.result c.from_residual-in_err-make_node-in-Select-2.ensures.1 in
-    rw (p.1, p.2) (select_later P q c.args.made.now c.args.work.now T c.in-Select.v a b is c.push.new.self c.in_ok-push-in-Select.ensures c.make_node.new.made c.make_node.new.work (rw c.deref.ensures at c.in_ok-make_node-in-Select.ensures.gives) c.push_opposite.new.self up fit
+    rw (p.1, p.2) (select_later P q c.args.making.now.certificate c.args.work.now T c.in-Select.v a b is c.push.new.self c.in_ok-push-in-Select.ensures c.make_node.new.making.certificate c.make_node.new.work (rw c.deref.ensures at c.in_ok-make_node-in-Select.ensures.gives) c.push_opposite.new.self up fit
     (run_fault c.in_err-make_node-in-Select-2.field-0.0) c.make_node-in-Select.new.work (rw c.deref-in-Select.ensures at c.in_err-make_node-in-Select-2.ensures.gives))
 
 pub returns-in_err-push_quotient-in-Define-clause-gives : goal.returns-in_err-push_quotient-in-Define-clause-gives
@@ -68,7 +68,7 @@ returns-in_err-push_quotient-in-Define-clause-gives t c =
     let k : Quotient = record { form = c.in-Define.v; den = c.in-Define.d } in
     let unfit : IsTrue (is_form_overflow c.in_err-push_quotient-in-Define.field-0.0) → IsFalse (all_fit (constant (upper_bound (q.scope + 1) q.scope k) ∷ [])) = search rules in
     let p = err_from_is_err_and c.from_residual-in_err-push_quotient-in-Define.result c.from_residual-in_err-push_quotient-in-Define.ensures.1 in
-    rw (p.1, p.2) (define_unfit P q c.args.made.now c.args.work.now T c.in-Define.v c.in-Define.d a is c.in_err-push_quotient-in-Define.field-0.0 c.requires.at.some c.requires.at.whole unfit)
+    rw (p.1, p.2) (define_unfit P q c.args.making.now.certificate c.args.work.now T c.in-Define.v c.in-Define.d a is c.in_err-push_quotient-in-Define.field-0.0 c.requires.at.some c.requires.at.whole unfit)
 
 pub make_node-requires-in-Define : goal.make_node-requires-in-Define
 make_node-requires-in-Define t c =
@@ -93,7 +93,7 @@ returns-in_err-make_node-in-Define-clause-gives t c =
     let k : Quotient = record { form = c.in-Define.v; den = c.in-Define.d } in
     let fit : IsTrue (all_fit (constant (upper_bound (q.scope + 1) q.scope k) ∷ [])) = search rules in
     let p = err_from_is_err_and c.from_residual-in_err-make_node-in-Define.result c.from_residual-in_err-make_node-in-Define.ensures.1 in
-    rw (p.1, p.2) (define_later P q c.args.made.now c.args.work.now T c.in-Define.v c.in-Define.d a is c.push_quotient.new.self down fit
+    rw (p.1, p.2) (define_later P q c.args.making.now.certificate c.args.work.now T c.in-Define.v c.in-Define.d a is c.push_quotient.new.self down fit
     (run_fault c.in_err-make_node-in-Define.field-0.0) c.make_node-in-Define.new.work (rw c.deref-in-Define.ensures at c.in_err-make_node-in-Define.ensures.gives))
 
 pub returns-in-Leaf-clause-gives : goal.returns-in-Leaf-clause-gives
@@ -112,7 +112,7 @@ returns-in_ok-make_node-in-Select-2-clause-gives t c =
     let pushed : c.push_opposite.new.self ≡ record c.back_to.new.self { forms = c.back_to.new.self.forms ++ opposite c.in-Select.v ∷ [] } = search rules in
     let up = pushed ∙ ap (λ (x : TrailForms). let r : TrailForms = record x { forms = x.forms ++ opposite c.in-Select.v ∷ [] } in r) (c.back_to.ensures ∙ back) in
     let fit : IsTrue (all_fit (opposite_listed c.in-Select.v)) = search rules in
-    select_next P q c.args.made.now c.args.work.now T c.in-Select.v a b is c.push.new.self c.in_ok-push-in-Select.ensures c.make_node.new.made c.make_node.new.work (rw c.deref.ensures at c.in_ok-make_node-in-Select.ensures.gives) c.push_opposite.new.self up fit
+    select_next P q c.args.making.now.certificate c.args.work.now T c.in-Select.v a b is c.push.new.self c.in_ok-push-in-Select.ensures c.make_node.new.making.certificate c.make_node.new.work (rw c.deref.ensures at c.in_ok-make_node-in-Select.ensures.gives) c.push_opposite.new.self up fit
     ∙ rw c.deref-in-Select.ensures at c.in_ok-make_node-in-Select-2.ensures.gives
 
 pub returns-in_ok-make_node-in-Define-clause-gives : goal.returns-in_ok-make_node-in-Define-clause-gives
@@ -125,5 +125,5 @@ returns-in_ok-make_node-in-Define-clause-gives t c =
     let down : c.push_quotient.new.self ≡ below_quotient q c.in-Define.v c.in-Define.d = search rules in
     let k : Quotient = record { form = c.in-Define.v; den = c.in-Define.d } in
     let fit : IsTrue (all_fit (constant (upper_bound (q.scope + 1) q.scope k) ∷ [])) = search rules in
-    define_next P q c.args.made.now c.args.work.now T c.in-Define.v c.in-Define.d a is c.push_quotient.new.self down fit
+    define_next P q c.args.making.now.certificate c.args.work.now T c.in-Define.v c.in-Define.d a is c.push_quotient.new.self down fit
     ∙ rw c.deref-in-Define.ensures at c.in_ok-make_node-in-Define.ensures.gives

@@ -9,8 +9,8 @@ returns-in_err-proofs-clause-gives c =
     let list = option_copied c.args.list in
     let p = err_from_is_err_and c.from_residual.result c.from_residual.ensures.1 in
     let L : LeafCase = record { scope = c.scope.result; path = c.forms-2.result.now; listed = []; list = list } in
-    let same : L ≡ here P q c.args.made.now c.args.work.now list = ap₂ (λ (s : ℕ) (xs : List (List ℤ)). let M : LeafCase = record { scope = s; path = xs; listed = []; list = list } in M) c.scope.ensures c.forms-2.ensures.value in
-    rw (p.1, p.2) (leaf_is_refused P q c.args.made.now c.args.work.now list L c.quotients.result.now (run_fault c.in_err-proofs.field-0.0) c.refute_all.new.work same c.quotients.ensures c.in_err-proofs.ensures)
+    let same : L ≡ here P q c.args.making.now.certificate c.args.work.now list = ap₂ (λ (s : ℕ) (xs : List (List ℤ)). let M : LeafCase = record { scope = s; path = xs; listed = []; list = list } in M) c.scope.ensures c.forms-2.ensures.value in
+    rw (p.1, p.2) (leaf_is_refused P q c.args.making.now.certificate c.args.work.now list L c.quotients.result.now (run_fault c.in_err-proofs.field-0.0) c.refute_all.new.work same c.quotients.ensures c.in_err-proofs.ensures)
 
 pub returns-clause-gives : goal.returns-clause-gives
 returns-clause-gives c =
@@ -18,5 +18,5 @@ returns-clause-gives c =
     let q = c.args.trail.now in
     let list = option_copied c.args.list in
     let L : LeafCase = record { scope = c.scope.result; path = c.forms-2.result.now; listed = []; list = list } in
-    let same : L ≡ here P q c.args.made.now c.args.work.now list = ap₂ (λ (s : ℕ) (xs : List (List ℤ)). let M : LeafCase = record { scope = s; path = xs; listed = []; list = list } in M) c.scope.ensures c.forms-2.ensures.value in
-    leaf_is_done P q c.args.made.now c.args.work.now list L c.quotients.result.now c.in_ok-proofs.proofs c.push.new.self c.refute_all.new.work same c.quotients.ensures c.in_ok-push.ensures.ok c.in_ok-proofs.ensures
+    let same : L ≡ here P q c.args.making.now.certificate c.args.work.now list = ap₂ (λ (s : ℕ) (xs : List (List ℤ)). let M : LeafCase = record { scope = s; path = xs; listed = []; list = list } in M) c.scope.ensures c.forms-2.ensures.value in
+    leaf_is_done P q c.args.making.now.certificate c.args.work.now list L c.quotients.result.now c.in_ok-proofs.proofs c.push.new.self c.refute_all.new.work same c.quotients.ensures c.in_ok-push.ensures.ok c.in_ok-proofs.ensures
