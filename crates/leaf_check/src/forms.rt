@@ -21,7 +21,7 @@ fn unit(alloc: Global, width: usize, place: usize) -> Result<Form, WantOfMemory>
     Ok(Form::from_entries(made))
 }
 
-// The entries of a form, read over so many places, with room for those of a form over the last number of places.
+// The entries of a form, read over so many places. There is room for those of a form over `room` places.
 pub(crate) fn widened_entries(
     alloc: Global,
     width: usize,
