@@ -1,8 +1,8 @@
 -- The first row below 0 among rows that are read off their forms.
-use Rattle.std.proofs.Common.{◌≡◌, ◌∙◌, refl, ap, sym, subst, ℕ, zero, suc, ◌+◌, ◌-◌, ◌<◌, ◌≤◌, ℤ, pos, negsuc, ◌*ℤ◌, ◌≤ℤ◌, ◌<ℤ◌, arith, Bool, true, false, Option, Some, None, List, [], ◌∷◌, ◌++◌, length, map, drop, get_or}
+use Rattle.std.proofs.Common.{◌≡◌, ◌∙◌, refl, ap, sym, subst, ℕ, suc, ◌+◌, ◌-◌, ◌<◌, ◌≤◌, ℤ, pos, negsuc, ◌*ℤ◌, ◌≤ℤ◌, ◌<ℤ◌, arith, Bool, true, false, Option, Some, None, List, [], ◌∷◌, ◌++◌, length, map, drop, get_or, length-append}
 use Rattle.std.specs.Prelude.{if◌then◌else◌, All}
 use Rattle.std.proofs.lemmas.Int.{ints}
-use Rattle.std.proofs.lemmas.List.{drop_more, drop_all, get_or-map, length-map}
+use Rattle.std.proofs.lemmas.List.{drop_more, drop_all, drop-append-le, get_or-map, length-map, length-drop, map-append}
 use Rattle.pip_model.specs.Numbers.{is_nonneg}
 use Rattle.pip_model.specs.Forms.{entry, constant}
 use Rattle.pip_model.specs.Rows.{Row, row_at, form_row}
@@ -14,8 +14,9 @@ use Rattle.form_basis.proofs.Invariant.{wide_by_form}
 use Rattle.point_turns.specs.Turns.{negative_from}
 use Rattle.form_basis.specs.declared.basis.Basis.{Basis}
 use Rattle.form_basis.specs.ReadRows.{IsRead, valued, combined, read}
-use Rattle.form_run.specs.Held.{behind}
+use Rattle.form_run.specs.Held.{IsAbove, behind}
 use Rattle.form_basis.proofs.ReadForms.{constant_is}
+use Rattle.short_run.proofs.FurtherRows.{negative-front}
 
 same_sign : (x : ℕ) (z k : ℤ) → 0 < x → pos x *ℤ z ≡ k → is_nonneg z ≡ is_nonneg k
 same_sign x (pos n) (pos k) h e = refl
@@ -104,3 +105,34 @@ pub behind_all : (R S : List Row) (o : Option ℕ) → negative_from 0 R ≡ Non
 behind_all R S o above e =
     let s : 0 + length R ≡ length R = omega arith in
     e ∙ sym (below_behind R S 0 above ∙ ap (λ (j : ℕ). negative_from j S) s)
+
+-- ---- forms that are known not to be below 0
+
+pub none_above : (t : TableauRows) (b : Basis) (forms : List (List ℤ)) → IsAbove t b forms 0
+none_above t b forms = record { within = omega arith; first = starts_below (map (read t b) forms) (length t.rows) }
+
+pub all_above : (t : TableauRows) (b : Basis) (forms : List (List ℤ)) (i : ℕ) → i ≡ length forms → behind (length t.rows) None ≡ negative_from (length t.rows) (map (read t b) forms) → IsAbove t b forms i
+all_above t b forms i long none = record {
+  within = omega (arith, long);
+  first = sym none ∙ sym (ap (negative_from (length t.rows + i)) (drop_all i (map (read t b) forms) (omega (arith, long, length-map forms (read t b)))));
+}
+
+first_of_all : (rows S : List Row) (k i : ℕ) → i ≤ length rows → negative_from k rows ≡ negative_from (k + i) (drop i rows) → negative_from k (rows ++ S) ≡ negative_from (k + i) (drop i (rows ++ S))
+first_of_all rows S k i le e =
+    by (negative_from k rows) refl ∙ ap (negative_from (k + i)) (sym (drop-append-le i rows S le))
+  where
+    by : (o : Option ℕ) → negative_from k rows ≡ o → negative_from k (rows ++ S) ≡ negative_from (k + i) (drop i rows ++ S)
+    by None none =
+        let long : k + length rows ≡ (k + i) + length (drop i rows) = omega (arith, le, length-drop i rows) in
+        below_behind rows S k none ∙ ap (λ (j : ℕ). negative_from j S) long ∙ sym (below_behind (drop i rows) S (k + i) (sym e ∙ none))
+    by (Some r) some = negative-front rows S k r some ∙ sym (negative-front (drop i rows) S (k + i) r (sym e ∙ some))
+
+pub above_more : (t : TableauRows) (b : Basis) (forms : List (List ℤ)) (f : List ℤ) (i : ℕ) → IsAbove t b forms i → IsAbove t b (forms ++ f ∷ []) i
+above_more t b forms f i h = record {
+  within = omega (arith, h.within, length-append forms (f ∷ []));
+  first =
+      let more = map-append (read t b) forms (f ∷ []) in
+      ap (negative_from (length t.rows)) more
+      ∙ first_of_all (map (read t b) forms) (map (read t b) (f ∷ [])) (length t.rows) i (omega (arith, h.within, length-map forms (read t b))) h.first
+      ∙ ap (λ (rows : List Row). negative_from (length t.rows + i) (drop i rows)) (sym more);
+}

@@ -1,5 +1,5 @@
 -- The factors of a scale, and the columns of a basis.
-use Rattle.std.proofs.Common.{◌≡◌, ◌∙◌, refl, ap, sym, subst, ℕ, ◌+◌, ◌<◌, ℤ, ◌*ℤ◌, arith, List, [], ◌∷◌, ◌++◌, length, map, take, get_or}
+use Rattle.std.proofs.Common.{◌≡◌, ◌∙◌, ap, sym, ℕ, ◌+◌, ◌<◌, ℤ, arith, List, [], ◌∷◌, ◌++◌, length, take, get_or}
 use Rattle.std.proofs.lemmas.List.{map_more, get_or-map, take_all}
 use Rattle.pip_model.specs.Numbers.{floor_div}
 use Rattle.pip_model.specs.Rows.{Row, row_at, form_row}

@@ -1,5 +1,5 @@
 -- Rows of forms behind the places' rows: the column that enters, the first fraction, a pivot.
-use Rattle.std.proofs.Common.{◌≡◌, ◌∙◌, refl, ap, sym, subst, ℕ, zero, suc, ◌+◌, ◌-◌, ◌*◌, ◌^◌, ◌<◌, ◌≤◌, ℤ, pos, ◌≤ℤ◌, ◌<ℤ◌, arith, true, List, [], ◌∷◌, ◌++◌, length, map, take, get_or, length-append, All}
+use Rattle.std.proofs.Common.{◌≡◌, ◌∙◌, refl, ap, sym, ℕ, ◌+◌, ◌-◌, ◌*◌, ◌^◌, ◌<◌, ◌≤◌, ℤ, pos, ◌≤ℤ◌, arith, true, List, [], ◌∷◌, ◌++◌, length, map, take, get_or, length-append, All}
 use Rattle.std.proofs.lemmas.Int.{ints}
 use Rattle.std.proofs.lemmas.Nat.{mul-le}
 use Rattle.std.proofs.lemmas.List.{take-append-le, length-map, get_or-map, get_or_append_left, get_or-append-add}

@@ -1,5 +1,5 @@
 -- The first rows of a question's run, and what the run tells of the question.
-use Rattle.std.proofs.Common.{◌≡◌, ◌∙◌, refl, ap, sym, ℕ, zero, suc, ◌+◌, ◌<◌, ◌≤◌, ℤ, arith, Some, None, List, [], ◌∷◌, ◌++◌, length, map, append-nil, is_some, All}
+use Rattle.std.proofs.Common.{◌≡◌, ◌∙◌, refl, ap, sym, ℕ, zero, suc, ◌+◌, ◌≤◌, ℤ, arith, List, [], ◌∷◌, ◌++◌, length, map, append-nil, is_some, All}
 use Rattle.std.proofs.lemmas.List.{length-map, map-append}
 use Rattle.std.proofs.lemmas.List.Elements.{All-cons, All-append}
 use Rattle.pip_model.specs.Contexts.{IsContext}

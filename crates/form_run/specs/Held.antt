@@ -1,7 +1,8 @@
 -- What a run keeps: the places' rows and what they are measured by, the forms behind them, and a list for each column.
-use Rattle.std.specs.Prelude.{◌≡◌, ℕ, ◌+◌, ◌*◌, ◌^◌, ◌<◌, ◌≤◌, ℤ, Option, Some, None, List, [], ◌∷◌, ◌++◌, length, map, All}
+use Rattle.std.specs.Prelude.{◌≡◌, ℕ, ◌+◌, ◌*◌, ◌^◌, ◌<◌, ◌≤◌, ℤ, Option, Some, None, List, [], ◌∷◌, ◌++◌, length, map, drop, All}
 use Rattle.pip_model.specs.Rows.{row_at}
 use Rattle.row_laws.specs.Tableaus.{TableauRows}
+use Rattle.point_turns.specs.Turns.{negative_from}
 use Rattle.form_basis.specs.Bounds.{norm}
 use Rattle.form_basis.specs.declared.basis.Basis.{Basis}
 use Rattle.form_basis.specs.ReadRows.{IsMeasured, read}
@@ -22,6 +23,12 @@ pub record IsHeld (t : TableauRows) (b : Basis) (forms columns : NumberLists) (m
   pub bound : most * b.most < 2 ^ 63
   pub columns_size : columns.size ≡ t.unknowns + 1
   pub columns_count : length columns.lists ≡ t.unknowns
+
+-- the rows of the first i forms are not below 0: the first that is stands behind them
+pub record IsAbove (t : TableauRows) (b : Basis) (forms : List (List ℤ)) (i : ℕ) : Type 0 where
+  pub within : i ≤ length forms
+  pub first : negative_from (length t.rows) (map (read t b) forms)
+      ≡ negative_from (length t.rows + i) (drop i (map (read t b) forms))
 
 -- a place among rows, k rows on
 abbrev pub behind : ℕ → Option ℕ → Option ℕ

@@ -5,9 +5,9 @@ ghost use Rattle.run_counts.specs.Counts.{IsCountedRun};
 ghost use Rattle.short_run.specs.Stops.{stop_fault};
 ghost use Rattle.point_turns.specs.Points.{has_point};
 
-use crate::room::new_room;
+use crate::room::RowRoom;
 use crate::run::run;
-use crate::starting::start;
+use crate::starting::start_by_forms;
 use affine_forms::Form;
 use pip_problem::Refusal;
 use run_counts::Work;
@@ -27,8 +27,8 @@ fn ask(
     ensures gives { IsCountedRun (λ b. b) stop_fault result work.old work.new
         (has_point places (forms.now ++ further.now)) }
 {
-    let mut room = new_room(alloc);
-    let mut rows = start(alloc, places, forms, further, &mut room)?;
+    let mut room = RowRoom::new(alloc);
+    let mut rows = start_by_forms(alloc, places, forms, further, &mut room)?;
     run(&mut rows, &mut room, work)
 }
 

@@ -6,7 +6,7 @@ ghost use Rattle.short_run.specs.Stops.{stop_fault};
 
 use crate::flat_lists::FlatLists;
 use crate::form_rows::FormRows;
-use crate::room::Room;
+use crate::room::RowRoom;
 use affine_forms::WantOfMemory;
 use form_basis::{checked_norm, push, wide_product};
 use short_run::{ShortTableau, Stop};
@@ -79,7 +79,7 @@ fn read_cut(row: &mut ShortTableau, places: &ShortTableau, i: usize) -> Result<(
 
 impl FormRows {
     // Adds the cut by row i, where its form is found and its numbers are short. A refusal leaves the rows as they were.
-    pub(crate) fn push_cut(&mut self, i: usize, room: &mut Room) -> Result<(), Stop>
+    pub(crate) fn push_cut(&mut self, i: usize, room: &mut RowRoom) -> Result<(), Stop>
         requires { i < self.old.unknowns }
         ensures ok { OnOk result (self.new ≡ with_row self.old (constant_cut (row_at self.old.rows i))) }
         ensures err { OnErr result (self.new ≡ self.old) }

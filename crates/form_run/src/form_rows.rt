@@ -6,10 +6,10 @@ ghost use Rattle.row_laws.specs.Choices.{IsCandidate};
 ghost use Rattle.row_laws.specs.Rows.{IsRow};
 ghost use Rattle.point_turns.specs.Turns.{negative_from};
 ghost use Rattle.form_basis.specs.ReadRows.{IsRead, read};
-ghost use Rattle.form_run.specs.Held.{IsOneRow, behind};
+ghost use Rattle.form_run.specs.Held.{IsAbove, IsOneRow, behind};
 
 use crate::flat_lists::FlatLists;
-use crate::room::{Room, read_form};
+use crate::room::{RowRoom, read_form};
 use affine_forms::WantOfMemory;
 use form_basis::{Basis, value};
 use short_run::ShortTableau;
@@ -17,35 +17,44 @@ use std::marker::Model;
 
 // The rows of a run without parameters: those of the places are kept, and behind them stand those of forms, which are
 // read off them. For each column the form of its quantity is kept too, of which contracts say its length alone. They see
-// the rows as a tableau's.
+// the rows as a tableau's. The rows of so many first forms are known not to be below 0.
 #[derive(Drop)]
-pub(crate) struct FormRows {
+pub struct FormRows {
     pub(crate) places: ShortTableau,
     pub(crate) basis: Basis,
     pub(crate) forms: FlatLists,
     pub(crate) columns: FlatLists,
     pub(crate) norm: u64,
+    pub(crate) above: usize,
 }
 
 impl Model for FormRows {
     ghost use Rattle.row_laws.specs.Tableaus.{TableauRows};
-    ghost use Rattle.form_run.specs.Held.{IsHeld, all_rows};
+    ghost use Rattle.form_run.specs.Held.{IsHeld, IsAbove, all_rows};
 
     ghost Value = { TableauRows };
 
     ghost view = { λ t. all_rows t.places t.basis t.forms.lists };
 
-    ghost invariant = { λ t. IsHeld t.places t.basis t.forms t.columns t.norm };
+    ghost invariant = { λ t. (IsHeld t.places t.basis t.forms t.columns t.norm)
+        × (IsAbove t.places t.basis t.forms.lists t.above) };
 }
 
-// The first of the forms whose row is below 0.
-fn form_below(places: &ShortTableau, basis: &Basis, forms: &FlatLists) -> Option<usize>
-    requires { All (IsRead places.now basis.now) forms.now.lists }
+// The first of the forms whose row is below 0; so many first ones are known not to be.
+fn form_below(
+    places: &ShortTableau,
+    basis: &Basis,
+    forms: &FlatLists,
+    above: usize,
+) -> Option<usize>
+    requires read { All (IsRead places.now basis.now) forms.now.lists }
+    requires above { IsAbove places.now basis.now forms.now.lists above }
     ensures value { behind (length places.now.rows) result
         ≡ negative_from (length places.now.rows) (map (read places.now basis.now) forms.now.lists) }
+    ensures above { IfSome result (IsAbove places.now basis.now forms.now.lists) }
     ensures bound { IfSome result (λ i. i < length forms.now.lists) }
 {
-    for i in 0..forms.len() {
+    for i in above..forms.len() {
         if value(places, basis, forms.at(i)) < 0 {
             return Some(i);
         }
@@ -54,23 +63,30 @@ fn form_below(places: &ShortTableau, basis: &Basis, forms: &FlatLists) -> Option
 }
 
 impl FormRows {
-    // The first row below 0.
-    pub(crate) fn first_below(&self) -> Option<usize>
-        ensures value { result ≡ negative_from 0 self.now.rows }
-        ensures bound { IfSome result (λ r. r < length self.now.rows) }
+    // The first row below 0. The forms in front of it are not asked again before the next pivot.
+    pub(crate) fn first_below(&mut self) -> Option<usize>
+        ensures value { result ≡ negative_from 0 self.old.rows }
+        ensures bound { IfSome result (λ r. r < length self.old.rows) }
+        ensures kept { self.new ≡ self.old }
     {
         if let Some(r) = self.places.first_below() {
             return Some(r);
         }
-        let _ = self.forms.len();
-        match form_below(&self.places, &self.basis, &self.forms) {
-            Some(i) => Some(self.places.rows() + i),
-            None => None,
+        let count = self.forms.len();
+        match form_below(&self.places, &self.basis, &self.forms, self.above) {
+            Some(i) => {
+                self.above = i;
+                Some(self.places.rows() + i)
+            }
+            None => {
+                self.above = count;
+                None
+            }
         }
     }
 
-    // Reads row r.
-    pub(crate) fn read_row(&self, r: usize, room: &mut Room) -> Result<(), WantOfMemory>
+    /// Reads row r.
+    pub fn read_row(&self, r: usize, room: &mut RowRoom) -> Result<(), WantOfMemory>
         requires { r < length self.now.rows }
         ensures { OnOk result (IsOneRow self.now r room.new.row) }
     {

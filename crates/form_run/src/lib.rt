@@ -13,3 +13,7 @@ mod run;
 mod starting;
 
 pub use asking::ask_by_forms;
+pub use form_rows::FormRows;
+pub use room::RowRoom;
+pub use run::take_turn;
+pub use starting::start_by_forms;

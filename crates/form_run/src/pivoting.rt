@@ -81,6 +81,7 @@ impl FormRows {
         ensures short { IsTrue result → self.new ≡ record self.old { rows = model.pivot self.old.rows r c } }
     {
         let n = self.places.rows();
+        self.above = 0;
         exchange(&mut self.columns, &self.forms, n, r, c);
         if turn(&mut self.places, &mut self.basis, row, c, self.norm) {
             return true;

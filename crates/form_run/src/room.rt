@@ -7,18 +7,22 @@ use form_basis::{Basis, coefficient, value};
 use short_run::ShortTableau;
 use std::alloc::Global;
 
-// Room for the numbers of a form or a row, and for a row or two.
+// Room for a row that is read off its form, and for the numbers of a form or a row. What it held before tells nothing.
 #[derive(Drop)]
-pub(crate) struct Room {
+pub struct RowRoom {
+    pub row: ShortTableau,
     pub(crate) numbers: Vec<i64>,
-    pub(crate) row: ShortTableau,
 }
 
-// Room that is empty.
-pub(crate) fn new_room(alloc: Global) -> Room {
-    Room {
-        numbers: Vec::new(alloc),
-        row: ShortTableau::new(alloc, 0),
+impl RowRoom {
+    /// Room that is empty. It takes no memory.
+    pub fn new(alloc: Global) -> RowRoom
+        ensures { result.row.rows ≡ [] }
+    {
+        RowRoom {
+            row: ShortTableau::new(alloc, 0),
+            numbers: Vec::new(alloc),
+        }
     }
 }
 
@@ -43,7 +47,7 @@ fn read(
 
 // Reads the form's row.
 pub(crate) fn read_form(
-    room: &mut Room,
+    room: &mut RowRoom,
     places: &ShortTableau,
     basis: &Basis,
     form: &[i64],

@@ -1,55 +1,57 @@
-ghost use Rattle.std.specs.Prelude.{◌≡◌, ◌<◌, ◌≤◌, None, Some, length, IfErr, IfOk, IfSome, OnOk};
+ghost use Rattle.std.specs.Prelude.{◌≡◌, ◌<◌, ◌≤◌, None, Some, [], ◌∷◌, ◌++◌, length, IfOk, OnOk};
 ghost use Rattle.pip_model.specs.Cuts.{constant_cut};
 ghost use Rattle.pip_model.specs.Rows.{row_at};
 ghost use Rattle.pip_model.specs.Run as model;
-ghost use Rattle.pip_model.specs.Run.{Refused, point_setting};
-ghost use Rattle.run_counts.specs.Counts.{IsCountedRun, HasCounted};
+ghost use Rattle.pip_model.specs.Run.{turn_by, MinusAt, AllPlus, point_setting};
+ghost use Rattle.run_counts.specs.Counts.{IsCountedRun};
 ghost use Rattle.short_run.specs.Stops.{stop_fault};
-ghost use Rattle.point_turns.specs.Turns.{negative_from, node_of, counted_cut, HasSameScope};
-ghost use Rattle.point_turns.specs.Points.{finds_point, IsTurnOf};
+ghost use Rattle.point_turns.specs.TurnAt.{IsTurnAt};
+ghost use Rattle.point_turns.specs.Turns.{negative_from, node_of, made, counted_cut, HasSameScope};
+ghost use Rattle.point_turns.specs.Points.{finds_point};
 
 use crate::form_rows::FormRows;
-use crate::room::Room;
+use crate::room::RowRoom;
+use point_turns::PointTurn;
 use run_counts::Work;
 use short_run::Stop;
 
-// A turn at a row below 0: no point where no column enters, else a pivot.
-fn pivot_or_end(
+// At a row below 0: no point where no column enters, else a pivot.
+fn pivot_turn(
     rows: &mut FormRows,
-    room: &mut Room,
+    room: &mut RowRoom,
     work: &mut Work,
     r: usize,
-) -> Result<Option<bool>, Stop>
+) -> Result<PointTurn, Stop>
     requires rows { rows.old.unknowns ≤ length rows.old.rows }
     requires row { r < length rows.old.rows }
     requires first { negative_from 0 rows.old.rows ≡ Some r }
-    ensures turn { IfOk result (IsTurnOf rows.old.unknowns rows.old.rows rows.new.rows work.old work.new) }
-    ensures refused { IfErr result (λ e. IfSome (stop_fault e) (λ f.
-        model.turn (point_setting rows.old.unknowns) (node_of rows.old.rows) work.old ≡ Refused f work.new)) }
-    ensures counted { HasCounted work.old work.new }
+    ensures gives { IsCountedRun (made rows.old.unknowns rows.new.rows) stop_fault result work.old work.new
+        (turn_by (point_setting rows.old.unknowns) (node_of rows.old.rows) (MinusAt r)) }
+    ensures place { IfOk result (IsTurnAt rows.old.unknowns rows.old.rows rows.new.rows) }
     ensures scope { OnOk result (HasSameScope rows.old rows.new) }
 {
     rows.read_row(r, room)?;
     let Some(c) = rows.entering(&room.row, r) else {
-        return Ok(Some(false));
+        return Ok(PointTurn::Bottom(r));
     };
     work.count_pivot()?;
     if !rows.pivot(&room.row, r, c) {
         return Err(Stop::Long);
     }
-    Ok(None)
+    Ok(PointTurn::Pivot(r, c))
 }
 
 // A cut by row i is counted, and then added.
 fn count_and_cut(
     rows: &mut FormRows,
-    room: &mut Room,
+    room: &mut RowRoom,
     work: &mut Work,
     i: usize,
 ) -> Result<(), Stop>
     requires { i < rows.old.unknowns }
     ensures gives { IsCountedRun (λ x. rows.new.rows) stop_fault result work.old work.new
         (counted_cut rows.old.rows i) }
+    ensures row { OnOk result (rows.new.rows ≡ rows.old.rows ++ constant_cut (row_at rows.old.rows i) ∷ []) }
     ensures scope { OnOk result (HasSameScope rows.old rows.new) }
 {
     work.count_cut()?;
@@ -57,47 +59,52 @@ fn count_and_cut(
     Ok(())
 }
 
-// The same where no row is below 0: a point is found, or the run goes on with a cut.
-fn cut_or_end(rows: &mut FormRows, room: &mut Room, work: &mut Work) -> Result<Option<bool>, Stop>
+// A cut at the first fraction, where there is one.
+fn last_turn(rows: &mut FormRows, room: &mut RowRoom, work: &mut Work) -> Result<PointTurn, Stop>
     requires rows { rows.old.unknowns ≤ length rows.old.rows }
     requires none { negative_from 0 rows.old.rows ≡ None }
-    ensures turn { IfOk result (IsTurnOf rows.old.unknowns rows.old.rows rows.new.rows work.old work.new) }
-    ensures refused { IfErr result (λ e. IfSome (stop_fault e) (λ f.
-        model.turn (point_setting rows.old.unknowns) (node_of rows.old.rows) work.old ≡ Refused f work.new)) }
-    ensures counted { HasCounted work.old work.new }
+    ensures gives { IsCountedRun (made rows.old.unknowns rows.new.rows) stop_fault result work.old work.new
+        (turn_by (point_setting rows.old.unknowns) (node_of rows.old.rows) AllPlus) }
+    ensures place { IfOk result (IsTurnAt rows.old.unknowns rows.old.rows rows.new.rows) }
     ensures scope { OnOk result (HasSameScope rows.old rows.new) }
 {
     let Some(i) = rows.first_fraction() else {
-        return Ok(Some(true));
+        return Ok(PointTurn::List);
     };
     count_and_cut(rows, room, work, i)?;
-    Ok(None)
+    Ok(PointTurn::Cut(i))
 }
 
-// A turn of a question's run: whether a point is found where the run ends; none where it goes on.
-fn turn_or_end(rows: &mut FormRows, room: &mut Room, work: &mut Work) -> Result<Option<bool>, Stop>
+/// One turn over rows that are read off their forms: a pivot at a row below 0, else a cut at a fraction.
+#[tactic(auto, using(point_turns::proofs::Turning::turn_is))]
+pub fn take_turn(
+    rows: &mut FormRows,
+    room: &mut RowRoom,
+    work: &mut Work,
+) -> Result<PointTurn, Stop>
     requires { rows.old.unknowns ≤ length rows.old.rows }
-    ensures turn { IfOk result (IsTurnOf rows.old.unknowns rows.old.rows rows.new.rows work.old work.new) }
-    ensures refused { IfErr result (λ e. IfSome (stop_fault e) (λ f.
-        model.turn (point_setting rows.old.unknowns) (node_of rows.old.rows) work.old ≡ Refused f work.new)) }
-    ensures counted { HasCounted work.old work.new }
+    ensures gives { IsCountedRun (made rows.old.unknowns rows.new.rows) stop_fault result work.old work.new
+        (model.turn (point_setting rows.old.unknowns) (node_of rows.old.rows)) }
+    ensures place { IfOk result (IsTurnAt rows.old.unknowns rows.old.rows rows.new.rows) }
     ensures scope { OnOk result (HasSameScope rows.old rows.new) }
 {
     match rows.first_below() {
-        Some(r) => pivot_or_end(rows, room, work, r),
-        None => cut_or_end(rows, room, work),
+        Some(r) => pivot_turn(rows, room, work, r),
+        None => last_turn(rows, room, work),
     }
 }
 
 // The run of a question to its end: whether it finds a point.
-pub(crate) fn run(rows: &mut FormRows, room: &mut Room, work: &mut Work) -> Result<bool, Stop>
+pub(crate) fn run(rows: &mut FormRows, room: &mut RowRoom, work: &mut Work) -> Result<bool, Stop>
     requires { rows.old.unknowns ≤ length rows.old.rows }
     ensures gives { IsCountedRun (λ b. b) stop_fault result work.old work.new
         (finds_point rows.old.unknowns rows.old.rows) }
 {
     loop {
-        if let Some(found) = turn_or_end(rows, room, work)? {
-            return Ok(found);
+        match take_turn(rows, room, work)? {
+            PointTurn::Bottom(_) => return Ok(false),
+            PointTurn::List => return Ok(true),
+            PointTurn::Pivot(_, _) | PointTurn::Cut(_) => {}
         }
     }
 }

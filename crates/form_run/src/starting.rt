@@ -9,14 +9,14 @@ ghost use Rattle.short_run.specs.Stops.{stop_fault};
 use crate::flat_lists::FlatLists;
 use crate::form_rows::FormRows;
 use crate::measuring::measure;
-use crate::room::Room;
+use crate::room::RowRoom;
 use affine_forms::{Form, WantOfMemory};
 use form_basis::{are_short, greater, no_basis, norm};
 use short_run::{ShortTableau, Stop, push_short, start_short};
 use std::alloc::Global;
 
 // Adds a form, which is read over all columns.
-fn push_form(all: &mut FlatLists, n: usize, form: &Form, room: &mut Room) -> Result<(), Stop>
+fn push_form(all: &mut FlatLists, n: usize, form: &Form, room: &mut RowRoom) -> Result<(), Stop>
     requires narrow { length form.now ≤ n + 1 }
     requires size { all.old.size ≡ n + 1 }
     ensures ok { OnOk result (all.new ≡ record all.old { lists = all.old.lists ++ widen_to n form.now ∷ [] }) }
@@ -30,7 +30,7 @@ fn push_form(all: &mut FlatLists, n: usize, form: &Form, room: &mut Room) -> Res
 }
 
 // Adds forms, which are read over all columns.
-fn push_forms(all: &mut FlatLists, n: usize, forms: &[Form], room: &mut Room) -> Result<(), Stop>
+fn push_forms(all: &mut FlatLists, n: usize, forms: &[Form], room: &mut RowRoom) -> Result<(), Stop>
     requires context { IsContext n forms.now }
     requires size { all.old.size ≡ n + 1 }
     ensures ok { OnOk result (all.new ≡ record all.old { lists = all.old.lists ++ map (widen_to n) forms.now }) }
@@ -54,7 +54,7 @@ fn greatest_norm(all: &FlatLists) -> Option<u64>
 }
 
 // The forms of the columns at the start: each is a place's own.
-fn unit_forms(alloc: Global, n: usize, room: &mut Room) -> Result<FlatLists, Stop>
+fn unit_forms(alloc: Global, n: usize, room: &mut RowRoom) -> Result<FlatLists, Stop>
     requires { n + 1 < 2 ^ 64 }
     ensures size { IfOk result (λ t. t.size ≡ n + 1) }
     ensures lists { IfOk result (λ t. length t.lists ≡ n) }
@@ -100,16 +100,17 @@ fn measured(
         forms,
         columns,
         norm,
+        above: 0,
     })
 }
 
-// The first rows of a question, where all numbers are short.
-pub(crate) fn start(
+/// The first rows of the run of these forms, which are those of a context and further ones, where all numbers are short.
+pub fn start_by_forms(
     alloc: Global,
     n: usize,
     forms: &[Form],
     further: &[Form],
-    room: &mut Room,
+    room: &mut RowRoom,
 ) -> Result<FormRows, Stop>
     requires forms { IsContext n forms.now }
     requires further { IsContext n further.now }

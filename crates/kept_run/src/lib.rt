@@ -13,5 +13,5 @@ pub use behind::{exchange_all, rows_behind};
 pub use closing::refute_with;
 pub use further::{go_further, goes_further};
 pub use question::Question;
-pub use refutation_steps::{Point, find_point, refute_forms};
+pub use refutation_steps::{Point, ask_by_forms, find_point, refute_forms};
 pub use remembered::{Remembered, Replay, remember};

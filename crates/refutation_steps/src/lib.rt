@@ -1,11 +1,13 @@
 //! The steps by which forms have no whole point, along the run that finds none.
 #![tactic(auto)]
 
+mod form_refute;
 mod positive_terms;
 mod refute;
 mod short_refute;
 mod trace;
 
+pub use form_run::ask_by_forms;
 pub use point_run::{Point, find_point, push_form, run_on, start_rows, view_of};
 pub use positive_terms::push_positive;
 pub use refute::refute_forms;

@@ -1,4 +1,4 @@
-ghost use Rattle.std.specs.Prelude.{◌≡◌, ◌^◌, ◌≤◌, pos, ◌≤ℤ◌, ◌<ℤ◌, length, All};
+ghost use Rattle.std.specs.Prelude.{◌≡◌, ◌^◌, ◌≤◌, pos, ◌≤ℤ◌, ◌<ℤ◌, length, All, IfSome, IfNone};
 ghost use Rattle.pip_model.specs.Contexts.{IsContext};
 ghost use Rattle.pip_model.specs.Refuting as model;
 ghost use Rattle.pip_model.specs.Refuting.{refute_by, refute_from};
@@ -8,6 +8,7 @@ ghost use Rattle.run_counts.specs.Counts.{IsCountedRun};
 ghost use Rattle.refutation_steps.specs.Traces.{IsTraced};
 ghost use Rattle.point_run.specs.Turns.{node_of};
 
+use crate::form_refute::refute_by_forms;
 use crate::short_refute::refute_shortly;
 use crate::trace::Trace;
 use affine_forms::Form;
@@ -63,6 +64,29 @@ fn run(
     refute_on(alloc, &mut rows, trace, work)
 }
 
+// The same in 64 bits: over short rows, and where they have many cuts over rows that are read off their forms. None where
+// neither run gets to its end, and nothing is counted then.
+fn refute_in_64_bits(
+    alloc: Global,
+    forms: &[Form],
+    places: &[i128],
+    first: i128,
+    work: &mut Work,
+) -> Option<Result<Option<Refutation>, Refusal>>
+    requires context { IsContext (length places.now) forms.now }
+    requires places { All Fits places.now }
+    requires some { pos 0 ≤ℤ first }
+    requires few { first <ℤ pos (2 ^ 64) }
+    ensures gives { IfSome result (λ r. IsCountedRun (λ o. o) run_fault r work.old work.new
+        (refute_by (length places.now) forms.now places.now first)) }
+    ensures none { IfNone result (work.new ≡ work.old) }
+{
+    if let Some(found) = refute_shortly(alloc, forms, places, first, work) {
+        return Some(found);
+    }
+    refute_by_forms(alloc, forms, places, first, work)
+}
+
 /// The steps by which the forms have no point, none where they have one.
 pub fn refute_forms(
     alloc: Global,
@@ -81,7 +105,7 @@ pub fn refute_forms(
     if places.is_empty() && forms.is_empty() {
         return Ok(None);
     }
-    if let Some(found) = refute_shortly(alloc, forms, places, first, work) {
+    if let Some(found) = refute_in_64_bits(alloc, forms, places, first, work) {
         return found;
     }
     run(alloc, forms, places, first, work)

@@ -19,6 +19,9 @@ use run_counts::Work;
 use short_run::{ShortTableau, Stop, start_short, take_turn};
 use std::alloc::Global;
 
+// How many cuts a run makes in short rows.
+const MOST_CUTS: usize = 128;
+
 // The step of the cut by row i.
 fn trace_cut(
     alloc: Global,
@@ -50,7 +53,8 @@ fn trace_last(
     trace.close(alloc, r, &view_of(&numbers, rows.unknowns(), true))
 }
 
-/// The run over short rows to its end, with its trace: the steps, none where it found a point.
+/// The run over short rows to its end, with its trace: the steps, none where it found a point. It stops at its 129th
+/// cut, since each cut is a row more that every pivot turns.
 pub fn refute_on(
     alloc: Global,
     rows: &mut ShortTableau,
@@ -62,7 +66,11 @@ pub fn refute_on(
     ensures gives { IsCountedRun (λ o. o) stop_fault result work.old work.new
         (refute_from rows.old.unknowns trace (node_of rows.old.rows)) }
 {
+    let most = rows.rows().saturating_add(MOST_CUTS);
     loop {
+        if rows.rows() > most {
+            return Err(Stop::Long);
+        }
         match take_turn(rows, work)? {
             PointTurn::Bottom(r) => {
                 trace_last(alloc, rows, r, &mut trace)?;
@@ -96,7 +104,7 @@ fn run(
     refute_on(alloc, &mut rows, trace, work)
 }
 
-// The same; None where a number is not short, and nothing is counted then.
+// The same; None where a number is not short, or there are many cuts, and nothing is counted then.
 pub(crate) fn refute_shortly(
     alloc: Global,
     forms: &[Form],

@@ -1,4 +1,4 @@
-use Rattle.std.proofs.Common.{rules, ◌≡◌, ◌∙◌, [], ◌∷◌, ap, sym, subst, ℕ, length}
+use Rattle.std.proofs.Common.{rules, ◌≡◌, ◌∙◌, [], ◌∷◌, ap, sym, subst, ℕ}
 use Rattle.pip_model.specs.Rows.{Row, divided}
 use Rattle.row_laws.specs.Flat.{numbers_of, row_of_numbers}
 use Rattle.row_laws.specs.Short.{IsShortRow}

@@ -1,18 +1,34 @@
-use Rattle.std.proofs.Common.{rules, ◌≡◌}
-use Rattle.pip_model.specs.Run.{Again, Done, turn, point_setting}
-use Rattle.point_turns.specs.Turns.{node_of}
-use Rattle.point_turns.proofs.Pointing.{starts_run, run_goes_on, run_less}
+use Rattle.std.proofs.Common.{rules, ◌≡◌, ap, true, false}
+use Rattle.std.specs.Prelude.{is_some}
+use Rattle.pip_model.specs.Tree.{Bottom}
+use Rattle.pip_model.specs.Run.{Again, Closed, Done, turn, leaf, point_setting, go_on, give, numbers_of}
+use Rattle.short_run.specs.Stops.{stop_fault}
+use Rattle.point_turns.specs.Turns.{node_of, HasSameScope}
+use Rattle.point_turns.proofs.Pointing.{starts_run, run_goes_on, run_less, run_closed}
 use Rattle.form_run.proofs.run.run.Goals as goal
 
-pub loop-found-init : goal.loop-found-init
-loop-found-init c = starts_run c.args.rows.now c.args.work.now c.requires
+pub loop-init : goal.loop-init
+loop-init c = starts_run c.args.rows.now c.args.work.now c.requires
 
-pub loop-found-smaller : goal.loop-found-smaller
-loop-found-smaller c =
-    let e : turn (point_setting c.loop-found.rows.unknowns) (node_of c.loop-found.rows.rows) c.loop-found.work ≡ Done (Again (node_of c.turn_or_end.new.rows.rows)) c.turn_or_end.new.work = search rules in
-    run_less c.args.rows.now c.loop-found.rows c.args.work.now c.loop-found.work c.turn_or_end.new.work c.loop-found.invariant c.turn_or_end.ensures.counted c.turn_or_end.new.rows.rows e
+pub returns-in-Bottom : goal.returns-in-Bottom
+returns-in-Bottom c =
+    let e : turn (point_setting c.loop.rows.unknowns) (node_of c.loop.rows.rows) c.loop.work ≡ Done (Closed Bottom) c.take_turn.new.work = search rules in
+    let told = run_closed c.args.rows.now c.loop.rows c.args.work.now c.loop.work c.take_turn.new.work c.loop.invariant c.take_turn.ensures.gives.counted stop_fault c.take_turn.new.rows.rows false e in
+    record { gives = record { agrees = ap (λ o. go_on o (λ t. give (is_some (numbers_of t)))) told.agrees; counted = told.counted } }
 
-pub loop-found-preserved : goal.loop-found-preserved
-loop-found-preserved c =
-    let e : turn (point_setting c.loop-found.rows.unknowns) (node_of c.loop-found.rows.rows) c.loop-found.work ≡ Done (Again (node_of c.turn_or_end.new.rows.rows)) c.turn_or_end.new.work = search rules in
-    run_goes_on c.args.rows.now c.loop-found.rows c.args.work.now c.loop-found.work c.turn_or_end.new.work c.loop-found.invariant c.turn_or_end.ensures.counted c.turn_or_end.new.rows c.in_ok-found.ensures.scope e
+pub returns-in-List : goal.returns-in-List
+returns-in-List c =
+    let e : turn (point_setting c.loop.rows.unknowns) (node_of c.loop.rows.rows) c.loop.work ≡ Done (Closed (leaf (point_setting c.loop.rows.unknowns) (node_of c.take_turn.new.rows.rows))) c.take_turn.new.work = search rules in
+    let told = run_closed c.args.rows.now c.loop.rows c.args.work.now c.loop.work c.take_turn.new.work c.loop.invariant c.take_turn.ensures.gives.counted stop_fault c.take_turn.new.rows.rows true e in
+    record { gives = record { agrees = ap (λ o. go_on o (λ t. give (is_some (numbers_of t)))) told.agrees; counted = told.counted } }
+
+pub loop-smaller : goal.loop-smaller
+loop-smaller c =
+    let e : turn (point_setting c.loop.rows.unknowns) (node_of c.loop.rows.rows) c.loop.work ≡ Done (Again (node_of c.take_turn.new.rows.rows)) c.take_turn.new.work = search rules in
+    run_less c.args.rows.now c.loop.rows c.args.work.now c.loop.work c.take_turn.new.work c.loop.invariant c.take_turn.ensures.gives.counted c.take_turn.new.rows.rows e
+
+pub loop-preserved : goal.loop-preserved
+loop-preserved c =
+    let scope : HasSameScope c.loop.rows c.take_turn.new.rows = search rules in
+    let e : turn (point_setting c.loop.rows.unknowns) (node_of c.loop.rows.rows) c.loop.work ≡ Done (Again (node_of c.take_turn.new.rows.rows)) c.take_turn.new.work = search rules in
+    run_goes_on c.args.rows.now c.loop.rows c.args.work.now c.loop.work c.take_turn.new.work c.loop.invariant c.take_turn.ensures.gives.counted c.take_turn.new.rows scope e

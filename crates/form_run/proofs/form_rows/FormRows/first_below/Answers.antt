@@ -1,11 +1,10 @@
-use Rattle.std.proofs.Common.{rules, arith, ◌≡◌, ◌∙◌, ◌+◌, ap, sym, ℕ, map, length, Some, None, Option}
+use Rattle.std.proofs.Common.{rules, arith, ◌≡◌, ◌∙◌, ◌+◌, ap, sym, ℕ, map, length, Some, None}
 use Rattle.row_laws.specs.Tableaus.{TableauRows}
 use Rattle.short_run.proofs.FurtherRows.{negative-front}
 use Rattle.point_turns.specs.Turns.{negative_from}
 use Rattle.form_basis.specs.ReadRows.{read}
-use Rattle.form_run.specs.Held.{behind}
 use Rattle.form_run.proofs.Below.{behind_all}
-use Rattle.form_run.proofs.HeldRows.{reads, all_long, few}
+use Rattle.form_run.proofs.HeldRows.{reads, all_long}
 use Rattle.form_run.proofs.form_rows.FormRows.first_below.Goals as goal
 
 pub returns-in-Some-clause-value : goal.returns-in-Some-clause-value
@@ -20,7 +19,7 @@ returns-in-Some-clause-bound c =
     omega (arith, c.in-Some.ensures.bound, all_long s.places s.basis s.forms.lists, ap (λ (t : TableauRows). length t.rows) c.self.view_is)
 
 pub form_below-requires : goal.form_below-requires
-form_below-requires c = let s = c.self.inside in reads s.places s.basis s.forms s.columns s.norm c.self.invariant
+form_below-requires c = let s = c.self.inside in record { read = reads s.places s.basis s.forms s.columns s.norm c.self.invariant.0; above = c.self.invariant.1 }
 
 pub returns-in-Some-form_below-clause-value : goal.returns-in-Some-form_below-clause-value
 returns-in-Some-form_below-clause-value c =

@@ -5,6 +5,7 @@ use Rattle.pip_model.specs.Rows.{Row, row_at, eliminated, pivot, pivot_listed}
 use Rattle.row_laws.specs.Tableaus.{TableauRows}
 use Rattle.form_basis.specs.ReadRows.{IsMeasured}
 use Rattle.form_run.specs.Held.{all_rows}
+use Rattle.form_run.proofs.Below.{none_above}
 use Rattle.form_run.proofs.HeldRows.{all_listed, all_pivot}
 use Rattle.form_run.proofs.form_rows.FormRows.pivot.Goals as goal
 
@@ -12,14 +13,14 @@ pub returns-then-turn-clause-listed : goal.returns-then-turn-clause-listed
 returns-then-turn-clause-listed c =
     let s = c.self.inside in
     subst (λ (t : TableauRows). IsTrue (all_fit (pivot_listed t.rows c.args.r c.args.c))) c.self.view_is
-    (all_listed s.places s.basis s.forms s.columns s.norm c.self.invariant c.args.r c.args.c
+    (all_listed s.places s.basis s.forms s.columns s.norm c.self.invariant.0 c.args.r c.args.c
     (omega (arith, c.requires.row, ap (λ (t : TableauRows). length t.rows) c.self.view_is)) (omega (arith, c.requires.candidate.column, ap (λ (t : TableauRows). t.unknowns) c.self.view_is)))
 
 pub returns-clause-listed : goal.returns-clause-listed
 returns-clause-listed c =
     let s = c.self.inside in
     subst (λ (t : TableauRows). IsTrue (all_fit (pivot_listed t.rows c.args.r c.args.c))) c.self.view_is
-    (all_listed s.places s.basis s.forms s.columns s.norm c.self.invariant c.args.r c.args.c
+    (all_listed s.places s.basis s.forms s.columns s.norm c.self.invariant.0 c.args.r c.args.c
     (omega (arith, c.requires.row, ap (λ (t : TableauRows). length t.rows) c.self.view_is)) (omega (arith, c.requires.candidate.column, ap (λ (t : TableauRows). t.unknowns) c.self.view_is)))
 
 pub returns-then-turn-clause-short : goal.returns-then-turn-clause-short
@@ -38,5 +39,8 @@ returns-then-turn-clause-short c = λ _.
     let e : c.turn.new.places ≡ record c.self.inside.places { rows = map (eliminated (row_at (all_rows c.self.inside.places c.self.inside.basis c.self.inside.forms.lists).rows c.args.r) c.args.c) c.self.inside.places.rows }
     = turned ∙ ap (λ (p : Row). record c.self.inside.places { rows = map (eliminated p c.args.c) c.self.inside.places.rows }) same in
     ap (λ (t : TableauRows). all_rows t a s.forms.lists) e
-    ∙ all_pivot s.places s.basis s.forms s.columns s.norm c.self.invariant c.args.r c.args.c a lt inside above (subst (λ (t : TableauRows). IsMeasured t c.turn.new.basis) e measured)
+    ∙ all_pivot s.places s.basis s.forms s.columns s.norm c.self.invariant.0 c.args.r c.args.c a lt inside above (subst (λ (t : TableauRows). IsMeasured t c.turn.new.basis) e measured)
     ∙ ap (λ (t : TableauRows). record t { rows = pivot t.rows c.args.r c.args.c }) c.self.view_is
+
+pub invariant_of-self-2 : goal.invariant_of-self-2
+invariant_of-self-2 c = (c.clear.ensures 0 (omega arith), none_above c.clear.new.places c.clear.new.basis c.clear.new.forms.lists)

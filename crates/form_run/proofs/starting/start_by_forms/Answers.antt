@@ -1,8 +1,8 @@
-use Rattle.std.proofs.Common.{rules, ◌≡◌, ◌∙◌, sym, subst, ℕ, ◌+◌, ◌++◌, [], List, ℤ, length, map, All}
+use Rattle.std.proofs.Common.{rules, ◌≡◌, sym, subst, ℕ, ◌+◌, ◌++◌, [], List, ℤ, length, map, All}
 use Rattle.pip_model.specs.Forms.{widen_to}
 use Rattle.pip_model.specs.Rows.{start}
 use Rattle.form_run.proofs.Started.{start_long, both_wide}
-use Rattle.form_run.proofs.starting.start.Goals as goal
+use Rattle.form_run.proofs.starting.start_by_forms.Goals as goal
 
 pub measured-requires-clause-places : goal.measured-requires-clause-places
 measured-requires-clause-places c =
