@@ -20,7 +20,7 @@ use short_run::{ShortTableau, Stop, start_short, take_turn};
 use std::alloc::Global;
 
 // How many cuts a run makes in short rows.
-const MOST_CUTS: usize = 128;
+const MOST_CUTS: usize = 32;
 
 // The step of the cut by row i.
 fn trace_cut(
@@ -53,7 +53,7 @@ fn trace_last(
     trace.close(alloc, r, &view_of(&numbers, rows.unknowns(), true))
 }
 
-/// The run over short rows to its end, with its trace: the steps, none where it found a point. It stops at its 129th
+/// The run over short rows to its end, with its trace: the steps, none where it found a point. It stops at its 33rd
 /// cut, since each cut is a row more that every pivot turns.
 pub fn refute_on(
     alloc: Global,
