@@ -14,12 +14,11 @@ ghost use Rattle.lane_questions.specs.Signs.{class_of_sign};
 ghost use Rattle.context.specs.Scoped.{IsKeptContext};
 
 use crate::constants::are_nonnegative;
-use crate::spares::Spares;
 use affine_forms::{Form, WantOfMemory};
 use certificate_parts::Refutation;
 use kept_run::{
-    Point, Question, Remembered, ask_by_forms, ask_plainly, ask_shortly, find_point, go_further,
-    refute_forms, remember,
+    Point, Question, Remembered, Spares, ask_by_forms, ask_plainly, ask_shortly, find_point,
+    go_further, refute_forms, remember,
 };
 use lane_questions::{LaneQuestions, LaneSign, Lanes, write_form};
 use pip_problem::Refusal;

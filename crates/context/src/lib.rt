@@ -3,7 +3,6 @@
 
 mod constants;
 mod context;
-mod spares;
 
 pub use context::{Context, ContextMark};
 pub use kept_run::Point;

@@ -5,7 +5,7 @@ use Rattle.pip_model.specs.Listed.{all_fit}
 use Rattle.pip_model.specs.Numbers.{is_nonneg}
 use Rattle.pip_model.specs.Tree.{Tree}
 use Rattle.pip_model.specs.Rows.{Row, row_at, eliminated, eliminated_listed, entering, entering_listed}
-use Rattle.pip_model.specs.Run.{Work, Counted, Node, ◌>>=◌, ◌>>◌, go_on, give, listed, count_pivot, run_from, point, point_setting}
+use Rattle.pip_model.specs.Run.{Work, Counted, Node, ◌>>=◌, ◌>>◌, go_on, give, listed, count_pivot, run_from, point_setting}
 use Rattle.pip_model.specs.Refuting.{Trace, refute_from}
 use Rattle.refutation_steps.specs.Choices.{IsCandidate}
 use Rattle.refutation_steps.specs.Tableaus.{IsRow}

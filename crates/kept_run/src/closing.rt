@@ -13,7 +13,7 @@ use crate::question::Question;
 use crate::remembered::Remembered;
 use affine_forms::WantOfMemory;
 use certificate_parts::Refutation;
-use refutation_steps::{Trace, refute_on, view_of};
+use refutation_steps::{Trace, refute_on};
 use run_counts::Work;
 use short_run::{ShortTableau, Stop};
 use std::alloc::Global;
@@ -35,7 +35,6 @@ fn closing_row(rows: &ShortTableau) -> Option<usize>
 
 // The step at row r, behind so many others, which is below 0 and has no positive coefficient.
 fn trace_behind(
-    alloc: Global,
     front: usize,
     rows: &ShortTableau,
     r: usize,
@@ -50,8 +49,7 @@ fn trace_behind(
     let Some(at) = front.checked_add(r) else {
         return Err(WantOfMemory);
     };
-    let numbers = rows.wide_row(alloc, r)?;
-    trace.close(alloc, at, &view_of(&numbers, rows.unknowns(), true))
+    trace.close_short(at, rows, r)
 }
 
 /// Goes on from a remembered run with the question's rows behind its own, with its trace: the steps, none where it finds
@@ -60,19 +58,19 @@ pub fn refute_with(
     alloc: Global,
     m: &Remembered,
     question: &mut Question,
-    mut trace: Trace,
+    trace: &mut Trace,
     work: &mut Work,
 ) -> Result<Option<Refutation>, Stop>
     requires stopped { IsStopped m.now }
     requires unknowns { question.old.row.unknowns ≡ m.now.run.end.unknowns }
-    requires traced { IsTraced m.now.run.end.unknowns (m.now.run.end.rows ++ question.old.row.rows) trace }
+    requires traced { IsTraced m.now.run.end.unknowns (m.now.run.end.rows ++ question.old.row.rows) trace.old }
     ensures gives { IsCountedRun (λ o. o) stop_fault result work.old work.new
-        (refute_from m.now.run.end.unknowns trace (node_of (m.now.run.end.rows ++ question.old.row.rows))) }
+        (refute_from m.now.run.end.unknowns trace.old (node_of (m.now.run.end.rows ++ question.old.row.rows))) }
 {
     if m.at_end {
         if let Some(r) = closing_row(&question.row) {
-            trace_behind(alloc, m.run.end.rows(), &question.row, r, &mut trace)?;
-            return Ok(Some(trace.into_steps()));
+            trace_behind(m.run.end.rows(), &question.row, r, trace)?;
+            return Ok(Some(trace.take_steps()));
         }
     }
     put_behind(&m.run, &question.row, &mut question.run)?;

@@ -1,5 +1,5 @@
 -- Indices with positive multipliers, one by one; indices from 0 on.
-use Rattle.refutation_steps.proofs.Words.{◌≡◌, refl, ap, ◌∙◌, ℕ, zero, suc, ◌+◌, ◌<◌, ◌≤◌, ℤ, pos, true, false, List, [], ◌∷◌, ◌++◌, length, length-append, take, drop, arith, sym, drop_more, take-append-le, is_positive, entry, positive_terms, indices}
+use Rattle.refutation_steps.proofs.Words.{◌≡◌, refl, ap, ◌∙◌, ℕ, zero, suc, ◌+◌, ◌<◌, ◌≤◌, ℤ, pos, negsuc, ints, ◌≤ℤ◌, ◌<ℤ◌, neg_ℤ, true, false, List, [], ◌∷◌, ◌++◌, length, length-append, take, drop, arith, sym, drop_more, take-append-le, is_positive, entry, negate, entry-negate, positive_terms, indices}
 use Rattle.std.proofs.Math.Seq.{append_snoc}
 
 module _ (is ms : List ℤ) (i : ℕ) (h : i < length is) (k : length ms ≡ length is) where
@@ -30,6 +30,22 @@ kept-here S T U x made kept long = rw (made, take-append-le (length S) T (x ∷ 
 
 pub longer-here : (S T U : List (ℤ × ℤ)) (x : ℤ × ℤ) → U ≡ T ++ x ∷ [] → length S ≤ length T → length S ≤ length U
 longer-here S T U x made long = rw made (omega (arith, length-append T (x ∷ [])))
+
+-- opposites are above 0 just where the numbers are below 0
+pub opposite-here : (xs : List ℤ) (i : ℕ) → entry xs i <ℤ pos 0 → is_positive (entry (negate xs) i) ≡ true
+opposite-here xs i h = ap is_positive (entry-negate xs i) ∙ above (entry xs i) h
+  where
+    above : (z : ℤ) → z <ℤ pos 0 → is_positive (neg_ℤ z) ≡ true
+    above (pos n) h = absurd (omega (arith, ints))
+    above (negsuc n) h = refl
+
+pub opposite-later : (xs : List ℤ) (i : ℕ) → pos 0 ≤ℤ entry xs i → is_positive (entry (negate xs) i) ≡ false
+opposite-later xs i h = ap is_positive (entry-negate xs i) ∙ rest (entry xs i) h
+  where
+    rest : (z : ℤ) → pos 0 ≤ℤ z → is_positive (neg_ℤ z) ≡ false
+    rest (pos zero) h = refl
+    rest (pos (suc n)) h = refl
+    rest (negsuc n) h = absurd (omega (arith, ints))
 
 -- one index more
 pub indices-last : (i n k : ℕ) → i + n ≡ k → indices i (n + 1) ≡ indices i n ++ pos k ∷ []

@@ -1,13 +1,14 @@
 -- The words of other modules that the proofs of this crate cite, passed on from one place. Declares nothing.
-pub use Rattle.std.proofs.Common.{◌≡◌, refl, ap, sym, ◌∙◌, ℕ, zero, suc, ◌<◌, ◌≤◌, ℤ, Bool, true, false, Option, Some, None, List, [], ◌∷◌, length, take, arith, length-append, ◌+◌, ◌++◌, pos, drop, slice_set, append_assoc, All, rules}
-pub use Rattle.std.specs.Prelude.{Ok, if◌then◌else◌}
+pub use Rattle.std.proofs.Common.{◌≡◌, refl, ap, sym, ◌∙◌, ℕ, zero, suc, ◌<◌, ◌≤◌, ℤ, Bool, true, false, Option, Some, None, List, [], ◌∷◌, length, take, arith, length-append, ◌+◌, ◌++◌, pos, negsuc, drop, slice_set, append_assoc, All, rules}
+pub use Rattle.std.specs.Prelude.{Ok, if◌then◌else◌, ◌≤ℤ◌, ◌<ℤ◌, neg_ℤ}
 pub use Rattle.std.proofs.lemmas.List.{length-map, drop_more, take-append-le, get_or_append_left}
+pub use Rattle.std.proofs.lemmas.Int.{ints}
 pub use Rattle.std.proofs.lemmas.List.Elements.{All-push}
-pub use Rattle.pip_model.specs.Forms.{constant, entry, widen_to}
+pub use Rattle.pip_model.specs.Forms.{constant, entry, widen_to, negate}
 pub use Rattle.pip_model.specs.Tree.{Bottom}
 pub use Rattle.pip_model.specs.Rows.{Row, start, row_at, form_row, first_fraction, entering}
 pub use Rattle.pip_model.specs.Run.{Work, Outcome, Done, Refusal, Turn, Again, Closed, left, turn, point_setting, MinusAt, Counted}
-pub use Rattle.pip_model.proofs.Forms.{length-count}
+pub use Rattle.pip_model.proofs.Forms.{length-count, entry-negate}
 pub use Rattle.pip_model.proofs.Fuel.{again_less, falls-constant_class}
 pub use Rattle.pip_problem.specs.Faults.{run_fault}
 pub use Rattle.pip_model.specs.Refuting.{Trace, refute_from, with_step, last_step, refute, positive_terms, indices, traced, pivot_trace, cut_trace, refute_by, first_trace}

@@ -10,6 +10,7 @@ ghost use Rattle.short_run.specs.Stops.{stop_fault};
 ghost use Rattle.refutation_steps.specs.Traces.{IsTraced, with_cut};
 ghost use Rattle.point_run.specs.Turns.{node_of};
 
+use crate::room::RefutationRoom;
 use crate::trace::Trace;
 use affine_forms::{Form, WantOfMemory};
 use certificate_parts::Refutation;
@@ -39,7 +40,6 @@ fn trace_cut(
 
 // The step at row r, which is below 0 and has no positive coefficient.
 fn trace_last(
-    alloc: Global,
     rows: &FormRows,
     room: &mut RowRoom,
     r: usize,
@@ -51,8 +51,7 @@ fn trace_last(
         (last_step (row_at rows.now.rows r) (entry trace.old.rows r) trace.old.columns)) }
 {
     rows.read_row(r, room)?;
-    let numbers = room.row.wide_row(alloc, 0)?;
-    trace.close(alloc, r, &view_of(&numbers, room.row.unknowns(), true))
+    trace.close_short(r, &room.row, 0)
 }
 
 // The run over rows that are read off their forms to its end, with its trace: the steps, none where it found a point.
@@ -60,30 +59,30 @@ fn refute_on(
     alloc: Global,
     rows: &mut FormRows,
     room: &mut RowRoom,
-    mut trace: Trace,
+    trace: &mut Trace,
     work: &mut Work,
 ) -> Result<Option<Refutation>, Stop>
     requires rows { rows.old.unknowns ≤ length rows.old.rows }
-    requires traced { IsTraced rows.old.unknowns rows.old.rows trace }
+    requires traced { IsTraced rows.old.unknowns rows.old.rows trace.old }
     ensures gives { IsCountedRun (λ o. o) stop_fault result work.old work.new
-        (refute_from rows.old.unknowns trace (node_of rows.old.rows)) }
+        (refute_from rows.old.unknowns trace.old (node_of rows.old.rows)) }
 {
     loop {
         match take_turn(rows, room, work)? {
             PointTurn::Bottom(r) => {
-                trace_last(alloc, rows, room, r, &mut trace)?;
-                return Ok(Some(trace.into_steps()));
+                trace_last(rows, room, r, trace)?;
+                return Ok(Some(trace.take_steps()));
             }
             PointTurn::List => return Ok(None),
             PointTurn::Pivot(r, c) => trace.exchange(r, c),
-            PointTurn::Cut(i) => trace_cut(alloc, rows, room, i, &mut trace)?,
+            PointTurn::Cut(i) => trace_cut(alloc, rows, room, i, trace)?,
         }
     }
 }
 
 // The steps of the run without parameters over rows that are read off these forms, none where it finds a point.
 fn run(
-    alloc: Global,
+    room: &mut RefutationRoom,
     forms: &[Form],
     places: &[i128],
     first: i128,
@@ -96,15 +95,15 @@ fn run(
     ensures gives { IsCountedRun (λ o. o) stop_fault result work.old work.new
         (refute_by (length places.now) forms.now places.now first) }
 {
-    let mut room = RowRoom::new(alloc);
-    let mut rows = start_by_forms(alloc, places.len(), forms, &[], &mut room)?;
-    let trace = Trace::start(alloc, places, forms.len(), first)?;
-    refute_on(alloc, &mut rows, &mut room, trace, work)
+    let mut row = RowRoom::new(room.alloc);
+    let mut rows = start_by_forms(room.alloc, places.len(), forms, &[], &mut row)?;
+    room.trace.restart(places, forms.len(), first)?;
+    refute_on(room.alloc, &mut rows, &mut row, &mut room.trace, work)
 }
 
 // The same; None where a number is not short, or the form of a cut is not found, and nothing is counted then.
 pub(crate) fn refute_by_forms(
-    alloc: Global,
+    room: &mut RefutationRoom,
     forms: &[Form],
     places: &[i128],
     first: i128,
@@ -119,7 +118,7 @@ pub(crate) fn refute_by_forms(
     ensures none { IfNone result (work.new ≡ work.old) }
 {
     let before = work.counts();
-    match run(alloc, forms, places, first, work) {
+    match run(room, forms, places, first, work) {
         Ok(found) => Some(Ok(found)),
         Err(Stop::Refused(refusal)) => Some(Err(refusal)),
         Err(Stop::Long) => {

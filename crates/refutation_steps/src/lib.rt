@@ -4,6 +4,7 @@
 mod form_refute;
 mod positive_terms;
 mod refute;
+mod room;
 mod short_refute;
 mod trace;
 
@@ -11,5 +12,6 @@ pub use form_run::ask_by_forms;
 pub use point_run::{Point, find_point, push_form, run_on, start_rows, view_of};
 pub use positive_terms::push_positive;
 pub use refute::refute_forms;
+pub use room::RefutationRoom;
 pub use short_refute::refute_on;
 pub use trace::Trace;

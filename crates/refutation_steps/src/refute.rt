@@ -9,6 +9,7 @@ ghost use Rattle.refutation_steps.specs.Traces.{IsTraced};
 ghost use Rattle.point_run.specs.Turns.{node_of};
 
 use crate::form_refute::refute_by_forms;
+use crate::room::RefutationRoom;
 use crate::short_refute::refute_shortly;
 use crate::trace::Trace;
 use affine_forms::Form;
@@ -22,20 +23,20 @@ use std::alloc::Global;
 fn refute_on(
     alloc: Global,
     rows: &mut Tableau,
-    mut trace: Trace,
+    trace: &mut Trace,
     work: &mut Work,
 ) -> Result<Option<Refutation>, Refusal>
     requires width { rows.old.width ≡ 0 }
     requires rows { rows.old.unknowns ≤ length rows.old.rows }
-    requires traced { IsTraced rows.old.unknowns rows.old.rows trace }
+    requires traced { IsTraced rows.old.unknowns rows.old.rows trace.old }
     ensures gives { IsCountedRun (λ o. o) run_fault result work.old work.new
-        (refute_from rows.old.unknowns trace (node_of rows.old.rows)) }
+        (refute_from rows.old.unknowns trace.old (node_of rows.old.rows)) }
 {
     loop {
         match take_turn(rows, work)? {
             PointTurn::Bottom(r) => {
                 trace.close(alloc, r, &rows.row(r))?;
-                return Ok(Some(trace.into_steps()));
+                return Ok(Some(trace.take_steps()));
             }
             PointTurn::List => return Ok(None),
             PointTurn::Pivot(r, c) => trace.exchange(r, c),
@@ -46,7 +47,7 @@ fn refute_on(
 
 // The steps of the run without parameters over the forms as rows, none where it finds a point.
 fn run(
-    alloc: Global,
+    room: &mut RefutationRoom,
     forms: &[Form],
     places: &[i128],
     first: i128,
@@ -59,15 +60,15 @@ fn run(
     ensures gives { IsCountedRun (λ o. o) run_fault result work.old work.new
         (refute_by (length places.now) forms.now places.now first) }
 {
-    let mut rows = start_rows(alloc, places.len(), forms)?;
-    let trace = Trace::start(alloc, places, forms.len(), first)?;
-    refute_on(alloc, &mut rows, trace, work)
+    let mut rows = start_rows(room.alloc, places.len(), forms)?;
+    room.trace.restart(places, forms.len(), first)?;
+    refute_on(room.alloc, &mut rows, &mut room.trace, work)
 }
 
 // The same in 64 bits: over short rows, and where they have many cuts over rows that are read off their forms. None where
 // neither run gets to its end, and nothing is counted then.
 fn refute_in_64_bits(
-    alloc: Global,
+    room: &mut RefutationRoom,
     forms: &[Form],
     places: &[i128],
     first: i128,
@@ -81,10 +82,36 @@ fn refute_in_64_bits(
         (refute_by (length places.now) forms.now places.now first)) }
     ensures none { IfNone result (work.new ≡ work.old) }
 {
-    if let Some(found) = refute_shortly(alloc, forms, places, first, work) {
+    if let Some(found) = refute_shortly(room, forms, places, first, work) {
         return Some(found);
     }
-    refute_by_forms(alloc, forms, places, first, work)
+    refute_by_forms(room, forms, places, first, work)
+}
+
+impl RefutationRoom {
+    /// The steps by which the forms have no point, none where they have one.
+    pub fn refute(
+        &mut self,
+        forms: &[Form],
+        places: &[i128],
+        first: i128,
+        work: &mut Work,
+    ) -> Result<Option<Refutation>, Refusal>
+        requires context { IsContext (length places.now) forms.now }
+        requires places { All Fits places.now }
+        requires some { pos 0 ≤ℤ first }
+        requires few { first <ℤ pos (2 ^ 64) }
+        ensures gives { IsCountedRun (λ o. o) run_fault result work.old work.new
+            (model.refute (length places.now) forms.now places.now first) }
+    {
+        if places.is_empty() && forms.is_empty() {
+            return Ok(None);
+        }
+        if let Some(found) = refute_in_64_bits(self, forms, places, first, work) {
+            return found;
+        }
+        run(self, forms, places, first, work)
+    }
 }
 
 /// The steps by which the forms have no point, none where they have one.
@@ -102,11 +129,6 @@ pub fn refute_forms(
     ensures gives { IsCountedRun (λ o. o) run_fault result work.old work.new
         (model.refute (length places.now) forms.now places.now first) }
 {
-    if places.is_empty() && forms.is_empty() {
-        return Ok(None);
-    }
-    if let Some(found) = refute_in_64_bits(alloc, forms, places, first, work) {
-        return found;
-    }
-    run(alloc, forms, places, first, work)
+    let mut room = RefutationRoom::new(alloc);
+    room.refute(forms, places, first, work)
 }

@@ -1,7 +1,6 @@
 ghost use Rattle.std.specs.Prelude.{◌≡◌, ◌^◌, ◌<◌, ◌≤◌, pos, ◌≤ℤ◌, ◌<ℤ◌, length, All, OnOk, IfSome, IfNone};
 ghost use Rattle.pip_model.specs.Contexts.{IsContext};
-ghost use Rattle.pip_model.specs.Forms.{entry};
-ghost use Rattle.pip_model.specs.Refuting.{refute_by, refute_from, with_step, last_step};
+ghost use Rattle.pip_model.specs.Refuting.{refute_by, refute_from};
 ghost use Rattle.pip_model.specs.Rows.{row_at};
 ghost use Rattle.affine_forms.specs.Checks.{Fits};
 ghost use Rattle.pip_problem.specs.Faults.{run_fault};
@@ -10,6 +9,7 @@ ghost use Rattle.short_run.specs.Stops.{stop_fault};
 ghost use Rattle.refutation_steps.specs.Traces.{IsTraced, with_cut};
 ghost use Rattle.point_run.specs.Turns.{node_of};
 
+use crate::room::RefutationRoom;
 use crate::trace::Trace;
 use affine_forms::{Form, WantOfMemory};
 use certificate_parts::Refutation;
@@ -37,34 +37,18 @@ fn trace_cut(
     trace.cut(alloc, &view_of(&numbers, rows.unknowns(), true))
 }
 
-// The step at row r, which is below 0 and has no positive coefficient.
-fn trace_last(
-    alloc: Global,
-    rows: &ShortTableau,
-    r: usize,
-    trace: &mut Trace,
-) -> Result<(), WantOfMemory>
-    requires row { r < length rows.now.rows }
-    requires traced { IsTraced rows.now.unknowns rows.now.rows trace.old }
-    ensures { OnOk result (trace.new ≡ with_step trace.old
-        (last_step (row_at rows.now.rows r) (entry trace.old.rows r) trace.old.columns)) }
-{
-    let numbers = rows.wide_row(alloc, r)?;
-    trace.close(alloc, r, &view_of(&numbers, rows.unknowns(), true))
-}
-
 /// The run over short rows to its end, with its trace: the steps, none where it found a point. It stops at its 33rd
 /// cut, since each cut is a row more that every pivot turns.
 pub fn refute_on(
     alloc: Global,
     rows: &mut ShortTableau,
-    mut trace: Trace,
+    trace: &mut Trace,
     work: &mut Work,
 ) -> Result<Option<Refutation>, Stop>
     requires rows { rows.old.unknowns ≤ length rows.old.rows }
-    requires traced { IsTraced rows.old.unknowns rows.old.rows trace }
+    requires traced { IsTraced rows.old.unknowns rows.old.rows trace.old }
     ensures gives { IsCountedRun (λ o. o) stop_fault result work.old work.new
-        (refute_from rows.old.unknowns trace (node_of rows.old.rows)) }
+        (refute_from rows.old.unknowns trace.old (node_of rows.old.rows)) }
 {
     let most = rows.rows().saturating_add(MOST_CUTS);
     loop {
@@ -73,19 +57,19 @@ pub fn refute_on(
         }
         match take_turn(rows, work)? {
             PointTurn::Bottom(r) => {
-                trace_last(alloc, rows, r, &mut trace)?;
-                return Ok(Some(trace.into_steps()));
+                trace.close_short(r, rows, r)?;
+                return Ok(Some(trace.take_steps()));
             }
             PointTurn::List => return Ok(None),
             PointTurn::Pivot(r, c) => trace.exchange(r, c),
-            PointTurn::Cut(i) => trace_cut(alloc, rows, i, &mut trace)?,
+            PointTurn::Cut(i) => trace_cut(alloc, rows, i, trace)?,
         }
     }
 }
 
 // The steps of the run without parameters over the forms as short rows, none where it finds a point.
 fn run(
-    alloc: Global,
+    room: &mut RefutationRoom,
     forms: &[Form],
     places: &[i128],
     first: i128,
@@ -98,15 +82,14 @@ fn run(
     ensures gives { IsCountedRun (λ o. o) stop_fault result work.old work.new
         (refute_by (length places.now) forms.now places.now first) }
 {
-    let mut rows = ShortTableau::new(alloc, places.len());
-    start_short(&mut rows, places.len(), forms)?;
-    let trace = Trace::start(alloc, places, forms.len(), first)?;
-    refute_on(alloc, &mut rows, trace, work)
+    start_short(&mut room.rows, places.len(), forms)?;
+    room.trace.restart(places, forms.len(), first)?;
+    refute_on(room.alloc, &mut room.rows, &mut room.trace, work)
 }
 
 // The same; None where a number is not short, or there are many cuts, and nothing is counted then.
 pub(crate) fn refute_shortly(
-    alloc: Global,
+    room: &mut RefutationRoom,
     forms: &[Form],
     places: &[i128],
     first: i128,
@@ -121,7 +104,7 @@ pub(crate) fn refute_shortly(
     ensures none { IfNone result (work.new ≡ work.old) }
 {
     let before = work.counts();
-    match run(alloc, forms, places, first, work) {
+    match run(room, forms, places, first, work) {
         Ok(found) => Some(Ok(found)),
         Err(Stop::Refused(refusal)) => Some(Err(refusal)),
         Err(Stop::Long) => {

@@ -1,17 +1,20 @@
 ghost use Rattle.std.specs.Prelude.{◌≡◌, ◌^◌, ◌<◌, [], ◌∷◌, ◌++◌, pos, ◌≤ℤ◌, ◌<ℤ◌, length, slice_set, All, IfOk, OnOk};
-ghost use Rattle.pip_model.specs.Forms.{entry};
-ghost use Rattle.pip_model.specs.Refuting.{indices, first_trace, with_step, cut_step, last_step};
+ghost use Rattle.pip_model.specs.Forms.{entry, negate};
+ghost use Rattle.pip_model.specs.Refuting.{indices, positive_terms, first_trace, with_step, cut_step, last_step};
+ghost use Rattle.pip_model.specs.Rows.{row_at};
 ghost use Rattle.affine_forms.specs.Checks.{Fits};
 ghost use Rattle.point_run.specs.Tableaus.{IsRow};
 ghost use Rattle.point_run.specs.Views.{row_of};
 ghost use Rattle.refutation_steps.specs.Traces.{with_cut};
 
-use crate::positive_terms::push_positive;
+use crate::positive_terms::{count_negative, push_opposites, push_positive};
 use affine_forms::{WantOfMemory, negate_all, remainders};
 use certificate_parts::{Refutation, Step, Terms};
 use point_run::RowView;
+use short_run::ShortTableau;
 use std::alloc::Global;
 use std::marker::Model;
+use std::mem::replace;
 
 // For each row and each column of a run without parameters the index of the known form that is its quantity, the
 // index of the first step's form, and the steps so far.
@@ -41,41 +44,60 @@ impl Model for Trace {
         × (pos 0 ≤ℤ t.first) × (t.first <ℤ pos (2 ^ 64)) };
 }
 
-// The indices, and behind them those of so many forms from 0 on.
-fn with_forms(alloc: Global, places: &[i128], count: usize) -> Result<Vec<i128>, WantOfMemory>
+// Makes of the indices these, and behind them those of so many forms from 0 on. After a refusal some of them may stand
+// there.
+fn write_indices(list: &mut Vec<i128>, places: &[i128], count: usize) -> Result<(), WantOfMemory>
     requires places { All Fits places.now }
-    ensures value { IfOk result (λ v. v.items ≡ places.now ++ indices 0 count) }
-    ensures fits { IfOk result (λ v. All Fits v.items) }
+    ensures value { OnOk result (list.new.items ≡ places.now ++ indices 0 count) }
+    ensures fits { All Fits list.new.items }
 {
-    let mut made = Vec::with_capacity(alloc, places.len().saturating_add(count))?;
-    made.extend_from_slice(places)?;
+    list.clear();
+    list.reserve(places.len().saturating_add(count))?;
+    list.extend_from_slice(places)?;
     for i in 0..count {
-        made.push(i as i128)?;
+        list.push(i as i128)?;
     }
-    Ok(made)
+    Ok(())
 }
 
 impl Trace {
-    /// No step yet: the rows of the places, and then of so many forms.
-    pub fn start(
-        alloc: Global,
+    /// No rows, no columns and no steps. It takes no memory.
+    pub fn new(alloc: Global) -> Trace
+        ensures { result ≡ record { rows = []; columns = []; next = pos 0; steps = [] } }
+    {
+        Trace {
+            rows: Vec::new(alloc),
+            columns: Vec::new(alloc),
+            first: 0,
+            steps: Refutation::new(alloc),
+        }
+    }
+
+    // No steps.
+    fn no_steps(&self) -> Refutation
+        ensures { result ≡ [] }
+    {
+        Refutation::new(*self.rows.allocator())
+    }
+
+    /// Starts again with no step, in the rooms that it has: the rows of the places, and then of so many forms.
+    pub fn restart(
+        &mut self,
         places: &[i128],
         count: usize,
         first: i128,
-    ) -> Result<Trace, WantOfMemory>
+    ) -> Result<(), WantOfMemory>
         requires places { All Fits places.now }
         requires some { pos 0 ≤ℤ first }
         requires few { first <ℤ pos (2 ^ 64) }
-        ensures { IfOk result (λ t. t ≡ first_trace places.now count first) }
+        ensures { OnOk result (self.new ≡ first_trace places.now count first) }
     {
-        let rows = with_forms(alloc, places, count)?;
-        let columns = Vec::from_slice(alloc, places)?;
-        Ok(Trace {
-            rows,
-            columns,
-            first,
-            steps: Refutation::new(alloc),
-        })
+        write_indices(&mut self.rows, places, count)?;
+        self.columns.clear();
+        self.columns.extend_from_slice(places)?;
+        self.first = first;
+        self.steps = self.no_steps();
+        Ok(())
     }
 
     /// The row's quantity is the column's from here on.
@@ -162,10 +184,44 @@ impl Trace {
         self.push_step(Step { divisor: 1, terms })
     }
 
-    /// The steps.
-    pub fn into_steps(self) -> Refutation
-        ensures { result ≡ self.steps }
+    // The same where the row's numbers have 64 bits, in room for just its pairs.
+    fn short_terms(&self, at: usize, den: i64, coefs: &[i64]) -> Result<Terms, WantOfMemory>
+        requires index { at < length self.now.rows }
+        requires number { length coefs.now ≡ length self.now.columns }
+        ensures { IfOk result (λ terms. terms
+            ≡ (entry self.now.rows at, den) ∷ positive_terms self.now.columns (negate coefs.now)) }
     {
-        self.steps
+        let pairs = count_negative(coefs).saturating_add(1);
+        let mut terms = Terms::with_capacity(*self.rows.allocator(), pairs)?;
+        terms.push((self.rows[at], den as i128))?;
+        push_opposites(&mut terms, &self.columns, coefs)?;
+        Ok(terms)
+    }
+
+    /// The step at row r of these, which is below 0 and has no positive coefficient, and whose quantity has an index at
+    /// this place.
+    pub fn close_short(
+        &mut self,
+        at: usize,
+        rows: &ShortTableau,
+        r: usize,
+    ) -> Result<(), WantOfMemory>
+        requires index { at < length self.old.rows }
+        requires row { r < length rows.now.rows }
+        requires columns { length self.old.columns ≡ rows.now.unknowns }
+        ensures { OnOk result (self.new ≡ with_step self.old
+            (last_step (row_at rows.now.rows r) (entry self.old.rows at) self.old.columns)) }
+    {
+        let row = rows.row(r);
+        let terms = self.short_terms(at, row.den, row.coefs)?;
+        self.push_step(Step { divisor: 1, terms })
+    }
+
+    /// The steps, which are not kept.
+    pub fn take_steps(&mut self) -> Refutation
+        ensures { result ≡ self.old.steps }
+    {
+        let none = self.no_steps();
+        replace(&mut self.steps, none)
     }
 }

@@ -1,5 +1,5 @@
 -- The kept run of some forms with others behind them.
-use Rattle.refuter.proofs.Words.{◌≡◌, ◌∙◌, refl, ap, ap₂, sym, subst, ℕ, zero, suc, ◌+◌, ◌<◌, ◌≤◌, arith, ℤ, List, [], ◌∷◌, ◌++◌, All, length, length-append, map, get_or, take, drop, Option, IfSome, map-append, length-map, length-take-le, take-append-drop, All-head, All-tail, IsContext, narrow_to, Refutation, constant, widen_to, Row, form_row, Work, Outcome, Done, Refused, Refusal, go_on, Trace, refute, refute_from, first_trace, length_slice_set, node_of, replayed, form_rows, first_rows, IsRemembered, exchanged, exchanges, IsTraced, Remembered, KeptForms, AreFirst}
+use Rattle.refuter.proofs.Words.{◌≡◌, ◌∙◌, refl, ap, ap₂, sym, subst, ℕ, zero, suc, ◌+◌, ◌<◌, ◌≤◌, arith, ℤ, List, [], ◌∷◌, ◌++◌, All, length, length-append, map, get_or, take, drop, Option, IfSome, map-append, length-map, length-take-le, take-append-drop, All-head, All-tail, IsContext, narrow_to, Refutation, constant, width, form-parts, widen_to, Row, form_row, Work, Outcome, Done, Refused, Refusal, go_on, Trace, refute, refute_from, first_trace, length_slice_set, node_of, replayed, form_rows, first_rows, IsRemembered, exchanged, exchanges, IsTraced, Remembered, KeptForms, AreFirst}
 use Rattle.refuter.specs.KeptForms.{AreFirstOver}
 use Rattle.point_run.proofs.Leaving.{passes_refusal}
 use Rattle.kept_run.proofs.OneFormMore.{rows-more}
@@ -74,6 +74,23 @@ narrow-context w (suc i) [] all = tt
 narrow-context w (suc i) (c ∷ forms) all =
     let long = narrow-length w c (All-head (λ c. w < length c) c forms all) in
     (record { some = omega (arith, long); most = omega (arith, long) }, narrow-context w i forms (All-tail (λ c. w < length c) c forms all))
+
+-- forms that are over no more places are the same
+pub narrow-same : (w : ℕ) (forms : List (List ℤ)) → All (λ c. w < length c) forms → All (λ c. width c ≡ w) forms → map (narrow_to w) forms ≡ forms
+narrow-same w [] long over = refl
+narrow-same w (c ∷ forms) long over =
+    let here : w < length c = All-head (λ c. w < length c) c forms long in
+    let place : width c ≡ w = All-head (λ c. width c ≡ w) c forms over in
+    let parts = form-parts w c (omega (arith, here, place)) in
+    ap₂ (λ (x : List ℤ) (xs : List (List ℤ)). x ∷ xs) (ap (λ (n : ℕ). take n c ++ constant c ∷ []) (sym place) ∙ sym parts.0)
+    (narrow-same w forms (All-tail (λ c. w < length c) c forms long) (All-tail (λ c. width c ≡ w) c forms over))
+
+pub same-context : (w : ℕ) (forms : List (List ℤ)) → All (λ c. w < length c) forms → All (λ c. width c ≡ w) forms → IsContext w forms
+same-context w [] long over = tt
+same-context w (c ∷ forms) long over =
+    let here : w < length c = All-head (λ c. w < length c) c forms long in
+    let place : width c ≡ w = All-head (λ c. width c ≡ w) c forms over in
+    (record { some = omega (arith, here); most = omega (arith, here, place) }, same-context w forms (All-tail (λ c. w < length c) c forms long) (All-tail (λ c. width c ≡ w) c forms over))
 
 -- kept forms are those of the front, and the others come behind them
 pub kept-further : (n : ℕ) (k : KeptForms) (known M : List (List ℤ)) → k.width ≡ n → AreFirst k known → M ≡ map (narrow_to n) (drop (length k.forms) known)

@@ -4,7 +4,8 @@ pub use Rattle.std.specs.Prelude.{IfSome, OnOk, nat_eq}
 pub use Rattle.std.proofs.lemmas.List.{length-map, map-append, length-take, length-take-le, take-take, take-append-drop}
 pub use Rattle.std.proofs.lemmas.Grind.{common_steps}
 pub use Rattle.std.proofs.lemmas.List.Elements.{All-head, All-tail}
-pub use Rattle.pip_model.specs.Forms.{constant, widen_to}
+pub use Rattle.pip_model.specs.Forms.{constant, width, widen_to}
+pub use Rattle.pip_model.proofs.Division.{form-parts}
 pub use Rattle.pip_model.specs.Rows.{Row, form_row}
 pub use Rattle.pip_model.specs.Run.{Work, Outcome, Done, Refused, Refusal, go_on}
 pub use Rattle.pip_model.specs.Refuting.{Trace, refute_from, refute, first_trace}

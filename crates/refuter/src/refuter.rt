@@ -1,25 +1,18 @@
-ghost use Rattle.std.specs.Prelude.{◌≡◌, ◌^◌, ◌<◌, ◌≤◌, [], ◌∷◌, ◌++◌, pos, ◌≤ℤ◌, ◌<ℤ◌, List, ℤ, length, map, All, IsTrue, IfOk, OnOk, OnErr};
-ghost use Rattle.pip_model.specs.Contexts.{IsContext};
+ghost use Rattle.std.specs.Prelude.{◌≡◌, ◌^◌, ◌<◌, ◌≤◌, [], pos, ◌≤ℤ◌, ◌<ℤ◌, length, map, All, IsTrue, IfOk, OnOk, OnErr};
 ghost use Rattle.pip_model.specs.Made.{narrow_to};
 ghost use Rattle.pip_model.specs.Refuting as model;
-ghost use Rattle.pip_model.specs.Refuting.{refute_from};
 ghost use Rattle.affine_forms.specs.Checks.{Fits};
 ghost use Rattle.pip_problem.specs.Faults.{run_fault};
 ghost use Rattle.run_counts.specs.Counts.{IsCountedRun};
-ghost use Rattle.point_run.specs.Points.{first_rows};
 ghost use Rattle.refuter.specs.KeptForms.{AreFirst, AreFirstWithin, AreFirstOver};
 ghost use Rattle.short_run.specs.Stops.{stop_fault};
-ghost use Rattle.refutation_steps.specs.Traces.{IsTraced};
-ghost use Rattle.point_run.specs.Turns.{node_of};
 
-use crate::narrowed::{narrow_all, narrow_form};
+use crate::kept_front::KeptFront;
+use crate::narrowed::Narrowed;
 use affine_forms::{Form, WantOfMemory};
 use certificate_parts::Refutation;
-use kept_run::{
-    Question, Remembered, exchange_all, goes_further, refute_with, remember, rows_behind,
-};
 use pip_problem::Refusal;
-use refutation_steps::{Trace, refute_forms};
+use refutation_steps::RefutationRoom;
 use run_counts::Work;
 use short_run::Stop;
 use std::alloc::Global;
@@ -30,26 +23,18 @@ use std::marker::Model;
 /// and they are over as many places, and else begins again. What it was asked before changes no answer.
 #[derive(Drop)]
 pub struct Refuter {
-    alloc: Global,
     kept: usize,
-    width: usize,
-    // The first forms of an earlier list, over as many places.
-    forms: Vec<Form>,
-    // Their run, where it is known, and else nothing but its room.
-    run: Remembered,
-    is_known: bool,
-    question: Question,
+    front: KeptFront,
+    narrowed: Narrowed,
+    room: RefutationRoom,
 }
 
 impl Model for Refuter {
-    ghost use Rattle.refuter.specs.Kept.{IsKnownWhole};
     ghost use Rattle.refuter.specs.KeptForms.{KeptForms};
 
     ghost Value = { KeptForms };
 
-    ghost view = { λ k. record { width = k.width; forms = k.forms.items } };
-
-    ghost invariant = { λ k. IsKnownWhole k.width k.forms.items k.is_known k.run };
+    ghost view = { λ k. k.front };
 }
 
 impl Refuter {
@@ -58,13 +43,10 @@ impl Refuter {
         ensures { result ≡ record { width = 0; forms = [] } }
     {
         Refuter {
-            alloc,
             kept: 0,
-            width: 0,
-            forms: Vec::new(alloc),
-            run: Remembered::new(alloc),
-            is_known: false,
-            question: Question::new(alloc),
+            front: KeptFront::new(alloc),
+            narrowed: Narrowed::new(alloc),
+            room: RefutationRoom::new(alloc),
         }
     }
 
@@ -73,71 +55,6 @@ impl Refuter {
         ensures { self.new ≡ self.old }
     {
         self.kept = forms;
-    }
-
-    // Makes the run of these forms anew, over so many places.
-    fn recall(&mut self, known: &[Form], width: usize) -> Result<(), WantOfMemory>
-        requires { All (λ c. width < length c) known.now }
-        ensures width { OnOk result (self.new.width ≡ width) }
-        ensures forms { OnOk result (self.new.forms ≡ map (narrow_to width) known.now) }
-    {
-        let forms = narrow_all(self.alloc, known, width)?;
-        self.is_known = remember(&mut self.run, width, &forms).is_ok();
-        self.width = width;
-        self.forms = forms;
-        Ok(())
-    }
-
-    // Goes on from the run of its forms to that of these and one more.
-    fn recall_one(&mut self, form: &Form) -> Result<(), WantOfMemory>
-        requires { self.old.width < length form.now }
-        ensures width { OnOk result (self.new.width ≡ self.old.width) }
-        ensures forms { OnOk result (self.new.forms ≡ self.old.forms ++ narrow_to self.old.width form.now ∷ []) }
-    {
-        let form = narrow_form(self.alloc, form, self.width)?;
-        let is_known = goes_further(self.is_known, &mut self.run, &form, &mut self.question.row);
-        self.is_known = false;
-        self.forms.push(form)?;
-        self.is_known = is_known;
-        Ok(())
-    }
-
-    // The same with these forms.
-    fn recall_further(&mut self, more: &[Form]) -> Result<(), WantOfMemory>
-        requires { All (λ c. self.old.width < length c) more.now }
-        ensures width { OnOk result (self.new.width ≡ self.old.width) }
-        ensures forms { OnOk result (self.new.forms ≡ self.old.forms ++ map (narrow_to self.old.width) more.now) }
-    {
-        for form in more {
-            self.recall_one(form)?;
-        }
-        Ok(())
-    }
-
-    // Keeps its forms only where they are no more than so many.
-    fn keep_within(&mut self, most: usize)
-        ensures { (known : List (List ℤ)) → AreFirstWithin self.old known most → AreFirst self.new known }
-    {
-        if self.forms.len() <= most {
-            return;
-        }
-        self.is_known = false;
-        self.forms.clear();
-    }
-
-    // Has the run of these forms, over so many places. It goes on from its own where that is over as many.
-    fn recall_others(&mut self, known: &[Form], width: usize) -> Result<(), WantOfMemory>
-        requires wide { All (λ c. width < length c) known.now }
-        requires first { AreFirstWithin self.old known.now (length known.now) }
-        ensures width { OnOk result (self.new.width ≡ width) }
-        ensures forms { OnOk result (self.new.forms ≡ map (narrow_to width) known.now) }
-    {
-        let kept = self.forms.len();
-        if self.width != width || kept == 0 || known.len() < kept {
-            return self.recall(known, width);
-        }
-        let (_, more) = known.split_at(kept);
-        self.recall_further(more)
     }
 
     // Has the run of so many of the first known forms as it was told to keep, over so many places; whether it keeps any.
@@ -151,32 +68,8 @@ impl Refuter {
             return Ok(false);
         }
         let (front, _) = known.split_at(self.kept);
-        self.recall_others(front, width)?;
+        self.front.recall_others(&mut self.narrowed, front, width)?;
         Ok(true)
-    }
-
-    // The kept run with further forms behind its own, with its trace: the steps, none where it
-    // found a point.
-    fn refute_behind(
-        &mut self,
-        more: &[Form],
-        mut trace: Trace,
-        work: &mut Work,
-    ) -> Result<Option<Refutation>, Stop>
-        requires more { IsContext self.old.width more.now }
-        requires traced { IsTraced self.old.width
-            (first_rows self.old.width (self.old.forms ++ more.now)) trace }
-        ensures gives { IsCountedRun (λ o. o) stop_fault result work.old work.new
-            (refute_from self.old.width trace
-            (node_of (first_rows self.old.width (self.old.forms ++ more.now)))) }
-        ensures kept { self.new ≡ self.old }
-    {
-        if !self.is_known {
-            return Err(Stop::Long);
-        }
-        rows_behind(&self.run.run, &mut self.question.row, more, work)?;
-        exchange_all(&self.run.run, &mut trace);
-        refute_with(self.alloc, &self.run, &mut self.question, trace, work)
     }
 
     // The steps by which known forms, of which there are some, have no point, by the run of its own; `Long` where it has
@@ -198,15 +91,16 @@ impl Refuter {
             (model.refute (length places.now) (map (narrow_to (length places.now)) known.now) places.now first) }
         ensures kept { self.new ≡ self.old }
     {
-        let (_, more) = known.split_at(self.forms.len());
-        let more = narrow_all(self.alloc, more, places.len())?;
-        let trace = Trace::start(self.alloc, places, known.len(), first)?;
-        self.refute_behind(&more, trace, work)
+        let (_, more) = known.split_at(self.front.len());
+        let further = self.narrowed.narrow(more, places.len())?;
+        self.room.trace.restart(places, known.len(), first)?;
+        self.front
+            .refute_behind(further, &mut self.room.trace, work)
     }
 
     // The same by the run of all of them.
     fn refute_all(
-        &self,
+        &mut self,
         known: &[Form],
         places: &[i128],
         first: i128,
@@ -218,9 +112,10 @@ impl Refuter {
         requires few { first <ℤ pos (2 ^ 64) }
         ensures gives { IsCountedRun (λ o. o) run_fault result work.old work.new
             (model.refute (length places.now) (map (narrow_to (length places.now)) known.now) places.now first) }
+        ensures kept { self.new ≡ self.old }
     {
-        let forms = narrow_all(self.alloc, known, places.len())?;
-        refute_forms(self.alloc, &forms, places, first, work)
+        let forms = self.narrowed.narrow(known, places.len())?;
+        self.room.refute(forms, places, first, work)
     }
 
     // The same, from the run that is kept where its numbers are short.
@@ -255,12 +150,11 @@ impl Refuter {
         }
     }
 
-    // Keeps no forms.
-    fn forget(&mut self)
+    /// Keeps no forms from here on, but their rooms for others.
+    pub fn forget(&mut self)
         ensures { self.new.forms ≡ [] }
     {
-        self.is_known = false;
-        self.forms.clear();
+        self.front.forget(&mut self.narrowed.spares);
     }
 
     // The steps by which the known forms have no point, where those that it keeps are the first of them.
@@ -307,7 +201,7 @@ impl Refuter {
         ensures first { OnOk result (AreFirst self.new known.now) }
         ensures refused { OnErr result (self.new.forms ≡ []) }
     {
-        self.keep_within(same);
+        self.front.keep_within(&mut self.narrowed.spares, same);
         match self.refute_known(known, places, first, work) {
             Ok(found) => Ok(found),
             Err(refusal) => {

@@ -12,8 +12,8 @@ trace_behind-requires-clause-index c =
 pub returns-in-Some : goal.returns-in-Some
 returns-in-Some c =
     let is : IsClosing c.args.question.now.row.rows c.in-Some.r = search rules in
-    let run = refuted-behind c.args.m.now.run.end.unknowns c.args.m.now.run.end.rows c.args.question.now.row.rows c.in-Some.r is (sym c.requires.stopped.at_end ∙ c.if-m.true) c.args.trace c.args.work.now in
-    record { gives = record { agrees = rw (c.into_steps.ensures, c.in_ok-trace_behind.ensures, c.rows.ensures) run; counted = counted_none c.args.work.now } }
+    let run = refuted-behind c.args.m.now.run.end.unknowns c.args.m.now.run.end.rows c.args.question.now.row.rows c.in-Some.r is (sym c.requires.stopped.at_end ∙ c.if-m.true) c.args.trace.now c.args.work.now in
+    record { gives = record { agrees = rw (c.take_steps.ensures, c.in_ok-trace_behind.ensures, c.rows.ensures) run; counted = counted_none c.args.work.now } }
 
 pub returns : goal.returns
 returns c =

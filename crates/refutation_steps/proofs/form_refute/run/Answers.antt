@@ -11,11 +11,11 @@ first n forms t e = e ∙ ap (λ (K : List (List ℤ)). record { unknowns = n; w
 
 pub refute_on-requires-clause-traced : goal.refute_on-requires-clause-traced
 refute_on-requires-clause-traced c =
-    let trace : c.in_ok-trace.trace ≡ first_trace c.args.places.now (length c.args.forms.now) c.args.first = search rules in
-    first-traced c.args.forms.now c.args.places.now c.args.first c.in_ok-rows.rows c.in_ok-trace.trace (first (length c.args.places.now) c.args.forms.now c.in_ok-rows.rows (search rules)) trace
+    let trace : c.restart.new.self ≡ first_trace c.args.places.now (length c.args.forms.now) c.args.first = search rules in
+    first-traced c.args.forms.now c.args.places.now c.args.first c.in_ok-rows.rows c.restart.new.self (first (length c.args.places.now) c.args.forms.now c.in_ok-rows.rows (search rules)) trace
 
 pub returns : goal.returns
 returns c =
-    let trace : c.in_ok-trace.trace ≡ first_trace c.args.places.now (length c.args.forms.now) c.args.first = search rules in
-    let run = first-run c.args.forms.now c.args.places.now c.args.first c.in_ok-rows.rows c.in_ok-trace.trace (first (length c.args.places.now) c.args.forms.now c.in_ok-rows.rows (search rules)) trace c.args.work.now in
+    let trace : c.restart.new.self ≡ first_trace c.args.places.now (length c.args.forms.now) c.args.first = search rules in
+    let run = first-run c.args.forms.now c.args.places.now c.args.first c.in_ok-rows.rows c.restart.new.self (first (length c.args.places.now) c.args.forms.now c.in_ok-rows.rows (search rules)) trace c.args.work.now in
     record { gives = run_same c.refute_on.ensures.gives run }

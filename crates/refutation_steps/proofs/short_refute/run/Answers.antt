@@ -5,11 +5,11 @@ use Rattle.refutation_steps.proofs.short_refute.run.Goals as goal
 
 pub refute_on-requires-clause-traced : goal.refute_on-requires-clause-traced
 refute_on-requires-clause-traced c =
-    let trace : c.in_ok-trace.trace ≡ first_trace c.args.places.now (length c.args.forms.now) c.args.first = search rules in
-    first-traced c.args.forms.now c.args.places.now c.args.first c.start_short.new.rows c.in_ok-trace.trace c.in_ok-start_short.ensures.value trace
+    let trace : c.restart.new.self ≡ first_trace c.args.places.now (length c.args.forms.now) c.args.first = search rules in
+    first-traced c.args.forms.now c.args.places.now c.args.first c.start_short.new.rows c.restart.new.self c.in_ok-start_short.ensures.value trace
 
 pub returns : goal.returns
 returns c =
-    let trace : c.in_ok-trace.trace ≡ first_trace c.args.places.now (length c.args.forms.now) c.args.first = search rules in
-    let run = first-run c.args.forms.now c.args.places.now c.args.first c.start_short.new.rows c.in_ok-trace.trace c.in_ok-start_short.ensures.value trace c.args.work.now in
+    let trace : c.restart.new.self ≡ first_trace c.args.places.now (length c.args.forms.now) c.args.first = search rules in
+    let run = first-run c.args.forms.now c.args.places.now c.args.first c.start_short.new.rows c.restart.new.self c.in_ok-start_short.ensures.value trace c.args.work.now in
     record { gives = run_same c.refute_on.ensures.gives run }

@@ -1,5 +1,5 @@
 use Rattle.refuter.proofs.Words.{◌≡◌, ◌++◌, map, take, narrow_to}
-use Rattle.refuter.proofs.refuter.Refuter.recall_further.Given as goal
+use Rattle.refuter.proofs.kept_front.KeptFront.recall_further.Given as goal
 
 abbrev pub invariant-loop-form : goal.invariant-loop-form
 invariant-loop-form l = record {

@@ -1,6 +1,6 @@
 use Rattle.refuter.proofs.Words.{rules, ◌≡◌, ◌≤◌, refl, subst, ℤ, List, length, map, drop, OnOk, narrow_to}
 use Rattle.refuter.proofs.FurtherForms.{kept-further}
-use Rattle.refuter.proofs.refuter.Refuter.recall_others.Goals as goal
+use Rattle.refuter.proofs.kept_front.KeptFront.recall_others.Goals as goal
 
 pub returns-clause-forms : goal.returns-clause-forms
 returns-clause-forms c =

@@ -5,8 +5,8 @@ use Rattle.std.specs.Prelude.{◌==◌}
 use Rattle.std.proofs.lemmas.Bool.{false≢true}
 use Rattle.point_run.proofs.Leaving.{run_same}
 use Rattle.refutation_steps.proofs.Tracing.{refute_by_run}
-use Rattle.refutation_steps.proofs.refute.refute_forms.Goals.{else-is_empty-via-then-is_empty+else-is_empty-2, else-is_empty-via-else-is_empty}
-use Rattle.refutation_steps.proofs.refute.refute_forms.Goals as goal
+use Rattle.refutation_steps.proofs.room.RefutationRoom.refute.Goals.{else-is_empty-via-then-is_empty+else-is_empty-2, else-is_empty-via-else-is_empty}
+use Rattle.refutation_steps.proofs.room.RefutationRoom.refute.Goals as goal
 
 not_none : (n : ℕ) (b : Bool) → b ≡ (n == 0) → b ≡ false → n ≡ 0 → ⊥
 not_none zero b e f none = false≢true (sym f ∙ e)

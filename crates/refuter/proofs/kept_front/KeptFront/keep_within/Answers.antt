@@ -1,7 +1,7 @@
 use Rattle.refuter.proofs.Words.{rules, ◌≡◌, refl, []}
-use Rattle.refuter.proofs.refuter.Refuter.keep_within.Goals as goal
+use Rattle.refuter.proofs.kept_front.KeptFront.keep_within.Goals as goal
 
 pub returns : goal.returns
 returns c known h =
-    let none : c.clear.new.self.items ≡ [] = search rules in
+    let none : c.forget.new.self.forms ≡ [] = search rules in
     record { first = rw none refl }

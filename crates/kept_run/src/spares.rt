@@ -6,22 +6,22 @@ use std::alloc::Global;
 // How many forms are kept, at most.
 const MOST_SPARES: usize = 64;
 
-// Forms that are done with, as room for others. What they hold tells nothing.
+/// Forms that are done with, as room for others. What they held tells nothing.
 #[derive(Drop)]
-pub(crate) struct Spares {
+pub struct Spares {
     forms: Vec<Form>,
 }
 
 impl Spares {
-    // No room yet. It takes no memory.
-    pub(crate) fn new(alloc: Global) -> Spares {
+    /// None yet, and no room for them. It takes no memory.
+    pub fn new(alloc: Global) -> Spares {
         Spares {
             forms: Vec::new(alloc),
         }
     }
 
-    // No numbers, in the room of a form where one is kept.
-    pub(crate) fn take(&mut self) -> Vec<i128>
+    /// No numbers, in the room of a form where one is kept.
+    pub fn take(&mut self) -> Vec<i128>
         ensures { result.items ≡ [] }
     {
         match self.forms.pop() {
@@ -34,15 +34,15 @@ impl Spares {
         }
     }
 
-    // Makes room for as many forms as are kept at most, where there is none yet and memory for it.
-    pub(crate) fn make_room(&mut self) {
+    /// Makes room for as many forms as are kept at most, where there is none yet and memory for it.
+    pub fn make_room(&mut self) {
         if self.forms.capacity() < MOST_SPARES {
             let _ = self.forms.reserve(MOST_SPARES);
         }
     }
 
-    // Keeps a form, where there is room for it and not many are kept. It takes no memory.
-    pub(crate) fn keep(&mut self, form: Form) {
+    /// Keeps a form, where there is room for it and not many are kept. It takes no memory.
+    pub fn keep(&mut self, form: Form) {
         if self.forms.len() < MOST_SPARES && self.forms.len() < self.forms.capacity() {
             self.forms.push_reserved(form);
         }
@@ -58,8 +58,8 @@ impl Spares {
         }
     }
 
-    // Keeps all but the first so many of some forms, which leave them.
-    pub(crate) fn keep_from(&mut self, forms: &mut Vec<Form>, first: usize)
+    /// Keeps all but the first so many of some forms, which leave them.
+    pub fn keep_from(&mut self, forms: &mut Vec<Form>, first: usize)
         requires { first ≤ length forms.old.items }
         ensures forms { forms.new.items ≡ take first forms.old.items }
         ensures room { vec_capacity forms.new ≡ vec_capacity forms.old }
