@@ -44,7 +44,7 @@ impl Model for Trace {
         × (pos 0 ≤ℤ t.first) × (t.first <ℤ pos (2 ^ 64)) };
 }
 
-// Makes of the indices these, and behind them those of so many forms from 0 on. After a refusal some of them may stand
+// Makes a list of these indices, and behind them those of so many forms from 0 on. After a refusal some of them may stand
 // there.
 fn write_indices(list: &mut Vec<i128>, places: &[i128], count: usize) -> Result<(), WantOfMemory>
     requires places { All Fits places.now }
@@ -184,7 +184,8 @@ impl Trace {
         self.push_step(Step { divisor: 1, terms })
     }
 
-    // The same where the row's numbers have 64 bits, in room for just its pairs.
+    // The pairs of the last step at a row whose numbers have 64 bits, in room for just these: the index at this place with
+    // the denominator, and each column that the row has below 0, so many times away.
     fn short_terms(&self, at: usize, den: i64, coefs: &[i64]) -> Result<Terms, WantOfMemory>
         requires index { at < length self.now.rows }
         requires number { length coefs.now ≡ length self.now.columns }
@@ -198,8 +199,8 @@ impl Trace {
         Ok(terms)
     }
 
-    /// The step at row r of these, which is below 0 and has no positive coefficient, and whose quantity has an index at
-    /// this place.
+    /// The step at row r of these, which is below 0 and has no positive coefficient; the index of its quantity is that at
+    /// this place. The row is not copied.
     pub fn close_short(
         &mut self,
         at: usize,
