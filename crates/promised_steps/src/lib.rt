@@ -3,12 +3,14 @@
 //! no walk, so that a wrong result is tried at the least cost.
 #![tactic(auto)]
 
+mod bases;
 mod laned;
 mod numbers;
 mod questions;
 mod rows;
 mod turns;
 
+pub use bases::checked_norm;
 pub use laned::{are_readable, entering_in_lanes, turned};
 pub use numbers::{count_pivot, floor_div};
 pub use questions::back_to;
