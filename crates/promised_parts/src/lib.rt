@@ -1,14 +1,16 @@
-//! Promises of the calls that the solver, the check and the walks are made of, each a call with its clauses, repeated, as
-//! in `promised`. Nothing stands on this crate, and it stands on no more than those calls, so that a wrong result is
-//! tried at the least cost.
+//! Promises of the calls that input and output, the solver, the check and the walks are made of, each a call with its
+//! clauses, repeated, as in `promised`. Nothing stands on this crate, and it stands on no more than those calls, so that a
+//! wrong result is tried at the least cost.
 #![tactic(auto)]
 
 mod contexts;
 mod derivations;
+mod outside;
 mod readings;
 mod signs;
 
 pub use contexts::{point_with, refute};
 pub use derivations::derive;
+pub use outside::read;
 pub use readings::row;
 pub use signs::sign;
