@@ -11,6 +11,6 @@ mod signs;
 
 pub use contexts::{point_with, refute};
 pub use derivations::derive;
-pub use outside::read;
+pub use outside::{read, write};
 pub use readings::row;
 pub use signs::sign;
