@@ -8,9 +8,11 @@ mod derivations;
 mod outside;
 mod readings;
 mod signs;
+mod windows;
 
 pub use contexts::{point_with, refute};
 pub use derivations::derive;
 pub use outside::{read, write};
 pub use readings::row;
 pub use signs::sign;
+pub use windows::next_dropped;
