@@ -3,6 +3,7 @@
 //! wrong result is tried at the least cost.
 #![tactic(auto)]
 
+mod asking;
 mod contexts;
 mod derivations;
 mod outside;
@@ -10,6 +11,7 @@ mod readings;
 mod signs;
 mod windows;
 
+pub use asking::next_asked;
 pub use contexts::{point_with, refute};
 pub use derivations::derive;
 pub use outside::{read, write};
