@@ -1,4 +1,4 @@
-ghost use Rattle.std.specs.Prelude.{◌≡◌, ◌++◌, [], IfErr};
+ghost use Rattle.std.specs.Prelude.{◌≡◌, ◌++◌, [], IfErr, OnOk};
 ghost use Rattle.pip_model.specs.Agreement.{Agrees};
 ghost use Rattle.pip_model.specs.Certificate.{spell_certificate};
 ghost use Rattle.program_model.specs.ItemTexts.{certified_text};
@@ -7,6 +7,7 @@ ghost use Rattle.quast.specs.Answers.{answer_of};
 ghost use Rattle.item_writing.specs.Endings.{told, IsOfItem};
 ghost use Rattle.item_writing.specs.Items.{IsTextOfItem};
 
+use affine_forms::{Bytes, WantOfMemory};
 use certificate_parts::Certificate;
 use item_writing::Ending;
 use leaf_certificate::print_certificate;
@@ -36,6 +37,20 @@ fn certify(
     Ok((answer, certificate))
 }
 
+// Puts the text of an answer, with its comment, and of its certificate into `text`.
+fn print_certified(
+    comment: &Bytes,
+    answer: &Answer,
+    certificate: &Certificate,
+    text: &mut Vec<u8>,
+) -> Result<(), WantOfMemory>
+    requires { text.old.items ≡ [] }
+    ensures { OnOk result (text.new.items ≡ spell comment.now (answer_of answer.now) ++ spell_certificate certificate.now) }
+{
+    print_answer(comment, answer, text)?;
+    print_certificate(certificate, text)
+}
+
 // Puts the text of a problem's answer and of its certificate into `text`.
 pub(crate) fn write_certified(
     alloc: Global,
@@ -48,7 +63,9 @@ pub(crate) fn write_certified(
     ensures text { IsTextOfItem (certified_text limits.now problem.now) result text.new.items }
 {
     let (answer, certificate) = certify(alloc, limits, problem)?;
-    print_answer(problem.comment(), &answer, text)?;
-    print_certificate(&certificate, text)?;
+    let printed = print_certified(problem.comment(), &answer, &certificate, text);
+    drop(answer);
+    drop(certificate);
+    printed?;
     Ok(())
 }

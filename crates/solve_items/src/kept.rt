@@ -24,13 +24,17 @@ impl Kept {
         }
     }
 
-    // Keeps the rooms of a problem that is answered.
-    pub fn keep(&mut self, problem: Problem) {
-        let (rows, context) = problem.into_rows();
-        self.spare.keep(context);
-        self.spare.keep(rows);
+    // Keeps the room of a text that is written, where it is not large.
+    pub fn keep_text(&mut self) {
         if self.text.capacity() > MOST_TEXT {
             self.text = Vec::new(self.solver.allocator());
         }
     }
+}
+
+// Keeps the rooms of a problem whose answer is made or refused.
+pub(crate) fn keep_rows(spare: &mut SpareRows, problem: Problem) {
+    let (rows, context) = problem.into_rows();
+    spare.keep(context);
+    spare.keep(rows);
 }

@@ -10,7 +10,7 @@ ghost use Rattle.solve_items.specs.Answered.{AnswersNext};
 ghost use Rattle.item_writing.specs.Outputs.{EndsByFaults};
 ghost use Rattle.item_writing.specs.ByProblem.{WritesByProblem, FailsInTime, CallsBy};
 
-use crate::kept::Kept;
+use crate::kept::{Kept, keep_rows};
 use crate::solve::write_solution;
 use item_writing::Ending;
 use pip_outside::{Sink, Source, Window, write_all};
@@ -45,9 +45,11 @@ fn answer_next_in<S: Source, K: Sink>(
     match next_problem_in(&mut kept.spare, window, source)? {
         Some((problem, _)) => {
             kept.text.clear();
-            write_solution(&mut kept.solver, options, &problem, &mut kept.text)?;
+            let solved = write_solution(&mut kept.solver, options, &problem, &mut kept.text);
+            keep_rows(&mut kept.spare, problem);
+            solved?;
             write_all(sink, &kept.text)?;
-            kept.keep(problem);
+            kept.keep_text();
             Ok(true)
         }
         None => Ok(false),

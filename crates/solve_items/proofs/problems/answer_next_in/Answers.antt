@@ -7,8 +7,8 @@ use Rattle.solve_items.proofs.problems.answer_next_in.Goals as goal
 pub next_problem_in-requires : goal.next_problem_in-requires
 next_problem_in-requires g c = record { few = c.requires.held; within = c.requires.taken }
 
-pub write_solution-requires : goal.write_solution-requires
-write_solution-requires g c = c.clear.ensures.items
+pub write_solution-solved-requires : goal.write_solution-solved-requires
+write_solution-solved-requires g c = c.clear.ensures.items
 
 -- ---- the problem is not read
 
@@ -47,20 +47,20 @@ returns-in-None g c =
 
 -- ---- its answer is refused
 
-pub returns-in_err-write_solution-in-Some : goal.returns-in_err-write_solution-in-Some
-returns-in_err-write_solution-in-Some g c =
-    let p = err_from_is_err_and c.from_residual-in_err-write_solution-in-Some.result c.from_residual-in_err-write_solution-in-Some.ensures.1 in
+pub returns-in_err-solved-in-Some : goal.returns-in_err-solved-in-Some
+returns-in_err-solved-in-Some g c =
+    let p = err_from_is_err_and c.from_residual-in_err-solved-in-Some.result c.from_residual-in_err-solved-in-Some.ensures.1 in
     record {
-      answers = rw (p.1, p.2) (unanswered-told (options_of c.args.options.now) c.args.window.now c.next_problem_in.new.window (g.S.Source.left c.next_problem_in.new.source) (g.K.Sink.written c.args.sink.now) (g.K.Sink.written c.args.sink.now) (g.S.Source.left c.args.source.now) _ _ (rw c.in-Some.is at c.in_ok-problem.ensures.finds) c.in_ok-problem.ensures.window.ready _ c.in_err-write_solution-in-Some.ensures.own c.in_err-write_solution-in-Some.ensures.text);
+      answers = rw (p.1, p.2) (unanswered-told (options_of c.args.options.now) c.args.window.now c.next_problem_in.new.window (g.S.Source.left c.next_problem_in.new.source) (g.K.Sink.written c.args.sink.now) (g.K.Sink.written c.args.sink.now) (g.S.Source.left c.args.source.now) _ _ (rw c.in-Some.is at c.in_ok-problem.ensures.finds) c.in_ok-problem.ensures.window.ready _ c.in_err-solved-in-Some.ensures.own c.in_err-solved-in-Some.ensures.text);
       kept = λ _ _. refl;
-      words = rw (p.1, p.2) (own-words _ c.in_err-write_solution-in-Some.ensures.own);
+      words = rw (p.1, p.2) (own-words _ c.in_err-solved-in-Some.ensures.own);
       end = λ h. err-not_ok _ _ false p.1 h;
       ready = rw p.1 tt;
       dropped = λ h. err-not_ok _ _ true p.1 h;
       bound = c.next_problem_in.ensures.window.bound;
-      limit = rw (p.1, p.2) (own-limit _ _ (own-not_long _ c.in_err-write_solution-in-Some.ensures.own) c.in_ok-problem.ensures.window.ready.within);
+      limit = rw (p.1, p.2) (own-limit _ _ (own-not_long _ c.in_err-solved-in-Some.ensures.own) c.in_ok-problem.ensures.window.ready.within);
       calls = rw p.1 (calls-refused g.S.Source.calls g.S.Source.taken c.args.source.now c.next_problem_in.new.source c.args.window.now c.next_problem_in.new.window (g.S.Source.left c.args.source.now) (rw c.in-Some.is at c.in_ok-problem.ensures.calls));
-      faults = rw (p.1, p.2) (faults-own _ _ 0 _ _ 0 (c.in_ok-problem.ensures.faults.quiet (λ e. cc)) refl _ c.in_err-write_solution-in-Some.ensures.own);
+      faults = rw (p.1, p.2) (faults-own _ _ 0 _ _ 0 (c.in_ok-problem.ensures.faults.quiet (λ e. cc)) refl _ c.in_err-solved-in-Some.ensures.own);
     }
 
 -- ---- a write of its text fails
@@ -69,7 +69,7 @@ pub returns-in_err-write_all-in-Some : goal.returns-in_err-write_all-in-Some
 returns-in_err-write_all-in-Some g c =
     let p = err_from_is_err_and c.from_residual-in_err-write_all-in-Some.result c.from_residual-in_err-write_all-in-Some.ensures.1 in
     record {
-      answers = rw (p.1, p.2) (answers-told (options_of c.args.options.now) c.args.window.now c.next_problem_in.new.window (g.S.Source.left c.next_problem_in.new.source) (g.K.Sink.written c.args.sink.now) (g.K.Sink.written c.write_all.new.sink) (AppendsFront (g.K.Sink.written c.args.sink.now) (g.K.Sink.written c.write_all.new.sink)) (g.S.Source.left c.args.source.now) _ _ _ (rw c.in-Some.is at c.in_ok-problem.ensures.finds) c.in_ok-write_solution-in-Some.ensures.text (rw c.deref.ensures.value at c.in_err-write_all-in-Some.ensures.bytes));
+      answers = rw (p.1, p.2) (answers-told (options_of c.args.options.now) c.args.window.now c.next_problem_in.new.window (g.S.Source.left c.next_problem_in.new.source) (g.K.Sink.written c.args.sink.now) (g.K.Sink.written c.write_all.new.sink) (AppendsFront (g.K.Sink.written c.args.sink.now) (g.K.Sink.written c.write_all.new.sink)) (g.S.Source.left c.args.source.now) _ _ _ (rw c.in-Some.is at c.in_ok-problem.ensures.finds) c.in_ok-solved-in-Some.ensures.text (rw c.deref.ensures.value at c.in_err-write_all-in-Some.ensures.bytes));
       kept = rw (p.1, p.2) (λ _ other. absurd (other refl));
       words = rw (p.1, p.2) (λ h. cc);
       end = λ h. err-not_ok _ _ false p.1 h;
@@ -86,7 +86,7 @@ returns-in_err-write_all-in-Some g c =
 pub returns-in_ok-write_all-in-Some : goal.returns-in_ok-write_all-in-Some
 returns-in_ok-write_all-in-Some g c =
     record {
-      answers = answers-told (options_of c.args.options.now) c.args.window.now c.next_problem_in.new.window (g.S.Source.left c.next_problem_in.new.source) (g.K.Sink.written c.args.sink.now) (g.K.Sink.written c.write_all.new.sink) (Appends (g.K.Sink.written c.args.sink.now) (g.K.Sink.written c.write_all.new.sink)) (g.S.Source.left c.args.source.now) _ _ _ (rw c.in-Some.is at c.in_ok-problem.ensures.finds) c.in_ok-write_solution-in-Some.ensures.text (rw c.deref.ensures.value at c.in_ok-write_all-in-Some.ensures.bytes);
+      answers = answers-told (options_of c.args.options.now) c.args.window.now c.next_problem_in.new.window (g.S.Source.left c.next_problem_in.new.source) (g.K.Sink.written c.args.sink.now) (g.K.Sink.written c.write_all.new.sink) (Appends (g.K.Sink.written c.args.sink.now) (g.K.Sink.written c.write_all.new.sink)) (g.S.Source.left c.args.source.now) _ _ _ (rw c.in-Some.is at c.in_ok-problem.ensures.finds) c.in_ok-solved-in-Some.ensures.text (rw c.deref.ensures.value at c.in_ok-write_all-in-Some.ensures.bytes);
       kept = λ no _. absurd (no refl);
       words = λ h. cc;
       end = λ h. absurd cc;
