@@ -1,6 +1,7 @@
 //! Certificates of answers to parametric integer programs (`certificate_parts`), and their text.
 #![tactic(auto)]
 
+mod closing;
 mod print;
 mod read;
 mod read_leaf;

@@ -8,7 +8,7 @@ ghost use Rattle.leaf_certificate.specs.Printing.{IsReadBack, spell_term, spell_
 use affine_forms::WantOfMemory;
 use certificate_parts::{Certificate, LeafProofs, Refutation, Step, Terms};
 use std::alloc::AllocError;
-use text_printing::{put, put_entry, put_number, put_row};
+use text_printing::{put, put_entry, put_mark, put_number, put_row};
 
 /// Appends the text of a certificate, or leaves `out` as it was. The text is read back as this certificate, whatever
 /// stands behind it.
@@ -81,9 +81,9 @@ fn put_leaf(out: &mut Vec<u8>, shares: bool, leaf: &LeafProofs) -> Result<(), Al
     ensures ok { Appends (spell_leaf shares leaf.now) out.old.items out.new.items result }
     ensures kept { Begins out.old.items out.new.items }
 {
-    put(out, b"(\n")?;
+    put_mark(out, b"(\n")?;
     put_groups(out, shares, leaf)?;
-    put(out, b")\n")
+    put_mark(out, b")\n")
 }
 
 // In format 2 the line of the shared steps stands first.
@@ -111,9 +111,9 @@ fn put_refutation(out: &mut Vec<u8>, refutation: &Refutation) -> Result<(), Allo
     ensures ok { Appends (spell_refutation refutation.now) out.old.items out.new.items result }
     ensures kept { Begins out.old.items out.new.items }
 {
-    put(out, b"(")?;
+    put_mark(out, b"(")?;
     put_steps(out, refutation.as_slice())?;
-    put(out, b")\n")
+    put_mark(out, b")\n")
 }
 
 fn put_steps(out: &mut Vec<u8>, steps: &[Step]) -> Result<(), AllocError>
@@ -132,14 +132,14 @@ fn put_step(out: &mut Vec<u8>, step: &Step) -> Result<(), AllocError>
 {
     put_divisor(out, step.divisor)?;
     put_terms(out, step.terms.as_slice())?;
-    put(out, b")")
+    put_mark(out, b")")
 }
 
 fn put_divisor(out: &mut Vec<u8>, divisor: i128) -> Result<(), AllocError>
     ensures ok { Appends (codes "(" ++ signed_decimal divisor) out.old.items out.new.items result }
     ensures kept { Begins out.old.items out.new.items }
 {
-    put(out, b"(")?;
+    put_mark(out, b"(")?;
     put_number(out, divisor)
 }
 

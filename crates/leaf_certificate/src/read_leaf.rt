@@ -3,11 +3,12 @@ ghost use Rattle.pip_model.specs.Certificate as model;
 ghost use Rattle.text_reading.specs.Steps.{fault_of, AreRead, IsRead};
 ghost use Rattle.leaf_certificate.specs.Sequences.{refutations_to_end, leaves_to_end};
 
+use crate::closing::behind_close;
 use crate::read_step::read_refutation;
 use certificate_parts::{Certificate, LeafProofs, Refutation};
 use std::alloc::Global;
-use text_reading::{Reads, TextFault, expect, same_bracket};
-use text_tokens::{Kind, token};
+use text_reading::{Reads, TextFault, expect};
+use text_tokens::Kind;
 
 // The shared steps, which format 2 alone spells, and the place behind them.
 fn read_shared(
@@ -42,12 +43,14 @@ fn read_refutations(
 {
     let mut read = LeafProofs::with_shared(alloc, shared);
     let mut at = place;
-    while !same_bracket(token(bytes, at).kind, Kind::RightParen) {
+    loop {
+        if let Some(after) = behind_close(bytes, at) {
+            return Ok((read, after));
+        }
         let (refutation, after) = read_refutation(alloc, bytes, at)?;
         read.push(refutation)?;
         at = after;
     }
-    Ok((read, token(bytes, at).after))
 }
 
 // The proofs of a leaf between brackets, and the place behind them.
@@ -85,10 +88,12 @@ pub(crate) fn read_leaves(
     let mut read = start;
     let shares = read.shares();
     let mut at = place;
-    while !same_bracket(token(bytes, at).kind, Kind::RightParen) {
+    loop {
+        if let Some(after) = behind_close(bytes, at) {
+            return Ok((read, after));
+        }
         let (leaf, after) = read_leaf(alloc, bytes, shares, at)?;
         read.push(leaf)?;
         at = after;
     }
-    Ok((read, token(bytes, at).after))
 }

@@ -4,10 +4,11 @@ ghost use Rattle.affine_forms.specs.Checks.{Fits};
 ghost use Rattle.text_reading.specs.Steps.{fault_of, AreRead, IsRead};
 ghost use Rattle.leaf_certificate.specs.Sequences.{terms_to_end, steps_to_end};
 
+use crate::closing::behind_close;
 use certificate_parts::{Refutation, Step, Terms};
 use std::alloc::Global;
-use text_reading::{Reads, TextFault, expect, number, same_bracket};
-use text_tokens::{Kind, token};
+use text_reading::{Reads, TextFault, expect, number};
+use text_tokens::Kind;
 
 // An index and its multiplier, and the place behind them.
 fn read_term(bytes: &[u8], place: usize) -> Reads<(i128, i128), TextFault>
@@ -29,12 +30,14 @@ fn read_terms(alloc: Global, bytes: &[u8], place: usize) -> Reads<Terms, TextFau
 {
     let mut read = Terms::new(alloc);
     let mut at = place;
-    while !same_bracket(token(bytes, at).kind, Kind::RightParen) {
+    loop {
+        if let Some(after) = behind_close(bytes, at) {
+            return Ok((read, after));
+        }
         let (term, after) = read_term(bytes, at)?;
         read.push(term)?;
         at = after;
     }
-    Ok((read, token(bytes, at).after))
 }
 
 // A divisor and terms between brackets, and the place behind them.
@@ -56,12 +59,14 @@ fn read_steps(alloc: Global, bytes: &[u8], place: usize) -> Reads<Refutation, Te
 {
     let mut read = Refutation::new(alloc);
     let mut at = place;
-    while !same_bracket(token(bytes, at).kind, Kind::RightParen) {
+    loop {
+        if let Some(after) = behind_close(bytes, at) {
+            return Ok((read, after));
+        }
         let (step, after) = read_step(alloc, bytes, at)?;
         read.push(step)?;
         at = after;
     }
-    Ok((read, token(bytes, at).after))
 }
 
 // Steps between brackets, and the place behind them.

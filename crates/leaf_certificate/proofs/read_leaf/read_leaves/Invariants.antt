@@ -2,12 +2,12 @@ use Rattle.leaf_certificate.proofs.Words.{◌≡◌, ◌-◌, length, RightParen
 use Rattle.leaf_certificate.proofs.Sequences.{Reaches}
 use Rattle.leaf_certificate.proofs.read_leaf.read_leaves.Given as goal
 
-abbrev pub invariant-loop-alloc : goal.invariant-loop-alloc
-invariant-loop-alloc l = record {
+abbrev pub invariant-loop-after : goal.invariant-loop-after
+invariant-loop-after l = record {
   reaches : Reaches l.bytes RightParen (leaf_proofs l.bytes l.fn.start.shares) l.place l.read.leaves l.at;
   shares : l.read.shares ≡ l.fn.start.shares;
   vector : l.read.vector ≡ l.fn.start.vector;
 }
 
-abbrev pub decreases-loop-alloc : goal.decreases-loop-alloc
-decreases-loop-alloc l = length l.bytes - l.at
+abbrev pub decreases-loop-after : goal.decreases-loop-after
+decreases-loop-after l = length l.bytes - l.at

@@ -5,12 +5,12 @@ use Rattle.leaf_certificate.proofs.read_step.read_steps.Goals as goal
 pub returns-in_err-step : goal.returns-in_err-step
 returns-in_err-step c =
     let p = err_from_is_err_and c.from_residual.result c.from_residual.ensures.1 in
-    rw (p.1, p.2) (reaches_refused c.requires.some c.loop-alloc.invariant (fault_of c.in_err-step.field-0.0) (search rules) c.in_err-step.ensures)
+    rw (p.1, p.2) (reaches_refused c.requires.some c.loop-after.invariant (fault_of c.in_err-step.field-0.0) (search rules) c.in_err-step.ensures)
 
-pub loop-alloc-preserved : goal.loop-alloc-preserved
-loop-alloc-preserved c =
-    let items : c.push.new.self ≡ c.loop-alloc.read ++ c.in_ok-step.step ∷ [] = search rules in
-    rw items (reaches_next c.requires.some c.loop-alloc.invariant (search rules) (search rules) (search rules) (search rules))
+pub loop-after-preserved : goal.loop-after-preserved
+loop-after-preserved c =
+    let items : c.push.new.self ≡ c.loop-after.read ++ c.in_ok-step.step ∷ [] = search rules in
+    rw items (reaches_next c.requires.some c.loop-after.invariant (search rules) (search rules) (search rules) (search rules))
 
-pub returns : goal.returns
-returns c = (reaches_end c.requires.some c.loop-alloc.invariant (search rules) ∙ search rules, search rules, search rules)
+pub returns-in-Some : goal.returns-in-Some
+returns-in-Some c = (reaches_end c.requires.some c.loop-after.invariant (search rules) ∙ search rules, search rules, search rules)
