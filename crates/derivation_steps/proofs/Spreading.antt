@@ -1,13 +1,13 @@
 -- Sums and forms whose last coefficients are left out where they are 0.
-use Rattle.derivation_steps.proofs.Words.{◌≡◌, refl, ap, ap₂, subst, derived, length-add, sym, ◌∙◌, ℕ, zero, suc, ◌+◌, ◌-◌, ◌<◌, ◌≤◌, ℤ, ◌+ℤ◌, ◌*ℤ◌, pos, negsuc, Bool, true, false, ◌&&◌, List, [], ◌∷◌, ◌++◌, length, take, drop, replicate, append_assoc, arith, ints, IsFalse, length-append, length-map, length-take, length-drop, length-replicate, take_at, get_or_at, fits, scale, add, entry, constant, width, coefficients, widen_to, all_fit, plus_term, plus_term_listed, is_divisible, fit_behind}
+use Rattle.derivation_steps.proofs.Words.{◌≡◌, refl, ap, ap₂, subst, derived, length-add, sym, ◌∙◌, ℕ, zero, suc, ◌+◌, ◌-◌, ◌<◌, ◌≤◌, ℤ, ◌+ℤ◌, ◌*ℤ◌, pos, negsuc, Bool, true, false, ◌&&◌, List, [], ◌∷◌, ◌++◌, length, take, drop, replicate, append_assoc, arith, ints, IsFalse, length-append, length-map, length-take, length-drop, length-replicate, take_at, get_or_at, fits, scale, add, entry, constant, width, coefficients, widen_to, all_fit, plus_term, plus_term_listed, is_divisible, fit_behind, IsTrue}
 use Rattle.std.proofs.lemmas.List.{map-append, take-append-drop, get_or_append_left, get_or-take, take_more, take_all}
 use Rattle.std.proofs.lemmas.List.Folds.{list_all-append}
-use Rattle.std.proofs.Math.Nat.{zero-div, zero-mod}
+use Rattle.std.proofs.Math.Nat.{zero-div, zero-mod, mod-one}
 use Rattle.std.specs.List.{list_all}
 use Rattle.std.specs.Prelude.{◌≤ℤ◌, Some}
-use Rattle.std.proofs.Common.{append-nil}
-use Rattle.pip_model.specs.Numbers.{divides, floor_div, is_zero}
+use Rattle.pip_model.specs.Numbers.{divides, floor_div, is_zero, is_negative}
 use Rattle.pip_model.specs.Forms.{floor_divided}
+use Rattle.pip_model.specs.Check.{is_absurd}
 use Rattle.pip_model.specs.Rows.{is_whole}
 use Rattle.pip_model.proofs.Fitting.{fit_zeros, fit_drop, fit_join, fit_cons}
 use Rattle.derivation_steps.specs.Sums.{spread, total, PartSum, IsPartSum, EndsAtItsLast}
@@ -239,20 +239,41 @@ module _ (s r : PartSum) (m : ℤ) (form front : List ℤ) (u : ℤ) (p : IsPart
       → total now ≡ plus_term (total s) m (widen_to s.width form)
   added now is = rw (is, reach, f, e) (sym (multiple_added s.width s.coefficients s.constant m form p.within some k))
 
--- all places of a form
-pub whole_spread : (form : List ℤ) → 0 < length form → spread (width form) (take (width form) form) (entry form (width form)) ≡ form
-whole_spread form some =
-    let long : length (take (width form) form) ≡ width form = (let e = length-take (width form) form in omega (arith, e)) in
-    let none : width form - length (take (width form) form) ≡ 0 = omega (arith, long) in
-    ap (λ (n : ℕ). (take (width form) form ++ replicate n (pos 0)) ++ entry form (width form) ∷ []) none
-    ∙ ap (λ (l : List ℤ). l ++ entry form (width form) ∷ []) (append-nil (take (width form) form))
-    ∙ sym (split_last form some)
-
 -- the front of a list that ends where the zeros begin
 pub spread_front : (w n : ℕ) (cs : List ℤ) (t : ℤ) → n ≤ length cs → cs ≡ take n cs ++ replicate (length cs - n) (pos 0) → length cs ≤ w → widen_to w (take n cs ++ t ∷ []) ≡ spread w cs t
 spread_front w n cs t h e k =
     let front = length-take n cs in
     widened_is w (take n cs) t ∙ sym (spread_padded w (length cs - n) (take n cs) t (omega (arith, front, h, k))) ∙ ap (λ (l : List ℤ). spread w l t) (sym e)
+
+-- a form without the zeros before its constant
+module _ (s r : PartSum) (m : ℤ) (form places front : List ℤ) (n : ℕ) (u : ℤ) (p : IsPartSum s) (some : 0 < length form) (k : length form ≤ s.width + 1) (reach : r ≡ record s { coefficients = s.coefficients ++ replicate (length front - length s.coefficients) (pos 0) }) (all : places ≡ take (length form - 1) form) (within : n ≤ length places) (zeros : places ≡ take n places ++ replicate (length places - n) (pos 0)) (f : front ≡ take n places) (e : u ≡ entry form (length form - 1)) where
+  abbrev short : List ℤ
+  short = front ++ u ∷ []
+
+  places_long : length places ≡ length form - 1
+  places_long = let g = length-take (length form - 1) form in ap length all ∙ omega (arith, g)
+
+  count : length short ≡ n + 1
+  count = let g = length-append front (u ∷ []) in let h = ap length f in let i = length-take n places in omega (arith, g, h, i, within)
+
+  short_same : widen_to s.width short ≡ widen_to s.width form
+  short_same =
+      ap (λ (l : List ℤ). widen_to s.width (l ++ u ∷ [])) f
+      ∙ spread_front s.width n places u within zeros (omega (arith, places_long, k, some))
+      ∙ ap₂ (λ (l : List ℤ) (z : ℤ). spread s.width l z) all e
+      ∙ sym (widened_is s.width (take (length form - 1) form) (entry form (length form - 1)))
+      ∙ ap (widen_to s.width) (sym (split_last form some))
+
+  pub narrow_listed : all_fit (plus_term_listed (total s) m (widen_to s.width form)) ≡ all_fit (plus_term_listed (take (length front) r.coefficients) m front ++ (m *ℤ u) ∷ (r.constant +ℤ m *ℤ u) ∷ [])
+  narrow_listed =
+      ap (λ (c : List ℤ). all_fit (plus_term_listed (total s) m c)) (sym short_same)
+      ∙ added_listed s r m short front u p (omega (arith, count)) (omega (arith, count, places_long, within, k, some)) reach (sym (coefficients_before front u)) (sym (constant_behind front u))
+
+  pub narrow_added : (now : PartSum) → now ≡ record r { coefficients = plus_term (take (length front) r.coefficients) m front ++ drop (length front) r.coefficients; constant = r.constant +ℤ m *ℤ u }
+      → total now ≡ plus_term (total s) m (widen_to s.width form)
+  narrow_added now is =
+      added s r m short front u p (omega (arith, count)) (omega (arith, count, places_long, within, k, some)) reach (sym (coefficients_before front u)) (sym (constant_behind front u)) now is
+      ∙ ap (λ (c : List ℤ). plus_term (total s) m c) short_same
 
 pub ends_front : (n : ℕ) (cs : List ℤ) (t : ℤ) → n ≤ length cs → (0 < n → IsFalse (is_zero (entry cs (n - 1)))) → EndsAtItsLast (take n cs ++ t ∷ [])
 ends_front n cs t h e k =
@@ -300,3 +321,37 @@ spread_divided d w cs t h =
     let same : length (floor_divided d cs) ≡ length cs = length-map cs (λ (x : ℤ). floor_div x d) in
     map-append (λ (x : ℤ). floor_div x d) (cs ++ zeros) (t ∷ [])
     ∙ ap (λ (l : List ℤ). l ++ floor_div t d ∷ []) (map-append (λ (x : ℤ). floor_div x d) cs zeros ∙ ap (λ (l : List ℤ). floor_divided d cs ++ l) (floors_zeros d (w - length cs) h ∙ ap (λ (n : ℕ). replicate (w - n) (pos 0)) (sym same)))
+
+-- ---- below 0 everywhere
+
+no_number : (n : ℕ) → list_all is_zero (replicate n (pos 0)) ≡ true
+no_number zero = refl
+no_number (suc n) = no_number n
+
+pub spread_absurd : (w : ℕ) (cs : List ℤ) (t : ℤ) → (list_all is_zero cs && is_negative t) ≡ is_absurd (spread w cs t)
+spread_absurd w cs t =
+    let zeros = replicate (w - length cs) (pos 0) in
+    sym (ap₂ ◌&&◌
+    (ap (list_all is_zero) (coefficients_before (cs ++ zeros) t) ∙ list_all-append is_zero cs zeros ∙ and_true (list_all is_zero cs) (list_all is_zero zeros) (no_number (w - length cs)))
+    (ap is_negative (constant_behind (cs ++ zeros) t)))
+
+-- ---- a divisor of 1
+
+all_whole : (cs : List ℤ) → list_all (divides (pos 1)) cs ≡ true
+all_whole [] = refl
+all_whole (c ∷ cs) = rw (divides_one c) (all_whole cs)
+  where
+    divides_one : (z : ℤ) → divides (pos 1) z ≡ true
+    divides_one (pos n) = ap (λ (k : ℕ). is_zero (pos k)) (mod-one n)
+    divides_one (negsuc n) = ap (λ (k : ℕ). is_zero (pos (0 - k))) (mod-one n)
+
+pub not_divided : (sum : List ℤ) → is_divisible (pos 1) sum ≡ true
+not_divided sum = all_whole (coefficients sum)
+
+-- ---- nothing added
+
+pub nothing_added : (sum m : ℤ) → sum +ℤ m *ℤ pos 0 ≡ sum
+nothing_added sum m = ap (λ (z : ℤ). sum +ℤ z) (times_zero m) ∙ plus_zero sum
+
+pub nothing_listed : (sum m : ℤ) → IsTrue (fits sum) → IsTrue (all_fit ((m *ℤ pos 0) ∷ (sum +ℤ m *ℤ pos 0) ∷ []))
+nothing_listed sum m h = rw (nothing_added sum m, times_zero m, h) refl

@@ -3,7 +3,7 @@ ghost use Rattle.pip_model.specs.Agreement.{Agrees};
 ghost use Rattle.pip_model.specs.Forms.{widen_to};
 ghost use Rattle.pip_model.specs.Check as model;
 ghost use Rattle.derivation_steps.specs.Faults.{fault_of, spot_of};
-ghost use Rattle.derivation_steps.specs.Steps.{derived_from, read_over};
+ghost use Rattle.derivation_steps.specs.Steps.{absurd_after, derived_from, read_over};
 ghost use Rattle.derivation_steps.specs.Sums.{total, EndsAtItsLast};
 
 use crate::fault::{Fault, Spot};
@@ -22,6 +22,9 @@ fn derive_in(at: Spot, known: &[Form], sum: &mut StepSum, step: &Step) -> Result
     ensures width { sum.new.width ≡ sum.old.width }
 {
     sum.add_terms(at, known, step.terms.as_slice())?;
+    if step.divisor == 1 {
+        return Ok(());
+    }
     if !sum.is_divisible(step.divisor) {
         return Err(Fault::Rejected(at));
     }
@@ -29,9 +32,24 @@ fn derive_in(at: Spot, known: &[Form], sum: &mut StepSum, step: &Step) -> Result
     Ok(())
 }
 
+// Makes the sum that of the form that a step derives from the known forms, each over the first of the sum's places.
+#[tactic(auto, using(crate::proofs::Steps::step_derives))]
+fn derive_sum(at: Spot, known: &[Form], sum: &mut StepSum, step: &Step) -> Result<(), Fault>
+    requires { All (λ c. length c ≤ sum.old.width + 1) known.now }
+    ensures gives { let w = sum.old.width in Agrees (λ _. read_over w known.now ++ total sum.new ∷ []) fault_of
+        result (model.after_step (spot_of at) w (read_over w known.now) step.now) }
+    ensures width { sum.new.width ≡ sum.old.width }
+{
+    if step.divisor < 1 {
+        return Err(Fault::Rejected(at));
+    }
+    sum.clear();
+    derive_in(at, known, sum, step)?;
+    Ok(())
+}
+
 /// The form that a step derives from the known forms, each over the first of the sum's places: it ends at its last
 /// coefficient that is not 0. What the sum holds before is lost.
-#[tactic(auto, using(crate::proofs::Steps::step_derives))]
 pub fn derive(
     alloc: Global,
     at: Spot,
@@ -46,11 +64,24 @@ pub fn derive(
     ensures ends { IfOk result EndsAtItsLast }
     ensures width { sum.new.width ≡ sum.old.width }
 {
-    if step.divisor < 1 {
-        return Err(Fault::Rejected(at));
-    }
-    sum.clear();
-    derive_in(at, known, sum, step)?;
+    derive_sum(at, known, sum, step)?;
     let form = sum.form(alloc)?;
     Ok(form)
+}
+
+/// Whether the form that a step derives from the known forms is below 0 everywhere. No form is made, and so no memory is
+/// taken for one; what the sum holds before is lost.
+pub fn derives_absurd(
+    at: Spot,
+    known: &[Form],
+    sum: &mut StepSum,
+    step: &Step,
+) -> Result<bool, Fault>
+    requires { All (λ c. length c ≤ sum.old.width + 1) known.now }
+    ensures gives { let w = sum.old.width in Agrees (λ absurd. absurd) fault_of
+        result (absurd_after (spot_of at) w (read_over w known.now) step.now) }
+    ensures width { sum.new.width ≡ sum.old.width }
+{
+    derive_sum(at, known, sum, step)?;
+    Ok(sum.is_absurd())
 }

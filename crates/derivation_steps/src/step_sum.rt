@@ -9,9 +9,10 @@ ghost use Rattle.derivation_steps.specs.Faults.{fault_of, spot_of};
 ghost use Rattle.derivation_steps.specs.Steps.{read_over};
 ghost use Rattle.derivation_steps.specs.Sums.{total, EndsAtItsLast};
 
+use crate::absurd::{all_zero, negative};
 use crate::fault::{Fault, Spot};
 use crate::sum::{add_front, add_product};
-use crate::trimming::trimmed_form;
+use crate::trimming::{trimmed_form, trimmed_len};
 use affine_forms::{Form, FormRefusal, Overflow, WantOfMemory, divide_all, floor_div, is_whole};
 use std::alloc::Global;
 use std::marker::Model;
@@ -103,7 +104,8 @@ impl StepSum {
         if m == 0 {
             return Ok(());
         }
-        let (front, constant) = form.split_at(form.len() - 1);
+        let (places, constant) = form.split_at(form.len() - 1);
+        let (front, _) = places.split_at(trimmed_len(places));
         self.reach(front.len())?;
         self.add_parts(m, front, constant[0])?;
         Ok(())
@@ -167,6 +169,14 @@ impl StepSum {
     {
         divide_all(&mut self.coefficients, d);
         self.constant = floor_div(self.constant, d);
+    }
+
+    // Whether its form is below 0 everywhere.
+    #[tactic(auto, using(crate::proofs::Spreading::spread_absurd))]
+    pub(crate) fn is_absurd(&self) -> bool
+        ensures { result ≡ model.is_absurd (total self.now) }
+    {
+        all_zero(&self.coefficients) && negative(self.constant)
     }
 
     // Its form, which ends at its last coefficient that is not 0.

@@ -21,10 +21,14 @@ pub fn zeros(alloc: Global, width: usize) -> Result<Vec<i128>, WantOfMemory>
 
 // The next entry, `sum + m*c`.
 pub(crate) fn add_product(sum: i128, m: i128, c: i128) -> Result<i128, Overflow>
+    requires { Fits sum }
     ensures listed { IsChecked is_overflow ((m *ℤ c) ∷ (sum +ℤ m *ℤ c) ∷ []) result }
     ensures value { IfOk result (λ z. z ≡ sum +ℤ m *ℤ c) }
     ensures fits { IfOk result Fits }
 {
+    if c == 0 {
+        return Ok(sum);
+    }
     let next = plus(sum, times(m, c)?)?;
     Ok(next)
 }

@@ -1,6 +1,6 @@
 ghost use Rattle.std.specs.Prelude.{◌≡◌, ◌+◌, ◌-◌, ◌≤◌, ◌<◌, ℕ, ◌++◌, pos, length, take, replicate, All, IfOk, IsFalse};
 ghost use Rattle.pip_model.specs.Numbers.{is_zero};
-ghost use Rattle.pip_model.specs.Forms.{entry, width, widen_to};
+ghost use Rattle.pip_model.specs.Forms.{entry, widen_to};
 ghost use Rattle.affine_forms.specs.Checks.{Fits};
 ghost use Rattle.derivation_steps.specs.Sums.{spread, EndsAtItsLast};
 
@@ -8,7 +8,7 @@ use affine_forms::{Form, WantOfMemory};
 use std::alloc::Global;
 
 // How many numbers there are up to the last that is not 0.
-fn trimmed_len(numbers: &[i128]) -> usize
+pub(crate) fn trimmed_len(numbers: &[i128]) -> usize
     ensures zeros { numbers.now ≡ take result numbers.now ++ replicate (length numbers.now - result) (pos 0) }
     ensures within { result ≤ length numbers.now }
     ensures ends { 0 < result → IsFalse (is_zero (entry numbers.now (result - 1))) }
@@ -39,16 +39,4 @@ pub(crate) fn trimmed_form(
     made.extend_from_slice(front)?;
     made.push(constant)?;
     Ok(Form::from_entries(made))
-}
-
-/// The form, which ends at its last coefficient that is not 0. Read over the form's places it is the same.
-pub fn trimmed(alloc: Global, form: &Form) -> Result<Form, WantOfMemory>
-    ensures value { IfOk result (λ made. widen_to (width form.now) made ≡ form.now) }
-    ensures within { IfOk result (λ made. length made ≤ length form.now) }
-    ensures ends { IfOk result EndsAtItsLast }
-{
-    let n = form.width();
-    let (front, _) = form.as_slice().split_at(n);
-    let made = trimmed_form(alloc, front, form.at(n))?;
-    Ok(made)
 }

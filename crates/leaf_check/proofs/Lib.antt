@@ -5,4 +5,3 @@ pub mod Smaller
 pub mod Owned
 pub mod NextGoal
 pub mod Refuted
-pub mod Turned

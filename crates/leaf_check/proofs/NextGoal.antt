@@ -1,6 +1,9 @@
 -- From the forms of one goal of a list to those of the next.
-use Rattle.leaf_check.proofs.Words.{◌≡◌, refl, ap, sym, ◌∙◌, ℕ, zero, suc, ◌+◌, ◌-◌, ◌<◌, ℤ, pos, List, [], ◌∷◌, ◌++◌, length, take, drop, get_or, append_assoc, arith, inl, inr, slice_index_or, Some, length-append, length-take, take_at, take-take, get_or_append_left, get_or-append_right, get_or-map, constant, Problem, Component, LeafCase, Premises, leaf_premises, unknown_forms, row_premises, sign_premises, least_premises, not_above, smaller_from, KnownForms, nothing, without_last}
-use Rattle.std.proofs.Math.Seq.{take-append-add}
+use Rattle.leaf_check.proofs.Words.{subst, Option, option_copied, Ok, Err, Result, OnOk, case_of, ap₂, ◌≡◌, refl, ap, sym, ◌∙◌, ℕ, zero, suc, ◌+◌, ◌-◌, ◌<◌, ℤ, pos, List, [], ◌∷◌, ◌++◌, length, take, drop, get_or, append_assoc, arith, inl, inr, slice_index_or, Some, length-append, length-take, take_at, take-take, get_or_append_left, get_or-append_right, get_or-map, constant, Problem, Component, LeafCase, Premises, leaf_premises, unknown_forms, row_premises, sign_premises, least_premises, not_above, smaller_from, KnownForms, nothing, without_last}
+use Rattle.std.proofs.Math.Seq.{take-append-add, drop-append_seam}
+use Rattle.std.proofs.Common.{add-one}
+use Rattle.leaf_check.specs.Turned.{AreMore, IsPushedTo, own_forms, staying}
+use Rattle.leaf_check.specs.declared.leaf.Leaf.{Leaf}
 use Rattle.std.proofs.lemmas.Bool.{cases_lt}
 use Rattle.std.proofs.lemmas.List.{take-append-drop}
 use Rattle.leaf_check.proofs.Owned.{rows, signs, lasts, length-rows, length-both, own_least}
@@ -11,6 +14,47 @@ pub without_one : (F xs : List (List ℤ)) → length xs ≡ 1 → without_last 
 without_one F xs h =
     let e : length (F ++ xs) - 1 ≡ length F = omega (arith, length-append F xs, h) in
     ap (λ (k : ℕ). take k (F ++ xs)) e ∙ take_at F xs (length F) refl
+
+-- forms put behind others are what comes behind these
+pub more_if_ok : {X E : Type 0} (l : Leaf) (r : ℕ) (result : Result X E) (old new : KnownForms) (more : List (List ℤ)) → OnOk result (new ≡ record old { forms = old.forms ++ more }) → AreMore l r more
+    → OnOk result (AreMore l r (drop (length old.forms) new.forms))
+more_if_ok l r (Ok x) old new more is h =
+    let forms : drop (length old.forms) new.forms ≡ more = ap (λ (k : KnownForms). drop (length old.forms) k.forms) is ∙ drop-append_seam old.forms more in
+    λ front. ap (λ (xs : List (List ℤ)). staying l r front ++ xs) forms ∙ h front
+more_if_ok l r (Err e) old new more is h = tt
+
+-- of a goal of one form nothing stays
+pub more_of_one : (l : Leaf) (r : ℕ) {more : List (List ℤ)} → length (own_forms l r) ≡ 1 → more ≡ own_forms l (r + 1) → AreMore l (r + 1) more
+more_of_one l r {more = more} one is = λ front.
+    rw (add-one r) (ap₂ (λ (xs ys : List (List ℤ)). xs ++ ys) (without_one front (own_forms l r) one) (subst (λ (n : ℕ). more ≡ own_forms l n) (add-one r) is))
+
+pub more_by_list : (l : Leaf) (cs : List Component) (r : ℕ) (more : List (List ℤ)) → option_copied l.list ≡ Some cs
+    → ((F : List (List ℤ)) → without_last (F ++ (slice_index_or (leaf_premises l.problem.now (case_of l) (Some cs)) r nothing).known) ++ more ≡ F ++ (slice_index_or (leaf_premises l.problem.now (case_of l) (Some cs)) (r + 1) nothing).known)
+    → AreMore l (r + 1) more
+more_by_list l cs r more list h = λ front.
+    let by : without_last (front ++ own_forms l r) ++ more ≡ front ++ own_forms l (r + 1)
+    = subst (λ (o : Option (List Component)). without_last (front ++ (slice_index_or (leaf_premises l.problem.now (case_of l) o) r nothing).known) ++ more ≡ front ++ (slice_index_or (leaf_premises l.problem.now (case_of l) o) (r + 1) nothing).known) (sym list) (h front) in
+    rw (add-one r) (subst (λ (n : ℕ). without_last (front ++ own_forms l r) ++ more ≡ front ++ own_forms l n) (add-one r) by)
+
+-- the next goal, behind what stays
+pub turned_by : (l : Leaf) (r : ℕ) (front old new : List (List ℤ)) → old ≡ front ++ own_forms l r → take (length (without_last old)) new ≡ without_last old → AreMore l (r + 1) (drop (length (without_last old)) new)
+    → new ≡ front ++ own_forms l (r + 1)
+turned_by l r front old new is stay more =
+    let by = rw (add-one r) at (more front) in
+    sym (take-append-drop (length (without_last old)) new)
+    ∙ ap (λ (xs : List (List ℤ)). xs ++ drop (length (without_last old)) new) (stay ∙ ap without_last is)
+    ∙ subst (λ (n : ℕ). without_last (front ++ own_forms l r) ++ drop (length (without_last old)) new ≡ front ++ own_forms l n) (sym (add-one r)) by
+
+pub turned_if_ok : {X E : Type 0} (l : Leaf) (r : ℕ) (front : List (List ℤ)) (result : Result X E) (old dropped new : KnownForms) → dropped ≡ record old { forms = without_last old.forms } → old.forms ≡ front ++ own_forms l r
+    → IsPushedTo result l (r + 1) dropped new → OnOk result (new ≡ record old { forms = front ++ own_forms l (r + 1) })
+turned_if_ok l r front (Ok x) old dropped new e is p =
+    let forms : dropped.forms ≡ without_last old.forms = ap (λ (k : KnownForms). k.forms) e in
+    ap₂ (λ (w : ℕ) (xs : List (List ℤ)). let k : KnownForms = record { width = w; forms = xs } in k)
+    (p.width ∙ ap (λ (k : KnownForms). k.width) e)
+    (turned_by l r front old.forms new.forms is
+    (subst (λ (xs : List (List ℤ)). take (length xs) new.forms ≡ xs) forms p.stay)
+    (subst (λ (xs : List (List ℤ)). AreMore l (r + 1) (drop (length xs) new.forms)) forms p.ok))
+turned_if_ok l r front (Err e) old dropped new h is p = tt
 
 -- what stands behind all forms but the last leaves them as they are
 pub still : (old dropped now : KnownForms) → dropped ≡ record old { forms = without_last old.forms } → take (length dropped.forms) now.forms ≡ dropped.forms

@@ -1,6 +1,9 @@
 -- The known forms of a refutation.
-use Rattle.std.specs.Prelude.{◌≡◌, ◌≤◌, ◌+◌, ℕ, ℤ, List, ◌++◌, length, take, All, Result, OnOk}
-use Rattle.derivation_steps.specs.Sums.{PartSum, EndsAtItsLast}
+use Rattle.std.specs.Prelude.{◌≡◌, ◌≤◌, ◌+◌, ℕ, ℤ, Bool, List, ◌++◌, length, take, All, Result, Ok, OnOk}
+use Rattle.derivation_steps.specs.Sums.{PartSum}
+use Rattle.pip_model.specs.Reading.{◌>>=◌}
+use Rattle.pip_model.specs.Certificate.{Step}
+use Rattle.pip_model.specs.Check.{Checks, after_steps, ends_absurd}
 
 -- forms over this number of places
 pub record KnownForms : Type 0 where
@@ -13,8 +16,13 @@ pub record ArePushed {X E : Type 0} (result : Result X E) (forms : List (List �
   pub front : take (length old.forms) new.forms ≡ old.forms
   pub width : new.width ≡ old.width
 
--- forms over the first of so many places, each of which ends at its last coefficient that is not 0; a sum over all
-pub record AreTrimmed (w : ℕ) (sum : PartSum) (forms : List (List ℤ)) : Type 0 where
-  pub over : sum.width ≡ w
+-- forms over the first of so many places, and a sum over all
+pub record AreOver (w : ℕ) (forms : List (List ℤ)) (sum : PartSum) : Type 0 where
   pub within : All (λ (c : List ℤ). length c ≤ w + 1) forms
-  pub ends : All EndsAtItsLast forms
+  pub over : sum.width ≡ w
+
+-- whether the last known form is below 0 everywhere once the steps of a refutation are taken
+abbrev pub absurd_by : ℕ → ℕ → ℕ → List (List ℤ) → List Step → Checks Bool
+absurd_by l r w known steps = do
+  forms ← after_steps l r 0 w known steps
+  Ok (ends_absurd forms)

@@ -1,21 +1,20 @@
-ghost use Rattle.std.specs.Prelude.{◌≡◌, ◌+◌, ◌<◌, ◌≤◌, ◌++◌, [], ◌∷◌, length, take, All, OnOk, OnErr};
-ghost use Rattle.std.specs.List.{list_all};
-ghost use Rattle.pip_model.specs.Numbers.{is_zero, is_negative};
+ghost use Rattle.std.specs.Prelude.{◌≡◌, ◌+◌, ◌≤◌, ◌++◌, [], ◌∷◌, length, take, OnOk, OnErr};
 ghost use Rattle.pip_model.specs.Forms.{widen_to};
 ghost use Rattle.pip_model.specs.Agreement.{Agrees};
 ghost use Rattle.pip_model.specs.Check as model;
 ghost use Rattle.derivation_steps.specs.Faults.{fault_of, spot_of};
-ghost use Rattle.derivation_steps.specs.Sums.{EndsAtItsLast};
-ghost use Rattle.leaf_check.specs.Known.{ArePushed};
+ghost use Rattle.leaf_check.specs.Known.{absurd_by};
+ghost use Rattle.leaf_check.specs.Goals.{without_last};
 
+use crate::known::Known;
 use affine_forms::{Form, WantOfMemory};
 use certificate_parts::Step;
-use derivation_steps::{Fault, Spot, StepSum, derive, trimmed};
+use derivation_steps::{Fault, Spot, StepSum, derive, derives_absurd, is_absurd};
 use std::alloc::Global;
 use std::marker::Model;
 
-// The known forms of a refutation as the check keeps them, in the order of their numbers. Each ends at its last
-// coefficient that is not 0.
+// The known forms of a refutation as the check keeps them, in the order of their numbers. Those that steps give end at
+// their last coefficient that is not 0.
 #[derive(Drop)]
 pub(crate) struct Derivation {
     width: usize,
@@ -25,15 +24,14 @@ pub(crate) struct Derivation {
 }
 
 impl Model for Derivation {
-    ghost use Rattle.std.specs.Prelude.{◌≡◌};
     ghost use Rattle.derivation_steps.specs.Steps.{read_over};
-    ghost use Rattle.leaf_check.specs.Known.{KnownForms, AreTrimmed};
+    ghost use Rattle.leaf_check.specs.Known.{KnownForms, AreOver};
 
     ghost Value = { KnownForms };
 
     ghost view = { λ k. record { width = k.width; forms = read_over k.width k.forms.items } };
 
-    ghost invariant = { λ k. AreTrimmed k.width k.sum k.forms.items };
+    ghost invariant = { λ k. AreOver k.width k.forms.items k.sum };
 }
 
 impl Derivation {
@@ -63,10 +61,9 @@ impl Derivation {
         self.forms.truncate(n);
     }
 
-    // Puts a trimmed form behind the others. A refusal leaves them as they were.
+    // Puts a form behind the others. A refusal leaves them as they were.
     fn put(&mut self, form: Form) -> Result<(), WantOfMemory>
-        requires within { length form ≤ self.old.width + 1 }
-        requires ends { EndsAtItsLast form }
+        requires { length form ≤ self.old.width + 1 }
         ensures ok { OnOk result (self.new
             ≡ record self.old { forms = self.old.forms ++ widen_to self.old.width form ∷ [] }) }
         ensures err { OnErr result (self.new ≡ self.old) }
@@ -75,25 +72,23 @@ impl Derivation {
         Ok(())
     }
 
-    // Puts a form behind the others. A refusal leaves them as they were.
-    fn push(&mut self, alloc: Global, form: &Form) -> Result<(), WantOfMemory>
-        requires { length form.now ≡ self.old.width + 1 }
-        ensures ok { OnOk result (self.new ≡ record self.old { forms = self.old.forms ++ form.now ∷ [] }) }
-        ensures err { OnErr result (self.new ≡ self.old) }
+    // Drops the last form.
+    pub(crate) fn drop_last(&mut self)
+        ensures { self.new ≡ record self.old { forms = without_last self.old.forms } }
     {
-        let form = trimmed(alloc, form)?;
-        self.put(form)
+        let rest = self.len().saturating_sub(1);
+        self.truncate(rest);
     }
 
-    // Puts these forms behind the others.
-    pub(crate) fn push_all(&mut self, alloc: Global, forms: &[Form]) -> Result<(), WantOfMemory>
-        requires { All (λ c. length c ≡ self.old.width + 1) forms.now }
-        ensures { ArePushed result forms.now self.old self.new }
+    // Moves these forms behind the others.
+    #[tactic(auto, using(crate::proofs::Steps::joined_over))]
+    pub(crate) fn put_all(&mut self, made: &mut Known) -> Result<(), WantOfMemory>
+        requires { made.old.width ≡ self.old.width }
+        ensures ok { OnOk result (self.new ≡ record self.old { forms = self.old.forms ++ made.old.forms }) }
+        ensures width { self.new.width ≡ self.old.width }
+        ensures made { made.new.width ≡ made.old.width }
     {
-        for form in forms {
-            self.push(alloc, form)?;
-        }
-        Ok(())
+        made.move_behind(&mut self.forms)
     }
 
     // Derives the next form by a step, and puts it behind the others.
@@ -145,7 +140,34 @@ impl Derivation {
         }
     }
 
-    // Derives a form by each step; the last form has to be below 0 everywhere.
+    // Whether the last form is below 0 everywhere where the steps are taken. The form of the last step is not kept.
+    fn ends_absurd_by(
+        &mut self,
+        alloc: Global,
+        leaf: usize,
+        refutation: usize,
+        steps: &[Step],
+    ) -> Result<bool, Fault>
+        ensures gives { Agrees (λ absurd. absurd) fault_of result
+            (absurd_by leaf refutation self.old.width self.old.forms steps.now) }
+        ensures width { self.new.width ≡ self.old.width }
+        ensures front { take (length self.old.forms) self.new.forms ≡ self.old.forms }
+    {
+        if steps.is_empty() {
+            return Ok(self.ends_absurd());
+        }
+        let (front, last) = steps.split_at(steps.len() - 1);
+        self.add_steps(alloc, leaf, refutation, front)?;
+        let at = Spot {
+            leaf,
+            refutation,
+            step: steps.len(),
+        };
+        let absurd = derives_absurd(at, &self.forms, &mut self.sum, &last[0])?;
+        Ok(absurd)
+    }
+
+    // Takes the steps; the last form has to be below 0 everywhere.
     pub(crate) fn refute(
         &mut self,
         alloc: Global,
@@ -158,8 +180,8 @@ impl Derivation {
         ensures width { self.new.width ≡ self.old.width }
         ensures front { take (length self.old.forms) self.new.forms ≡ self.old.forms }
     {
-        self.add_steps(alloc, leaf, refutation, steps)?;
-        if !self.ends_absurd() {
+        let absurd = self.ends_absurd_by(alloc, leaf, refutation, steps)?;
+        if !absurd {
             return Err(Fault::Rejected(Spot {
                 leaf,
                 refutation,
@@ -168,34 +190,4 @@ impl Derivation {
         }
         Ok(())
     }
-}
-
-// Whether the number is 0.
-fn zero(z: i128) -> bool
-    ensures { result ≡ is_zero z }
-{
-    z == 0
-}
-
-// Whether the number is below 0.
-fn negative(z: i128) -> bool
-    ensures { result ≡ is_negative z }
-{
-    z < 0
-}
-
-// Whether each number is 0.
-fn all_zero(numbers: &[i128]) -> bool
-    ensures { result ≡ list_all is_zero numbers.now }
-{
-    numbers.iter().all(|z| zero(*z))
-}
-
-// Whether each coefficient is 0 and the constant below 0.
-fn is_absurd(form: &[i128]) -> bool
-    requires { 0 < length form.now }
-    ensures { result ≡ model.is_absurd form.now }
-{
-    let (coefficients, _) = form.split_at(form.len() - 1);
-    all_zero(coefficients) && negative(form[form.len() - 1])
 }

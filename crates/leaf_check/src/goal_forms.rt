@@ -1,9 +1,10 @@
-ghost use Rattle.std.specs.Prelude.{◌≡◌, ◌^◌, ◌+◌, ◌-◌, ◌<◌, ◌≤◌, ℤ, List, [], length, map, IfOk, OnOk, IsTrue, slice_index_or, option_copied};
+ghost use Rattle.std.specs.Prelude.{◌≡◌, ◌^◌, ◌+◌, ◌<◌, ◌≤◌, ℤ, List, [], length, map, IfOk, OnOk, IsTrue, slice_index_or, option_copied};
 ghost use Rattle.pip_model.specs.Agreement.{Agrees};
 ghost use Rattle.pip_model.specs.Check as model;
 ghost use Rattle.derivation_steps.specs.Faults.{fault_of};
 ghost use Rattle.leaf_check.specs.Leaves.{case_of, own_premises, IsLeaf, nothing};
-ghost use Rattle.leaf_check.specs.GoalForms.{AreMade, AreBehind};
+ghost use Rattle.leaf_check.specs.GoalForms.{AreOf};
+ghost use Rattle.leaf_check.specs.Turned.{AreBehind};
 
 use crate::derivation::Derivation;
 use crate::known::Known;
@@ -12,22 +13,12 @@ use certificate_parts::{Refutation, Step};
 use derivation_steps::Fault;
 use std::alloc::Global;
 
-// The forms of a leaf's refutations, one after the other: as they are made, behind the leaf's, and as the check keeps
-// them, behind those that the shared steps give of these too. What two of them have in common is made once.
+// The forms of a leaf's refutations, one after the other, as the check keeps them: behind the leaf's and those that the
+// shared steps give. What two of them have in common is made once; what is made is moved there.
 #[derive(Drop)]
 pub(crate) struct GoalForms {
     pub(crate) made: Known,
     pub(crate) kept: Derivation,
-    // How many are the leaf's.
-    pub(crate) leaf: usize,
-}
-
-// How many of so many forms stay where the last one is dropped, unless it is the leaf's.
-fn count_staying(forms: usize, leaf: usize) -> usize
-    ensures none { forms ≤ leaf → result ≡ leaf }
-    ensures some { leaf < forms → result ≡ forms - 1 }
-{
-    if forms <= leaf { leaf } else { forms - 1 }
 }
 
 impl GoalForms {
@@ -37,38 +28,34 @@ impl GoalForms {
         ensures gives { Agrees (λ g. g.kept.forms) fault_of result (model.after_steps leaf.now.number 0 0
             (leaf.now.scope + leaf.now.problem.now.unknowns)
             (model.scope_forms leaf.now.problem.now (case_of leaf.now)) shared.now) }
-        ensures made { IfOk result (AreMade leaf.now 0) }
+        ensures over { IfOk result (AreOf leaf.now) }
     {
-        let made = leaf.start(alloc)?;
+        let mut made = leaf.start(alloc)?;
         let mut kept = Derivation::new(alloc, made.width());
-        kept.push_all(alloc, made.as_slice())?;
+        kept.put_all(&mut made)?;
         kept.add_steps(alloc, leaf.number, 0, shared)?;
-        Ok(GoalForms {
-            leaf: made.len(),
-            made,
-            kept,
-        })
+        Ok(GoalForms { made, kept })
     }
 
     // Turns those of the refutation before into those of refutation r, from 0.
     fn turn_to(&mut self, alloc: Global, leaf: &Leaf<'_>, r: usize) -> Result<(), Fault>
         requires leaf { IsLeaf leaf.now.problem.now (case_of leaf.now) }
         requires whole { IsTrue (model.is_whole_list leaf.now.problem.now.unknowns (option_copied leaf.now.list)) }
-        requires before { AreMade leaf.now r self.old }
+        requires over { AreOf leaf.now self.old }
         requires place { r < length (own_premises leaf.now) }
         requires small { r + 1 < 2 ^ 64 }
         ensures listed { Agrees (λ _. tt) fault_of result (model.fit (model.spot leaf.now.number (r + 1) 0)
             (slice_index_or (own_premises leaf.now) r nothing).listed) }
-        ensures made { OnOk result (AreMade leaf.now (r + 1) self.new) }
-        ensures behind { OnOk result ((front : List (List ℤ)) → AreBehind front leaf.now r self.old
-            → AreBehind front leaf.now (r + 1) self.new) }
+        ensures over { OnOk result (AreOf leaf.now self.new) }
+        ensures behind { OnOk result ((front : List (List ℤ)) → AreBehind front leaf.now r self.old.kept
+            → AreBehind front leaf.now (r + 1) self.new.kept) }
     {
-        let staying = count_staying(self.made.len(), self.leaf);
-        let dropped = self.made.len() - staying;
-        leaf.turn_to(alloc, &mut self.made, r)?;
-        self.kept.truncate(self.kept.len().saturating_sub(dropped));
-        let (_, more) = self.made.as_slice().split_at(staying);
-        self.kept.push_all(alloc, more)?;
+        self.made.truncate(0);
+        leaf.push_turned(alloc, &mut self.made, r)?;
+        if r > 0 {
+            self.kept.drop_last();
+        }
+        self.kept.put_all(&mut self.made)?;
         Ok(())
     }
 
@@ -82,16 +69,17 @@ impl GoalForms {
     ) -> Result<(), Fault>
         requires leaf { IsLeaf leaf.now.problem.now (case_of leaf.now) }
         requires whole { IsTrue (model.is_whole_list leaf.now.problem.now.unknowns (option_copied leaf.now.list)) }
-        requires before { AreMade leaf.now r self.old }
+        requires over { AreOf leaf.now self.old }
         requires place { r < length (own_premises leaf.now) }
         requires small { r + 1 < 2 ^ 64 }
-        ensures gives { (front : List (List ℤ)) → AreBehind front leaf.now r self.old → Agrees (λ _. tt) fault_of result
+        ensures gives { (front : List (List ℤ)) → AreBehind front leaf.now r self.old.kept
+            → Agrees (λ _. tt) fault_of result
             (model.check_refutation leaf.now.number (r + 1) (leaf.now.scope + leaf.now.problem.now.unknowns)
             (model.joined (record { known = front; listed = [] }) (slice_index_or (own_premises leaf.now) r nothing))
             steps.now) }
-        ensures made { OnOk result (AreMade leaf.now (r + 1) self.new) }
-        ensures behind { OnOk result ((front : List (List ℤ)) → AreBehind front leaf.now r self.old
-            → AreBehind front leaf.now (r + 1) self.new) }
+        ensures over { OnOk result (AreOf leaf.now self.new) }
+        ensures behind { OnOk result ((front : List (List ℤ)) → AreBehind front leaf.now r self.old.kept
+            → AreBehind front leaf.now (r + 1) self.new.kept) }
     {
         self.turn_to(alloc, leaf, r)?;
         let before = self.kept.len();
@@ -109,7 +97,7 @@ impl GoalForms {
     ) -> Result<(), Fault>
         requires leaf { IsLeaf leaf.now.problem.now (case_of leaf.now) }
         requires whole { IsTrue (model.is_whole_list leaf.now.problem.now.unknowns (option_copied leaf.now.list)) }
-        requires made { AreMade leaf.now 0 self.old }
+        requires over { AreOf leaf.now self.old }
         requires count { length refutations.now ≡ length (own_premises leaf.now) }
         ensures { Agrees (λ _. tt) fault_of result (model.check_refutations leaf.now.number 1
             (leaf.now.scope + leaf.now.problem.now.unknowns)

@@ -73,6 +73,25 @@ impl Known {
         self.forms.truncate(n);
     }
 
+    // Moves the forms behind these. Where there is no memory for that they stay.
+    pub(crate) fn move_behind(&mut self, forms: &mut Vec<Form>) -> Result<(), WantOfMemory>
+        ensures ok { OnOk result (forms.new.items ≡ forms.old.items ++ self.old.forms) }
+        ensures err { OnErr result (forms.new.items ≡ forms.old.items) }
+        ensures wide { All (λ c. length c ≡ self.old.width + 1) self.old.forms }
+        ensures width { self.new.width ≡ self.old.width }
+    {
+        forms.append(&mut self.forms)?;
+        Ok(())
+    }
+
+    // Takes room for so many more forms.
+    pub(crate) fn reserve(&mut self, forms: usize) -> Result<(), WantOfMemory>
+        ensures { self.new ≡ self.old }
+    {
+        self.forms.reserve(forms)?;
+        Ok(())
+    }
+
     // Drops the last form.
     pub(crate) fn drop_last(&mut self)
         ensures { self.new ≡ record self.old { forms = without_last self.old.forms } }

@@ -1,4 +1,4 @@
-ghost use Rattle.std.specs.Prelude.{◌≡◌, ◌^◌, ◌+◌, ◌-◌, ◌≤◌, ◌<◌, ◌++◌, [], true, pos, Some, length, take, map, IfOk, OnOk, OnErr, IsTrue, slice_index_or, option_copied};
+ghost use Rattle.std.specs.Prelude.{◌≡◌, ◌^◌, ◌+◌, ◌≤◌, ◌<◌, ◌++◌, true, pos, Some, length, take, IfOk, OnOk, OnErr, IsTrue, slice_index_or, option_copied};
 ghost use Rattle.std.specs.List.{list_all};
 ghost use Rattle.pip_model.specs.Numbers.{same_number};
 ghost use Rattle.pip_model.specs.Tree.{Component};
@@ -7,15 +7,14 @@ ghost use Rattle.pip_model.specs.Check as model;
 ghost use Rattle.affine_forms.specs.Checks.{is_form_overflow};
 ghost use Rattle.derivation_steps.specs.Faults.{fault_of};
 ghost use Rattle.leaf_check.specs.Leaves.{case_of, own_premises, AreWide, IsLeaf, nothing, goal_count, IsGoal, AreTurned, has_shape as has_shape_of};
-ghost use Rattle.leaf_check.specs.Goals.{without_last};
 ghost use Rattle.leaf_check.specs.Known.{ArePushed};
-ghost use Rattle.leaf_check.specs.Turned.{IsTurnedTo};
+ghost use Rattle.leaf_check.specs.Turned.{IsPushedTo};
 
 use crate::goal_forms::GoalForms;
 use crate::goals::{row_goal, sign_goal};
 use crate::known::Known;
 use affine_forms::{Form, FormRefusal, WantOfMemory};
-use certificate_parts::{LeafProofs, Refutation, Step};
+use certificate_parts::LeafProofs;
 use derivation_steps::{Fault, Spot};
 use pip_problem::Problem;
 use quast::Component;
@@ -90,10 +89,26 @@ impl Leaf<'_> {
             return Err(WantOfMemory);
         };
         let mut known = Known::new(alloc, width);
+        known.reserve(self.most_forms())?;
         known.push_places(alloc, 0, self.problem.params())?;
         known.push_widened(alloc, self.problem.context())?;
         known.push_widened(alloc, self.path)?;
         Ok(known)
+    }
+
+    // How many forms a refutation starts from at most, and one for a step.
+    fn most_forms(&self) -> usize {
+        let own = self
+            .problem
+            .rows()
+            .len()
+            .saturating_add(self.problem.unknowns());
+        self.problem
+            .params()
+            .saturating_add(self.problem.context().len())
+            .saturating_add(self.path.len())
+            .saturating_add(own)
+            .saturating_add(self.problem.unknowns())
     }
 
     // Puts the unknowns and the tableau's rows behind the forms.
@@ -254,8 +269,8 @@ impl Leaf<'_> {
         }
     }
 
-    // Turns the forms of a list's refutation, from 0, into those of the next one.
-    fn next_list_goal(
+    // Puts behind the forms what the next refutation of a list has behind all but the last form of this one, from 0.
+    fn push_next_list_goal(
         &self,
         alloc: Global,
         known: &mut Known,
@@ -265,19 +280,34 @@ impl Leaf<'_> {
         requires leaf { IsLeaf self.now.problem.now (case_of self.now) }
         requires list { option_copied self.now.list ≡ Some components.now }
         requires count { length components.now ≡ self.now.problem.now.unknowns }
-        requires goal { IsGoal self.now r known.old }
+        requires width { known.old.width ≡ self.now.scope + self.now.problem.now.unknowns }
         requires place { r + 1 < length (own_premises self.now) }
         ensures listed { IsChecked is_form_overflow (slice_index_or (own_premises self.now) (r + 1) nothing).listed
             result }
-        ensures turned { AreTurned result self.now r known.old known.new }
+        ensures pushed { IsPushedTo result self.now (r + 1) known.old known.new }
     {
         let single = self.problem.rows().len() + components.len();
-        known.drop_last();
         if r < single {
             return self.push_list_goal(alloc, known, components, r + 1);
         }
         let (front, _) = components.split_at(r - single + 2);
         known.push_smaller(alloc, self.scope, front, r - single)
+    }
+
+    // The same of any refutation that is not the last.
+    fn push_next_goal(&self, alloc: Global, known: &mut Known, r: usize) -> Result<(), FormRefusal>
+        requires leaf { IsLeaf self.now.problem.now (case_of self.now) }
+        requires whole { IsTrue (model.is_whole_list self.now.problem.now.unknowns (option_copied self.now.list)) }
+        requires width { known.old.width ≡ self.now.scope + self.now.problem.now.unknowns }
+        requires place { r + 1 < length (own_premises self.now) }
+        ensures listed { IsChecked is_form_overflow (slice_index_or (own_premises self.now) (r + 1) nothing).listed
+            result }
+        ensures pushed { IsPushedTo result self.now (r + 1) known.old known.new }
+    {
+        match self.list {
+            None => unreachable!(),
+            Some(components) => self.push_next_list_goal(alloc, known, components, r),
+        }
     }
 
     /// Turns the forms of a refutation, from 0, into those of the next one, from which they differ at their end. It
@@ -292,31 +322,33 @@ impl Leaf<'_> {
             result }
         ensures turned { AreTurned result self.now r known.old known.new }
     {
-        match self.list {
-            None => unreachable!(),
-            Some(components) => self.next_list_goal(alloc, known, components, r),
-        }
+        known.drop_last();
+        self.push_next_goal(alloc, known, r)
     }
 
-    // Turns the forms of the refutation before into those of refutation r, from 0, which the first one's own make of the
-    // leaf's alone. With the place of the refutation where they are refused.
-    pub(crate) fn turn_to(&self, alloc: Global, known: &mut Known, r: usize) -> Result<(), Fault>
+    // Puts behind the forms what the refutation r, from 0, has behind all but the last form of the one before; of the
+    // first one all of its own. With the place of the refutation where they are refused.
+    pub(crate) fn push_turned(
+        &self,
+        alloc: Global,
+        known: &mut Known,
+        r: usize,
+    ) -> Result<(), Fault>
         requires leaf { IsLeaf self.now.problem.now (case_of self.now) }
         requires whole { IsTrue (model.is_whole_list self.now.problem.now.unknowns (option_copied self.now.list)) }
-        requires before { IsTurnedTo self.now r known.old }
+        requires width { known.old.width ≡ self.now.scope + self.now.problem.now.unknowns }
         requires place { r < length (own_premises self.now) }
         requires small { r + 1 < 2 ^ 64 }
         ensures listed { Agrees (λ _. tt) fault_of result (model.fit (model.spot self.now.number (r + 1) 0)
             (slice_index_or (own_premises self.now) r nothing).listed) }
-        ensures turned { OnOk result (IsTurnedTo self.now (r + 1) known.new) }
-        ensures stay { OnOk result (take (length known.old.forms - 1) known.new.forms ≡ without_last known.old.forms) }
+        ensures pushed { IsPushedTo result self.now r known.old known.new }
     {
-        let turned = if r == 0 {
-            self.push_goal(alloc, known, r)
+        let pushed = if r == 0 {
+            self.push_own_goal(alloc, known, r)
         } else {
-            self.next_goal(alloc, known, r - 1)
+            self.push_next_goal(alloc, known, r - 1)
         };
-        match turned {
+        match pushed {
             Ok(()) => Ok(()),
             Err(FormRefusal::Overflow) => Err(Fault::Overflow(Spot {
                 leaf: self.number,

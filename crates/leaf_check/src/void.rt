@@ -24,19 +24,6 @@ pub fn void_forms(alloc: Global, problem: &Problem) -> Result<Known, WantOfMemor
     Ok(known)
 }
 
-// The same, as the check keeps them.
-fn void_derivation(alloc: Global, problem: &Problem) -> Result<Derivation, WantOfMemory>
-    ensures { IfOk result (λ k. k ≡ record {
-      width = problem.now.params;
-      forms = (model.void_forms problem.now).known;
-    }) }
-{
-    let start = void_forms(alloc, problem)?;
-    let mut known = Derivation::new(alloc, start.width());
-    known.push_all(alloc, start.as_slice())?;
-    Ok(known)
-}
-
 // Checks the proofs of `void`: they have one refutation, with the steps that stand before it.
 fn check_void_proofs(alloc: Global, problem: &Problem, proofs: &LeafProofs) -> Result<(), Fault>
     ensures { Agrees (λ _. tt) fault_of result (model.check_proofs true 1 problem.now.params
@@ -49,7 +36,9 @@ fn check_void_proofs(alloc: Global, problem: &Problem, proofs: &LeafProofs) -> R
             step: 0,
         }));
     }
-    let mut known = void_derivation(alloc, problem)?;
+    let mut start = void_forms(alloc, problem)?;
+    let mut known = Derivation::new(alloc, start.width());
+    known.put_all(&mut start)?;
     known.add_steps(alloc, 1, 0, proofs.shared().as_slice())?;
     known.refute(alloc, 1, 1, proofs.as_slice()[0].as_slice())
 }

@@ -4,7 +4,7 @@ use Rattle.leaf_check.proofs.Refuted.{bare, refutations_next, refutations_stop}
 use Rattle.leaf_check.proofs.goal_forms.GoalForms.refute_all.Goals as goal
 
 pub loop-r-init : goal.loop-r-init
-loop-r-init c = (c.requires.made, record { kept = sym (append-nil c.args.self.now.kept.forms) }, refl)
+loop-r-init c = (c.requires.over, record { forms = sym (append-nil c.args.self.now.kept.forms) }, refl)
 
 pub returns-in_err-refute : goal.returns-in_err-refute
 returns-in_err-refute c =
@@ -23,7 +23,7 @@ loop-r-preserved c =
     let own = leaf_premises leaf.problem.now (case_of leaf) (option_copied leaf.list) in
     let front = c.args.self.now.kept.forms in
     let same : c.as_slice.result.now ≡ get_or c.args.refutations.now c.loop-r.r c.index-refutations-r.result = search rules in (
-      c.in_ok-refute.ensures.made,
+      c.in_ok-refute.ensures.over,
       c.in_ok-refute.ensures.behind front c.loop-r.invariant.1,
       c.loop-r.invariant.2
           ∙ refutations_next leaf.number c.loop-r.r (leaf.scope + leaf.problem.now.unknowns) (bare front) own c.args.refutations.now c.index-refutations-r.result (omega (arith, c.requires.count)) (omega arith)
