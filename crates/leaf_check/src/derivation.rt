@@ -46,6 +46,14 @@ impl Derivation {
         }
     }
 
+    // Takes room for so many more forms.
+    pub(crate) fn reserve(&mut self, forms: usize) -> Result<(), WantOfMemory>
+        ensures { self.new ≡ self.old }
+    {
+        self.forms.reserve(forms)?;
+        Ok(())
+    }
+
     // The number of forms.
     pub(crate) fn len(&self) -> usize
         ensures { result ≡ length self.now.forms }

@@ -32,6 +32,7 @@ impl GoalForms {
     {
         let mut made = leaf.start(alloc)?;
         let mut kept = Derivation::new(alloc, made.width());
+        kept.reserve(leaf.most_forms())?;
         kept.put_all(&mut made)?;
         kept.add_steps(alloc, leaf.number, 0, shared)?;
         Ok(GoalForms { made, kept })

@@ -96,8 +96,8 @@ impl Leaf<'_> {
         Ok(known)
     }
 
-    // How many forms a refutation starts from at most, and one for a step.
-    fn most_forms(&self) -> usize {
+    // How many forms a refutation starts from at most.
+    pub(crate) fn most_forms(&self) -> usize {
         let own = self
             .problem
             .rows()
