@@ -269,8 +269,9 @@ impl Tableau {
         let alloc = self.rows.allocator();
         let unknowns = self.rows.unknowns();
         let width = self.rows.width() + 1;
-        let mut rows = FlatRows::with_room(alloc, unknowns, width, self.rows.len())?;
-        let next = FlatRows::with_room(alloc, unknowns, width, self.rows.len())?;
+        let most = self.rows.len() + SPARE;
+        let mut rows = FlatRows::with_room(alloc, unknowns, width, most)?;
+        let next = FlatRows::with_room(alloc, unknowns, width, most)?;
         let mut units = Vec::new(alloc);
         make_run(&mut units, unknowns, width)?;
         self.rows.widen(self.units.as_slice(), &mut rows);
