@@ -47,6 +47,18 @@ impl Model for ShortTableau {
     ghost invariant = { λ t. IsDense t.unknowns t.count t.numbers.items };
 }
 
+// Makes room for so many numbers where there are none: in a new block, since there is nothing to move.
+fn make_room(numbers: &mut Vec<i64>, most: usize) -> Result<(), WantOfMemory>
+    requires { numbers.old.items ≡ [] }
+    ensures { numbers.new.items ≡ [] }
+{
+    if numbers.capacity() < most {
+        let alloc = *numbers.allocator();
+        *numbers = Vec::with_capacity(alloc, most)?;
+    }
+    Ok(())
+}
+
 impl ShortTableau {
     /// No rows over so many columns. It takes no memory.
     pub fn new(alloc: Global, unknowns: usize) -> ShortTableau
@@ -87,6 +99,8 @@ impl ShortTableau {
         self.unknowns = t.unknowns;
         self.count = 0;
         self.numbers.clear();
+        let more = t.numbers.len() / 4;
+        make_room(&mut self.numbers, t.numbers.len().saturating_add(more))?;
         self.numbers.extend_from_slice(&t.numbers)?;
         self.count = t.count;
         Ok(())
