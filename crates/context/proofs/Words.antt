@@ -14,7 +14,7 @@ pub use Rattle.pip_model.specs.Numbers.{is_nonneg, is_positive}
 pub use Rattle.pip_model.specs.Certificate.{Refutation}
 pub use Rattle.pip_model.specs.Contexts.{IsContext, PointTells, IsPointRefusal}
 pub use Rattle.kept_run.specs.Turns.{negative_from}
-pub use Rattle.kept_run.specs.Points.{finds_point, has_point}
+pub use Rattle.kept_run.specs.Points.{finds_point, first_rows, has_point}
 pub use Rattle.kept_run.specs.Remembered.{IsRemembered}
 pub use Rattle.context.specs.Known.{IsKnown, IsTried}
 pub use Rattle.kept_run.specs.declared.remembered.Remembered.{Remembered}

@@ -1,10 +1,7 @@
-ghost use Rattle.std.specs.Prelude.{◌≡◌, List, ℤ, ◌+◌, ◌-◌, ◌^◌, ◌<◌, ◌≤◌, pos, ◌≤ℤ◌, ◌<ℤ◌, [], ◌∷◌, ◌++◌, true, false, length, take, All, IfOk, OnOk, IfErr, IfSome, IfNone, IsTrue};
+ghost use Rattle.std.specs.Prelude.{◌≡◌, List, ℤ, ◌+◌, ◌-◌, ◌^◌, ◌<◌, ◌≤◌, [], ◌∷◌, ◌++◌, true, false, length, take, IfOk, OnOk, IfErr, IfSome, IfNone, IsTrue};
 ghost use Rattle.pip_model.specs.Contexts.{IsContext, IsNarrow, PointTells, IsPointRefusal};
-ghost use Rattle.pip_model.specs.RefutedPoint.{IsRefutedPoint};
-ghost use Rattle.pip_model.specs.Refuting as refuting;
 ghost use Rattle.pip_model.specs.Run as model;
 ghost use Rattle.pip_model.specs.Run.{Work as Counts, Done};
-ghost use Rattle.affine_forms.specs.Checks.{Fits};
 ghost use Rattle.affine_forms.specs.Forms.{IsForm};
 ghost use Rattle.pip_problem.specs.Faults.{run_fault};
 ghost use Rattle.run_counts.specs.Counts.{IsCountedRun};
@@ -13,15 +10,14 @@ ghost use Rattle.lane_questions.specs.InLanes.{form_in, lanes_of};
 ghost use Rattle.lane_questions.specs.Signs.{class_of_sign};
 ghost use Rattle.context.specs.Scoped.{IsKeptContext};
 
+use crate::asking::ask_plainly;
 use crate::constants::are_nonnegative;
 use affine_forms::{Form, WantOfMemory};
-use certificate_parts::Refutation;
-use kept_run::{
-    Point, Question, Remembered, Spares, ask_by_forms, ask_plainly, ask_shortly, find_point,
-    go_further, refute_forms, remember,
-};
+use form_run::ask_by_forms;
+use kept_run::{Question, Remembered, Spares, ask_shortly, go_further, remember};
 use lane_questions::{LaneQuestions, LaneSign, Lanes, write_form};
 use pip_problem::Refusal;
+use point_run::{Point, find_point};
 use run_counts::Work;
 use std::alloc::Global;
 use std::marker::Model;
@@ -183,6 +179,14 @@ impl Context {
         self.is_tried = false;
     }
 
+    /// The forms in order. Each is no wider than the context.
+    pub fn forms(&self) -> &[Form]
+        ensures value { result.now ≡ self.now.forms }
+        ensures narrow { IsContext self.now.width result.now }
+    {
+        &self.forms
+    }
+
     /// The number of forms and the width. Each form is no wider.
     pub fn mark(&self) -> ContextMark
         ensures forms { result.forms ≡ length self.now.forms }
@@ -239,29 +243,6 @@ impl Context {
         ensures refusal { IfErr result (λ e. IfSome (run_fault e) IsPointRefusal) }
     {
         find_point(alloc, self.width, &self.forms, work)
-    }
-
-    /// The steps by which the forms have no point, None exactly where `point` gives a vector. They are made along its
-    /// run, with its counts and its refusals. A form's index is its place in the context; `places` has the indices of
-    /// the places' forms, and `first` is that of the first step's form.
-    pub fn refute(
-        &self,
-        alloc: Global,
-        places: &[i128],
-        first: i128,
-        work: &mut Work,
-    ) -> Result<Option<Refutation>, Refusal>
-        requires number { length places.now ≡ self.now.width }
-        requires places { All Fits places.now }
-        requires some { pos 0 ≤ℤ first }
-        requires few { first <ℤ pos (2 ^ 64) }
-        ensures gives { IsCountedRun (λ o. o) run_fault result work.old work.new
-            (refuting.refute self.now.width self.now.forms places.now first) }
-        ensures point { IsRefutedPoint (model.point self.now.width self.now.forms work.old)
-            (refuting.refute self.now.width self.now.forms places.now first work.old) }
-        ensures refusal { IfErr result (λ e. IfSome (run_fault e) IsPointRefusal) }
-    {
-        refute_forms(alloc, &self.forms, places, first, work)
     }
 
     /// The form of these entries, in the room that was kept for it if there is one.

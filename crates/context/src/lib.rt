@@ -1,10 +1,11 @@
 //! Contexts, which are lists of forms, and their whole points.
 #![tactic(auto)]
 
+mod asking;
 mod constants;
 mod context;
 
 pub use context::{Context, ContextMark};
-pub use kept_run::Point;
 pub use lane_questions::{LaneSign, Lanes, tightened};
+pub use point_run::Point;
 pub use run_counts::{Counts, Work};

@@ -1,7 +1,6 @@
 -- Where a run shows a point, the first row behind its own that is below 0 ends it where no column enters there.
-use Rattle.kept_run.proofs.Words.{◌≡◌, ◌∙◌, refl, ap, sym, ℕ, suc, ◌+◌, ◌-◌, arith, Bool, true, false, Option, Some, None, is_none, List, [], ◌∷◌, ◌++◌, length, if◌then◌else◌, get_or-append_right, is_nonneg, constant, entry, Row, row_at, form_row, candidates, first_fraction, Bottom, Work, Done, Trace, refute_from, with_step, last_step, refute-closed, both, negative_from, node_of, is_end, EndsWith, IsClosing, go_on, replayed, finds_point, asked, IsStopped, Remembered}
-use Rattle.short_run.proofs.Ending.{none_of, no_candidates, no_column, closes, finds_none}
-use Rattle.refutation_steps.proofs.Tracing.{next-bottom}
+use Rattle.kept_run.proofs.Words.{◌≡◌, ◌∙◌, refl, ap, sym, ℕ, suc, ◌+◌, ◌-◌, arith, Bool, true, false, Option, Some, None, is_none, List, [], ◌∷◌, ◌++◌, length, if◌then◌else◌, get_or-append_right, is_nonneg, constant, Row, row_at, form_row, candidates, first_fraction, Work, Done, both, negative_from, is_end, EndsWith, IsClosing, go_on, replayed, finds_point, asked, IsStopped, Remembered}
+use Rattle.short_run.proofs.Ending.{none_of, no_candidates, finds_none}
 
 -- so many places later
 abbrev later : ℕ → Option ℕ → Option ℕ
@@ -31,33 +30,19 @@ negative-behind (x ∷ E) S i r e f = by (is_nonneg (constant x.constant)) e (λ
     by false e more = absurd cc
 
 module _ (n : ℕ) (E S : List Row) (r : ℕ) (is : IsClosing S r) (end : is_end n E ≡ true) where
-  abbrev rows : List Row
-  rows = E ++ S
-
-  abbrev k : ℕ
-  k = length E + r
-
-  row_here : row_at (E ++ S) (length E + r) ≡ row_at S r
+  pub row_here : row_at (E ++ S) (length E + r) ≡ row_at S r
   row_here =
       let back : length E + r - length E ≡ r = omega arith in
       get_or-append_right E S (length E) (length E + r) (form_row 0 []) refl (omega arith) ∙ ap (λ (i : ℕ). row_at S i) back
 
-  below_here : negative_from 0 (E ++ S) ≡ Some (length E + r)
+  pub below_here : negative_from 0 (E ++ S) ≡ Some (length E + r)
   below_here =
       let none = none_of (negative_from 0 E) (both (is_none (negative_from 0 E)) (is_none (first_fraction n E)) end).0 in
       let e : 0 + (length E + r) ≡ length E + r = omega arith in
       negative-behind E S 0 r none is.below ∙ ap Some e
 
-  free_here : candidates (row_at (E ++ S) (length E + r)) ≡ []
+  pub free_here : candidates (row_at (E ++ S) (length E + r)) ≡ []
   free_here = ap candidates row_here ∙ no_candidates (row_at S r) is.none
-
-  pub refuted-behind : (T : Trace) (v : Work)
-      → refute_from n T (node_of (E ++ S)) v ≡ Done (Some (with_step T (last_step (row_at S r) (entry T.rows (length E + r)) T.columns)).steps) v
-  refuted-behind T v =
-      refute-closed n T (node_of rows) Bottom v v (closes n rows k below_here free_here v)
-      ∙ ap (λ (X : Trace). Done (Some X.steps) v)
-      (next-bottom n rows T k below_here (no_column n rows k below_here free_here)
-      ∙ ap (λ (R : Row). with_step T (last_step R (entry T.rows (length E + r)) T.columns)) row_here)
 
 pub ends_below : (now : List Row) (r : ℕ) → IsClosing now r → EndsWith now false
 ends_below now r is n E v h e = finds_none n (E ++ now) (length E + r) (below_here n E now r is e) (free_here n E now r is e) v

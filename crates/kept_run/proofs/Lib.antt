@@ -8,3 +8,4 @@ pub mod Replaying
 pub mod Retracing
 pub use Rattle.short_run.proofs.Leaving
 pub use Rattle.short_run.proofs.Ending
+pub use Rattle.trace_laws.proofs.NextTraces

@@ -7,13 +7,13 @@ use Rattle.pip_model.specs.Tree.{Tree}
 use Rattle.pip_model.specs.Rows.{Row, row_at, eliminated, eliminated_listed, entering, entering_listed}
 use Rattle.pip_model.specs.Run.{Work, Counted, Node, ◌>>=◌, ◌>>◌, go_on, give, listed, count_pivot, run_from, point_setting}
 use Rattle.pip_model.specs.Refuting.{Trace, refute_from}
-use Rattle.refutation_steps.specs.Choices.{IsCandidate}
-use Rattle.refutation_steps.specs.Tableaus.{IsRow}
-use Rattle.refutation_steps.specs.Traces.{exchanges}
-use Rattle.refutation_steps.specs.Turns.{node_of}
+use Rattle.row_laws.specs.Choices.{IsCandidate}
+use Rattle.row_laws.specs.Tableaus.{IsRow}
+use Rattle.trace_laws.specs.Traces.{exchanges}
+use Rattle.short_run.specs.Turns.{node_of}
 use Rattle.kept_run.specs.declared.remembered.Replay.{Replay}
 use Rattle.kept_run.specs.declared.remembered.Remembered.{Remembered}
-use Rattle.refutation_steps.specs.Points.{finds_point, first_rows, is_end}
+use Rattle.short_run.specs.Points.{finds_point, first_rows, is_end}
 
 -- a pivot on a row that stands in front of these is counted, and turns them
 abbrev pub turned : Row → ℕ → List Row → Counted (List Row)

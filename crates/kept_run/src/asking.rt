@@ -1,22 +1,18 @@
-ghost use Rattle.std.specs.Prelude.{◌≡◌, ◌+◌, ◌≤◌, [], ◌∷◌, ◌++◌, true, length, IfSome, IfNone};
+ghost use Rattle.std.specs.Prelude.{◌≡◌, ◌++◌, true, IfSome, IfNone};
 ghost use Rattle.pip_model.specs.Contexts.{IsContext};
-ghost use Rattle.pip_model.specs.Forms.{widen_to};
-ghost use Rattle.pip_model.specs.Rows.{form_row};
 ghost use Rattle.pip_problem.specs.Faults.{run_fault};
 ghost use Rattle.run_counts.specs.Counts.{IsCountedRun};
 ghost use Rattle.short_run.specs.Stops.{stop_fault};
 ghost use Rattle.kept_run.specs.Remembered.{IsFormed, IsStopped, asked, IsPivotBehind};
-ghost use Rattle.refutation_steps.specs.Points.{is_end, finds_point, form_rows, first_rows, EndsWith};
+ghost use Rattle.short_run.specs.Points.{is_end, finds_point, form_rows, EndsWith};
 
 use crate::behind::{put_behind, rows_behind};
 use crate::question::Question;
 use crate::remembered::{Remembered, Replay};
 use affine_forms::Form;
 use pip_problem::Refusal;
-use refutation_steps::{push_form, run_on, start_rows};
 use run_counts::Work;
 use short_run::{ShortTableau, Stop, run_short};
-use std::alloc::Global;
 
 // Goes on from the last rows of a run with other rows behind them, in the room of these rows.
 fn go_on(
@@ -134,22 +130,4 @@ pub fn ask_shortly(
             None
         }
     }
-}
-
-/// Whether the run of the forms as rows, and of one form more, finds a point.
-pub fn ask_plainly(
-    alloc: Global,
-    places: usize,
-    forms: &[Form],
-    form: &Form,
-    work: &mut Work,
-) -> Result<bool, Refusal>
-    requires context { IsContext places forms.now }
-    requires narrow { length form.now ≤ places + 1 }
-    ensures gives { IsCountedRun (λ b. b) run_fault result work.old work.new
-        (finds_point places (first_rows places forms.now ++ form_row places (widen_to places form.now) ∷ [])) }
-{
-    let mut t = start_rows(alloc, places, forms)?;
-    push_form(alloc, &mut t, form)?;
-    run_on(&mut t, work)
 }

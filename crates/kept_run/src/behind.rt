@@ -4,12 +4,10 @@ ghost use Rattle.pip_model.specs.Rows.{row_at};
 ghost use Rattle.run_counts.specs.Counts.{IsCountedRun};
 ghost use Rattle.short_run.specs.Stops.{stop_fault};
 ghost use Rattle.kept_run.specs.Remembered.{IsFormed, turned, replayed};
-ghost use Rattle.refutation_steps.specs.Points.{form_rows};
-ghost use Rattle.refutation_steps.specs.Traces.{exchanges};
+ghost use Rattle.short_run.specs.Points.{form_rows};
 
 use crate::remembered::Replay;
 use affine_forms::{Form, WantOfMemory};
-use refutation_steps::Trace;
 use run_counts::Work;
 use short_run::{ShortTableau, Stop, push_short};
 
@@ -93,9 +91,9 @@ pub fn rows_behind(
     Ok(())
 }
 
-// Puts rows behind the last rows of a run.
+/// Makes the last rows of a run, with these behind them. After a refusal the rows are any.
 #[inline(always)]
-pub(crate) fn put_behind(
+pub fn put_behind(
     m: &Replay,
     rows: &ShortTableau,
     run: &mut ShortTableau,
@@ -106,17 +104,4 @@ pub(crate) fn put_behind(
     run.copy_from(&m.end)?;
     push_rows(run, rows)?;
     Ok(())
-}
-
-/// The trace after the remembered pivots.
-pub fn exchange_all(m: &Replay, trace: &mut Trace)
-    requires lengths { length m.now.rows.items ≡ length m.now.columns.items }
-    requires rows { (i : ℕ) → i < length m.now.columns.items → get_or m.now.rows.items i 0 < length trace.old.rows }
-    requires columns { (i : ℕ) → i < length m.now.columns.items
-        → get_or m.now.columns.items i 0 < length trace.old.columns }
-    ensures { trace.new ≡ exchanges m.now.rows.items m.now.columns.items trace.old }
-{
-    for i in 0..m.columns.len() {
-        trace.exchange(m.rows[i], m.columns[i]);
-    }
 }

@@ -3,7 +3,7 @@ ghost use Rattle.pip_model.specs.Contexts.{IsContext, IsNarrow};
 ghost use Rattle.pip_model.specs.Forms.{widen_to};
 ghost use Rattle.pip_model.specs.Rows.{Row, form_row};
 ghost use Rattle.kept_run.specs.Remembered.{IsFormed, IsReplay, IsStopped, IsRemembered, IsTurned};
-ghost use Rattle.refutation_steps.specs.Points.{first_rows};
+ghost use Rattle.short_run.specs.Points.{first_rows};
 
 use crate::remembered::{Remembered, Replay, run_to_end};
 use affine_forms::Form;

@@ -3,17 +3,14 @@
 
 mod asking;
 mod behind;
-mod closing;
 mod further;
 mod question;
 mod remembered;
 mod spares;
 
-pub use asking::{ask_plainly, ask_shortly};
-pub use behind::{exchange_all, rows_behind};
-pub use closing::refute_with;
+pub use asking::ask_shortly;
+pub use behind::{put_behind, rows_behind};
 pub use further::{go_further, goes_further};
 pub use question::Question;
-pub use refutation_steps::{Point, ask_by_forms, find_point, refute_forms};
 pub use remembered::{Remembered, Replay, remember};
 pub use spares::Spares;

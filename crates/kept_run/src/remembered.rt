@@ -1,9 +1,9 @@
 ghost use Rattle.std.specs.Prelude.{◌≡◌, ℕ, ◌+◌, ◌<◌, ◌≤◌, ℤ, Some, List, [], ◌∷◌, ◌++◌, false, length, map, IfOk, OnOk};
 ghost use Rattle.pip_model.specs.Contexts.{IsContext};
 ghost use Rattle.pip_model.specs.Rows.{Row};
-ghost use Rattle.refutation_steps.specs.Turns.{negative_from};
+ghost use Rattle.short_run.specs.Turns.{negative_from};
 ghost use Rattle.kept_run.specs.Remembered.{IsFormed, IsReplay, IsSameReplay, IsStopped, IsRemembered};
-ghost use Rattle.refutation_steps.specs.Points.{first_rows, is_end};
+ghost use Rattle.short_run.specs.Points.{first_rows, is_end};
 
 use affine_forms::{Form, WantOfMemory};
 use short_run::{ShortTableau, Stop, start_short};

@@ -9,6 +9,7 @@ use affine_forms::Form;
 use certificate_parts::Refutation;
 use context::{Context, Work};
 use pip_problem::Refusal;
+use refutation_steps::refute_forms;
 use std::alloc::Global;
 
 /// Whether a context with one form more has a point.
@@ -40,5 +41,5 @@ pub fn refute(
     ensures { IsCountedRun (λ o. o) run_fault result work.old work.new
         (refuting.refute context.now.width context.now.forms places.now first) }
 {
-    context.refute(alloc, places, first, work)
+    refute_forms(alloc, context.forms(), places, first, work)
 }

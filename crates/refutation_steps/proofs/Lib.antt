@@ -1,4 +1,5 @@
 mod Words
 pub mod Positives
+pub mod RefutedPoints
 pub mod Tracing
 pub use Rattle.short_run.proofs.Leaving

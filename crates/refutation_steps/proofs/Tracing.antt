@@ -1,34 +1,10 @@
 -- The trace of the run without parameters, from one turn to the next, and what it gives.
-use Rattle.refutation_steps.proofs.Words.{◌≡◌, refl, ap, sym, ◌∙◌, ℕ, zero, suc, ◌+◌, ◌<◌, ◌≤◌, ℤ, Bool, true, false, Option, Some, None, List, [], ◌∷◌, ◌++◌, length, slice_set, length-append, arith, if◌then◌else◌, get_or_append_left, length-map, Ok, is_nonneg, constant, entry, widen_to, Bottom, Row, row_at, form_row, entering, first_fraction, start, constant_cut, Refutation, Work, Outcome, Done, Refusal, Counted, Turn, Again, Closed, MinusAt, left, turn, point_setting, Trace, traced, pivot_trace, cut_trace, with_step, last_step, refute_from, refute_by, refute, first_trace, indices, length-count, again_less, falls-constant_class, length_slice_set, signs_from, next_trace, refute-again, refute-closed, TableauRows, IsCountedRun, HasCounted, counted_none, counted_on, negative_from, node_of, HasSameScope, exchanged, with_cut, IsTraced}
+use Rattle.refutation_steps.proofs.Words.{◌≡◌, refl, ap, sym, ◌∙◌, ℕ, zero, suc, ◌+◌, ◌<◌, ◌≤◌, ℤ, Option, Some, List, [], ◌∷◌, ◌++◌, length, length-append, arith, get_or_append_left, length-map, Ok, entry, widen_to, Bottom, Row, row_at, form_row, start, constant_cut, Refutation, Work, Outcome, Done, Refusal, Counted, Turn, Again, Closed, left, turn, point_setting, Trace, traced, with_step, last_step, refute_from, refute_by, refute, first_trace, indices, length-count, again_less, falls-constant_class, length_slice_set, next_trace, refute-again, refute-closed, TableauRows, IsCountedRun, HasCounted, counted_none, counted_on, node_of, HasSameScope, exchanged, with_cut, IsTraced}
+use Rattle.trace_laws.proofs.NextTraces.{next-bottom, next-pivot, next-cut}
 use Rattle.std.specs.Prelude.{map}
 use Rattle.point_run.specs.TurnAt.{IsTurnAt}
 use Rattle.short_run.specs.PointTurn.TheVariants as code
 use Rattle.point_run.proofs.Leaving.{scope_none, scope_on}
-use Rattle.point_run.proofs.Turning.{signs_of}
-
--- ---- the next trace, by the turn
-
-signs-same : (i : ℕ) (rows : List Row) → signs_from i rows ≡ signs_of (negative_from i rows)
-signs-same i [] = refl
-signs-same i (r ∷ rows) = by (is_nonneg (constant r.constant)) (signs-same (i + 1) rows)
-  where
-    by : (t : Bool) → signs_from (i + 1) rows ≡ signs_of (negative_from (i + 1) rows)
-        → (if t then signs_from (i + 1) rows else MinusAt i) ≡ signs_of (if t then negative_from (i + 1) rows else Some i)
-    by true e = e
-    by false e = refl
-
-module _ (n : ℕ) (rows : List Row) (T : Trace) where
-  next-by : (o : Option ℕ) → negative_from 0 rows ≡ o → next_trace n (node_of rows) T ≡ traced n rows (signs_of o) T
-  next-by o e = ap (λ s. traced n rows s T) (signs-same 0 rows) ∙ ap (λ p. traced n rows (signs_of p) T) e
-
-  pub next-bottom : (r : ℕ) → negative_from 0 rows ≡ Some r → entering rows r ≡ None → next_trace n (node_of rows) T ≡ with_step T (last_step (row_at rows r) (entry T.rows r) T.columns)
-  next-bottom r e f = next-by (Some r) e ∙ ap (pivot_trace T rows r) f
-
-  pub next-pivot : (r c : ℕ) → negative_from 0 rows ≡ Some r → entering rows r ≡ Some c → next_trace n (node_of rows) T ≡ record T { columns = slice_set T.columns c (entry T.rows r) }
-  next-pivot r c e f = next-by (Some r) e ∙ ap (pivot_trace T rows r) f
-
-  pub next-cut : (i : ℕ) → negative_from 0 rows ≡ None → first_fraction n rows ≡ Some i → next_trace n (node_of rows) T ≡ with_cut T (row_at rows i)
-  next-cut i e f = next-by None e ∙ ap (cut_trace T rows) f
 
 -- ---- the run, turn by turn
 

@@ -22,5 +22,5 @@ pub use Rattle.run_laws.proofs.RowsAt.{length_slice_set}
 pub use Rattle.affine_forms.specs.Checks.{Fits}
 pub use Rattle.run_counts.proofs.Counting.{counted_on, counted_none}
 pub use Rattle.point_run.specs.Turns.{node_of, negative_from, HasSameScope}
-pub use Rattle.refutation_steps.specs.Traces.{exchanged, with_cut, IsTraced}
+pub use Rattle.trace_laws.specs.Traces.{exchanged, with_cut, IsTraced}
 pub use Rattle.short_run.specs.Stops.{stop_fault}

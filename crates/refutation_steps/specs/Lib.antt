@@ -1,4 +1,3 @@
-pub mod Traces
 pub use Rattle.point_run.specs.Choices
 pub use Rattle.short_run.specs.Points
 pub use Rattle.short_run.specs.Turns

@@ -1,11 +1,13 @@
-ghost use Rattle.std.specs.Prelude.{◌≡◌, ◌^◌, ◌≤◌, pos, ◌≤ℤ◌, ◌<ℤ◌, length, All, IfSome, IfNone};
-ghost use Rattle.pip_model.specs.Contexts.{IsContext};
+ghost use Rattle.std.specs.Prelude.{◌≡◌, ◌^◌, ◌≤◌, pos, ◌≤ℤ◌, ◌<ℤ◌, length, All, IfErr, IfSome, IfNone};
+ghost use Rattle.pip_model.specs.Contexts.{IsContext, IsPointRefusal};
+ghost use Rattle.pip_model.specs.RefutedPoint.{IsRefutedPoint};
 ghost use Rattle.pip_model.specs.Refuting as model;
 ghost use Rattle.pip_model.specs.Refuting.{refute_by, refute_from};
+ghost use Rattle.pip_model.specs.Run.{point};
 ghost use Rattle.affine_forms.specs.Checks.{Fits};
 ghost use Rattle.pip_problem.specs.Faults.{run_fault};
 ghost use Rattle.run_counts.specs.Counts.{IsCountedRun};
-ghost use Rattle.refutation_steps.specs.Traces.{IsTraced};
+ghost use Rattle.trace_laws.specs.Traces.{IsTraced};
 ghost use Rattle.point_run.specs.Turns.{node_of};
 
 use crate::form_refute::refute_by_forms;
@@ -114,7 +116,9 @@ impl RefutationRoom {
     }
 }
 
-/// The steps by which the forms have no point, none where they have one.
+/// The steps by which the forms have no point, None exactly where `find_point` gives a vector. They are made along its
+/// run, with its counts and its refusals. A form's index is its place among them; `places` has the indices of the
+/// places' forms, and `first` is that of the first step's form.
 pub fn refute_forms(
     alloc: Global,
     forms: &[Form],
@@ -128,6 +132,9 @@ pub fn refute_forms(
     requires few { first <ℤ pos (2 ^ 64) }
     ensures gives { IsCountedRun (λ o. o) run_fault result work.old work.new
         (model.refute (length places.now) forms.now places.now first) }
+    ensures point { IsRefutedPoint (point (length places.now) forms.now work.old)
+        (model.refute (length places.now) forms.now places.now first work.old) }
+    ensures refusal { IfErr result (λ e. IfSome (run_fault e) IsPointRefusal) }
 {
     let mut room = RefutationRoom::new(alloc);
     room.refute(forms, places, first, work)

@@ -1,3 +1,4 @@
 mod Words
+pub mod ClosingBehind
 pub mod FurtherForms
 pub mod KeptFirst

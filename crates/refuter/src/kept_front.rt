@@ -5,16 +5,15 @@ ghost use Rattle.pip_model.specs.Refuting.{refute_from};
 ghost use Rattle.run_counts.specs.Counts.{IsCountedRun};
 ghost use Rattle.point_run.specs.Points.{first_rows};
 ghost use Rattle.point_run.specs.Turns.{node_of};
-ghost use Rattle.refutation_steps.specs.Traces.{IsTraced};
+ghost use Rattle.kept_run.specs.Traces.{IsTraced};
 ghost use Rattle.short_run.specs.Stops.{stop_fault};
 ghost use Rattle.refuter.specs.KeptForms.{AreFirst, AreFirstWithin};
 
+use crate::closing::{exchange_all, refute_with};
 use crate::narrowed::{Narrowed, narrow_form};
 use affine_forms::{Form, WantOfMemory};
 use certificate_parts::Refutation;
-use kept_run::{
-    Question, Remembered, Spares, exchange_all, goes_further, refute_with, remember, rows_behind,
-};
+use kept_run::{Question, Remembered, Spares, goes_further, remember, rows_behind};
 use refutation_steps::Trace;
 use run_counts::Work;
 use short_run::Stop;

@@ -1,6 +1,7 @@
 //! Refutations of known forms, one after the other, from a run that is kept.
 #![tactic(auto)]
 
+mod closing;
 mod kept_front;
 mod narrowed;
 mod refuter;

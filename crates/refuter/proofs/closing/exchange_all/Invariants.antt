@@ -1,5 +1,5 @@
-use Rattle.kept_run.proofs.Words.{◌≡◌, drop, length, exchanges}
-use Rattle.kept_run.proofs.behind.exchange_all.Given as goal
+use Rattle.refuter.proofs.Words.{◌≡◌, drop, length, exchanges}
+use Rattle.refuter.proofs.closing.exchange_all.Given as goal
 
 abbrev pub invariant-loop-i : goal.invariant-loop-i
 invariant-loop-i l = record {

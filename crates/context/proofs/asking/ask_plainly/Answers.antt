@@ -1,5 +1,5 @@
-use Rattle.kept_run.proofs.Words.{rules, ◌≡◌, [], ◌∷◌, ◌++◌, widen_to, form_row, first_rows}
-use Rattle.kept_run.proofs.asking.ask_plainly.Goals as goal
+use Rattle.context.proofs.Words.{rules, ◌≡◌, [], ◌∷◌, ◌++◌, widen_to, form_row, first_rows}
+use Rattle.context.proofs.asking.ask_plainly.Goals as goal
 
 pub returns : goal.returns
 returns c =

@@ -1,6 +1,6 @@
-use Rattle.kept_run.proofs.Words.{rules, arith, ◌≡◌, ◌∙◌, sym, ◌++◌, length-append, IsClosing, counted_none}
-use Rattle.kept_run.proofs.EndingBehind.{refuted-behind}
-use Rattle.kept_run.proofs.closing.refute_with.Goals as goal
+use Rattle.refuter.proofs.Words.{rules, arith, ◌≡◌, ◌∙◌, sym, ◌++◌, length-append, IsClosing, counted_none}
+use Rattle.refuter.proofs.ClosingBehind.{refuted-behind}
+use Rattle.refuter.proofs.closing.refute_with.Goals as goal
 
 pub trace_behind-requires-clause-index : goal.trace_behind-requires-clause-index
 trace_behind-requires-clause-index c =

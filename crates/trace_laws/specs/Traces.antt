@@ -5,7 +5,7 @@ use Rattle.pip_model.specs.Numbers.{is_positive}
 use Rattle.pip_model.specs.Forms.{entry}
 use Rattle.pip_model.specs.Rows.{Row, row_at}
 use Rattle.pip_model.specs.Refuting.{Trace, cut_step}
-use Rattle.point_run.specs.Turns.{negative_from}
+use Rattle.point_turns.specs.Turns.{negative_from}
 
 -- the cut by the row R: its row stands for its step's form
 abbrev pub with_cut : Trace → Row → Trace

@@ -1,22 +1,33 @@
-ghost use Rattle.std.specs.Prelude.{◌≡◌, ◌+◌, ◌<◌, ◌++◌, length, IfSome, OnOk};
+ghost use Rattle.std.specs.Prelude.{◌≡◌, ℕ, ◌+◌, ◌<◌, ◌++◌, length, get_or, IfSome, OnOk};
 ghost use Rattle.pip_model.specs.Forms.{entry};
 ghost use Rattle.pip_model.specs.Refuting.{refute_from, with_step, last_step};
 ghost use Rattle.pip_model.specs.Rows.{row_at};
 ghost use Rattle.run_counts.specs.Counts.{IsCountedRun};
 ghost use Rattle.kept_run.specs.Remembered.{IsStopped};
 ghost use Rattle.short_run.specs.Stops.{stop_fault};
-ghost use Rattle.refutation_steps.specs.Traces.{IsTraced, IsClosing};
-ghost use Rattle.refutation_steps.specs.Turns.{node_of};
+ghost use Rattle.kept_run.specs.Traces.{IsTraced, IsClosing, exchanges};
+ghost use Rattle.point_run.specs.Turns.{node_of};
 
-use crate::behind::put_behind;
-use crate::question::Question;
-use crate::remembered::Remembered;
 use affine_forms::WantOfMemory;
 use certificate_parts::Refutation;
+use kept_run::{Question, Remembered, Replay, put_behind};
 use refutation_steps::{Trace, refute_on};
 use run_counts::Work;
 use short_run::{ShortTableau, Stop};
 use std::alloc::Global;
+
+// The trace after the remembered pivots.
+pub(crate) fn exchange_all(m: &Replay, trace: &mut Trace)
+    requires lengths { length m.now.rows.items ≡ length m.now.columns.items }
+    requires rows { (i : ℕ) → i < length m.now.columns.items → get_or m.now.rows.items i 0 < length trace.old.rows }
+    requires columns { (i : ℕ) → i < length m.now.columns.items
+        → get_or m.now.columns.items i 0 < length trace.old.columns }
+    ensures { trace.new ≡ exchanges m.now.rows.items m.now.columns.items trace.old }
+{
+    for i in 0..m.columns.len() {
+        trace.exchange(m.rows[i], m.columns[i]);
+    }
+}
 
 // The first row below 0, where no column enters there.
 fn closing_row(rows: &ShortTableau) -> Option<usize>
@@ -52,9 +63,9 @@ fn trace_behind(
     trace.close_short(at, rows, r)
 }
 
-/// Goes on from a remembered run with the question's rows behind its own, with its trace: the steps, none where it finds
-/// a point. Where the run shows a point and ends at the first row below 0, no rows are copied.
-pub fn refute_with(
+// Goes on from a remembered run with the question's rows behind its own, with its trace: the steps, none where it finds
+// a point. Where the run shows a point and ends at the first row below 0, no rows are copied.
+pub(crate) fn refute_with(
     alloc: Global,
     m: &Remembered,
     question: &mut Question,
