@@ -1,11 +1,7 @@
-//! Contexts, which are lists of forms, and their whole points.
+//! Contexts, which are lists of forms, their whole points, and the steps by which a context has none.
 #![tactic(auto)]
 
-mod asking;
-mod constants;
-mod context;
+mod refute;
 
-pub use context::{Context, ContextMark};
-pub use lane_questions::{LaneSign, Lanes, tightened};
-pub use point_run::Point;
-pub use run_counts::{Counts, Work};
+pub use context_points::{Context, ContextMark, Counts, LaneSign, Lanes, Point, Work, tightened};
+pub use refute::Refute;

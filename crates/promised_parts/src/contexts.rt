@@ -7,9 +7,8 @@ ghost use Rattle.point_run.specs.Points.{has_point};
 
 use affine_forms::Form;
 use certificate_parts::Refutation;
-use context::{Context, Work};
+use context::{Context, Refute, Work};
 use pip_problem::Refusal;
-use refutation_steps::refute_forms;
 use std::alloc::Global;
 
 /// Whether a context with one form more has a point.
@@ -41,5 +40,5 @@ pub fn refute(
     ensures { IsCountedRun (λ o. o) run_fault result work.old work.new
         (refuting.refute context.now.width context.now.forms places.now first) }
 {
-    refute_forms(alloc, context.forms(), places, first, work)
+    context.refute(alloc, places, first, work)
 }

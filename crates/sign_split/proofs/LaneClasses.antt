@@ -3,10 +3,10 @@ use Rattle.sign_split.proofs.Words.{◌≡◌, ap, sym, ◌∙◌, ◌+◌, ◌-
 use Rattle.pip_model.specs.Contexts.{IsNarrow}
 use Rattle.pip_problem.specs.declared.refusal.Refusal.{Refusal}
 use Rattle.run_counts.specs.Counts.{IsCountedRun}
-use Rattle.context.specs.InLanes.{lanes_of, form_in}
-use Rattle.context.specs.Signs.{class_of_sign}
-use Rattle.context.specs.LaneSign.{LaneSign}
-use Rattle.context.proofs.TightLanes.{form_again}
+use Rattle.context_points.specs.InLanes.{lanes_of, form_in}
+use Rattle.context_points.specs.Signs.{class_of_sign}
+use Rattle.context_points.specs.LaneSign.{LaneSign}
+use Rattle.context_points.proofs.TightLanes.{form_again}
 use Rattle.sign_split.specs.declared.classes.Class.{Class}
 use Rattle.sign_split.proofs.ByPoints.{opposite_fits}
 

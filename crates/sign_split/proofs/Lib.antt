@@ -5,4 +5,4 @@ pub mod TightSigns
 pub mod Widening
 pub mod ByPoints
 pub mod LaneClasses
-pub use Rattle.context.proofs.Keeping
+pub use Rattle.context_points.proofs.Keeping

@@ -3,7 +3,7 @@ use Rattle.sign_split.proofs.Words.{◌≡◌, refl, ap, sym, subst, ◌∙◌, 
 use Rattle.std.proofs.lemmas.List.Folds.{list_all-append}
 use Rattle.pip_model.specs.Run.{class_of}
 use Rattle.affine_forms.proofs.Units.{widen_same}
-use Rattle.context.proofs.OneFormMore.{point_some}
+use Rattle.context_points.proofs.OneFormMore.{point_some}
 use Rattle.sign_split.proofs.Opposites.{form_of, opposite_form, opposite_length}
 use Rattle.sign_split.proofs.TightSigns.{not_positive, is_below}
 

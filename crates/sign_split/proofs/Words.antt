@@ -12,6 +12,6 @@ pub use Rattle.run_laws.proofs.Scopes.{length-opposite, entry_end, constant-end,
 pub use Rattle.pip_model.specs.Numbers.{is_nonneg, is_negative, is_positive, is_zero, floor_div, gcd_of}
 pub use Rattle.pip_model.specs.Run.{Work, Done, Plus, Minus, class, class_by_points, Outcome, Refused, go_on, give, Refusal, Class, Counted, ◌>>=◌, listed, root, run_from, point_setting, numbers_of, point, class_above, class_below}
 pub use Rattle.pip_problem.specs.Faults.{run_fault}
-pub use Rattle.context.specs.Points.{has_point}
+pub use Rattle.context_points.specs.Points.{has_point}
 pub use Rattle.run_counts.proofs.Counting.{counted_none, counted_on}
 pub use Rattle.sign_split.specs.Classes.{class_of, widened_class, class_if_below}

@@ -1,3 +1,3 @@
 pub mod Classes
-pub use Rattle.context.specs.Scoped
-pub use Rattle.context.specs.declared.context.ContextMark
+pub use Rattle.context_points.specs.Scoped
+pub use Rattle.context_points.specs.declared.context.ContextMark

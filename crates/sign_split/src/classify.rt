@@ -6,15 +6,15 @@ ghost use Rattle.pip_model.specs.Run as model;
 ghost use Rattle.affine_forms.specs.Forms.{IsForm};
 ghost use Rattle.pip_problem.specs.Faults.{run_fault};
 ghost use Rattle.run_counts.specs.Counts.{IsCountedRun};
-ghost use Rattle.context.specs.Scoped.{IsKeptContext};
-ghost use Rattle.context.specs.InLanes.{form_in};
-ghost use Rattle.context.specs.Signs.{class_of_sign};
+ghost use Rattle.context_points.specs.Scoped.{IsKeptContext};
+ghost use Rattle.context_points.specs.InLanes.{form_in};
+ghost use Rattle.context_points.specs.Signs.{class_of_sign};
 ghost use Rattle.sign_split.specs.Classes.{class_of, class_if_below, widened_class, ConditionIs};
 
 use crate::classes::Class;
 use crate::signs::{is_everywhere_below, is_nowhere_below};
 use affine_forms::Form;
-use context::{Context, LaneSign, Lanes, Work, tightened};
+use context_points::{Context, LaneSign, Lanes, Work, tightened};
 use pip_problem::Refusal;
 use std::alloc::Global;
 

@@ -7,5 +7,5 @@ mod signs;
 
 pub use classes::Class;
 pub use classify::{class, class_of_entries};
-pub use context::{Context, ContextMark, Counts, Point, Work};
+pub use context_points::{Context, ContextMark, Counts, Point, Work};
 pub use signs::is_nowhere_below;

@@ -3,9 +3,9 @@ ghost use Rattle.std.specs.Prelude.{◌≡◌, ◌+◌, ◌≤◌, length};
 
 use affine_rows::{Form, WantOfMemory};
 use certificate_parts::{Refutation, Step};
+use context::Refute;
 use pip_problem::{Limits, Refusal};
 use pip_solve::{Context, Work};
-use refutation_steps::refute_forms;
 use std::alloc::Global;
 use std::test::Fail;
 
@@ -52,7 +52,7 @@ fn is_refuted_so(alloc: Global, k: &mut Context) -> Result<bool, Refusal>
 {
     add_half(alloc, k)?;
     let mut work = Work::start(&Limits::standard());
-    let found = refute_forms(alloc, k.forms(), &[7], 9, &mut work)?;
+    let found = k.refute(alloc, &[7], 9, &mut work)?;
     Ok(are_steps(&found))
 }
 

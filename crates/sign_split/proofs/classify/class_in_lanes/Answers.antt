@@ -1,5 +1,5 @@
 use Rattle.sign_split.proofs.Words.{rules, arith, ◌≡◌, ◌≤◌, ◌-◌, length, tighten}
-use Rattle.context.specs.InLanes.{lanes_of, form_in}
+use Rattle.context_points.specs.InLanes.{lanes_of, form_in}
 use Rattle.run_laws.proofs.Lengths.{length_tighten}
 use Rattle.sign_split.proofs.LaneClasses.{tight_narrow, tight_again, class_by_sign}
 use Rattle.sign_split.proofs.classify.class_in_lanes.Goals as goal

@@ -1,0 +1,11 @@
+//! Contexts, which are lists of forms, and their whole points. `context` hands them on.
+#![tactic(auto)]
+
+mod asking;
+mod constants;
+mod context;
+
+pub use context_points::{Context, ContextMark};
+pub use lane_questions::{LaneSign, Lanes, tightened};
+pub use point_run::Point;
+pub use run_counts::{Counts, Work};
