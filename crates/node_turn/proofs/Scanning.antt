@@ -1,7 +1,7 @@
 -- The scan of a node's rows, from one row to the next.
 use Rattle.std.specs.List.{list_all}
 use Rattle.pip_model.specs.Numbers.{is_nonneg}
-use Rattle.node_turn.proofs.Words.{◌≡◌, refl, sym, ◌∙◌, ap, ℕ, ◌+◌, ◌<◌, ℤ, Option, Some, None, List, [], ◌∷◌, length, drop, zero, suc, pos, true, replicate, IfSome, drop_more, Row, row_at, form_row, Work, Outcome, Done, Refused, Refusal, Node, Setting, Class, Plus, Minus, Unknown, Signs, AllPlus, MinusAt, keep, go_on, scan, scan_on, scope, class, turn, turn_by, class_of, scanned, keep_class}
+use Rattle.node_turn.proofs.Words.{◌≡◌, refl, sym, ◌∙◌, ap, ℕ, ◌+◌, ◌<◌, ℤ, Option, Some, None, List, [], ◌∷◌, length, drop, zero, suc, pos, true, replicate, IfSome, drop_more, Row, row_at, form_row, Work, Outcome, Done, Refused, Refusal, Node, Setting, Class, Plus, Minus, Unknown, Signs, AllPlus, MinusAt, UnknownBy, keep, go_on, scan, scan_on, scope, class, turn, turn_by, class_of, scanned}
 use Rattle.sign_split.specs.declared.classes.Class as Code
 use Rattle.sign_split.specs.declared.classes.Class.TheVariants as code
 
@@ -16,6 +16,18 @@ scan-scanned S N e i kept (r ∷ rs) w = rw e (by (λ now v. scan-scanned S N e 
     by later (Done Plus v) = later kept v
     by later (Done Minus v) = refl
     by later (Done (Unknown c) v) = later (keep kept c) v
+
+-- what is kept after a class that is not below 0
+abbrev keep_class : Signs → Class → Signs
+keep_class kept Plus = kept
+keep_class kept Minus = kept
+keep_class kept (Unknown c) = keep kept c
+
+-- behind a row of both signs its condition stays
+stays : (d : List ℤ) (c : Class) → keep_class (UnknownBy d) c ≡ UnknownBy d
+stays d Plus = refl
+stays d Minus = refl
+stays d (Unknown c) = refl
 
 module _ (K : List (List ℤ)) (n i : ℕ) (kept : Signs) (rows : List Row) (w v : Work) (h : i < length rows) where
   here : scanned K n i kept (drop i rows) w ≡ go_on (class K n (row_at rows i).constant w) (λ c. scan_on c i kept (λ now. scanned K n (i + 1) now (drop (i + 1) rows)))
@@ -32,6 +44,11 @@ module _ (K : List (List ℤ)) (n i : ℕ) (kept : Signs) (rows : List Row) (w v
   pub scanned_refused : (o : Option Refusal) → IfSome o (λ f. class K n (row_at rows i).constant w ≡ Refused f v) → IfSome o (λ f. scanned K n i kept (drop i rows) w ≡ Refused f v)
   scanned_refused None e = e
   scanned_refused (Some f) e = rw (here, e) refl
+
+pub scanned_behind : (K : List (List ℤ)) (n i : ℕ) (d : List ℤ) (rows : List Row) (w v : Work) → i < length rows → (c : Class) → (c ≡ Minus → ⊥)
+    → class K n (row_at rows i).constant w ≡ Done c v → scanned K n i (UnknownBy d) (drop i rows) w ≡ scanned K n (i + 1) (UnknownBy d) (drop (i + 1) rows) v
+scanned_behind K n i d rows w v h c other e = scanned_on K n i (UnknownBy d) rows w v h c other e
+    ∙ ap (λ (s : Signs). scanned K n (i + 1) s (drop (i + 1) rows) v) (stays d c)
 
 pub not_minus : (c : Code.Class) → (c ≡ code.Minus → ⊥) → class_of c ≡ Minus → ⊥
 not_minus code.Plus other e = cc

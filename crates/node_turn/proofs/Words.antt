@@ -8,7 +8,7 @@ pub use Rattle.std.proofs.lemmas.Grind.{common_steps}
 pub use Rattle.pip_model.specs.Forms.{opposite}
 pub use Rattle.pip_model.specs.Rows.{row_at, Row, form_row}
 pub use Rattle.pip_model.specs.Cuts.{rounding, residue_of}
-pub use Rattle.pip_model.specs.Run.{Work, go_on, Outcome, Done, Refused, turn, class, Budget, Plus, Node, Setting, Class, scope, quotient_cut, known_cut, Refusal, Minus, Unknown, Signs, AllPlus, MinusAt, keep, scan, scan_on, turn_by, row_component}
+pub use Rattle.pip_model.specs.Run.{Work, go_on, Outcome, Done, Refused, turn, class, Budget, Plus, Node, Setting, Class, scope, quotient_cut, known_cut, Refusal, Minus, Unknown, Signs, AllPlus, MinusAt, UnknownBy, keep, scan, scan_on, turn_by, row_component}
 pub use Rattle.tableau.specs.Tableaus.{TableauRows}
 pub use Rattle.new_parameters.specs.Scopes.{size}
 pub use Rattle.quast.specs.Trees.{ScopedTree}
@@ -24,5 +24,5 @@ pub use Rattle.node_turn.specs.declared.path.Path.{Path}
 pub use Rattle.node_turn.specs.Nodes.{node_of, setting_of}
 pub use Rattle.node_turn.specs.Turns.{turn_of}
 pub use Rattle.node_turn.specs.Known.{KnownForm, IsKnownForm, AreKnown}
-pub use Rattle.node_turn.specs.Signs.{scanned, keep_class, IsCondition, signs_of, kept_signs}
+pub use Rattle.node_turn.specs.Signs.{scanned, IsCondition, signs_of}
 pub use Rattle.node_turn.specs.declared.known.KnownPlace.{KnownPlace}

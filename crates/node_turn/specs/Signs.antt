@@ -1,5 +1,5 @@
 -- The signs of a node's rows, as the run sees them.
-use Rattle.std.specs.Prelude.{◌≡◌, ◌+◌, ◌<◌, ℕ, ℤ, List, [], ◌∷◌, length, Option, Some, None, IsTrue, ⊤}
+use Rattle.std.specs.Prelude.{◌≡◌, ◌+◌, ◌<◌, ℕ, ℤ, List, [], ◌∷◌, length, IsTrue, ⊤}
 use Rattle.pip_model.specs.Rows.{Row}
 use Rattle.pip_model.specs.Run.{Counted, ◌>>=◌, give, scan_on}
 use Rattle.pip_model.specs.Listed.{all_fit, opposite_listed}
@@ -13,17 +13,6 @@ abbrev pub signs_of : Signs → run.Signs
 signs_of code.AllPlus = run.AllPlus
 signs_of (code.MinusAt r) = run.MinusAt r
 signs_of (code.UnknownBy c) = run.UnknownBy c
-
--- the condition that is kept so far
-abbrev pub kept_signs : Option (List ℤ) → run.Signs
-kept_signs None = run.AllPlus
-kept_signs (Some c) = run.UnknownBy c
-
--- what is kept after a class that is not below 0
-abbrev pub keep_class : run.Signs → run.Class → run.Signs
-keep_class kept run.Plus = kept
-keep_class kept run.Minus = kept
-keep_class kept (run.Unknown c) = run.keep kept c
 
 -- the rows from place i on are classed in order on a context of w places, as a node's scan does
 abbrev pub scanned : List (List ℤ) → ℕ → ℕ → run.Signs → List Row → Counted run.Signs

@@ -1,4 +1,4 @@
-ghost use Rattle.std.specs.Prelude.{◌≡◌, ◌⊎◌, [], ◌∷◌, ◌++◌, Contains, IfSome};
+ghost use Rattle.std.specs.Prelude.{◌≡◌, ◌⊎◌, [], ◌∷◌, ◌++◌, Contains, IfSome, IsTrue};
 
 use sign_split::Counts;
 use std::alloc::Global;
@@ -26,6 +26,22 @@ fn last_of(entries: &[i128]) -> i128 {
         Some(entry) => *entry,
         None => 0,
     }
+}
+
+// Whether the entries are the same.
+#[inline(always)]
+fn are_same(these: &[i128], those: &[i128]) -> bool
+    ensures { IsTrue result → these.now ≡ those.now }
+{
+    if these.len() != those.len() {
+        return false;
+    }
+    for i in 0..these.len() {
+        if these[i] != those[i] {
+            return false;
+        }
+    }
+    true
 }
 
 /// The forms that were found at least 0 on a context, up to some number: their entries behind one another.
@@ -79,7 +95,7 @@ impl KnownForms {
     {
         let last = last_of(entries);
         for place in &self.places {
-            if place.last == last && &self.numbers[place.start..place.end] == entries {
+            if place.last == last && are_same(&self.numbers[place.start..place.end], entries) {
                 return Some(place.counts);
             }
         }

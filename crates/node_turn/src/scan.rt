@@ -1,16 +1,16 @@
-ghost use Rattle.std.specs.Prelude.{◌≡◌, ℕ, ℤ, ◌+◌, ◌<◌, ◌≤◌, List, IfOk, IfSome, IsTrue, false, true, length};
+ghost use Rattle.std.specs.Prelude.{◌≡◌, ℕ, ℤ, ◌+◌, ◌<◌, ◌≤◌, List, IfOk, IsTrue, false, true, length, drop};
 ghost use Rattle.std.specs.List.{list_all};
 ghost use Rattle.pip_model.specs.Numbers.{is_nonneg};
 ghost use Rattle.pip_model.specs.Rows.{row_at};
 ghost use Rattle.pip_model.specs.Run as model;
-ghost use Rattle.pip_model.specs.Run.{AllPlus, Done, Plus};
+ghost use Rattle.pip_model.specs.Run.{AllPlus, UnknownBy, Done, Plus};
 ghost use Rattle.affine_forms.specs.Forms.{IsForm};
 ghost use Rattle.pip_problem.specs.Faults.{run_fault};
 ghost use Rattle.run_counts.specs.Counts.{IsCountedRun, HasCounted};
 ghost use Rattle.sign_split.specs.Scoped.{IsKeptContext};
 ghost use Rattle.sign_split.specs.Classes.{class_of, ConditionIs};
 ghost use Rattle.node_turn.specs.Known.{AreKnown};
-ghost use Rattle.node_turn.specs.Signs.{signs_of, kept_signs, keep_class, scanned, IsCondition, ClassIs, SignsAre};
+ghost use Rattle.node_turn.specs.Signs.{signs_of, scanned, IsCondition, ClassIs, SignsAre};
 
 use crate::known::KnownForms;
 use affine_forms::Form;
@@ -123,6 +123,7 @@ fn is_above(rows: &NodeRows, i: usize) -> bool
 }
 
 // The class of the constant form of row i of a tableau.
+#[inline(always)]
 fn class_of_made(
     rows: &Tableau,
     i: usize,
@@ -144,6 +145,7 @@ fn class_of_made(
 }
 
 // The class of the constant form of row i, which is read off its form.
+#[inline(always)]
 fn class_by_form(
     rows: &NodeRows,
     i: usize,
@@ -165,6 +167,7 @@ fn class_by_form(
 }
 
 // The class of the constant form of row i, where it is not seen at once.
+#[inline(always)]
 fn class_of_constant(
     rows: &NodeRows,
     i: usize,
@@ -213,15 +216,52 @@ fn class_of_row(
     class_of_constant(rows, i, context, known, work)
 }
 
-// The condition kept, which is the first of an unknown sign.
-fn with_class(kept: Option<Form>, class: Class) -> Option<Form>
-    ensures kept { kept_signs result ≡ keep_class (kept_signs kept) (class_of class) }
-    ensures condition { (n : ℕ) → IfSome kept (IsCondition n) → ClassIs n class → IfSome result (IsCondition n) }
+// The condition of a row of both signs, and the place behind the row.
+#[derive(Drop)]
+struct UnknownRow {
+    condition: Form,
+    behind: usize,
+}
+
+// Keeps the room of a condition that is not needed.
+#[inline(always)]
+fn keep_room_of(context: &mut Context, class: Class)
+    ensures { IsKeptContext context.old context.new }
 {
-    match (kept, class) {
-        (None, Class::Unknown(condition)) => Some(condition),
-        (kept, _) => kept,
+    if let Class::Unknown(condition) = class {
+        context.keep_room(condition);
     }
+}
+
+// The rows behind the first of both signs are classed in order, up to one below 0. Where none is, the condition is that
+// of the first.
+fn scan_behind(
+    rows: &NodeRows,
+    first: UnknownRow,
+    context: &mut Context,
+    known: &mut KnownForms,
+    work: &mut Work,
+) -> Result<Signs, Refusal>
+    requires condition { IsCondition rows.now.width first.condition }
+    requires scope { context.old.width ≡ rows.now.width }
+    requires known { AreKnown context.old.forms context.old.width work.old.budget known.old }
+    ensures gives { IsCountedRun signs_of run_fault result work.old work.new
+        (scanned context.old.forms context.old.width first.behind (UnknownBy first.condition)
+        (drop first.behind rows.now.rows)) }
+    ensures signs { IfOk result (SignsAre (length rows.now.rows) rows.now.width) }
+    ensures kept { IsKeptContext context.old context.new }
+    ensures known { AreKnown context.old.forms context.old.width work.old.budget known.new }
+{
+    for i in first.behind..rows.rows() {
+        match class_of_row(rows, i, context, known, work)? {
+            Class::Minus => {
+                context.keep_room(first.condition);
+                return Ok(Signs::MinusAt(i));
+            }
+            class => keep_room_of(context, class),
+        }
+    }
+    Ok(Signs::UnknownBy(first.condition))
 }
 
 // The rows are classed in order; of a known form only the counts are made again. The scan ends at the first row below
@@ -240,15 +280,16 @@ pub(crate) fn scan(
     ensures kept { IsKeptContext context.old context.new }
     ensures known { AreKnown context.old.forms context.old.width work.old.budget known.new }
 {
-    let mut kept = None;
     for i in 0..rows.rows() {
         match class_of_row(rows, i, context, known, work)? {
+            Class::Plus => {}
             Class::Minus => return Ok(Signs::MinusAt(i)),
-            class => kept = with_class(kept, class),
+            Class::Unknown(condition) => {
+                let behind = i + 1;
+                let first = UnknownRow { condition, behind };
+                return scan_behind(rows, first, context, known, work);
+            }
         }
     }
-    match kept {
-        None => Ok(Signs::AllPlus),
-        Some(condition) => Ok(Signs::UnknownBy(condition)),
-    }
+    Ok(Signs::AllPlus)
 }

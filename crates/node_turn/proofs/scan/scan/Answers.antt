@@ -1,32 +1,37 @@
-use Rattle.node_turn.proofs.Words.{rules, arith, ◌≡◌, ◌∙◌, sym, IfSome, common_steps, row_at, Minus, Done, Refused, class, run_fault, counted_on, class_of, kept_signs}
+use Rattle.node_turn.proofs.Words.{rules, ◌≡◌, ◌∙◌, sym, row_at, Plus, Minus, Unknown, AllPlus, Done, class, counted_on}
 use Rattle.sign_split.proofs.Keeping.{kept_on}
-use Rattle.node_turn.proofs.Scanning.{scanned_on, scanned_minus, refused_from, not_minus}
+use Rattle.node_turn.proofs.Scanning.{scanned_on, scanned_minus}
 use Rattle.node_turn.proofs.Knowing.{known_on, at_start}
 use Rattle.node_turn.proofs.scan.scan.Goals as goal
-
-pub returns-in_err-class-clause-gives : goal.returns-in_err-class-clause-gives
-returns-in_err-class-clause-gives c =
-    let given : IfSome (run_fault c.in_err-class.field-0.0) (λ f. class c.args.context.now.forms c.args.context.now.width (row_at c.args.rows.now.rows c.loop-i.i).constant c.loop-i.work ≡ Refused f c.class_of_row.new.work) = rw (← c.loop-i.invariant.kept.forms, ← c.loop-i.invariant.kept.width) c.in_err-class.ensures.gives.agrees in
-    let fault = refused_from c.args.context.now.forms c.args.context.now.width c.loop-i.i (kept_signs c.loop-i.kept) c.args.rows.now.rows c.loop-i.work c.class_of_row.new.work (search rules) (run_fault c.in_err-class.field-0.0) given _ c.loop-i.invariant.same in
-    record { agrees = grind (arith, common_steps, fault); counted = counted_on c.args.work.now c.loop-i.work c.class_of_row.new.work c.loop-i.invariant.counted c.class_of_row.ensures.gives.counted }
 
 pub returns-in-Minus-clause-gives : goal.returns-in-Minus-clause-gives
 returns-in-Minus-clause-gives c =
     let given : class c.args.context.now.forms c.args.context.now.width (row_at c.args.rows.now.rows c.loop-i.i).constant c.loop-i.work ≡ Done Minus c.class_of_row.new.work = search rules in
     record {
-      agrees = sym c.loop-i.invariant.same ∙ scanned_minus c.args.context.now.forms c.args.context.now.width c.loop-i.i (kept_signs c.loop-i.kept) c.args.rows.now.rows c.loop-i.work c.class_of_row.new.work (search rules) given;
+      agrees = sym c.loop-i.invariant.same ∙ scanned_minus c.args.context.now.forms c.args.context.now.width c.loop-i.i AllPlus c.args.rows.now.rows c.loop-i.work c.class_of_row.new.work (search rules) given;
       counted = counted_on c.args.work.now c.loop-i.work c.class_of_row.new.work c.loop-i.invariant.counted c.class_of_row.ensures.gives.counted;
+    }
+
+pub returns-in-Unknown-clause-gives : goal.returns-in-Unknown-clause-gives
+returns-in-Unknown-clause-gives c =
+    let given : class c.args.context.now.forms c.args.context.now.width (row_at c.args.rows.now.rows c.loop-i.i).constant c.loop-i.work ≡ Done (Unknown c.in-Unknown.condition) c.class_of_row.new.work = search rules in
+    let step = scanned_on c.args.context.now.forms c.args.context.now.width c.loop-i.i AllPlus c.args.rows.now.rows c.loop-i.work c.class_of_row.new.work (search rules) (Unknown c.in-Unknown.condition) (λ e. cc) given in
+    let behind = c.scan_behind.ensures.gives in
+    let kept = kept_on c.args.context.now c.loop-i.context c.class_of_row.new.context c.loop-i.invariant.kept c.class_of_row.ensures.kept in
+    record {
+      agrees = rw (← c.loop-i.invariant.same, step, ← kept.forms, ← kept.width) behind.agrees;
+      counted = counted_on c.args.work.now c.class_of_row.new.work c.scan_behind.new.work
+          (counted_on c.args.work.now c.loop-i.work c.class_of_row.new.work c.loop-i.invariant.counted c.class_of_row.ensures.gives.counted) behind.counted;
     }
 
 pub loop-i-preserved : goal.loop-i-preserved
 loop-i-preserved c =
-    let given : class c.args.context.now.forms c.args.context.now.width (row_at c.args.rows.now.rows c.loop-i.i).constant c.loop-i.work ≡ Done (class_of c.in_ok-class.class) c.class_of_row.new.work = search rules in
-    let step = scanned_on c.args.context.now.forms c.args.context.now.width c.loop-i.i (kept_signs c.loop-i.kept) c.args.rows.now.rows c.loop-i.work c.class_of_row.new.work (search rules) (class_of c.in_ok-class.class) (not_minus c.in_ok-class.class c.in_default.not-Minus) given in
+    let given : class c.args.context.now.forms c.args.context.now.width (row_at c.args.rows.now.rows c.loop-i.i).constant c.loop-i.work ≡ Done Plus c.class_of_row.new.work = search rules in
+    let step = scanned_on c.args.context.now.forms c.args.context.now.width c.loop-i.i AllPlus c.args.rows.now.rows c.loop-i.work c.class_of_row.new.work (search rules) Plus (λ e. cc) given in
     record {
       kept = kept_on c.args.context.now c.loop-i.context c.class_of_row.new.context c.loop-i.invariant.kept c.class_of_row.ensures.kept;
       counted = counted_on c.args.work.now c.loop-i.work c.class_of_row.new.work c.loop-i.invariant.counted c.class_of_row.ensures.gives.counted;
-      same = rw c.with_class-kept.ensures.kept (sym step ∙ c.loop-i.invariant.same);
-      condition = c.with_class-kept.ensures.condition c.args.rows.now.width c.loop-i.invariant.condition (search rules);
+      same = sym step ∙ c.loop-i.invariant.same;
       known = at_start c.args.context.now c.loop-i.context c.args.work.now.budget c.loop-i.work.budget c.class_of_row.new.known c.loop-i.invariant.kept c.loop-i.invariant.counted.budget c.class_of_row.ensures.known;
     }
 
