@@ -1,4 +1,4 @@
-ghost use Rattle.std.specs.Prelude.{◌≡◌, List, ℤ, ◌+◌, ◌-◌, ◌^◌, ◌<◌, ◌≤◌, [], ◌∷◌, ◌++◌, true, false, length, take, IfOk, OnOk, IfErr, IfSome, IfNone, IsTrue};
+ghost use Rattle.std.specs.Prelude.{◌≡◌, List, ℤ, ◌+◌, ◌-◌, ◌^◌, ◌<◌, ◌≤◌, [], ◌∷◌, ◌++◌, true, false, length, take, IfOk, OnOk, IfErr, IfSome, IfNone, IsTrue, vec_len, vec_capacity};
 ghost use Rattle.pip_model.specs.Contexts.{IsContext, IsNarrow, PointTells, IsPointRefusal};
 ghost use Rattle.pip_model.specs.Run as model;
 ghost use Rattle.pip_model.specs.Run.{Work as Counts, Done};
@@ -67,6 +67,21 @@ fn stays(is_known: bool, known: usize, width: usize, mark: ContextMark) -> bool
     ensures { IsTrue result → IsTrue is_known × (known ≤ mark.forms) × (width ≡ mark.width) }
 {
     is_known && known <= mark.forms && width == mark.width
+}
+
+// Makes room for so many more forms; where there are none, in a new block, since there is nothing to move.
+fn make_room(forms: &mut Vec<Form>, more: usize) -> Result<(), WantOfMemory>
+    ensures items { forms.new.items ≡ forms.old.items }
+    ensures room { OnOk result (vec_len forms.old + more ≤ vec_capacity forms.new) }
+    ensures capacity { vec_capacity forms.old ≤ vec_capacity forms.new }
+{
+    if forms.is_empty() && forms.capacity() < more {
+        let alloc = *forms.allocator();
+        *forms = Vec::with_capacity(alloc, more)?;
+        return Ok(());
+    }
+    forms.reserve(more)?;
+    Ok(())
 }
 
 impl Model for Context {
@@ -145,7 +160,7 @@ impl Context {
         ensures room { OnOk result (n ≤ self.new.spare) }
     {
         self.spares.make_room();
-        self.forms.reserve(n)?;
+        make_room(&mut self.forms, n)?;
         Ok(())
     }
 
