@@ -1,5 +1,6 @@
-use Rattle.quast.proofs.Words.{◌≡◌, refl, true, arith, rules, err_from_is_err_and, all_fit, value_listed}
+use Rattle.quast.proofs.Words.{◌≡◌, [], ◌∷◌, ◌++◌, refl, true, arith, rules, Fits, err_from_is_err_and, all_fit, value_listed}
 use Rattle.std.proofs.lemmas.Grind.{common_steps}
+use Rattle.std.proofs.lemmas.List.Elements.{All-push}
 use Rattle.quast.proofs.Numerators.{fit-step, fit-end, fit-refused}
 use Rattle.quast.proofs.place.put_numerators.Goals as goal
 
@@ -11,11 +12,12 @@ returns-in_err-number-clause-listed c =
 pub loop-c-preserved : goal.loop-c-preserved
 loop-c-preserved c =
     let here : all_fit (value_listed c.c-item.result.form c.args.vector.now) ≡ true = search rules in
+    let items : c.push.new.self.items ≡ c.loop-c.out.items ++ c.in_ok-number.number ∷ [] = search rules in
     record {
-      room = grind (arith, common_steps);
-      kept = grind (arith, common_steps);
+      room = omega (arith, c.in-Ok.ensures.len, c.in-Ok.ensures.capacity, c.loop-c.invariant.room, c.loop-c-test.true);
+      kept = omega (arith, c.in-Ok.ensures.capacity, c.loop-c.invariant.kept);
       fit = fit-step _ c.args.components.now c.loop-c.c-index c.c-item.result (omega arith) c.c-item.is c.loop-c.invariant.fit here;
-      numbers = grind (arith, common_steps);
+      numbers = rw items (All-push Fits _ _ c.loop-c.invariant.numbers c.in_ok-number.ensures.fits);
       values = grind (arith, common_steps);
     }
 
