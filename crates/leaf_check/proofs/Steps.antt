@@ -1,12 +1,10 @@
 -- The last form of a refutation, the steps before it, and forms read over all places.
-use Rattle.leaf_check.proofs.Words.{zero, true, false, ◌&&◌, replicate, length-map, get_or-map, width, coefficients, constant, widen_to, ◌≡◌, refl, ap, ap₂, sym, ◌∙◌, ℕ, suc, ◌+◌, ◌-◌, ◌<◌, ℤ, List, [], ◌∷◌, ◌++◌, length, Bool, Ok, Err, Option, Some, None, IfSome, All, arith, length-append, take, drop, get_or, pos, drop_more, drop_all, slice_index_or, ◌>>=◌, Step, CheckFault, Checks, spot, holds, after_step, after_steps, check_refutation, is_absurd, ends_absurd}
+use Rattle.leaf_check.proofs.Words.{replicate, length-map, get_or-map, coefficients, constant, widen_to, ◌≡◌, refl, ap, ap₂, sym, ◌∙◌, ℕ, suc, ◌+◌, ◌-◌, ◌<◌, ℤ, List, [], ◌∷◌, ◌++◌, length, Bool, Ok, Err, Option, Some, None, IfSome, All, arith, length-append, take, drop, get_or, pos, drop_more, drop_all, slice_index_or, ◌>>=◌, Step, CheckFault, Checks, spot, holds, after_step, after_steps, check_refutation, is_absurd, ends_absurd}
 use Rattle.std.proofs.lemmas.List.{take-append-drop, map-append}
-use Rattle.std.specs.List.{list_all, take-map}
-use Rattle.std.proofs.lemmas.List.Folds.{list_all-append}
-use Rattle.pip_model.specs.Numbers.{is_zero, is_negative}
-use Rattle.derivation_steps.proofs.Spreading.{coefficients_before, constant_behind}
+use Rattle.std.specs.List.{take-map}
+use Rattle.derivation_steps.proofs.Spreading.{spread_absurd}
 use Rattle.std.proofs.lemmas.List.Elements.{All-head, All-tail}
-use Rattle.pip_model.proofs.Forms.{widen_same}
+use Rattle.pip_model.proofs.Forms.{widen_same, length-coefficients}
 use Rattle.derivation_steps.specs.Steps.{read_over, absurd_after}
 use Rattle.leaf_check.specs.Known.{absurd_by}
 
@@ -29,20 +27,10 @@ joined_over w old made h = map-append (widen_to w) old made ∙ ap (λ (forms : 
 pub take_over : (w n : ℕ) (forms : List (List ℤ)) → read_over w (take n forms) ≡ take n (read_over w forms)
 take_over w n forms = sym (take-map (widen_to w) n forms)
 
-no_number : (n : ℕ) → list_all is_zero (replicate n (pos 0)) ≡ true
-no_number zero = refl
-no_number (suc n) = no_number n
-
-and_true : (b c : Bool) → c ≡ true → (b && c) ≡ b
-and_true true c e = e
-and_true false c e = refl
-
 absurd_over : (w : ℕ) (c : List ℤ) → is_absurd (widen_to w c) ≡ is_absurd c
 absurd_over w c =
-    let zeros = replicate (w - width c) (pos 0) in
-    ap₂ ◌&&◌
-    (ap (list_all is_zero) (coefficients_before (coefficients c ++ zeros) (constant c)) ∙ list_all-append is_zero (coefficients c) zeros ∙ and_true (list_all is_zero (coefficients c)) (list_all is_zero zeros) (no_number (w - width c)))
-    (ap is_negative (constant_behind (coefficients c ++ zeros) (constant c)))
+    ap (λ (n : ℕ). is_absurd (coefficients c ++ replicate (w - n) (pos 0) ++ constant c ∷ [])) (sym (length-coefficients c))
+    ∙ sym (spread_absurd w (coefficients c) (constant c))
 
 pub last_absurd_over : (w : ℕ) (forms : List (List ℤ)) (d : List ℤ) → 0 < length forms → is_absurd (slice_index_or forms (length forms - 1) d) ≡ ends_absurd (read_over w forms)
 last_absurd_over w forms d h =
