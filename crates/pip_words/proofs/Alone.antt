@@ -1,5 +1,5 @@
 -- A command among all gives what it gives alone, where its name stands behind the program's.
-use Rattle.pip_words.proofs.Words.{◌≡◌, ◌∙◌, refl, sym, subst, ap, ap₂, append_assoc, append-nil, true, false, Bool, List, [], ◌∷◌, ◌++◌, map, fold, Option, None, Some, option_map, if◌then◌else◌, App, Kinds, Text, fault_of, is_simple_and_free, subcommand_of, matches_of, pip_app, command_of, command_in, is_accepted, spellings, Spelling, arith, ℕ, suc, ◌-◌, ◌<◌, length, get_or, take, drop, find, cond, bytes_eq}
+use Rattle.pip_words.proofs.Words.{◌≡◌, ◌∙◌, refl, sym, subst, ap, ap₂, append_assoc, append-nil, true, false, Bool, List, [], ◌∷◌, ◌++◌, map, fold, Option, None, Some, option_map, if◌then◌else◌, App, Kinds, Text, fault_of, is_simple_and_free, subcommand_of, matches_of, pip_app, command_of, command_in, command_named, is_accepted, spellings, Spelling, arith, ℕ, suc, ◌-◌, ◌<◌, length, get_or, take, drop, find, cond, bytes_eq}
 use Rattle.std.specs.Prelude.{is_some, slice_get}
 use Rattle.std.specs.Option.{option_map_or}
 use Rattle.std.proofs.lemmas.Slice.Eq.{bytes_eq-Decides}
@@ -123,17 +123,22 @@ all_seen : map seen spellings ≡ map wanted spellings
 unfolding seen wanted walked Facts
 all_seen = refl
 
-among : (ss : List Spelling) (name : Text) (s : Spelling) → map seen ss ≡ map wanted ss → find (λ x. bytes_eq x.name name) ss ≡ Some s
-    → (s.name ≡ name) × (seen s ≡ wanted s)
-among [] name s e found = cc
-among (x ∷ ss) name s e found = go (bytes_eq x.name name) (bytes_eq-Decides x.name name).0 found (λ more. among ss name s (cc) more)
+-- what the command of a name gives, where no word stands behind it, is what it gives without values
+all_bare : (word : Text) → map (λ s. command_alone (app_alone s) s.name (word ∷ [])) spellings ≡ map (λ s. command_named s.name []) spellings
+unfolding walk_fault defaults_fault
+all_bare word = refl
+
+among : {F : Type 0} (f g : Spelling → F) (ss : List Spelling) (name : Text) (s : Spelling) → map f ss ≡ map g ss
+    → find (λ x. bytes_eq x.name name) ss ≡ Some s → (s.name ≡ name) × (f s ≡ g s)
+among f g [] name s e found = cc
+among f g (x ∷ ss) name s e found = go (bytes_eq x.name name) (bytes_eq-Decides x.name name).0 found (λ more. among f g ss name s (cc) more)
   where
-    here : seen x ≡ wanted x
+    here : f x ≡ g x
     here = cc
 
     go : (t : Bool) → (t ≡ true → x.name ≡ name) → cond t (Some x) (find (λ y. bytes_eq y.name name) ss) ≡ Some s
-        → (find (λ y. bytes_eq y.name name) ss ≡ Some s → (s.name ≡ name) × (seen s ≡ wanted s)) → (s.name ≡ name) × (seen s ≡ wanted s)
-    go true same is rest = let x_is : x ≡ s = cc in subst (λ (y : Spelling). (y.name ≡ name) × (seen y ≡ wanted y)) x_is (same refl, here)
+        → (find (λ y. bytes_eq y.name name) ss ≡ Some s → (s.name ≡ name) × (f s ≡ g s)) → (s.name ≡ name) × (f s ≡ g s)
+    go true same is rest = let x_is : x ≡ s = cc in subst (λ (y : Spelling). (y.name ≡ name) × (f y ≡ g y)) x_is (same refl, here)
     go false same is rest = rest is
 
 ended_well : fault_after (built pip_app).top start true ≡ []
@@ -179,7 +184,22 @@ simple_alone name a e = go (spelling_named name) refl e
     go : (o : Option Spelling) → spelling_named name ≡ o → Some a ≡ option_map app_alone o → is_simple_and_free a ≡ true
     go None h e = cc
     go (Some s) h e = let a_is : a ≡ app_alone s = cc in
-        ap is_simple_and_free a_is ∙ ap (λ (f : Facts). f.0.0) ((among spellings name s all_seen h).1)
+        ap is_simple_and_free a_is ∙ ap (λ (f : Facts). f.0.0) ((among seen wanted spellings name s all_seen h).1)
+
+-- a word alone, by the program of the command of a name
+pub bare_alone : {A : Type 0} (f : A → Text) (words : List A) (name : Text) (a : App) → length words ≡ 1
+    → Some a ≡ option_map app_alone (spelling_named name) → command_alone a name (map f words) ≡ command_named name []
+bare_alone f [] name a one e = absurd (omega arith)
+bare_alone f (word ∷ second ∷ words) name a one e = absurd (omega arith)
+bare_alone f (word ∷ []) name a one e = go (spelling_named name) refl e
+  where
+    go : (o : Option Spelling) → spelling_named name ≡ o → Some a ≡ option_map app_alone o → command_alone a name (f word ∷ []) ≡ command_named name []
+    go None h e = cc
+    go (Some s) h e =
+        let a_is : app_alone s ≡ a = cc in
+        let fits = among (λ s. command_alone (app_alone s) s.name (f word ∷ [])) (λ s. command_named s.name []) spellings name s (all_bare (f word)) h in
+        subst (λ (x : Text). command_alone a x (f word ∷ []) ≡ command_named x []) fits.0
+        (ap (λ (x : App). command_alone x s.name (f word ∷ [])) (sym a_is) ∙ fits.1)
 
 -- where the second word is a command's name, the words from there on are those of its own program
 pub command_is_alone : (words : List Text) (name : Text) (a : App) → slice_get words 1 ≡ Some name
@@ -195,7 +215,7 @@ command_is_alone (first ∷ second ∷ words) name a at e = let second_is : seco
     go None h e = cc
     go (Some s) h e =
         let a_is : app_alone s ≡ a = cc in
-        let fits = among spellings name s all_seen h in
+        let fits = among seen wanted spellings name s all_seen h in
         subst (λ (x : Text). command_of (first ∷ x ∷ words) ≡ command_alone a x (x ∷ words)) fits.0
         (spelled_alone s first words fits.1 ∙ ap (λ (x : App). command_alone x s.name (s.name ∷ words)) a_is)
 

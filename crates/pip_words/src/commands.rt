@@ -1,4 +1,4 @@
-ghost use Rattle.std.specs.Prelude.{◌≡◌, IfOk, drop, option_map};
+ghost use Rattle.std.specs.Prelude.{◌≡◌, IfOk, IfSome, Some, [], drop, option_map};
 ghost use Rattle.clap.specs.Words.{app_of, rows_of, found_of};
 ghost use Rattle.pip_words.specs.Alone.{app_alone, spelling_named};
 ghost use Rattle.pip_words.specs.Arguments.{app_given};
@@ -11,6 +11,7 @@ use crate::parameter_vector::ParameterVector;
 use crate::refusal::WordsRefusal;
 use crate::values::{is_set, limits, parameter_count, parameters, required_number, walk};
 use clap::ArgMatches;
+use pip_problem::Limits;
 use std::alloc::{AllocError, Global};
 
 const MOST_DRAWN: u64 = 10_000;
@@ -141,6 +142,28 @@ fn later_command(name: &str, matches: &ArgMatches<'_>) -> Result<Command, WordsR
         Ok(Command::Least(walk(matches).ok_or(WordsRefusal::Usage)?))
     } else {
         Err(WordsRefusal::Usage)
+    }
+}
+
+// The command of a name that no values stand behind, if it needs none.
+pub(crate) fn command_without_values(alloc: Global, name: &str) -> Option<Command>
+    ensures { IfSome result (λ command. command_named name.now [] ≡ Some (meaning_of command)) }
+{
+    if name == "solve" {
+        Some(Command::Solve(SolveOptions {
+            polylib: false,
+            simplify: false,
+            certificate: false,
+            limits: Limits::standard(),
+        }))
+    } else if name == "eval" {
+        Some(Command::Eval(ParameterVector::new(alloc)))
+    } else if name == "check" {
+        Some(Command::Check)
+    } else if name == "share" {
+        Some(Command::Share)
+    } else {
+        None
     }
 }
 

@@ -1,14 +1,14 @@
-ghost use Rattle.std.specs.Prelude.{◌≡◌, ◌≢◌, IfOk, IfErr, Some, None, map, true, string_bytes};
+ghost use Rattle.std.specs.Prelude.{◌≡◌, ◌≢◌, IfOk, IfErr, Some, None, map, option_map, true, string_bytes};
 ghost use Rattle.clap.specs.Words.{is_simple_and_free, kind_of, subcommand_rows_of};
 ghost use Rattle.clap.specs.declared.error.ErrorKind.TheVariants.{OutOfMemory};
-ghost use Rattle.pip_words.specs.Alone.{command_alone};
+ghost use Rattle.pip_words.specs.Alone.{app_alone, command_alone, spelling_named};
 ghost use Rattle.pip_words.specs.Arguments.{app_given};
 ghost use Rattle.pip_words.specs.declared.refusal.WordsRefusal.TheVariants as refused;
 ghost use Rattle.pip_words.specs.Words.{command_given, command_of, meaning_of, Gives, command_in};
 
 use crate::arguments::{Entry, made_command};
 use crate::command::Command;
-use crate::commands::{command_of_name, entry_named, pip};
+use crate::commands::{command_of_name, command_without_values, entry_named, pip};
 use crate::refusal::WordsRefusal;
 use clap::error::ErrorKind;
 use clap::{ArgMatches, Error};
@@ -32,8 +32,27 @@ pub fn read_words(alloc: Global, words: &Vec<String>) -> Result<Command, WordsRe
     unnamed(alloc, words)
 }
 
-// The command that the words give by this entry alone, whose name is the first word.
+// The command that the words give by the entry of this name alone, which is the first word. `clap` is not asked where
+// there are no others and it needs none.
 fn named(
+    alloc: Global,
+    entry: Entry<'_>,
+    name: &str,
+    words: &[String],
+) -> Result<Command, WordsRefusal>
+    requires { Some (app_given entry) ≡ option_map app_alone (spelling_named name.now) }
+    ensures { Gives meaning_of (command_alone (app_given entry.entry) name.now (map string_bytes words.now)) result }
+{
+    if words.len() == 1 {
+        if let Some(command) = command_without_values(alloc, name) {
+            return Ok(command);
+        }
+    }
+    parsed(alloc, entry, name, words)
+}
+
+// The same by `clap`.
+fn parsed(
     alloc: Global,
     entry: Entry<'_>,
     name: &str,

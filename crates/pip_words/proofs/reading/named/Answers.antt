@@ -1,17 +1,12 @@
-use Rattle.pip_words.proofs.Words.{map, string_bytes}
-use Rattle.pip_words.proofs.Giving.{given_at, given_refusal}
-use Rattle.pip_words.proofs.Parsed.{accepted_alone, refused_alone}
+use Rattle.pip_words.proofs.Words.{◌≡◌, ◌∙◌, length, arith, string_bytes}
 use Rattle.pip_words.specs.Arguments.{app_given}
+use Rattle.pip_words.proofs.Alone.{bare_alone, simple_alone}
 use Rattle.pip_words.proofs.reading.named.Goals as goal
 
-pub returns-in-Ok : goal.returns-in-Ok
-returns-in-Ok c =
-    let parsed = c.in-Ok.ensures in
-    given_at _ _ c.command_of_name.result (accepted_alone (app_given c.args.entry) _ c.args.name.now (map string_bytes c.args.words.now) c.in-Ok.matches c.in_ok-command.ensures.made
-    c.requires parsed.kinds parsed.matches) c.command_of_name.ensures
+pub returns-in-Some : goal.returns-in-Some
+returns-in-Some c =
+    let one : length c.args.words.now ≡ 1 = grind arith in
+    bare_alone string_bytes c.args.words.now c.args.name.now (app_given c.args.entry) one c.requires ∙ c.in-Some.ensures
 
-pub returns-in-Err : goal.returns-in-Err
-returns-in-Err c =
-    given_refusal _ c.refusal.result
-    (λ u. refused_alone (app_given c.args.entry) _ c.args.name.now (map string_bytes c.args.words.now) c.in-Err.error c.in_ok-command.ensures.made
-    c.requires c.in-Err.ensures.kinds (c.refusal.ensures u))
+pub parsed-requires : goal.parsed-requires
+parsed-requires c = simple_alone c.args.name.now (app_given c.args.entry) c.requires

@@ -1,11 +1,11 @@
 use Rattle.pip_words.proofs.Words.{string_bytes}
 use Rattle.pip_words.specs.Arguments.{app_given}
-use Rattle.pip_words.proofs.Alone.{read_alone, simple_alone}
+use Rattle.pip_words.proofs.Alone.{read_alone}
 use Rattle.pip_words.proofs.Giving.{given_ok, given_usage}
 use Rattle.pip_words.proofs.reading.read_words.Goals as goal
 
 pub named-requires : goal.named-requires
-named-requires c = simple_alone c.as_str-name.result.now (app_given c.in-Some-entry_named.entry) c.in-Some-entry_named.ensures
+named-requires c = c.in-Some-entry_named.ensures
 
 pub returns-in-Some-entry_named-clause-ok : goal.returns-in-Some-entry_named-clause-ok
 returns-in-Some-entry_named-clause-ok c = let at = c.in-Some.ensures.lookup in
