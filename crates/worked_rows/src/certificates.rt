@@ -1,8 +1,6 @@
 //! Certificates that are made, checked, and written with the steps that their refutations share. The texts of those that
 //! are made come from an independent program.
-use crate::row::{
-    Ends, Wanted, are_answered, are_refused, ends_over, line_ends_so, run_words, words_of,
-};
+use crate::row::{Wanted, are_answered, are_refused, field, line_ends_so};
 use std::alloc::{AllocError, Global};
 use std::test::Fail;
 
@@ -106,55 +104,25 @@ fn made(rt: HostRuntime) -> Result<(), Fail> {
     are_refused(&rt, rt.alloc(), REFUSED_MADE)
 }
 
-// What the sink has where the status is 0, else nothing.
-fn output_of(alloc: Global, ends: &Ends, status: u8) -> Result<Vec<u8>, AllocError> {
-    match status {
-        0 => ends.sink.written().to_vec(alloc),
-        _ => Ok(Vec::new(alloc)),
-    }
-}
-
-// What these words write of an input, which they take whole.
-fn written(alloc: Global, words: &Vec<String>, input: Vec<u8>) -> Result<Vec<u8>, AllocError> {
-    let mut ends = ends_over(alloc, input, 7);
-    let status = run_words(alloc, words, &mut ends);
-    output_of(alloc, &ends, status)
-}
-
-// A problem with the answer and the certificate that the program makes of it.
-fn triple(alloc: Global, problem: &str) -> Result<Vec<u8>, AllocError> {
-    let words = words_of(alloc, "pip solve --certificate")?;
-    let mut triple = problem.as_bytes().to_vec(alloc)?;
-    let made = written(alloc, &words, problem.as_bytes().to_vec(alloc)?)?;
-    triple.extend_from_slice(&made)?;
-    Ok(triple)
-}
-
-const PROBLEMS: &[&str] = &[
-    "((a) 1 0 1 0 -1 1 (#[1 -3]) ())",
-    "((h) 1 0 1 0 -1 1 (#[2 -3]) ())",
-    "((n) 1 0 2 0 -1 1 (#[1 -3] #[-1 2]) ())",
-    "((o) 1 0 2 0 -1 1 (#[2 -1] #[-2 1]) ())",
-    "((c) 1 1 1 0 -1 1 (#[2 0 -1]) ())",
-    "((v) 1 1 0 1 -1 1 () (#[-1 -1]))",
-    "((v) 1 1 0 2 -1 1 () (#[2 -1] #[-2 1]))",
-    "((t) 2 1 2 0 -1 1 (#[3 0 0 -1] #[0 3 0 -1]) ())",
-];
-
-// Whether the certificate that the program makes of a problem is accepted.
-fn is_accepted(alloc: Global, problem: &str) -> Result<bool, AllocError> {
+// Whether the certificate that a row makes of a problem is accepted.
+fn is_accepted(alloc: Global, row: &str) -> Result<bool, AllocError> {
+    let (_, row) = field(row);
+    let (_, row) = field(row);
+    let (problem, made) = field(row);
     let wanted = Wanted {
         output: b"accepted\n",
         notes: "",
         status: 0,
     };
-    line_ends_so(alloc, "pip check", triple(alloc, problem)?, 7, &wanted)
+    let mut triple = problem.as_bytes().to_vec(alloc)?;
+    triple.extend_from_slice(made.as_bytes())?;
+    line_ends_so(alloc, "pip check", triple, 7, &wanted)
 }
 
 #[test]
 fn what_is_made_is_accepted(rt: HostRuntime) -> Result<(), Fail> {
-    for problem in PROBLEMS {
-        assert!(rt; is_accepted(rt.alloc(), problem)?, "{problem}");
+    for row in MADE {
+        assert!(rt; is_accepted(rt.alloc(), row)?, "{row}");
     }
     Ok(())
 }

@@ -122,26 +122,23 @@ fn writes_that_fail_are_told(rt: HostRuntime) -> Result<(), Fail> {
     Ok(())
 }
 
+// A write that is not made does not fail, and a note that fails changes nothing else.
 #[test]
-fn a_write_that_is_not_made_does_not_fail(rt: HostRuntime) -> Result<(), Fail> {
-    let wanted = Wanted {
+fn faults_that_are_not_told(rt: HostRuntime) -> Result<(), Fail> {
+    let alloc = rt.alloc();
+    let texts = Wanted {
         output: TEXTS.as_bytes(),
         notes: "",
         status: 0,
     };
-    assert!(rt; fails_so(rt.alloc(), TWICE, &Fault::Write, 42, &wanted)?);
-    Ok(())
-}
-
-#[test]
-fn a_note_that_fails_changes_nothing_else(rt: HostRuntime) -> Result<(), Fail> {
-    let wanted = Wanted {
+    assert!(rt; fails_so(alloc, TWICE, &Fault::Write, 42, &texts)?);
+    let refused = Wanted {
         output: b"",
         notes: "",
         status: 2,
     };
     let input = "((s) 1 1 1 0 -1 1 (#[2 0]) ())";
-    assert!(rt; fails_so(rt.alloc(), input, &Fault::Note, 0, &wanted)?);
+    assert!(rt; fails_so(alloc, input, &Fault::Note, 0, &refused)?);
     Ok(())
 }
 

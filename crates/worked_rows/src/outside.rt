@@ -18,11 +18,6 @@ fn is_read_to_its_end() -> bool {
         && taken(&mut source) == Ok((0, *b"\0\0"))
 }
 
-#[test]
-fn a_reader_of_std_is_read_to_its_end(rt: HostRuntime) {
-    assert!(rt; is_read_to_its_end());
-}
-
 // A writer takes all that it has room for, and then fails.
 fn is_filled() -> bool {
     let mut room = [0u8; 3];
@@ -30,11 +25,6 @@ fn is_filled() -> bool {
     let written = write_all(&mut sink, b"ab") == Ok(())
         && write_all(&mut sink, b"cd") == Err(Failed);
     written && room == *b"abc"
-}
-
-#[test]
-fn a_writer_of_std_takes_all_it_has_room_for(rt: HostRuntime) {
-    assert!(rt; is_filled());
 }
 
 // A reader that gives two bytes a call, but fails at its second.
@@ -61,7 +51,8 @@ fn is_fault() -> bool {
 }
 
 #[test]
-fn an_error_of_the_reader_is_a_fault(rt: HostRuntime) {
+fn a_reader_of_std_is_read_to_its_end_or_its_error(rt: HostRuntime) {
+    assert!(rt; is_read_to_its_end());
     assert!(rt; is_fault());
 }
 
@@ -95,12 +86,6 @@ fn bytes_flushed(text: &[u8]) -> usize {
     if written { flushed } else { 0 }
 }
 
-#[test]
-fn what_is_written_is_flushed(rt: HostRuntime) {
-    assert!(rt; bytes_flushed(b"a") == 1);
-    assert!(rt; bytes_flushed(b"abc") == 3);
-}
-
 // A writer that takes all, and whose flush fails.
 #[derive(Drop)]
 struct Clogged {}
@@ -116,6 +101,9 @@ impl Write for Clogged {
 }
 
 #[test]
-fn a_flush_that_fails_is_a_fault(rt: HostRuntime) {
+fn a_writer_of_std_takes_all_it_has_room_for_and_is_flushed(rt: HostRuntime) {
+    assert!(rt; is_filled());
+    assert!(rt; bytes_flushed(b"a") == 1);
+    assert!(rt; bytes_flushed(b"abc") == 3);
     assert!(rt; write_all(&mut StdSink::new(Clogged {}), b"a") == Err(Failed));
 }

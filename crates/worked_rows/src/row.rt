@@ -95,7 +95,7 @@ fn text_ends_so(
 }
 
 // The text before the next double bar, with what stands behind that; all of it where there is none.
-fn field(row: &str) -> (&str, &str) {
+pub(crate) fn field(row: &str) -> (&str, &str) {
     match row.split_once(" || ") {
         Some(parts) => parts,
         None => (row, ""),

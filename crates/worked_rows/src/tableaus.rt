@@ -54,12 +54,6 @@ fn are_copied(alloc: Global) -> Result<bool, WantOfMemory> {
     are_so
 }
 
-#[test]
-fn rows_are_kept(rt: HostRuntime) -> Result<(), Fail> {
-    assert!(rt; are_copied(rt.alloc())?);
-    Ok(())
-}
-
 // Puts the row (y + n) / 2, with a place for a quotient.
 fn push_half(t: &mut Tableau) -> Result<(), WantOfMemory>
     requires unknowns { t.old.unknowns ≡ 1 }
@@ -107,7 +101,8 @@ fn is_half_cut(alloc: Global) -> Result<bool, WantOfMemory> {
 }
 
 #[test]
-fn a_row_is_cut(rt: HostRuntime) -> Result<(), Fail> {
+fn rows_are_kept_and_cut(rt: HostRuntime) -> Result<(), Fail> {
+    assert!(rt; are_copied(rt.alloc())?);
     assert!(rt; is_half_cut(rt.alloc())?);
     Ok(())
 }

@@ -69,12 +69,6 @@ fn is_choice_handed_back(alloc: Global) -> Result<bool, Fail> {
     Ok(is_so)
 }
 
-#[test]
-fn a_choice_too_deep_is_handed_back(rt: HostRuntime) -> Result<(), Fail> {
-    assert!(rt; is_choice_handed_back(rt.alloc())?);
-    Ok(())
-}
-
 // Whether a definition is refused, and its parts are handed back.
 fn is_define_refused(made: &Made) -> bool {
     match made {
@@ -96,7 +90,8 @@ fn is_definition_handed_back(alloc: Global) -> Result<bool, Fail> {
 }
 
 #[test]
-fn a_definition_too_deep_is_handed_back(rt: HostRuntime) -> Result<(), Fail> {
+fn a_node_too_deep_is_handed_back(rt: HostRuntime) -> Result<(), Fail> {
+    assert!(rt; is_choice_handed_back(rt.alloc())?);
     assert!(rt; is_definition_handed_back(rt.alloc())?);
     Ok(())
 }
