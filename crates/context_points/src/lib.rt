@@ -5,7 +5,7 @@ mod asking;
 mod constants;
 mod context;
 
-pub use context_points::{Context, ContextMark};
+pub use context::{Context, ContextMark};
 pub use lane_questions::{LaneSign, Lanes, tightened};
 pub use point_run::Point;
 pub use run_counts::{Counts, Work};
