@@ -47,6 +47,8 @@ pub struct Context {
     earlier: Remembered,
     is_earlier: bool,
     earlier_known: usize,
+    // Whether the context went back to the run's forms, which it does once for each run.
+    is_last: bool,
     // Whether it was tried to make the run of all forms.
     is_tried: bool,
     question: Question,
@@ -122,6 +124,7 @@ impl Context {
             earlier: Remembered::new(alloc),
             is_earlier: false,
             earlier_known: 0,
+            is_last: false,
             is_tried: false,
             question: Question::new(alloc),
             spares: Spares::new(alloc),
@@ -232,6 +235,7 @@ impl Context {
         self.width = mark.width;
         self.is_tried = false;
         self.take_earlier();
+        self.is_last = self.known == self.forms.len();
     }
 
     // Where no run is known, that of fewer forms is, if it is kept and has the context's width.
@@ -278,12 +282,12 @@ impl Context {
         self.spares.keep(form);
     }
 
-    // Keeps a copy of the run, where it is one of fewer forms than there are.
+    // Keeps a copy of the run, where it is one of fewer forms than there are, and the context may go back to them.
     #[tactic(auto, using(crate::proofs::Keeping::earlier_kept))]
     fn keep_earlier(&mut self)
         ensures kept { IsKeptContext self.old self.new }
     {
-        if self.is_known && self.known < self.forms.len() {
+        if self.is_known && !self.is_last && self.known < self.forms.len() {
             self.is_earlier = self.earlier.copy_from(&self.run).is_ok();
             self.earlier_known = self.known;
         }
@@ -314,6 +318,7 @@ impl Context {
             remember(&mut self.run, self.width, &self.forms).is_ok()
         };
         self.known = self.forms.len();
+        self.is_last = false;
     }
 
     // Whether the context with these further forms has a point, by the remembered run of all its own; None where there
