@@ -32,8 +32,9 @@ use std::slice::from_ref;
 /// From one question with a form more to the next a context keeps its own forms' run: up to its end in lanes, over at
 /// most seven places and while its numbers are narrow; and where that does not answer the first pivots of the run, no
 /// more than it has places and forms, and the rows that they made. It goes on from these where forms were added, and
-/// keeps those from which it went on last; it goes back to them where the forms added were dropped, and begins again
-/// where more were dropped, or its width changed. Their room stays, and so does that of a question's rows and form.
+/// keeps those from which it went on last, unless it went back to their forms before; it goes back to them where the
+/// forms added were dropped, and begins again where more were dropped, or its width changed. Their room stays, and so
+/// does that of a question's rows and form.
 #[derive(Drop)]
 pub struct Context {
     width: usize,
@@ -47,7 +48,8 @@ pub struct Context {
     earlier: Remembered,
     is_earlier: bool,
     earlier_known: usize,
-    // Whether the context went back to the run's forms, which it does once for each run.
+    // Whether the context went back to the forms of the run. Who goes through the branches of a tree does so once for each,
+    // so no copy is made of the run then. Where the context goes back again, the run begins again.
     is_last: bool,
     // Whether it was tried to make the run of all forms.
     is_tried: bool,
