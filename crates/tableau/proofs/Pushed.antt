@@ -1,8 +1,8 @@
 -- A table with one row more, and the room for it.
 use Rattle.tableau.proofs.Words.{◌≡◌, ap, sym, ◌∙◌, ℕ, suc, ◌+◌, ◌<◌, ◌≤◌, ℤ, List, [], ◌∷◌, ◌++◌, length, take, drop, arith, length-append, length-map, Row, numbers_of, row_of_numbers, IsRow, KeptRows, IsFlat, row_length, row_kept, rows_kept, with_more, Kept}
 use Rattle.tableau.specs.KeptRows.{HasRoom}
-use Rattle.kept_rows.proofs.Runs.{run_room}
-use Rattle.kept_rows.proofs.Flat.{more_rows}
+use Rattle.std.proofs.Math.Nat.{add-mul, mul-le-mul_right}
+use Rattle.tableau.proofs.Flat.{more_rows}
 
 -- a table's rows by its parts
 abbrev pub kept_rows : ℕ → ℕ → ℕ → List Row → KeptRows
@@ -33,7 +33,7 @@ module _ (t : KeptRows) (n w most kept_capacity numbers_capacity : ℕ) (zs : Li
   pub length_room : length zs + row_length n w ≤ numbers_capacity
   length_room =
       let l = row_length n w in
-      omega (arith, run_room l 0 l (length zs) numbers_capacity most (length ks) 1 (omega arith) flat.few one_left room.numbers)
+      omega (arith, flat.few, mul-le-mul_right l one_left, add-mul (length ks) 1 l, room.numbers)
 
   pub row_room : (r : Row) → IsRow n w r → length zs + length (numbers_of r) ≤ numbers_capacity
   row_room r h = omega (arith, numbers_long n w r h, length_room)

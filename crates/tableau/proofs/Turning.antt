@@ -1,50 +1,45 @@
 -- The rows of a tableau in a pivot, as they are kept.
-use Rattle.tableau.proofs.Words.{◌≡◌, refl, ap, sym, ◌∙◌, ℕ, ◌<◌, ◌≢◌, ℤ, pos, ◌≤ℤ◌, List, [], ◌∷◌, ◌++◌, length, map, take, drop, arith, append_assoc, get_or, All, take-append-drop, map-append, All-head, All-tail, entry, all_fit, Row, unit_row, eliminated, eliminated_listed, IsSteady, KeptRows, IsSpare, SameShape, with_more, with_rows, IsRow, IsReduced, IsShortRow, short_eliminated, flat_map-append, eliminated_none, all_fit-append}
+use Rattle.tableau.proofs.Words.{◌≡◌, refl, ap, sym, ◌∙◌, ℕ, zero, suc, ◌+◌, ◌<◌, ◌≢◌, Bool, true, false, ◌&&◌, IsTrue, IsFalse, append-nil, take_more, ℤ, pos, ◌≤ℤ◌, List, [], ◌∷◌, ◌++◌, length, map, take, arith, append_assoc, get_or, map-append, entry, all_fit, Row, unit_row, eliminated, IsSteady, KeptRows, IsSpare, SameShape, with_more, with_rows, IsRow, flat_map-append, all_fit-append}
 use Rattle.std.proofs.Common.{flat_map}
-use Rattle.row_laws.proofs.ShortPivots.{flat_fit}
-use Rattle.kept_rows.proofs.OtherColumns.{unit_listed, unit_turned}
+use Rattle.tableau.proofs.OtherColumns.{unit_listed, unit_turned}
 
 -- ---- the row of another column
 
 pub unit_steady : (n w k c : ℕ) (p : Row) → k < n → c < n → c ≢ k → IsRow n w p → pos 1 ≤ℤ entry p.coefs c → IsSteady p c (unit_row n w k)
 unit_steady n w k c p h column other hp positive = record { listed = unit_listed n w k c p h column other hp; stays = unit_turned n w k c p h column other hp positive }
 
--- ---- a short row that is 0 in the column
+-- ---- the rows that are turned, one by one
 
-pub short_steady : (n w c : ℕ) (p r : Row) → IsRow n w p → IsRow n w r → c < n → pos 1 ≤ℤ entry p.coefs c → entry r.coefs c ≡ pos 0 → IsReduced r → IsShortRow p → IsShortRow r → IsSteady p c r
-short_steady n w c p r hp hr column positive none reduced p_short r_short = record {
-  listed = short_eliminated p c r p_short r_short (omega (arith, column, hp.coefs)) (hr.coefs ∙ sym hp.coefs);
-  stays = eliminated_none n w p c r hp hr positive none reduced;
-}
-
--- ---- rows that stay, and the rows behind them
-
-pub steady_rows : {X : Type 0} (f : X → Row) (p : Row) (c : ℕ) (xs : List X) → All (λ x. IsSteady p c (f x)) xs → map f xs ≡ map (λ x. eliminated p c (f x)) xs
-steady_rows f p c [] h = refl
-steady_rows {X} f p c (x ∷ xs) h =
-    let S : X → Type 0 = λ x. IsSteady p c (f x) in
-    ap (λ (r : Row). r ∷ map f xs) (All-head S x xs h).stays ∙ ap (λ (rs : List Row). eliminated p c (f x) ∷ rs) (steady_rows f p c xs (All-tail S x xs h))
-
-pub listed_behind : {X : Type 0} (f : X → Row) (p : Row) (c i : ℕ) (xs : List X) → All (λ x. IsSteady p c (f x)) (take i xs)
-    → all_fit (flat_map (λ x. eliminated_listed p c (f x)) (drop i xs)) ≡ all_fit (flat_map (λ x. eliminated_listed p c (f x)) xs)
-listed_behind {X} f p c i xs h =
-    let g : X → List ℤ = λ x. eliminated_listed p c (f x) in
-    let both : flat_map g xs ≡ flat_map g (take i xs) ++ flat_map g (drop i xs) = ap (flat_map g) (sym (take-append-drop i xs)) ∙ flat_map-append g (take i xs) (drop i xs) in
-    sym (ap all_fit both ∙ all_fit-append (flat_map g (take i xs)) (flat_map g (drop i xs)) ∙ rw (flat_fit g (take i xs) (λ k d lt. (h k d lt).listed)) refl)
-
-pub rows_behind : {X : Type 0} (f : X → Row) (p : Row) (c i : ℕ) (xs : List X) → All (λ x. IsSteady p c (f x)) (take i xs)
-    → map f (take i xs) ++ map (λ x. eliminated p c (f x)) (drop i xs) ≡ map (λ x. eliminated p c (f x)) xs
-rows_behind {X} f p c i xs h =
+turned_more : {X : Type 0} (f : X → Row) (p : Row) (c : ℕ) (xs : List X) (i : ℕ) (d : X) → i < length xs
+    → map (λ x. eliminated p c (f x)) (take (i + 1) xs) ≡ map (λ x. eliminated p c (f x)) (take i xs) ++ eliminated p c (f (get_or xs i d)) ∷ []
+turned_more {X} f p c xs i d h =
     let g : X → Row = λ x. eliminated p c (f x) in
-    ap (λ (rs : List Row). rs ++ map g (drop i xs)) (steady_rows f p c (take i xs) h)
-    ∙ sym (map-append g (take i xs) (drop i xs)) ∙ ap (map g) (take-append-drop i xs)
+    ap (map g) (take_more xs i d h) ∙ map-append g (take i xs) (get_or xs i d ∷ [])
 
--- ---- the first row, and the rows behind it
+pub rows_turned : {X : Type 0} (f : X → Row) (p : Row) (c : ℕ) (xs : List X) (i : ℕ) (d : X) (s t u : KeptRows) → i < length xs → t ≡ with_rows s (map (λ x. eliminated p c (f x)) (take i xs))
+    → u ≡ with_more t (eliminated p c (f (get_or xs i d))) → u ≡ with_rows s (map (λ x. eliminated p c (f x)) (take (i + 1) xs))
+rows_turned {X} f p c xs i d s t u h e made =
+    let g : X → Row = λ x. eliminated p c (f x) in
+    let one = g (get_or xs i d) in
+    made ∙ ap (λ (v : KeptRows). with_more v one) e
+    ∙ ap (λ (rs : List Row). record s { rows = rs }) (append_assoc s.rows (map g (take i xs)) (one ∷ []) ∙ ap (λ (rs : List Row). s.rows ++ rs) (sym (turned_more f p c xs i d h)))
 
-pub first_rows : {X : Type 0} (f : X → Row) (p : Row) (c : ℕ) (xs : List X) (d : X) (t : KeptRows) → 0 < length xs
-    → with_rows (with_more t (eliminated p c (f (get_or xs 0 d)))) (map (λ x. eliminated p c (f x)) (drop 1 xs)) ≡ with_rows t (map (λ x. eliminated p c (f x)) xs)
-first_rows f p c [] d t some = absurd (omega arith)
-first_rows f p c (x ∷ xs) d t some = ap (λ (rs : List Row). record t { rows = rs }) (append_assoc t.rows (eliminated p c (f x) ∷ []) (map (λ y. eliminated p c (f y)) xs))
+-- their listed numbers
+pub listed_more : {X : Type 0} (g : X → List ℤ) (xs : List X) (i : ℕ) (d : X) → i < length xs → IsTrue (all_fit (flat_map g (take i xs))) → IsTrue (all_fit (g (get_or xs i d))) → IsTrue (all_fit (flat_map g (take (i + 1) xs)))
+listed_more g xs i d h all one =
+    ap (λ ys. all_fit (flat_map g ys)) (take_more xs i d h)
+    ∙ ap all_fit (flat_map-append g (take i xs) (get_or xs i d ∷ []))
+    ∙ all_fit-append (flat_map g (take i xs)) (g (get_or xs i d) ++ [])
+    ∙ rw (all, append-nil (g (get_or xs i d)), one) refl
+
+pub listed_refused : {X : Type 0} (g : X → List ℤ) (xs : List X) (i : ℕ) (d : X) → i < length xs → IsFalse (all_fit (g (get_or xs i d))) → IsFalse (all_fit (flat_map g xs))
+listed_refused g [] i d h refused = absurd (omega arith)
+listed_refused g (x ∷ xs) zero d h refused = all_fit-append (g x) (flat_map g xs) ∙ rw refused refl
+listed_refused g (x ∷ xs) (suc i) d h refused = all_fit-append (g x) (flat_map g xs) ∙ and_false (all_fit (g x)) (listed_refused g xs i d (omega (arith, h)) refused)
+  where
+    and_false : (a : Bool) {b : Bool} → b ≡ false → (a && b) ≡ false
+    and_false true e = e
+    and_false false e = refl
 
 -- ---- the room of the next rows
 

@@ -1,12 +1,12 @@
 -- Tables of rows that are kept, and what steps make of them.
-use Rattle.std.specs.Prelude.{◌≡◌, ℕ, ◌+◌, ◌*◌, ◌<◌, ◌≤◌, ℤ, pos, ◌≤ℤ◌, IsTrue, List, [], ◌∷◌, ◌++◌, length, take, drop, map, flat_map, All}
+use Rattle.std.specs.Prelude.{◌≡◌, ℕ, ◌+◌, ◌*◌, ◌<◌, ◌≤◌, ℤ, pos, ◌≤ℤ◌, IsTrue, List, [], ◌∷◌, ◌++◌, length, take, drop, map, flat_map}
 use Rattle.pip_model.specs.Forms.{entry}
 use Rattle.pip_model.specs.Rows.{Row, row_at, eliminated, eliminated_listed}
 use Rattle.pip_model.specs.Listed.{all_fit}
 use Rattle.row_laws.specs.Rows.{IsRow, IsReduced}
-use Rattle.kept_rows.specs.declared.kept.Lent.{Lent}
-use Rattle.kept_rows.specs.declared.kept.Kept.{Kept}
-use Rattle.kept_rows.specs.Places.{row_length, lent_row, lent_rows, AreLent, unit_run}
+use Rattle.tableau.specs.declared.kept.Lent.{Lent}
+use Rattle.tableau.specs.declared.kept.Kept.{Kept}
+use Rattle.tableau.specs.Places.{row_length, lent_row, lent_rows, AreLent, unit_run}
 
 -- rows over so many columns and places, and the number of rows that there is room for
 pub record KeptRows : Type 0 where
@@ -19,9 +19,6 @@ pub record KeptRows : Type 0 where
 pub record IsSteady (p : Row) (c : ℕ) (r : Row) : Type 0 where
   pub listed : IsTrue (all_fit (eliminated_listed p c r))
   pub stays : r ≡ eliminated p c r
-
-abbrev pub AreSteady : Row → ℕ → Lent → List Kept → Type 0
-AreSteady p c v ks = All (λ k. IsSteady p c (lent_row v k)) ks
 
 -- the capacities are enough for the rows
 pub record HasRoom (n w most count kept_capacity numbers_capacity : ℕ) : Type 0 where
@@ -81,15 +78,6 @@ pub record SameRows (s t : KeptRows) : Type 0 where
   pub unknowns : s.unknowns ≡ t.unknowns
   pub width : s.width ≡ t.width
   pub rows : s.rows ≡ t.rows
-
--- rest is left of the kept rows, behind those that rows t have more than s
-pub record AreLeft (p : Row) (c : ℕ) (v : Lent) (s : KeptRows) (ks : List Kept) (t : KeptRows) (rest : List Kept) : Type 0 where
-  pub lent : AreLent v rest
-  pub listed : all_fit (turned_listed p c v rest) ≡ all_fit (turned_listed p c v ks)
-  pub rows : with_rows t (turned p c v rest) ≡ with_rows s (turned p c v ks)
-  pub fewer : length rest ≤ length ks
-  pub count : length t.rows + length rest ≡ length s.rows + length ks
-  pub shape : SameShape t s
 
 -- there is room for so many rows in both, and the run is there
 pub record AreReady (rows next : KeptRows) (run : List ℤ) (count : ℕ) : Type 0 where

@@ -1,11 +1,13 @@
-ghost use Rattle.std.specs.Prelude.{◌≡◌, ◌+◌, ◌-◌, ◌<◌, ◌≤◌, length, IfOk};
-ghost use Rattle.tableau.specs.KeptRows.{IsOver, SameRows, with_more, with_rows};
-ghost use Rattle.kept_rows.specs.Places.{IsLent, AreLent, IsRun, row_length, lent_row, lent_rows};
+ghost use Rattle.std.specs.Prelude.{◌≡◌, ◌<◌, ◌≤◌, length, IfOk};
+ghost use Rattle.tableau.specs.KeptRows.{IsOver, SameRows, with_more};
+ghost use Rattle.tableau.specs.Places.{IsLent, lent_row};
 
+use crate::appending::append_all_kept;
 use crate::flat_rows::FlatRows;
+use crate::kept::{Kept, Lent};
 use affine_forms::WantOfMemory;
-use kept_rows::{Kept, Lent, append_all_kept, append_entries, append_moved, append_run};
 use std::alloc::Global;
+use tableau_row::append_entries;
 
 // Adds a kept row that is lent.
 #[inline(always)]
@@ -33,19 +35,6 @@ impl FlatRows {
         copy.numbers.clear();
         append_all_kept(&mut copy.kept, self.kept.as_slice());
         append_entries(&mut copy.numbers, self.numbers.as_slice());
-    }
-
-    // Adds kept rows that are lent, and whose numbers follow one another from a place on to another.
-    pub(crate) fn push_run(&mut self, lent: &Lent<'_>, kept: &[Kept], first: usize, end: usize)
-        requires room { length self.old.rows + length kept.now ≤ self.old.most }
-        requires over { IsOver self.old lent.now }
-        requires lent { AreLent lent.now kept.now }
-        requires run { IsRun (row_length lent.now.unknowns lent.now.width) first end kept.now }
-        ensures { self.new ≡ with_rows self.old (lent_rows lent.now kept.now) }
-    {
-        let to = self.numbers.len();
-        append_run(&mut self.numbers, lent.numbers, first, end);
-        append_moved(&mut self.kept, kept, first, to);
     }
 
     // The same rows, with room for two more.

@@ -1,16 +1,17 @@
-ghost use Rattle.std.specs.Prelude.{◌≡◌, ◌+◌, ◌-◌, ◌<◌, ◌≤◌, [], ◌∷◌, length, take, IfSome, OnSome, OnErr, OnOk};
+ghost use Rattle.std.specs.Prelude.{◌≡◌, ◌+◌, ◌-◌, ◌<◌, ◌≤◌, length, OnErr, OnOk};
 ghost use Rattle.pip_model.specs.Rows as model;
 ghost use Rattle.pip_model.specs.Agreement.{IsChecked};
 ghost use Rattle.affine_forms.specs.Checks.{is_overflow};
-ghost use Rattle.tableau.specs.KeptRows.{IsOver, AreLeft, AreSteady, IsPivot, IsSpare, IsSteady, SameShape, turned, turned_listed, with_more, with_rows};
-ghost use Rattle.kept_rows.specs.Places.{IsLent, AreLent, IsRun, IsSolvable, lent_row, row_length};
+ghost use Rattle.tableau.specs.KeptRows.{IsOver, IsPivot, IsSpare, SameShape, turned, turned_listed, with_more, with_rows};
+ghost use Rattle.tableau.specs.Places.{IsLent, AreLent, IsSolvable, lent_row};
 ghost use Rattle.row_laws.specs.Rows.{IsRow, IsOwnRow};
-ghost use Rattle.kept_rows.specs.Views.{row_of};
+ghost use Rattle.tableau_row.specs.Views.{row_of};
 
 use crate::copying::copy_kept;
 use crate::flat_rows::FlatRows;
+use crate::kept::{Kept, Lent};
 use affine_forms::Overflow;
-use kept_rows::{Kept, Lent, RowView, check_eliminated};
+use tableau_row::{RowView, check_eliminated};
 
 // Checks the numbers of a row with row p, solved for column c, put in. They fit where both rows are short, and where
 // the row stays as it is under an entry of 1.
@@ -62,7 +63,8 @@ fn turn_row(next: &mut FlatRows, pivot: &LentPivot<'_>, one: Kept) -> Result<(),
     Ok(())
 }
 
-// The same, where the row of the column itself is p solved for it, if p is short.
+// The same, where the row of another column is known to stay, and that of the column itself to be p solved for it, if p
+// is short.
 #[inline(always)]
 fn turn_kept(next: &mut FlatRows, pivot: &LentPivot<'_>, one: Kept) -> Result<(), Overflow>
     requires room { length next.old.rows < next.old.most }
@@ -75,7 +77,11 @@ fn turn_kept(next: &mut FlatRows, pivot: &LentPivot<'_>, one: Kept) -> Result<()
     ensures err { OnErr result (next.new ≡ next.old) }
 {
     if let Kept::Unit(k) = one {
-        if k == pivot.c && pivot.p.is_known_short() {
+        if k != pivot.c {
+            next.push_unit(k);
+            return Ok(());
+        }
+        if pivot.p.is_known_short() {
             next.push_solved(&pivot.p, pivot.c);
             return Ok(());
         }
@@ -83,76 +89,11 @@ fn turn_kept(next: &mut FlatRows, pivot: &LentPivot<'_>, one: Kept) -> Result<()
     turn_row(next, pivot, one)
 }
 
-// The place behind the row's numbers, which stand at the place if it has any, where the row is known to stay as it is
-// in the pivot: the row of another column, or a short one under a short p that is 0 in the column.
-#[inline(always)]
-fn steady_end(pivot: &LentPivot<'_>, one: Kept, at: usize) -> Option<usize>
-    requires one { IsLent pivot.now.lent one }
-    ensures run { IfSome result (λ end.
-        IsRun (row_length pivot.now.lent.unknowns pivot.now.lent.width) at end (one ∷ [])) }
-    ensures steady { OnSome result (IsSteady (row_of pivot.now.p) pivot.now.c (lent_row pivot.now.lent one)) }
-{
-    match one {
-        Kept::Unit(k) => { if k != pivot.c { Some(at) } else { None } }
-        Kept::At(place) => {
-            if place.first == at
-                && place.short
-                && pivot.p.is_known_short()
-                && pivot.lent.numbers[at + 1 + pivot.c] == 0
-            {
-                Some(pivot.lent.behind(one, at))
-            } else {
-                None
-            }
-        }
-    }
-}
-
-// How many kept rows in front are known to stay as they are in the pivot, with numbers that follow one another from the
-// place on, and the place behind them.
-fn steady(pivot: &LentPivot<'_>, kept: &[Kept], first: usize) -> (usize, usize)
-    requires lent { AreLent pivot.now.lent kept.now }
-    ensures count { result.0 ≤ length kept.now }
-    ensures run { IsRun (row_length pivot.now.lent.unknowns pivot.now.lent.width) first result.1
-        (take result.0 kept.now) }
-    ensures steady { AreSteady (row_of pivot.now.p) pivot.now.c pivot.now.lent (take result.0 kept.now) }
-{
-    let mut at = first;
-    for i in 0..kept.len() {
-        match steady_end(pivot, kept[i], at) {
-            Some(end) => at = end,
-            None => return (i, at),
-        }
-    }
-    (kept.len(), at)
-}
-
-// Adds the kept rows in front that are known to stay as they are in the pivot, as one run from the place on; the rows
-// behind them, and the place there.
-fn push_steady<'k>(
-    next: &mut FlatRows,
-    pivot: &LentPivot<'_>,
-    kept: &'k [Kept],
-    first: usize,
-) -> (&'k [Kept], usize)
-    requires room { length next.old.rows + length kept.now ≤ next.old.most }
-    requires over { IsOver next.old pivot.now.lent }
-    requires lent { AreLent pivot.now.lent kept.now }
-    ensures { AreLeft (row_of pivot.now.p) pivot.now.c pivot.now.lent next.old kept.now next.new result.0.now }
-{
-    let (count, end) = steady(pivot, kept, first);
-    let (run, rest) = kept.split_at(count);
-    next.push_run(&pivot.lent, run, first, end);
-    (rest, end)
-}
-
-// Adds what the kept rows are after the pivot. Rows that stay are copied as one run where their numbers follow one
-// another, at first from the place on.
+// Adds what the kept rows are after the pivot.
 fn turn_rows(
     next: &mut FlatRows,
     pivot: &LentPivot<'_>,
     kept: &[Kept],
-    first: usize,
 ) -> Result<(), Overflow>
     requires room { length next.old.rows + length kept.now ≤ next.old.most }
     requires over { IsOver next.old pivot.now.lent }
@@ -163,19 +104,10 @@ fn turn_rows(
         (next.new ≡ with_rows next.old (turned (row_of pivot.now.p) pivot.now.c pivot.now.lent kept.now)) }
     ensures shape { SameShape next.new next.old }
 {
-    let mut rest = kept;
-    let mut at = first;
-    loop {
-        let (behind, end) = push_steady(next, pivot, rest, at);
-        match behind {
-            [] => return Ok(()),
-            [one, tail @ ..] => {
-                turn_kept(next, pivot, *one)?;
-                rest = tail;
-                at = pivot.lent.behind(*one, end);
-            }
-        }
+    for one in kept {
+        turn_kept(next, pivot, *one)?;
     }
+    Ok(())
 }
 
 impl FlatRows {
@@ -194,11 +126,11 @@ impl FlatRows {
         ensures spare { IsSpare self.now next.new units.now }
         ensures swapped { OnOk result (IsSpare next.new self.now units.now) }
     {
-        let (lent, front, p, back, end) = self.sides(units, r, next);
+        let (lent, front, p, back) = self.sides(units, r, next);
         let pivot = LentPivot { lent, p, c };
-        turn_rows(next, &pivot, front, 0)?;
+        turn_rows(next, &pivot, front)?;
         next.push_unit(c);
-        turn_rows(next, &pivot, back, end)?;
+        turn_rows(next, &pivot, back)?;
         Ok(())
     }
 }

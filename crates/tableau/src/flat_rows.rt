@@ -1,16 +1,17 @@
 ghost use Rattle.std.specs.Prelude.{◌≡◌, ◌*◌, ◌^◌, ◌<◌, ◌≤◌, false, [], length, IfOk, IfSome, IfNone, OnOk};
 ghost use Rattle.pip_model.specs.Rows as model;
 ghost use Rattle.tableau.specs.KeptRows.{AreLentOf, AreSides, IsSpare, SameRows};
-ghost use Rattle.kept_rows.specs.Places.{flat_numbers, row_length, unit_run};
+ghost use Rattle.tableau.specs.Places.{flat_numbers, row_length, unit_run};
 ghost use Rattle.row_laws.specs.Flat.{is_unit_row};
 ghost use Rattle.row_laws.specs.Rows.{IsRow};
-ghost use Rattle.kept_rows.specs.Views.{row_of};
+ghost use Rattle.tableau_row.specs.Views.{row_of};
 
+use crate::kept::{Kept, Lent};
 use affine_forms::WantOfMemory;
-use kept_rows::{Kept, Lent, RowView};
 use std::alloc::Global;
 use std::cmp::max;
 use std::marker::Model;
+use tableau_row::RowView;
 
 // Rows: those of columns by the columns, the others by their numbers, one row after the other. There is room for
 // `most` rows.
@@ -26,7 +27,7 @@ pub(crate) struct FlatRows {
 impl Model for FlatRows {
     ghost use Rattle.std.specs.Prelude.{length, vec_capacity};
     ghost use Rattle.tableau.specs.KeptRows.{KeptRows, HasRoom};
-    ghost use Rattle.kept_rows.specs.Places.{IsFlat, rows_kept};
+    ghost use Rattle.tableau.specs.Places.{IsFlat, rows_kept};
 
     ghost Value = { KeptRows };
 
@@ -114,15 +115,15 @@ impl FlatRows {
         (lent, self.kept.as_slice())
     }
 
-    // What the rows are lent from, the kept rows in front of row r, the row, the kept rows behind it, and the place
-    // behind the row's numbers. The next rows are dropped, and can be made of these.
+    // What the rows are lent from, the kept rows in front of row r, the row, and the kept rows behind it. The next rows
+    // are dropped, and can be made of these.
     #[inline(always)]
     pub(crate) fn sides<'t>(
         &'t self,
         units: &'t [i128],
         r: usize,
         next: &mut FlatRows,
-    ) -> (Lent<'t>, &'t [Kept], RowView<'t>, &'t [Kept], usize)
+    ) -> (Lent<'t>, &'t [Kept], RowView<'t>, &'t [Kept])
         requires spare { IsSpare self.now next.old units.now }
         requires row { r < length self.now.rows }
         ensures { AreSides self.now next.old units.now r next.new
@@ -132,13 +133,7 @@ impl FlatRows {
         let (front, _) = kept.split_at(r);
         let (_, back) = kept.split_at(r + 1);
         next.clear();
-        (
-            lent,
-            front,
-            lent.row(kept[r]),
-            back,
-            lent.behind(kept[r], 0),
-        )
+        (lent, front, lent.row(kept[r]), back)
     }
 
     // Row i, lent from the run of the columns' rows.

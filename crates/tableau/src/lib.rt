@@ -2,15 +2,18 @@
 //! over the parameters (P. Feautrier, "Parametric integer programming", RAIRO 1988).
 #![tactic(auto)]
 
+mod appending;
 mod copying;
 mod exchange;
 mod flat_rows;
-mod in_place;
+mod kept;
 mod pushing;
 mod row_rounding;
+mod sealing;
 mod tableau;
+mod unit_run;
 mod widening;
 
 pub use affine_forms::FormRefusal as StepRefusal;
-pub use kept_rows::{RowView, short_floor_div, short_gcd, view_of};
 pub use tableau::Tableau;
+pub use tableau_row::{RowView, short_floor_div, short_gcd, view_of};

@@ -6,17 +6,20 @@ ghost use Rattle.pip_model.specs.Agreement.{IsChecked};
 ghost use Rattle.affine_forms.specs.Checks.{is_overflow};
 ghost use Rattle.affine_forms.specs.Forms.{IsForm};
 ghost use Rattle.row_laws.specs.Flat.{numbers_of, row_of_numbers};
-ghost use Rattle.kept_rows.specs.Places.{IsPlainRow, IsSolvable};
+ghost use Rattle.tableau.specs.Places.{IsPlainRow, IsSolvable};
 ghost use Rattle.tableau.specs.KeptRows.{with_more};
 ghost use Rattle.row_laws.specs.Short.{IsShort, IsShortRow};
 ghost use Rattle.row_laws.specs.Rows.{IsRow, IsReduced};
-ghost use Rattle.kept_rows.specs.Views.{row_of};
+ghost use Rattle.tableau_row.specs.Views.{row_of};
 
+use crate::appending::append_kept;
 use crate::flat_rows::FlatRows;
+use crate::kept::{Kept, RowPlace};
+use crate::sealing::seal;
 use affine_forms::{Form, Overflow};
-use kept_rows::{
-    Kept, RowPlace, RowView, append_divided, append_eliminated, append_entries, append_kept,
-    append_rounded, append_solved, append_widened, is_short_row, seal,
+use tableau_row::{
+    RowView, append_divided, append_eliminated, append_entries, append_rounded, append_solved,
+    append_widened, is_short_row,
 };
 
 // Appends the number, for which there is room.

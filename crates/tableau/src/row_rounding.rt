@@ -4,12 +4,12 @@ ghost use Rattle.pip_model.specs.Cuts.{rounded, rounded_listed};
 ghost use Rattle.pip_model.specs.Agreement.{IsChecked};
 ghost use Rattle.affine_forms.specs.Checks.{is_overflow};
 ghost use Rattle.tableau.specs.KeptRows.{IsOver, IsSpare, with_rows, SameRows};
-ghost use Rattle.kept_rows.specs.Places.{AreLent, lent_rows, unit_run};
+ghost use Rattle.tableau.specs.Places.{AreLent, lent_rows, unit_run};
 
 use crate::copying::copy_kept;
 use crate::flat_rows::FlatRows;
+use crate::kept::{Kept, Lent};
 use affine_forms::{Overflow, WantOfMemory};
-use kept_rows::{Kept, Lent};
 use std::alloc::Global;
 
 // Adds the kept rows.
@@ -62,7 +62,7 @@ impl FlatRows {
         ensures spare { IsSpare self.now next.new units.now }
         ensures swapped { OnOk result (IsSpare next.new self.now units.now) }
     {
-        let (lent, front, row, back, _) = self.sides(units, r, next);
+        let (lent, front, row, back) = self.sides(units, r, next);
         copy_rows(next, &lent, front);
         next.push_rounded(&row, q)?;
         copy_rows(next, &lent, back);

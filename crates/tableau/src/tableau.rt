@@ -8,11 +8,12 @@ ghost use Rattle.row_laws.specs.Flat.{numbers_of, is_unit_row};
 ghost use Rattle.tableau.specs.KeptRows.{AreReady, IsSpare, SameRows, with_rows};
 ghost use Rattle.row_laws.specs.Rows.{IsRow, row_from};
 ghost use Rattle.row_laws.specs.Tableaus.{with_row, with_rounded};
-ghost use Rattle.kept_rows.specs.Views.{row_of};
+ghost use Rattle.tableau_row.specs.Views.{row_of};
 
 use crate::flat_rows::FlatRows;
+use crate::unit_run::make_run;
 use affine_forms::{Form, Overflow, WantOfMemory};
-use kept_rows::{RowView, is_short_row, make_run};
+use tableau_row::{RowView, is_short_row};
 use std::alloc::Global;
 use std::marker::Model;
 use std::mem::swap;
@@ -291,11 +292,8 @@ impl Tableau {
         ensures ok { OnOk result (self.new ≡ record self.old { rows = model.pivot self.old.rows r c }) }
         ensures err { OnErr result (self.new ≡ self.old) }
     {
-        let units = self.units.as_slice();
-        if self.rows.turn_in_place(units, r, c, &mut self.next) {
-            return Ok(());
-        }
-        self.rows.turn(units, r, c, &mut self.next)?;
+        self.rows
+            .turn(self.units.as_slice(), r, c, &mut self.next)?;
         swap(&mut self.rows, &mut self.next);
         Ok(())
     }

@@ -1,10 +1,10 @@
 ghost use Rattle.std.specs.Prelude.{◌≡◌, ◌+◌, ◌<◌, ◌≤◌, length, map};
 ghost use Rattle.pip_model.specs.Rows as model;
-ghost use Rattle.kept_rows.specs.Places.{AreLent, IsLent, lent_row, unit_run};
+ghost use Rattle.tableau.specs.Places.{AreLent, IsLent, lent_row, unit_run};
 ghost use Rattle.tableau.specs.KeptRows.{IsWider, with_more, with_rows};
 
 use crate::flat_rows::FlatRows;
-use kept_rows::{Kept, Lent};
+use crate::kept::{Kept, Lent};
 
 // Adds a kept row with a 0 before the constant of its constant form.
 fn widen_kept(next: &mut FlatRows, lent: &Lent<'_>, one: Kept)

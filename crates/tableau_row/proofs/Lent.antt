@@ -3,7 +3,6 @@ use Rattle.tableau_row.proofs.Words.{rules, false, ◌≡◌, refl, ap, sym, ◌
 use Rattle.std.specs.Vec.{with_items}
 use Rattle.std.specs.declared.alloc.Global.{Global}
 use Rattle.row_laws.proofs.Numbers.{row_again}
-use Rattle.tableau_row.specs.Room.{Keeps, WasTried}
 
 -- ---- numbers with others behind them
 
@@ -12,21 +11,6 @@ appends old new zs e room = record {
   items = e;
   count = omega (arith, new.ok.0, old.ok.0, ap length e, length-append old.items zs);
   room = room;
-}
-
--- those that were there are there still, with others behind them
-pub keeps : (old new : Vec ℤ Global) (zs : List ℤ) → new.items ≡ old.items ++ zs → vec_capacity old ≤ vec_capacity new → Keeps old new
-keeps old new zs e room = record {
-  items = ap (take (length old.items)) e ∙ take_at old.items zs (length old.items) refl;
-  room = room;
-}
-
--- nothing is tried
-pub untried : (old : Vec ℤ Global) (wanted : Row) → WasTried old old wanted false
-untried old wanted = record {
-  appended = λ e. absurd (search rules);
-  short = λ e. absurd (search rules);
-  kept = record { items = take_all (length old.items) old.items (omega arith); room = omega arith };
 }
 
 -- ---- the numbers of row r, over n columns, that stand last

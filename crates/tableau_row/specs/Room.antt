@@ -16,15 +16,3 @@ pub record Appends (old new : Vec ℤ Global) (zs : List ℤ) : Type 0 where
 pub record Leaves (old new : Vec ℤ Global) : Type 0 where
   pub items : new.items ≡ old.items
   pub room : vec_capacity old ≤ vec_capacity new
-
--- those that were there are there still, in no less room
-pub record Keeps (old new : Vec ℤ Global) : Type 0 where
-  pub items : take (length old.items) new.items ≡ old.items
-  pub room : vec_capacity old ≤ vec_capacity new
-
--- the numbers of the wanted row, which are short, are behind those that were there, where that is done; those are there
--- still
-pub record WasTried (old new : Vec ℤ Global) (wanted : Row) (done : Bool) : Type 0 where
-  pub appended : IsTrue done → Appends old new (numbers_of wanted)
-  pub short : IsTrue done → IsShortRow wanted
-  pub kept : Keeps old new

@@ -14,13 +14,10 @@ ghost use Rattle.row_laws.specs.Steps.{IsPivotRow, IsElimination, IsMadeReduced,
 ghost use Rattle.tableau_row.specs.Room.{Appends, Leaves};
 ghost use Rattle.tableau_row.specs.Views.{row_of};
 
-use crate::quotients::append_tried;
-use crate::row::{divide, divide_from, eliminate, round};
-use crate::short::{both, is_short, short_entry, short_opposite, with_entry};
-use crate::step::Step;
+use crate::row::{divide, eliminate, round};
+use crate::short::{both, short_opposite};
 use crate::view::RowView;
 use affine_forms::Overflow;
-use short_numbers::{is_half, narrow, short_product};
 
 /// Appends the entries, for which there is room. It takes no memory, like all that append here.
 #[inline(always)]
@@ -80,127 +77,9 @@ pub fn append_divided(numbers: &mut Vec<i128>, row: &RowView<'_>) -> bool
     divide(last, row.coefs.len(), row.short)
 }
 
-// Appends `a*r - b*s`, entry by entry, for short numbers; whether those are short too.
-#[inline(always)]
-fn append_combined(numbers: &mut Vec<i128>, a: i64, r: &[i128], b: i64, s: &[i128]) -> bool
-    requires room { vec_len numbers.old + length r.now ≤ vec_capacity numbers.old }
-    requires factors { AreShort a b }
-    requires lists { AreShortLists r.now s.now }
-    ensures appended { Appends numbers.old numbers.new (combine a r.now b s.now) }
-    ensures length { vec_len numbers.new ≡ vec_len numbers.old + length r.now }
-    ensures fits { All Fits (combine a r.now b s.now) }
-    ensures short { IsTrue result → All IsShort (combine a r.now b s.now) }
-{
-    let half = both(is_half(a), is_half(b));
-    let mut short = true;
-    for i in 0..r.len() {
-        let (entry, entry_short) = short_entry(half, a, r[i], b, s[i]);
-        short = both(short, entry_short);
-        append_one(numbers, entry);
-    }
-    short
-}
-
-// Appends the numbers of the row with row p, solved for column c, put in by the factors; whether they are short. The
-// numbers of both rows are short.
-fn append_substituted(
-    numbers: &mut Vec<i128>,
-    step: Step,
-    p: &RowView<'_>,
-    c: usize,
-    row: &RowView<'_>,
-) -> bool
-    requires room { vec_len numbers.old + length (numbers_of (row_of row.now)) ≤ vec_capacity numbers.old }
-    requires elimination { IsElimination (row_of p.now) c (row_of row.now) }
-    requires short { AreShortRows (row_of p.now) (row_of row.now) }
-    ensures appended { Appends numbers.old numbers.new
-        (numbers_of (substituted_by step.row step.pivot (row_of p.now) c (row_of row.now))) }
-    ensures made { let made = substituted_by step.row step.pivot (row_of p.now) c (row_of row.now) in
-        MakesRow (row_of row.now) made result made }
-{
-    let den = short_product(row.den, step.row as i128);
-    let entry = short_product(step.pivot as i128, p.den);
-    let place = numbers.len() + 1 + c;
-    append_one(numbers, den);
-    let coefs_short = append_combined(numbers, step.row, row.coefs, step.pivot, p.coefs);
-    numbers[place] = entry;
-    let constant_short = append_combined(numbers, step.row, row.constant, step.pivot, p.constant);
-    both(
-        with_entry(coefs_short, entry),
-        with_entry(constant_short, den),
-    )
-}
-
-// Appends the numbers of what the row is after the pivot on row p and column c, whose divisor is found from the step's;
-// whether they are short. The numbers of both rows are short.
-fn append_found(
-    numbers: &mut Vec<i128>,
-    step: Step,
-    p: &RowView<'_>,
-    c: usize,
-    row: &RowView<'_>,
-) -> bool
-    requires room { vec_len numbers.old + length (numbers_of (row_of row.now)) ≤ vec_capacity numbers.old }
-    requires elimination { IsElimination (row_of p.now) c (row_of row.now) }
-    requires reduced { AreReduced (row_of p.now) (row_of row.now) }
-    requires short { AreShortRows (row_of p.now) (row_of row.now) }
-    requires step { IsStep (row_of p.now) c (row_of row.now) step }
-    ensures appended { Appends numbers.old numbers.new
-        (numbers_of (model.eliminated (row_of p.now) c (row_of row.now))) }
-    ensures made { IsMadeReduced (row_of row.now) result (model.eliminated (row_of p.now) c (row_of row.now)) }
-{
-    let start = numbers.len();
-    let short = append_substituted(numbers, step, p, c, row);
-    let (_, last) = numbers.split_at_mut(start);
-    divide_from(last, row.coefs.len(), step.divisor, short)
-}
-
-// The same, where the divisor may be the step's.
-fn append_parted(
-    numbers: &mut Vec<i128>,
-    step: Step,
-    p: &RowView<'_>,
-    c: usize,
-    row: &RowView<'_>,
-) -> bool
-    requires room { vec_len numbers.old + length (numbers_of (row_of row.now)) ≤ vec_capacity numbers.old }
-    requires elimination { IsElimination (row_of p.now) c (row_of row.now) }
-    requires reduced { AreReduced (row_of p.now) (row_of row.now) }
-    requires short { AreShortRows (row_of p.now) (row_of row.now) }
-    requires step { IsStep (row_of p.now) c (row_of row.now) step }
-    ensures appended { Appends numbers.old numbers.new
-        (numbers_of (model.eliminated (row_of p.now) c (row_of row.now))) }
-    ensures made { IsMadeReduced (row_of row.now) result (model.eliminated (row_of p.now) c (row_of row.now)) }
-{
-    let start = numbers.len();
-    if append_tried(numbers, step, p, c, row) {
-        return true;
-    }
-    numbers.truncate(start);
-    append_found(numbers, step, p, c, row)
-}
-
-// Appends the numbers of what the row is after the pivot on row p and column c, without a copy of the row before;
-// whether they are short. The numbers of both rows are short.
-fn append_made(numbers: &mut Vec<i128>, p: &RowView<'_>, c: usize, row: &RowView<'_>) -> bool
-    requires room { vec_len numbers.old + length (numbers_of (row_of row.now)) ≤ vec_capacity numbers.old }
-    requires step { IsElimination (row_of p.now) c (row_of row.now) }
-    requires reduced { AreReduced (row_of p.now) (row_of row.now) }
-    requires short { AreShortRows (row_of p.now) (row_of row.now) }
-    ensures appended { Appends numbers.old numbers.new
-        (numbers_of (model.eliminated (row_of p.now) c (row_of row.now))) }
-    ensures made { IsMadeReduced (row_of row.now) result (model.eliminated (row_of p.now) c (row_of row.now)) }
-{
-    let step = Step::new(p, c, row.den, row.coefs[c]);
-    if step.divisor == 1 {
-        return append_substituted(numbers, step, p, c, row);
-    }
-    append_parted(numbers, step, p, c, row)
-}
-
-// Appends the numbers of what the row is after the pivot on row p and column c, by a copy of the row that is changed in
-// place; whether they are known to be short. The run, if any, has the numbers of the row.
-fn append_in_place(
+/// Appends the numbers of what the row is after the pivot on row p and column c, which are known to fit; whether they
+/// are known to be short. The run, if any, has the numbers of the row.
+pub fn append_eliminated(
     numbers: &mut Vec<i128>,
     p: &RowView<'_>,
     c: usize,
@@ -220,30 +99,6 @@ fn append_in_place(
     append_run(numbers, row, run);
     let (_, last) = numbers.split_at_mut(start);
     eliminate(last, p, c, both(p.short, row.short))
-}
-
-/// Appends the numbers of what the row is after the pivot on row p and column c, which are known to fit; whether they
-/// are known to be short. The run, if any, has the numbers of the row.
-pub fn append_eliminated(
-    numbers: &mut Vec<i128>,
-    p: &RowView<'_>,
-    c: usize,
-    row: &RowView<'_>,
-    run: Option<&[i128]>,
-) -> bool
-    requires room { vec_len numbers.old + length (numbers_of (row_of row.now)) ≤ vec_capacity numbers.old }
-    requires step { IsElimination (row_of p.now) c (row_of row.now) }
-    requires reduced { AreReduced (row_of p.now) (row_of row.now) }
-    requires run { IfSome run (λ s. s.now ≡ numbers_of (row_of row.now)) }
-    requires listed { IsTrue (all_fit (model.eliminated_listed (row_of p.now) c (row_of row.now))) }
-    ensures appended { Appends numbers.old numbers.new
-        (numbers_of (model.eliminated (row_of p.now) c (row_of row.now))) }
-    ensures made { IsMadeReduced (row_of row.now) result (model.eliminated (row_of p.now) c (row_of row.now)) }
-{
-    if both(p.short, row.short) {
-        return append_made(numbers, p, c, row);
-    }
-    append_in_place(numbers, p, c, row, run)
 }
 
 // Appends the opposites of short entries, for which there is room.

@@ -4,7 +4,6 @@
 mod append;
 mod elimination;
 mod narrow;
-mod quotients;
 mod row;
 mod short;
 mod step;
@@ -16,7 +15,7 @@ pub use append::{
     append_widened,
 };
 pub use elimination::check_eliminated;
-pub use row::{eliminate, unit_column, view_of};
+pub use row::{unit_column, view_of};
 pub use short::is_short_row;
 pub use short_numbers::{short_floor_div, short_gcd};
 pub use view::RowView;

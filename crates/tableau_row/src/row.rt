@@ -105,7 +105,7 @@ pub(crate) fn divide(numbers: &mut [i128], unknowns: usize, short: bool) -> bool
 }
 
 // The same, where the greatest common divisor is that of the start, at least 1, and all numbers but the denominator.
-pub(crate) fn divide_from(numbers: &mut [i128], unknowns: usize, start: i64, short: bool) -> bool
+fn divide_from(numbers: &mut [i128], unknowns: usize, start: i64, short: bool) -> bool
     requires length { unknowns < length numbers.old }
     requires row { IsOwnRow (row_of_numbers unknowns numbers.old) }
     requires start { pos 1 ≤ℤ start }
@@ -186,9 +186,9 @@ fn eliminate_long(numbers: &mut [i128], p: &RowView<'_>, c: usize) -> bool
     made_short
 }
 
-/// Makes of a row's numbers those of what the row is after the pivot on row p and column c; whether they are known to
-/// be short. Those of both rows may be known to be. Neither row's numbers have a common divisor.
-pub fn eliminate(numbers: &mut [i128], p: &RowView<'_>, c: usize, short: bool) -> bool
+// Makes of a row's numbers those of what the row is after the pivot on row p and column c; whether they are known to
+// be short. Those of both rows may be known to be. Neither row's numbers have a common divisor.
+pub(crate) fn eliminate(numbers: &mut [i128], p: &RowView<'_>, c: usize, short: bool) -> bool
     requires length { length p.now.coefs.now < length numbers.old }
     requires step { IsElimination (row_of p.now) c (row_of_numbers (length p.now.coefs.now) numbers.old) }
     requires reduced { AreReduced (row_of p.now) (row_of_numbers (length p.now.coefs.now) numbers.old) }

@@ -55,7 +55,7 @@ pub(crate) fn short_opposite(z: i128) -> i128
 }
 
 // `a*x - b*y` for short numbers, by 64 bits where they have 32, a and b as is known; whether it is known to be short.
-pub(crate) fn short_entry(half: bool, a: i64, x: i128, b: i64, y: i128) -> (i128, bool)
+fn short_entry(half: bool, a: i64, x: i128, b: i64, y: i128) -> (i128, bool)
     requires half { IsTrue half → AreHalf a b }
     requires factors { AreShort a b }
     requires entries { AreShort x y }

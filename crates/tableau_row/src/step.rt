@@ -5,9 +5,8 @@ ghost use Rattle.row_laws.specs.Lowest.{AreLowest};
 ghost use Rattle.row_laws.specs.Short.{IsShort, IsShortRow, AreHalf, AreShort};
 ghost use Rattle.tableau_row.specs.Views.{row_of};
 
-use crate::narrow::short_quotient;
 use crate::view::RowView;
-use short_numbers::{half_difference, half_product, is_half, narrow, short_floor_div, short_gcd};
+use short_numbers::{narrow, short_floor_div, short_gcd};
 
 // What a row and the pivot's row are multiplied by in a pivot, in lowest terms, and the greatest common divisor of their
 // denominators.
@@ -36,22 +35,6 @@ fn shared_divisor(first: i64, second: i64) -> i64
         return 1;
     }
     short_gcd(first, second)
-}
-
-// The quotient of a short number, if it is whole.
-fn whole_quotient(z: i64, d: i64) -> Option<i64>
-    requires positive { pos 1 ≤ℤ d }
-    requires short { IsShort z }
-    ensures { IfSome result (λ q. (z ≡ d *ℤ q) × IsShort q) }
-{
-    if z % d == 0 { Some(z / d) } else { None }
-}
-
-// Whether both numbers have 32 bits.
-fn are_half(a: i64, b: i64) -> bool
-    ensures { IsTrue result → AreHalf a b }
-{
-    is_half(a) && is_half(b)
 }
 
 impl Step {
@@ -100,41 +83,5 @@ impl Step {
     {
         let divisor = shared_divisor(narrow(den), narrow(p.den));
         Step::lowest(narrow(p.coefs[c]), narrow(entry), divisor)
-    }
-
-    // Whether its factors have 32 bits.
-    pub(crate) fn is_half(&self) -> bool
-        ensures { IsTrue result → AreHalf self.now.row self.now.pivot }
-    {
-        are_half(self.row, self.pivot)
-    }
-
-    // The factor times the quotient of a denominator by the divisor, if both have 32 bits.
-    pub(crate) fn share(&self, factor: i64, den: i128) -> Option<i64>
-        requires short { IsShort den }
-        ensures { IfSome result (λ z.
-            (z ≡ floor_div_of den self.now.divisor *ℤ factor) × IsShort z) }
-    {
-        let quotient = narrow(short_quotient(den, self.divisor));
-        if are_half(quotient, factor) {
-            return Some(half_product(quotient, factor));
-        }
-        None
-    }
-
-    // The step's `a*x - b*y` by its divisor, if that is whole, and both numbers have 32 bits.
-    pub(crate) fn quotient(&self, x: i128, y: i128) -> Option<i64>
-        requires half { AreHalf self.now.row self.now.pivot }
-        requires entries { AreShort x y }
-        ensures { IfSome result (λ q.
-            (self.now.row *ℤ x -ℤ self.now.pivot *ℤ y ≡ self.now.divisor *ℤ q) × IsShort q) }
-    {
-        let narrow_x = narrow(x);
-        let narrow_y = narrow(y);
-        if is_half(narrow_x) && is_half(narrow_y) {
-            let entry = half_difference(self.row, narrow_x, self.pivot, narrow_y);
-            return whole_quotient(entry, self.divisor);
-        }
-        None
     }
 }

@@ -1,5 +1,5 @@
 use Rattle.tableau.proofs.Words.{rules, ap, ◌≡◌, ◌∙◌, pos, subst, entry, Row, lent_row, with_more, row_of, eliminated_none}
-use Rattle.tableau.proofs.Left.{solvable_over}
+use Rattle.tableau.proofs.Parted.{solvable_over}
 use Rattle.tableau.proofs.exchange.turn_row.Goals as goal
 
 pub returns-then-row-pivot-eq0-clause-ok : goal.returns-then-row-pivot-eq0-clause-ok

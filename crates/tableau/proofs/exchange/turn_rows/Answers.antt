@@ -1,20 +1,21 @@
-use Rattle.tableau.proofs.Words.{◌≡◌, ◌-◌, ◌<◌, take, drop, length, rules, arith, length-drop, take_all, row_of}
-use Rattle.tableau.proofs.Left.{left_all, left_first, left_more}
+use Rattle.tableau.proofs.Words.{rules, refl, List, ℤ, Row, ◌<◌, length, eliminated, eliminated_listed, lent_row, row_of, Kept}
+use Rattle.tableau.proofs.Turning.{rows_turned, listed_more, listed_refused, shape_with}
 use Rattle.tableau.proofs.exchange.turn_rows.Goals as goal
 
-pub loop-behind-init : goal.loop-behind-init
-loop-behind-init c = left_all (row_of c.args.pivot.now.p) c.args.pivot.now.c c.args.pivot.now.lent c.args.next.now c.args.kept.now c.requires.lent
-
-pub loop-behind-preserved : goal.loop-behind-preserved
-loop-behind-preserved c =
+pub loop-one-preserved : goal.loop-one-preserved
+loop-one-preserved c =
     let v = c.args.pivot.now in
-    let l = v.lent in
     let p = row_of v.p in
-    let behind = c.push_steady-end.result.0.now in
-    let next = c.push_steady-end.new.next in
-    let some : 0 < length behind = search rules in
-    let all : take (length behind - 1) (drop 1 behind) ≡ drop 1 behind = take_all (length behind - 1) (drop 1 behind) (rw (length-drop 1 behind) (omega arith)) in
-    let made = c.in_ok-turn_kept-in-len1-up.ensures in
-    left_more p v.c l c.args.next.now next c.turn_kept.new.next c.args.kept.now behind _
-    (left_more p v.c l c.args.next.now c.loop-behind.next next c.args.kept.now c.loop-behind.rest.now behind c.loop-behind.invariant c.push_steady-end.ensures)
-    (left_first p v.c l next c.turn_kept.new.next behind _ _ c.push_steady-end.ensures.lent some all made.listed made.ok)
+    let ks = c.args.kept.now in
+    let i = c.loop-one.one-index in
+    let more : i < length ks = c.loop-one-test.true in
+    record {
+      rows = rows_turned (lent_row v.lent) p v.c ks i _ c.args.next.now c.loop-one.next c.turn_kept.new.next more c.loop-one.invariant.rows (c.in_ok-turn_kept.ensures.ok);
+      listed = listed_more (λ (k : Kept). eliminated_listed p v.c (lent_row v.lent k)) ks i _ more c.loop-one.invariant.listed (c.in_ok-turn_kept.ensures.listed);
+    }
+
+pub returns-in_err-turn_kept-clause-listed : goal.returns-in_err-turn_kept-clause-listed
+returns-in_err-turn_kept-clause-listed c =
+    let v = c.args.pivot.now in
+    let refused = listed_refused (λ (k : Kept). eliminated_listed (row_of v.p) v.c (lent_row v.lent k)) c.args.kept.now c.loop-one.one-index _ c.loop-one-test.true (c.in_err-turn_kept.ensures.listed refl) in
+    search (rules, refused)

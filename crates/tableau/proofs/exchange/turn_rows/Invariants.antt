@@ -1,8 +1,8 @@
-use Rattle.tableau.proofs.Words.{length, AreLeft, row_of}
+use Rattle.tableau.proofs.Words.{◌≡◌, IsTrue, take, all_fit, turned, turned_listed, with_rows, row_of}
 use Rattle.tableau.proofs.exchange.turn_rows.Given as goal
 
-abbrev pub invariant-loop-behind : goal.invariant-loop-behind
-invariant-loop-behind l = AreLeft (row_of l.pivot.p) l.pivot.c l.pivot.lent l.fn.next l.kept l.next l.rest
-
-abbrev pub decreases-loop-behind : goal.decreases-loop-behind
-decreases-loop-behind l = length l.rest
+abbrev pub invariant-loop-one : goal.invariant-loop-one
+invariant-loop-one l = record {
+  rows : l.next ≡ with_rows l.fn.next (turned (row_of l.pivot.p) l.pivot.c l.pivot.lent (take l.one-index l.kept));
+  listed : IsTrue (all_fit (turned_listed (row_of l.pivot.p) l.pivot.c l.pivot.lent (take l.one-index l.kept)));
+}

@@ -1,5 +1,5 @@
 use Rattle.tableau.proofs.Words.{rules, arith, common_steps}
-use Rattle.kept_rows.proofs.Flat.{flat_same}
+use Rattle.tableau.proofs.Flat.{flat_same}
 use Rattle.tableau.proofs.flat_rows.FlatRows.copy.Goals as goal
 
 pub invariant_of-copy : goal.invariant_of-copy

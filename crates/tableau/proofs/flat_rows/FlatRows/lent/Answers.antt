@@ -1,5 +1,5 @@
 use Rattle.tableau.proofs.Words.{rules, ◌≡◌, ◌≤◌, ◌∙◌, ap, sym, length, subst, length-map, KeptRows, row_kept, rows_kept}
-use Rattle.kept_rows.proofs.Runs.{kept_flat}
+use Rattle.tableau.proofs.KeptParts.{kept_flat}
 use Rattle.tableau.proofs.flat_rows.FlatRows.lent.Goals as goal
 
 pub returns : goal.returns

@@ -1,5 +1,5 @@
 use Rattle.tableau.proofs.Words.{rules, subst, sym, divided, IsRow, KeptRows, row_of, arith, ◌≡◌, length, vec_len}
-use Rattle.kept_rows.proofs.Flat.{unsealed}
+use Rattle.tableau.proofs.Flat.{unsealed}
 use Rattle.tableau.proofs.Pushed.{kept_room, room_behind, row_room}
 use Rattle.tableau.proofs.flat_rows.FlatRows.push_divided.Goals as goal
 

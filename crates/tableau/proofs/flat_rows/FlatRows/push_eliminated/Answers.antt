@@ -1,5 +1,5 @@
 use Rattle.tableau.proofs.Words.{rules, subst, sym, eliminated, IsRow, row_of, elimination, KeptRows, arith, ◌≡◌, length, vec_len}
-use Rattle.kept_rows.proofs.Flat.{unsealed}
+use Rattle.tableau.proofs.Flat.{unsealed}
 use Rattle.tableau.proofs.Pushed.{pushed, kept_room, room_behind, row_room}
 use Rattle.tableau.proofs.flat_rows.FlatRows.push_eliminated.Goals as goal
 

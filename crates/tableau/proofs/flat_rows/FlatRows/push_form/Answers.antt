@@ -1,7 +1,7 @@
 use Rattle.tableau.proofs.Words.{rules, ap, refl, ◌≡◌, ◌∙◌, ◌+◌, ◌++◌, sym, subst, List, ℤ, length, form_row, numbers_of, content-one, KeptRows, with_more}
-use Rattle.kept_rows.proofs.Flat.{unsealed}
+use Rattle.tableau.proofs.Flat.{unsealed}
 use Rattle.tableau.proofs.Pushed.{pushed}
-use Rattle.kept_rows.proofs.FormRows.{form_numbers, form_fits, form_short}
+use Rattle.tableau.proofs.FormRows.{form_numbers, form_fits, form_short}
 use Rattle.tableau.proofs.flat_rows.FlatRows.push_form.Goals as goal
 
 pub seal-requires-clause-unsealed : goal.seal-requires-clause-unsealed

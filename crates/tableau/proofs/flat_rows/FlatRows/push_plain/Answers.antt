@@ -1,5 +1,5 @@
 use Rattle.tableau.proofs.Words.{rules, arith, ap, ◌≡◌, subst, sym, List, length, common_steps, Row, row_of_numbers, KeptRows, IsPlainRow, row_length, rows_kept, with_more, RowPlace}
-use Rattle.kept_rows.proofs.Flat.{with_plain, rows_more}
+use Rattle.tableau.proofs.Flat.{with_plain, rows_more}
 use Rattle.tableau.proofs.flat_rows.FlatRows.push_plain.Goals as goal
 
 pub invariant_of-self : goal.invariant_of-self

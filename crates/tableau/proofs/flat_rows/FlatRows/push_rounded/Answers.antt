@@ -1,5 +1,5 @@
 use Rattle.tableau.proofs.Words.{rules, subst, sym, rounded, IsRow, KeptRows, row_of}
-use Rattle.kept_rows.proofs.Flat.{unsealed}
+use Rattle.tableau.proofs.Flat.{unsealed}
 use Rattle.tableau.proofs.Pushed.{pushed}
 use Rattle.tableau.proofs.flat_rows.FlatRows.push_rounded.Goals as goal
 

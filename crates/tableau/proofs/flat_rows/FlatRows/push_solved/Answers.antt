@@ -1,6 +1,6 @@
 use Rattle.tableau.proofs.Words.{rules, ap, ◌≡◌, ◌++◌, ◌∙◌, subst, sym, all_fit, Row, unit_row, eliminated, eliminated_listed, IsTrue, numbers_of, IsRow, IsMadeReduced, pivot_row, KeptRows, with_more, row_of, arith, length, vec_len}
 use Rattle.std.specs.Prelude.{true}
-use Rattle.kept_rows.proofs.Flat.{unsealed, unit_over}
+use Rattle.tableau.proofs.Flat.{unsealed, unit_over}
 use Rattle.tableau.proofs.Pushed.{pushed, kept_room, room_behind, row_room}
 use Rattle.tableau.proofs.flat_rows.FlatRows.push_solved.Goals as goal
 

@@ -1,5 +1,5 @@
 use Rattle.tableau.proofs.Words.{rules, arith, ap, ◌<◌, common_steps, KeptRows}
-use Rattle.kept_rows.proofs.Flat.{with_unit}
+use Rattle.tableau.proofs.Flat.{with_unit}
 use Rattle.tableau.proofs.flat_rows.FlatRows.push_unit.Goals as goal
 
 pub invariant_of-self : goal.invariant_of-self

@@ -1,5 +1,5 @@
 use Rattle.tableau.proofs.Words.{rules, arith, ◌≡◌, ◌∙◌, ◌+◌, ◌-◌, ◌<◌, subst, sym, widened, IsRow, KeptRows, row_of, widened_is_row, widened_content, widened_short, length, vec_len}
-use Rattle.kept_rows.proofs.Flat.{unsealed}
+use Rattle.tableau.proofs.Flat.{unsealed}
 use Rattle.tableau.proofs.Pushed.{pushed, kept_room, room_behind, length_room, numbers_long}
 use Rattle.tableau.proofs.flat_rows.FlatRows.push_widened.Goals as goal
 

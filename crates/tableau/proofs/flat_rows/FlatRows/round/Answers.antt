@@ -1,6 +1,6 @@
 use Rattle.tableau.proofs.Words.{rules, refl, arith, ◌∙◌, ap, sym, subst, List, IsTrue, IsFalse, slice_set, all_fit, Row, rounded, rounded_listed, KeptRows, IsSpare, lent_row, lent_rows, row_of}
-use Rattle.tableau.proofs.Left.{all_made, first_made, formed_next, next_swapped, second_made}
-use Rattle.kept_rows.proofs.Sides.{replaced_row}
+use Rattle.tableau.proofs.Parted.{all_made, first_made, formed_next, next_swapped, second_made}
+use Rattle.tableau.proofs.Sides.{replaced_row}
 use Rattle.tableau.proofs.flat_rows.FlatRows.round.Goals as goal
 
 pub copy_rows-requires : goal.copy_rows-requires

@@ -1,5 +1,5 @@
 use Rattle.tableau.proofs.Words.{◌∙◌, ap, rules, List, Row, row_at, row_kept}
-use Rattle.kept_rows.proofs.Sides.{row_is}
+use Rattle.tableau.proofs.Sides.{row_is}
 use Rattle.tableau.proofs.flat_rows.FlatRows.row.Goals as goal
 
 pub returns-clause-value : goal.returns-clause-value

@@ -1,5 +1,5 @@
 use Rattle.tableau.proofs.Words.{rules, arith, row_of}
-use Rattle.tableau.proofs.Left.{sides_made}
+use Rattle.tableau.proofs.Parted.{sides_made}
 use Rattle.tableau.proofs.flat_rows.FlatRows.sides.Goals as goal
 
 pub lent-requires : goal.lent-requires

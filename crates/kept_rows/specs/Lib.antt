@@ -1,3 +1,0 @@
-pub mod Along
-pub mod Places
-pub use Rattle.tableau_row.specs.Views
