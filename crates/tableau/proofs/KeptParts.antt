@@ -1,6 +1,5 @@
 -- The kept rows in front and behind.
-use Rattle.tableau.proofs.Words.{subst, ℕ, ◌-◌, ℤ, List, length, map, take, drop, arith, All, All-take, All-drop, get_or-map, length-map, Row, IsRow, IsReduced, IsPlace, IsKnown, IsPlain, IsFlat, AreKept, row_kept, Kept}
-use Rattle.tableau.specs.declared.kept.Kept.TheVariants as kept
+use Rattle.tableau.proofs.Words.{subst, ℕ, ℤ, List, length, map, take, drop, All, All-take, All-drop, get_or-map, length-map, Row, IsRow, IsReduced, IsPlace, IsKnown, IsPlain, IsFlat, AreKept, row_kept, Kept}
 
 -- a fact of each row
 all_kept : {X : Type 0} (P : Row → Type 0) (f : X → Row) (xs : List X) → All P (map f xs) → All (λ x. P (f x)) xs

@@ -1,5 +1,5 @@
 -- The kept rows on both sides of one in a step.
-use Rattle.tableau.proofs.Words.{◌≡◌, ap, sym, ◌∙◌, subst, ℕ, ◌+◌, ◌-◌, ◌<◌, ◌≤◌, ℤ, pos, ◌≤ℤ◌, List, [], ◌∷◌, ◌++◌, length, get_or, map, take, drop, arith, append_assoc, length-append, length-drop, length-map, length-take-le, take-map, drop-map, Row, row_at, IsRow, IsReduced, entry, KeptRows, IsOver, IsSolvable, IsSpare, AreLent, AreLentOf, AreNext, AreSides, IsPivot, lent_row, row_kept, with_more, with_rows, Lent, Kept}
+use Rattle.tableau.proofs.Words.{◌≡◌, ap, sym, ◌∙◌, subst, ℕ, ◌+◌, ◌<◌, ◌≤◌, ℤ, pos, ◌≤ℤ◌, List, [], ◌∷◌, ◌++◌, length, get_or, map, take, drop, arith, append_assoc, length-append, length-drop, length-map, length-take-le, take-map, drop-map, Row, row_at, IsRow, IsReduced, entry, KeptRows, IsOver, IsSolvable, IsSpare, AreLent, AreLentOf, AreNext, AreSides, IsPivot, lent_row, row_kept, with_more, with_rows, Lent, Kept}
 use Rattle.tableau.proofs.KeptParts.{kept_front, kept_behind}
 use Rattle.tableau.proofs.Sides.{row_is}
 use Rattle.tableau.proofs.Turning.{shape_with, still_spare}

@@ -1,5 +1,5 @@
 -- The rows on both sides of one in a pivot.
-use Rattle.tableau.proofs.Words.{◌≡◌, refl, ap, sym, ◌∙◌, ℕ, ◌+◌, ◌<◌, ◌≤◌, ℤ, pos, ◌&&◌, List, [], ◌∷◌, ◌++◌, length, map, take, drop, arith, get_or, IsTrue, slice_set, get_or-take, get_or-drop, length-map, take-map, drop-map, get_or-map, entry, width, all_fit, Row, row_at, form_row, unit_row, eliminated, eliminated_listed, pivot, pivot_listed, row_length, row_from_place, IsRow, checked_sides, all_fit-append}
+use Rattle.tableau.proofs.Words.{◌≡◌, refl, ap, sym, ◌∙◌, ℕ, ◌+◌, ◌<◌, ◌&&◌, List, [], ◌∷◌, ◌++◌, length, map, take, drop, arith, get_or, slice_set, length-map, take-map, drop-map, get_or-map, width, all_fit, Row, row_at, form_row, unit_row, eliminated, eliminated_listed, pivot, pivot_listed, IsRow, checked_sides}
 use Rattle.std.proofs.Common.{flat_map}
 use Rattle.std.proofs.lemmas.List.Folds.{flat_map-map}
 use Rattle.std.proofs.lemmas.Simd.{map-map}

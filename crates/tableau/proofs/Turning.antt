@@ -1,5 +1,5 @@
 -- The rows of a tableau in a pivot, as they are kept.
-use Rattle.tableau.proofs.Words.{◌≡◌, refl, ap, sym, ◌∙◌, ℕ, zero, suc, ◌+◌, ◌<◌, ◌≢◌, Bool, true, false, ◌&&◌, IsTrue, IsFalse, append-nil, take_more, ℤ, pos, ◌≤ℤ◌, List, [], ◌∷◌, ◌++◌, length, map, take, arith, append_assoc, get_or, map-append, entry, all_fit, Row, unit_row, eliminated, IsSteady, KeptRows, IsSpare, SameShape, with_more, with_rows, IsRow, flat_map-append, all_fit-append}
+use Rattle.tableau.proofs.Words.{◌≡◌, refl, ap, sym, ◌∙◌, ℕ, zero, suc, ◌+◌, ◌<◌, ◌≢◌, Bool, true, false, ◌&&◌, IsTrue, IsFalse, append-nil, take_more, ℤ, pos, ◌≤ℤ◌, List, [], ◌∷◌, ◌++◌, length, map, take, arith, append_assoc, get_or, map-append, entry, all_fit, Row, unit_row, eliminated, row_of_numbers, IsReduced, IsShortRow, short_eliminated, eliminated_none, get_or-take, get_or-drop, drop, IsSteady, KeptRows, IsSpare, SameShape, with_more, with_rows, IsRow, flat_map-append, all_fit-append}
 use Rattle.std.proofs.Common.{flat_map}
 use Rattle.tableau.proofs.OtherColumns.{unit_listed, unit_turned}
 
@@ -7,6 +7,18 @@ use Rattle.tableau.proofs.OtherColumns.{unit_listed, unit_turned}
 
 pub unit_steady : (n w k c : ℕ) (p : Row) → k < n → c < n → c ≢ k → IsRow n w p → pos 1 ≤ℤ entry p.coefs c → IsSteady p c (unit_row n w k)
 unit_steady n w k c p h column other hp positive = record { listed = unit_listed n w k c p h column other hp; stays = unit_turned n w k c p h column other hp positive }
+
+-- ---- a short row that is 0 in the column
+
+pub short_steady : (n w c : ℕ) (p r : Row) → IsRow n w p → IsRow n w r → c < n → pos 1 ≤ℤ entry p.coefs c → entry r.coefs c ≡ pos 0 → IsReduced r → IsShortRow p → IsShortRow r → IsSteady p c r
+short_steady n w c p r hp hr column positive none reduced p_short r_short = record {
+  listed = short_eliminated p c r p_short r_short (omega (arith, column, hp.coefs)) (hr.coefs ∙ sym hp.coefs);
+  stays = eliminated_none n w p c r hp hr positive none reduced;
+}
+
+-- its coefficient by its numbers
+pub plain_entry : (n c : ℕ) (zs : List ℤ) → c < n → entry (row_of_numbers n zs).coefs c ≡ entry zs (1 + c)
+plain_entry n c zs h = get_or-take n (drop 1 zs) c (pos 0) h ∙ get_or-drop 1 zs c (pos 0)
 
 -- ---- the rows that are turned, one by one
 

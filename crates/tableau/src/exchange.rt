@@ -63,8 +63,8 @@ fn turn_row(next: &mut FlatRows, pivot: &LentPivot<'_>, one: Kept) -> Result<(),
     Ok(())
 }
 
-// The same, where the row of another column is known to stay, and that of the column itself to be p solved for it, if p
-// is short.
+// The same, where the row of another column is known to stay, and under a short p that of the column itself to be p
+// solved for it, and a short row that is 0 in the column to stay.
 #[inline(always)]
 fn turn_kept(next: &mut FlatRows, pivot: &LentPivot<'_>, one: Kept) -> Result<(), Overflow>
     requires room { length next.old.rows < next.old.most }
@@ -76,25 +76,32 @@ fn turn_kept(next: &mut FlatRows, pivot: &LentPivot<'_>, one: Kept) -> Result<()
         ≡ with_more next.old (model.eliminated (row_of pivot.now.p) pivot.now.c (lent_row pivot.now.lent one))) }
     ensures err { OnErr result (next.new ≡ next.old) }
 {
-    if let Kept::Unit(k) = one {
-        if k != pivot.c {
-            next.push_unit(k);
-            return Ok(());
+    match one {
+        Kept::Unit(k) => {
+            if k != pivot.c {
+                next.push_unit(k);
+                return Ok(());
+            }
+            if pivot.p.is_known_short() {
+                next.push_solved(&pivot.p, pivot.c);
+                return Ok(());
+            }
         }
-        if pivot.p.is_known_short() {
-            next.push_solved(&pivot.p, pivot.c);
-            return Ok(());
+        Kept::At(at) => {
+            if at.short && pivot.p.is_known_short() {
+                let numbers = pivot.lent.numbers_at(at.first);
+                if numbers[1 + pivot.c] == 0 {
+                    next.push_plain(numbers, at.short);
+                    return Ok(());
+                }
+            }
         }
     }
     turn_row(next, pivot, one)
 }
 
 // Adds what the kept rows are after the pivot.
-fn turn_rows(
-    next: &mut FlatRows,
-    pivot: &LentPivot<'_>,
-    kept: &[Kept],
-) -> Result<(), Overflow>
+fn turn_rows(next: &mut FlatRows, pivot: &LentPivot<'_>, kept: &[Kept]) -> Result<(), Overflow>
     requires room { length next.old.rows + length kept.now ≤ next.old.most }
     requires over { IsOver next.old pivot.now.lent }
     requires lent { AreLent pivot.now.lent kept.now }

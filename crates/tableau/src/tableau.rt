@@ -13,10 +13,10 @@ ghost use Rattle.tableau_row.specs.Views.{row_of};
 use crate::flat_rows::FlatRows;
 use crate::unit_run::make_run;
 use affine_forms::{Form, Overflow, WantOfMemory};
-use tableau_row::{RowView, is_short_row};
 use std::alloc::Global;
 use std::marker::Model;
 use std::mem::swap;
+use tableau_row::{RowView, is_short_row};
 
 /// Rows over the same columns, one for each unknown, whose constant forms stand over the same places: the
 /// parameters, and then the quotients of a path. Each number of a row fits, and each denominator is at least 1.
@@ -292,8 +292,7 @@ impl Tableau {
         ensures ok { OnOk result (self.new ≡ record self.old { rows = model.pivot self.old.rows r c }) }
         ensures err { OnErr result (self.new ≡ self.old) }
     {
-        self.rows
-            .turn(self.units.as_slice(), r, c, &mut self.next)?;
+        self.rows.turn(self.units.as_slice(), r, c, &mut self.next)?;
         swap(&mut self.rows, &mut self.next);
         Ok(())
     }

@@ -26,7 +26,11 @@ fn fill_run(units: &mut Vec<i128>, unknowns: usize, width: usize) -> Result<(), 
 }
 
 // Makes the run from which the rows of columns are lent, where there is none yet.
-pub(crate) fn make_run(units: &mut Vec<i128>, unknowns: usize, width: usize) -> Result<(), WantOfMemory>
+pub(crate) fn make_run(
+    units: &mut Vec<i128>,
+    unknowns: usize,
+    width: usize,
+) -> Result<(), WantOfMemory>
     requires run { 0 < length units.old.items → units.old.items ≡ model.unit_run unknowns width }
     ensures run { 0 < length units.new.items → units.new.items ≡ model.unit_run unknowns width }
     ensures ok { OnOk result (units.new.items ≡ model.unit_run unknowns width) }

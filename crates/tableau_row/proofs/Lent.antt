@@ -1,5 +1,5 @@
 -- The numbers of a row that stand last, lent and written.
-use Rattle.tableau_row.proofs.Words.{rules, false, ◌≡◌, refl, ap, sym, ◌∙◌, ℕ, ◌<◌, ◌≤◌, ℤ, List, ◌++◌, length, take, drop, length-append, append-nil, arith, vec_len, vec_capacity, Vec, take_at, drop_at, take_all, drop_all, Row, numbers_of, row_of_numbers, Appends}
+use Rattle.tableau_row.proofs.Words.{◌≡◌, refl, ap, sym, ◌∙◌, ℕ, ◌<◌, ◌≤◌, ℤ, List, ◌++◌, length, take, drop, length-append, append-nil, arith, vec_len, vec_capacity, Vec, take_at, drop_at, take_all, drop_all, Row, numbers_of, row_of_numbers, Appends}
 use Rattle.std.specs.Vec.{with_items}
 use Rattle.std.specs.declared.alloc.Global.{Global}
 use Rattle.row_laws.proofs.Numbers.{row_again}

@@ -1,13 +1,13 @@
 -- The words of other modules that the proofs of this crate cite, passed on from one place. Declares nothing.
-pub use Rattle.std.proofs.Common.{◌≡◌, refl, sym, subst, ◌∙◌, ℕ, ◌-◌, ◌<◌, pos, ◌≤ℤ◌, length, arith, ◌+◌, ℤ, unsigned_abs, List, [], ◌∷◌, ◌++◌, replicate, take, drop, get_or, to_z, of_z, ap, suc, negsuc, ◌*ℤ◌, true, false, length-set, ◌≤◌, append-nil, append_assoc, map, length-append, ◌-ℤ◌, vec_len, vec_capacity, rules}
+pub use Rattle.std.proofs.Common.{◌≡◌, refl, sym, subst, ◌∙◌, ℕ, ◌-◌, ◌<◌, pos, ◌≤ℤ◌, length, arith, ◌+◌, ℤ, List, [], ◌∷◌, ◌++◌, replicate, take, drop, get_or, to_z, of_z, ap, suc, ◌*ℤ◌, true, false, length-set, ◌≤◌, append-nil, map, length-append, ◌-ℤ◌, vec_len, vec_capacity, rules}
 pub use Rattle.std.specs.Prelude.{IsTrue, All, slice_set, Vec}
-pub use Rattle.std.proofs.lemmas.List.Elements.{All-append, All-take, All-drop, All-cons, All-set, All-push}
+pub use Rattle.std.proofs.lemmas.List.Elements.{All-append, All-take, All-drop, All-cons, All-set}
 pub use Rattle.std.specs.Int.{w128, w64}
 pub use Rattle.std.proofs.lemmas.Int.{to_z-of_z, ints}
-pub use Rattle.std.proofs.lemmas.List.{take_at, drop_at, take-append-drop, take_all, length-take, map-append, drop_all, length-map, map-set, get_or-take, take-take, take-set-le}
+pub use Rattle.std.proofs.lemmas.List.{take_at, drop_at, take-append-drop, take_all, map-append, drop_all, length-map, get_or-take}
 pub use Rattle.std.proofs.lemmas.Grind.{common_steps}
 pub use Rattle.pip_model.specs.Forms.{entry, width, combine, floor_divided, negate, add}
-pub use Rattle.pip_model.specs.Rows.{Row, divided, eliminated, widened, eliminated_listed, substituted}
+pub use Rattle.pip_model.specs.Rows.{Row, divided, eliminated, widened, eliminated_listed}
 pub use Rattle.pip_model.specs.Listed.{all_fit, combine_listed}
 pub use Rattle.affine_forms.specs.Checks.{Fits}
 pub use Rattle.pip_model.proofs.Forms.{length-combine}
@@ -16,8 +16,7 @@ pub use Rattle.affine_forms.proofs.Divisors.{gcd_assoc, floor_divided_one, gcd_s
 pub use Rattle.affine_forms.proofs.Combined.{listed_step, listed_refused, listed_end}
 pub use Rattle.pip_model.specs.Cuts.{residue_of, rounding, rounded_listed, rounded}
 pub use Rattle.affine_forms.specs.Forms.{raised}
-pub use Rattle.pip_model.proofs.Division.{floor-unique, floor-exact, gcd-divides, Multiple}
-pub use Rattle.pip_model.proofs.Gcd.{quotient_positive, gcd-greatest, gcd_of-greatest, common-IsGcd, gcd_one, gcd_zero}
+pub use Rattle.pip_model.proofs.Gcd.{quotient_positive, gcd_one, gcd_zero}
 pub use Rattle.affine_forms.proofs.Mapped.{mapped, mapped_step}
 pub use Rattle.row_laws.specs.Lowest.{AreLowest, substituted_by, AreReduced}
 pub use Rattle.row_laws.specs.Rows.{IsRow, IsOwnRow, IsReduced, row_from, content}

@@ -1,9 +1,6 @@
 -- The numbers that stand one after the other.
-use Rattle.std.specs.Prelude.{◌≡◌, ◌+◌, ◌≤◌, ℤ, Bool, List, ◌++◌, length, take, IsTrue, Vec, vec_len, vec_capacity}
+use Rattle.std.specs.Prelude.{◌≡◌, ◌+◌, ◌≤◌, ℤ, List, ◌++◌, length, Vec, vec_len, vec_capacity}
 use Rattle.std.specs.declared.alloc.Global.{Global}
-use Rattle.pip_model.specs.Rows.{Row}
-use Rattle.row_laws.specs.Flat.{numbers_of}
-use Rattle.row_laws.specs.Short.{IsShortRow}
 
 -- ---- the numbers that stand one after the other
 -- these are behind those that were there, in no less room

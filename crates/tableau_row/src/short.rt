@@ -10,7 +10,7 @@ use short_numbers::{half_difference, is_half, narrow, short_difference};
 pub(crate) fn is_short(z: i128) -> bool
     ensures { result ≡ is_short_number z }
 {
-    z.unsigned_abs() < 9223372036854775808
+    -9223372036854775808 < z && z < 9223372036854775808
 }
 
 // Whether all of them do.

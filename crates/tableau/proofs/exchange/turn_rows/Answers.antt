@@ -1,5 +1,5 @@
-use Rattle.tableau.proofs.Words.{rules, refl, List, ℤ, Row, ◌<◌, length, eliminated, eliminated_listed, lent_row, row_of, Kept}
-use Rattle.tableau.proofs.Turning.{rows_turned, listed_more, listed_refused, shape_with}
+use Rattle.tableau.proofs.Words.{rules, refl, ◌<◌, length, eliminated_listed, lent_row, row_of, Kept}
+use Rattle.tableau.proofs.Turning.{rows_turned, listed_more, listed_refused}
 use Rattle.tableau.proofs.exchange.turn_rows.Goals as goal
 
 pub loop-one-preserved : goal.loop-one-preserved
