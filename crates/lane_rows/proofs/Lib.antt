@@ -9,4 +9,3 @@ pub mod Values
 pub mod CutLanes
 pub mod Signs
 pub mod Fractions
-pub mod Columns

@@ -1,7 +1,7 @@
 -- Rows of eight numbers over one denominator: lane 0 is the constant, lane k + 1 is column k of at most seven.
 use Rattle.std.specs.Prelude.{◌≡◌, ℕ, ◌+◌, ◌^◌, ◌<◌, ◌≤◌, ℤ, pos, ◌≤ℤ◌, unsigned_abs, List, [], ◌∷◌, ◌++◌, length, map, take, drop, slice_index_or, All}
 use Rattle.pip_model.specs.Forms.{entry}
-use Rattle.pip_model.specs.Rows.{Row, divided, unit_row, count_from}
+use Rattle.pip_model.specs.Rows.{Row, divided, count_from}
 use Rattle.scaled_laws.specs.Scaled.{row_over}
 use Rattle.scaled_laws.specs.Tables.{ScaledTable}
 use Rattle.lanes.specs.Narrow.{AreLanes}
@@ -52,11 +52,3 @@ pub record AreLaned (n : ℕ) (rows : List (List ℤ)) (at : List ℤ) (l : ℤ)
   pub positive : pos 1 ≤ℤ l
   pub common : unsigned_abs l ≤ m
   pub small : m < 2 ^ 31
-
--- a row over one more column, in which it is 0
-abbrev pub longer : Row → Row
-longer r = record r { coefs = r.coefs ++ pos 0 ∷ [] }
-
--- the table over one more column, whose row stands behind those of the others
-abbrev pub with_column : ScaledTable → ScaledTable
-with_column t = record t { unknowns = t.unknowns + 1; rows = map longer t.rows ++ unit_row (t.unknowns + 1) t.width t.unknowns ∷ [] }

@@ -11,7 +11,7 @@ ghost use Rattle.form_laws.specs.ByForm.{combination, place};
 ghost use Rattle.scaled_laws.specs.Scaled.{AreScaled, row_over};
 ghost use Rattle.scaled_laws.specs.Tables.{column_rows, no_rows, with_row};
 ghost use Rattle.lanes.specs.Narrow.{AreLanes};
-ghost use Rattle.lane_rows.specs.Laned.{AreUnused, IsLaned, numbers_of, with_column};
+ghost use Rattle.lane_rows.specs.Laned.{AreUnused, IsLaned, numbers_of};
 
 use crate::choice::entering_in;
 use crate::reading::{combined, first_left};
@@ -267,19 +267,6 @@ impl LaneRows {
     {
         let cut = self.rows[i].left(self.scale);
         self.rows.push(cut)?;
-        Ok(())
-    }
-
-    /// Adds a column, and its row behind those of the others, where there is no other row. A refusal leaves all as it was.
-    pub fn add_column(&mut self) -> Result<(), WantOfMemory>
-        requires few { self.old.unknowns < 7 }
-        requires alone { length self.old.rows ≡ self.old.unknowns }
-        ensures ok { OnOk result (self.new ≡ with_column self.old) }
-        ensures err { OnErr result (self.new ≡ self.old) }
-    {
-        let row = unit(self.unknowns + 1, self.scale);
-        self.rows.push(row)?;
-        self.unknowns += 1;
         Ok(())
     }
 }
