@@ -6,3 +6,4 @@ pub use Rattle.leaf_check.specs.Faults
 pub use Rattle.leaf_check.specs.Goals
 pub use Rattle.leaf_check.specs.Known
 pub use Rattle.leaf_check.specs.Leaves
+pub use Rattle.leaf_check.specs.Turned

@@ -2,7 +2,7 @@
 use Rattle.leaf_check.proofs.Words.{subst, Option, option_copied, Ok, Err, Result, OnOk, case_of, ap₂, ◌≡◌, refl, ap, sym, ◌∙◌, ℕ, zero, suc, ◌+◌, ◌-◌, ◌<◌, ℤ, pos, List, [], ◌∷◌, ◌++◌, length, take, drop, get_or, append_assoc, arith, inl, inr, slice_index_or, Some, length-append, length-take, take_at, take-take, get_or_append_left, get_or-append_right, get_or-map, constant, Problem, Component, LeafCase, Premises, leaf_premises, unknown_forms, row_premises, sign_premises, least_premises, not_above, smaller_from, KnownForms, nothing, without_last}
 use Rattle.std.proofs.Math.Seq.{take-append-add, drop-append_seam}
 use Rattle.std.proofs.Common.{add-one}
-use Rattle.leaf_check.specs.Turned.{AreMore, IsPushedTo, own_forms, staying}
+use Rattle.leaf_check.specs.Turned.{AreMore, own_forms, staying}
 use Rattle.leaf_check.specs.declared.leaf.Leaf.{Leaf}
 use Rattle.std.proofs.lemmas.Bool.{cases_lt}
 use Rattle.std.proofs.lemmas.List.{take-append-drop}
@@ -35,34 +35,6 @@ more_by_list l cs r more list h = λ front.
     let by : without_last (front ++ own_forms l r) ++ more ≡ front ++ own_forms l (r + 1)
     = subst (λ (o : Option (List Component)). without_last (front ++ (slice_index_or (leaf_premises l.problem.now (case_of l) o) r nothing).known) ++ more ≡ front ++ (slice_index_or (leaf_premises l.problem.now (case_of l) o) (r + 1) nothing).known) (sym list) (h front) in
     rw (add-one r) (subst (λ (n : ℕ). without_last (front ++ own_forms l r) ++ more ≡ front ++ own_forms l n) (add-one r) by)
-
--- the next goal, behind what stays
-pub turned_by : (l : Leaf) (r : ℕ) (front old new : List (List ℤ)) → old ≡ front ++ own_forms l r → take (length (without_last old)) new ≡ without_last old → AreMore l (r + 1) (drop (length (without_last old)) new)
-    → new ≡ front ++ own_forms l (r + 1)
-turned_by l r front old new is stay more =
-    let by = rw (add-one r) at (more front) in
-    sym (take-append-drop (length (without_last old)) new)
-    ∙ ap (λ (xs : List (List ℤ)). xs ++ drop (length (without_last old)) new) (stay ∙ ap without_last is)
-    ∙ subst (λ (n : ℕ). without_last (front ++ own_forms l r) ++ drop (length (without_last old)) new ≡ front ++ own_forms l n) (sym (add-one r)) by
-
-pub turned_if_ok : {X E : Type 0} (l : Leaf) (r : ℕ) (front : List (List ℤ)) (result : Result X E) (old dropped new : KnownForms) → dropped ≡ record old { forms = without_last old.forms } → old.forms ≡ front ++ own_forms l r
-    → IsPushedTo result l (r + 1) dropped new → OnOk result (new ≡ record old { forms = front ++ own_forms l (r + 1) })
-turned_if_ok l r front (Ok x) old dropped new e is p =
-    let forms : dropped.forms ≡ without_last old.forms = ap (λ (k : KnownForms). k.forms) e in
-    ap₂ (λ (w : ℕ) (xs : List (List ℤ)). let k : KnownForms = record { width = w; forms = xs } in k)
-    (p.width ∙ ap (λ (k : KnownForms). k.width) e)
-    (turned_by l r front old.forms new.forms is
-    (subst (λ (xs : List (List ℤ)). take (length xs) new.forms ≡ xs) forms p.stay)
-    (subst (λ (xs : List (List ℤ)). AreMore l (r + 1) (drop (length xs) new.forms)) forms p.ok))
-turned_if_ok l r front (Err e) old dropped new h is p = tt
-
--- what stands behind all forms but the last leaves them as they are
-pub still : (old dropped now : KnownForms) → dropped ≡ record old { forms = without_last old.forms } → take (length dropped.forms) now.forms ≡ dropped.forms
-    → take (length old.forms - 1) now.forms ≡ without_last old.forms
-still old dropped now e h =
-    let forms : dropped.forms ≡ without_last old.forms = ap (λ (k : KnownForms). k.forms) e in
-    let long : length dropped.forms ≡ length old.forms - 1 = ap length forms ∙ simp length-take (omega arith) in
-    ap (λ (k : ℕ). take k now.forms) (sym long) ∙ h ∙ forms
 
 -- ---- goals of one form
 

@@ -1,11 +1,9 @@
 -- The leaf that is checked.
-use Rattle.std.specs.Prelude.{◌≡◌, ℕ, ◌+◌, ◌-◌, ◌≤◌, ℤ, Bool, ◌&&◌, ◌==◌, ⊤, List, [], ◌++◌, length, take, slice_index_or, Option, Some, None, All, MatchOption, option_copied, Result, OnOk}
+use Rattle.std.specs.Prelude.{◌≡◌, ℕ, ◌+◌, ◌≤◌, ℤ, Bool, ◌&&◌, ◌==◌, ⊤, List, [], length, Option, Some, None, All, MatchOption, option_copied}
 use Rattle.pip_model.specs.Problem.{Problem}
 use Rattle.pip_model.specs.Tree.{Component}
 use Rattle.pip_model.specs.Certificate.{LeafProofs}
-use Rattle.pip_model.specs.Check.{LeafCase, Premises, leaf_premises, is_whole_list, scope_forms}
-use Rattle.leaf_check.specs.Goals.{without_last}
-use Rattle.leaf_check.specs.Known.{KnownForms}
+use Rattle.pip_model.specs.Check.{LeafCase, Premises, leaf_premises, is_whole_list}
 use Rattle.leaf_check.specs.declared.leaf.Leaf.{Leaf}
 
 -- the numbers of its path fit
@@ -37,18 +35,3 @@ goal_count P (Some cs) = length P.rows + length cs + length cs
 -- a list is whole, and there are as many refutations as there are to be
 abbrev pub has_shape : Problem → Option (List Component) → LeafProofs → Bool
 has_shape P list p = is_whole_list P.unknowns list && (length p.refutations == goal_count P list)
-
--- the forms that refutation r starts from, from 0: the leaf's, and those of its own
-abbrev pub goal_forms : Leaf → ℕ → List (List ℤ)
-goal_forms l r = scope_forms l.problem.now (case_of l) ++ (slice_index_or (own_premises l) r nothing).known
-
--- the forms that refutation r starts from, over what is in scope and the unknowns
-pub record IsGoal (l : Leaf) (r : ℕ) (known : KnownForms) : Type 0 where
-  pub width : known.width ≡ l.scope + l.problem.now.unknowns
-  pub forms : known.forms ≡ goal_forms l r
-
--- turned into those of the next refutation; all but the last stay, also where that is refused
-pub record AreTurned {X E : Type 0} (result : Result X E) (l : Leaf) (r : ℕ) (old new : KnownForms) : Type 0 where
-  pub ok : OnOk result (new ≡ record old { forms = goal_forms l (r + 1) })
-  pub stay : take (length old.forms - 1) new.forms ≡ without_last old.forms
-  pub width : new.width ≡ old.width

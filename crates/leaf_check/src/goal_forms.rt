@@ -9,8 +9,9 @@ ghost use Rattle.leaf_check.specs.Turned.{AreBehind};
 use crate::derivation::Derivation;
 use crate::known::Known;
 use crate::leaf::Leaf;
+use affine_forms::FormRefusal;
 use certificate_parts::{Refutation, Step};
-use derivation_steps::Fault;
+use derivation_steps::{Fault, Spot};
 use std::alloc::Global;
 
 // The forms of a leaf's refutations, one after the other, as the check keeps them: behind the leaf's and those that the
@@ -52,7 +53,17 @@ impl GoalForms {
             → AreBehind front leaf.now (r + 1) self.new.kept) }
     {
         self.made.truncate(0);
-        leaf.push_turned(alloc, &mut self.made, r)?;
+        match leaf.push_goal(alloc, &mut self.made, r) {
+            Ok(()) => {}
+            Err(FormRefusal::Overflow) => {
+                return Err(Fault::Overflow(Spot {
+                    leaf: leaf.number,
+                    refutation: r + 1,
+                    step: 0,
+                }));
+            }
+            Err(FormRefusal::WantOfMemory) => return Err(Fault::WantOfMemory),
+        }
         if r > 0 {
             self.kept.drop_last();
         }

@@ -92,8 +92,8 @@ impl Known {
         Ok(())
     }
 
-    // Drops the last form.
-    pub(crate) fn drop_last(&mut self)
+    /// Drops the last form.
+    pub fn drop_last(&mut self)
         ensures { self.new ≡ record self.old { forms = without_last self.old.forms } }
     {
         let rest = self.len().saturating_sub(1);

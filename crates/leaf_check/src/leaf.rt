@@ -1,4 +1,4 @@
-ghost use Rattle.std.specs.Prelude.{◌≡◌, ◌^◌, ◌+◌, ◌≤◌, ◌<◌, ◌++◌, true, pos, Some, length, take, IfOk, OnOk, OnErr, IsTrue, slice_index_or, option_copied};
+ghost use Rattle.std.specs.Prelude.{◌≡◌, ◌+◌, ◌≤◌, ◌<◌, true, pos, Some, length, take, IfOk, OnOk, OnErr, IsTrue, slice_index_or, option_copied};
 ghost use Rattle.std.specs.List.{list_all};
 ghost use Rattle.pip_model.specs.Numbers.{same_number};
 ghost use Rattle.pip_model.specs.Tree.{Component};
@@ -6,7 +6,7 @@ ghost use Rattle.pip_model.specs.Agreement.{IsChecked, Agrees};
 ghost use Rattle.pip_model.specs.Check as model;
 ghost use Rattle.affine_forms.specs.Checks.{is_form_overflow};
 ghost use Rattle.derivation_steps.specs.Faults.{fault_of};
-ghost use Rattle.leaf_check.specs.Leaves.{case_of, own_premises, AreWide, IsLeaf, nothing, goal_count, IsGoal, AreTurned, has_shape as has_shape_of};
+ghost use Rattle.leaf_check.specs.Leaves.{case_of, own_premises, AreWide, IsLeaf, nothing, goal_count, has_shape as has_shape_of};
 ghost use Rattle.leaf_check.specs.Known.{ArePushed};
 ghost use Rattle.leaf_check.specs.Turned.{IsPushedTo};
 
@@ -245,30 +245,6 @@ impl Leaf<'_> {
         }
     }
 
-    /// Puts the forms of a refutation, from 0, behind the others. A refusal leaves them as they were.
-    pub fn push_goal(&self, alloc: Global, known: &mut Known, r: usize) -> Result<(), FormRefusal>
-        requires leaf { IsLeaf self.now.problem.now (case_of self.now) }
-        requires whole { IsTrue (model.is_whole_list self.now.problem.now.unknowns (option_copied self.now.list)) }
-        requires width { known.old.width ≡ self.now.scope + self.now.problem.now.unknowns }
-        requires place { r < length (own_premises self.now) }
-        ensures listed { IsChecked is_form_overflow (slice_index_or
-            (own_premises self.now) r nothing).listed result }
-        ensures ok { OnOk result (known.new ≡ record known.old {
-          forms = known.old.forms ++ (slice_index_or
-              (own_premises self.now) r nothing).known;
-        }) }
-        ensures err { OnErr result (known.new ≡ known.old) }
-    {
-        let before = known.len();
-        match self.push_own_goal(alloc, known, r) {
-            Ok(()) => Ok(()),
-            Err(refusal) => {
-                known.truncate(before);
-                Err(refusal)
-            }
-        }
-    }
-
     // Puts behind the forms what the next refutation of a list has behind all but the last form of this one, from 0.
     fn push_next_list_goal(
         &self,
@@ -294,68 +270,23 @@ impl Leaf<'_> {
         known.push_smaller(alloc, self.scope, front, r - single)
     }
 
-    // The same of any refutation that is not the last.
-    fn push_next_goal(&self, alloc: Global, known: &mut Known, r: usize) -> Result<(), FormRefusal>
-        requires leaf { IsLeaf self.now.problem.now (case_of self.now) }
-        requires whole { IsTrue (model.is_whole_list self.now.problem.now.unknowns (option_copied self.now.list)) }
-        requires width { known.old.width ≡ self.now.scope + self.now.problem.now.unknowns }
-        requires place { r + 1 < length (own_premises self.now) }
-        ensures listed { IsChecked is_form_overflow (slice_index_or (own_premises self.now) (r + 1) nothing).listed
-            result }
-        ensures pushed { IsPushedTo result self.now (r + 1) known.old known.new }
-    {
-        match self.list {
-            None => unreachable!(),
-            Some(components) => self.push_next_list_goal(alloc, known, components, r),
-        }
-    }
-
-    /// Turns the forms of a refutation, from 0, into those of the next one, from which they differ at their end. It
-    /// overflows exactly where a number of the next one's own forms does not fit. After a refusal the last form is lost,
-    /// and the next one's that were made may stand behind the others, which stay.
-    pub fn next_goal(&self, alloc: Global, known: &mut Known, r: usize) -> Result<(), FormRefusal>
-        requires leaf { IsLeaf self.now.problem.now (case_of self.now) }
-        requires whole { IsTrue (model.is_whole_list self.now.problem.now.unknowns (option_copied self.now.list)) }
-        requires goal { IsGoal self.now r known.old }
-        requires place { r + 1 < length (own_premises self.now) }
-        ensures listed { IsChecked is_form_overflow (slice_index_or (own_premises self.now) (r + 1) nothing).listed
-            result }
-        ensures turned { AreTurned result self.now r known.old known.new }
-    {
-        known.drop_last();
-        self.push_next_goal(alloc, known, r)
-    }
-
-    // Puts behind the forms what the refutation r, from 0, has behind all but the last form of the one before; of the
-    // first one all of its own. With the place of the refutation where they are refused.
-    pub(crate) fn push_turned(
-        &self,
-        alloc: Global,
-        known: &mut Known,
-        r: usize,
-    ) -> Result<(), Fault>
+    /// Puts behind the forms what refutation r, from 0, has behind all but the last form of the one before; of the first
+    /// one all of its own. It overflows exactly where a number of the refutation's own forms does not fit. After a refusal
+    /// some of them may stand behind the others, which stay.
+    pub fn push_goal(&self, alloc: Global, known: &mut Known, r: usize) -> Result<(), FormRefusal>
         requires leaf { IsLeaf self.now.problem.now (case_of self.now) }
         requires whole { IsTrue (model.is_whole_list self.now.problem.now.unknowns (option_copied self.now.list)) }
         requires width { known.old.width ≡ self.now.scope + self.now.problem.now.unknowns }
         requires place { r < length (own_premises self.now) }
-        requires small { r + 1 < 2 ^ 64 }
-        ensures listed { Agrees (λ _. tt) fault_of result (model.fit (model.spot self.now.number (r + 1) 0)
-            (slice_index_or (own_premises self.now) r nothing).listed) }
+        ensures listed { IsChecked is_form_overflow (slice_index_or (own_premises self.now) r nothing).listed result }
         ensures pushed { IsPushedTo result self.now r known.old known.new }
     {
-        let pushed = if r == 0 {
-            self.push_own_goal(alloc, known, r)
-        } else {
-            self.push_next_goal(alloc, known, r - 1)
-        };
-        match pushed {
-            Ok(()) => Ok(()),
-            Err(FormRefusal::Overflow) => Err(Fault::Overflow(Spot {
-                leaf: self.number,
-                refutation: r + 1,
-                step: 0,
-            })),
-            Err(FormRefusal::WantOfMemory) => Err(Fault::WantOfMemory),
+        if r == 0 {
+            return self.push_own_goal(alloc, known, r);
+        }
+        match self.list {
+            None => unreachable!(),
+            Some(components) => self.push_next_list_goal(alloc, known, components, r - 1),
         }
     }
 

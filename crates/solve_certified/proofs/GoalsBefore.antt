@@ -1,25 +1,32 @@
--- The forms of the refutation in front of another.
-use Rattle.solve_certified.proofs.Words.{◌≡◌, ◌∙◌, ap, sym, ℕ, zero, suc, ◌+◌, ◌-◌, ◌≤◌, ℤ, List, ◌++◌, length, map, take, Result, Ok, Err, arith, OnOk, take-append-le, take-take, narrow_to, without_last, KnownForms, KeptForms, AreFirst, AreFirstWithin, goal_forms, forms_before}
+-- What stays from one refutation to the next.
+use Rattle.solve_certified.proofs.Words.{◌≡◌, ◌∙◌, ap, sym, ◌+◌, ℕ, ℤ, List, zero, suc, ◌<◌, ◌++◌, length, map, take, drop, take-take, append-nil, arith, without_last, narrow_to, KeptForms, AreFirst, AreFirstWithin}
+use Rattle.std.proofs.Common.{add-one}
+use Rattle.std.proofs.lemmas.List.{take-append-drop}
+use Rattle.certificate_check.specs.Turned.{own_before, own_forms, staying, AreMore}
 use Rattle.solve_certified.specs.declared.leaf.LeafMaking.{LeafMaking}
 
-pub before_later : (m : LeafMaking) (r : ℕ) → 1 ≤ r → forms_before m r ≡ goal_forms m.leaf (r - 1)
-before_later m zero h = absurd (omega arith)
-before_later m (suc r) h = let e : r ≡ suc r - 1 = omega arith in ap (goal_forms m.leaf) e
+pub own_next : (m : LeafMaking) (r : ℕ) → own_before m.leaf (r + 1) ≡ own_forms m.leaf r
+own_next m r = ap (own_before m.leaf) (add-one r)
 
-pub before_next : (m : LeafMaking) (r : ℕ) → forms_before m (r + 1) ≡ goal_forms m.leaf r
-before_next m r = let e : r + 1 ≡ suc r = omega arith in ap (forms_before m) e
+-- of the refutation before stay all forms but the last; of the leaf's all
+pub stays_first : (m : LeafMaking) (r : ℕ) (F now : List (List ℤ)) → r ≡ 0 → now ≡ F ++ own_before m.leaf r → now ≡ staying m.leaf r F
+stays_first m zero F now z e = e ∙ append-nil F
+stays_first m (suc r) F now z e = absurd (omega arith)
 
--- ---- what stays from one to the next
+pub stays_later : (m : LeafMaking) (r : ℕ) (F now kept : List (List ℤ)) → 0 < r → now ≡ F ++ own_before m.leaf r → kept ≡ without_last now → kept ≡ staying m.leaf r F
+stays_later m zero F now kept h e k = absurd (omega arith)
+stays_later m (suc r) F now kept h e k = k ∙ ap without_last e
 
--- what is put behind forms leaves all but the last as they are, as all of them
-pub pushed_still : {X E : Type 0} (r : Result X E) (old now : KnownForms) (more : List (List ℤ)) → OnOk r (now ≡ record old { forms = old.forms ++ more })
-    → OnOk r (take (length old.forms - 1) now.forms ≡ without_last old.forms)
-pushed_still (Ok x) old now more e = ap (λ (k : KnownForms). take (length old.forms - 1) k.forms) e ∙ take-append-le (length old.forms - 1) old.forms more (omega arith)
-pushed_still (Err x) old now more e = tt
+pub all_turned : (m : LeafMaking) (r : ℕ) (F kept now : List (List ℤ)) → kept ≡ staying m.leaf r F → take (length kept) now ≡ kept → AreMore m.leaf r (drop (length kept) now) → now ≡ F ++ own_before m.leaf (r + 1)
+all_turned m r F kept now e stay more =
+    sym (take-append-drop (length kept) now)
+    ∙ ap (λ (xs : List (List ℤ)). xs ++ drop (length kept) now) (stay ∙ e)
+    ∙ more F
+    ∙ ap (λ (own : List (List ℤ)). F ++ own) (sym (own_next m r))
 
 -- the forms that are kept are the first of the next ones too
-pub first_still : (k : KeptForms) (old now : List (List ℤ)) → AreFirst k old → take (length old - 1) now ≡ without_last old → AreFirstWithin k now (length old - 1)
-first_still k old now h e = λ few.
+pub first_still : (k : KeptForms) (old now : List (List ℤ)) (n : ℕ) → AreFirst k old → take n now ≡ take n old → AreFirstWithin k now n
+first_still k old now n h e = λ few.
     let same : take (length k.forms) old ≡ take (length k.forms) now
-    = sym (take-take (length k.forms) (length old - 1) old few) ∙ ap (take (length k.forms)) (sym e) ∙ take-take (length k.forms) (length old - 1) now few in
+    = sym (take-take (length k.forms) n old few) ∙ ap (take (length k.forms)) (sym e) ∙ take-take (length k.forms) n now few in
     record { first = h.first ∙ ap (λ (X : List (List ℤ)). map (narrow_to k.width) X) same }

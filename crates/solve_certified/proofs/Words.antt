@@ -8,7 +8,7 @@ pub use Rattle.pip_model.specs.Made.{narrow_to, PathQuotient, solve_with_certifi
 pub use Rattle.certificate_check.specs.Goals.{without_last}
 pub use Rattle.certificate_check.specs.Known.{KnownForms}
 pub use Rattle.refuter.specs.KeptForms.{KeptForms, AreFirst, AreFirstWithin}
-pub use Rattle.certificate_check.specs.Leaves.{goal_forms, nothing, case_of, own_premises}
+pub use Rattle.certificate_check.specs.Leaves.{nothing, case_of, own_premises}
 pub use Rattle.pip_model.specs.Forms.{opposite, constant}
 pub use Rattle.pip_model.specs.Listed.{all_fit, opposite_listed}
 pub use Rattle.pip_model.specs.Cuts.{upper_bound, Quotient, lower_bound}
@@ -30,7 +30,7 @@ pub use Rattle.pip_model.specs.Check.{LeafCase, Premises, leaf_cases, leaf_forms
 pub use Rattle.pip_model.specs.Refuting.{indices, refute}
 pub use Rattle.pip_solve.proofs.Running.{grouped, same_after}
 pub use Rattle.quast.specs.Trees.{tree_of}
-pub use Rattle.solve_certified.specs.Leaves.{forms_before, made_proofs, made_at, IsScopeOf, IsBefore}
+pub use Rattle.solve_certified.specs.Leaves.{made_proofs, made_at, IsScopeOf, IsBefore}
 pub use Rattle.solve_certified.specs.Trails.{TrailForms, below_quotient}
 pub use Rattle.solve_certified.specs.Walks.{made_below, are_whole, IsAt, is_whole_answer}
 pub use Rattle.solve_certified.specs.Quotients.{steps_from, ReadsPlaces}

@@ -1,12 +1,13 @@
 -- The refutations of a leaf, each by its place.
-use Rattle.std.specs.Prelude.{◌≡◌, ℕ, zero, suc, ◌+◌, ℤ, List, length, slice_index_or, IsTrue, option_copied}
+use Rattle.std.specs.Prelude.{◌≡◌, ℕ, ◌+◌, List, length, slice_index_or, IsTrue, option_copied}
 use Rattle.pip_model.specs.Problem.{Problem}
 use Rattle.pip_model.specs.Certificate.{Refutation, LeafProofs}
 use Rattle.pip_model.specs.Check.{LeafCase, joined, leaf_forms, leaf_premises, scope_forms, is_whole_list}
 use Rattle.pip_model.specs.Run.{Counted, ◌>>=◌, give}
 use Rattle.pip_model.specs.Made.{PathQuotient, made_refutation, made_leaf, unshared}
 use Rattle.certificate_check.specs.Known.{KnownForms}
-use Rattle.certificate_check.specs.Leaves.{case_of, goal_forms, nothing, IsLeaf}
+use Rattle.certificate_check.specs.Leaves.{case_of, nothing, IsLeaf}
+use Rattle.certificate_check.specs.Turned.{AreBehind}
 use Rattle.solve_certified.specs.Goals.{unknowns_at}
 use Rattle.solve_certified.specs.Quotients.{ReadsPlaces}
 use Rattle.solve_certified.specs.declared.refutation.Scope.{Scope}
@@ -37,12 +38,8 @@ pub record IsMaking (m : LeafMaking) : Type 0 where
   pub whole : IsTrue (is_whole_list m.leaf.problem.now.unknowns (option_copied m.leaf.list))
   pub scope : IsScopeOf m.leaf.problem.now (case_of m.leaf) m.scope
 
--- the forms of the refutation in front of refutation r; the leaf's in front of the first
-abbrev pub forms_before : LeafMaking → ℕ → List (List ℤ)
-forms_before m zero = scope_forms m.leaf.problem.now (case_of m.leaf)
-forms_before m (suc r) = goal_forms m.leaf r
-
--- they are over the leaf's places and the unknowns
+-- the forms of the refutation in front of refutation r, over the leaf's places and the unknowns; the leaf's in front of
+-- the first
 pub record IsBefore (m : LeafMaking) (r : ℕ) (known : KnownForms) : Type 0 where
   pub width : known.width ≡ m.leaf.scope + m.leaf.problem.now.unknowns
-  pub forms : known.forms ≡ forms_before m r
+  pub behind : AreBehind (scope_forms m.leaf.problem.now (case_of m.leaf)) m.leaf r known

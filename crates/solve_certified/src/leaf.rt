@@ -1,10 +1,9 @@
-ghost use Rattle.std.specs.Prelude.{◌≡◌, ◌-◌, ◌<◌, length, take, slice_index_or, OnOk, IsTrue, option_copied};
+ghost use Rattle.std.specs.Prelude.{◌≡◌, ◌+◌, ◌<◌, length, take, slice_index_or, IfOk, OnOk, IsTrue, option_copied};
 ghost use Rattle.pip_model.specs.Agreement.{IsChecked, AgreesCounted};
 ghost use Rattle.pip_model.specs.Check.{is_whole_list};
 ghost use Rattle.affine_forms.specs.Checks.{is_form_overflow};
 ghost use Rattle.pip_problem.specs.Faults.{run_fault};
-ghost use Rattle.certificate_check.specs.Goals.{without_last};
-ghost use Rattle.certificate_check.specs.Leaves.{case_of, own_premises, goal_forms, nothing};
+ghost use Rattle.certificate_check.specs.Leaves.{case_of, own_premises, nothing};
 ghost use Rattle.refuter.specs.KeptForms.{AreFirst};
 ghost use Rattle.solve_certified.specs.Leaves.{made_at, made_proofs, IsBefore, IsMaking};
 ghost use Rattle.solve_certified.specs.Goals.{unknowns_at};
@@ -53,20 +52,22 @@ impl LeafMaking<'_> {
     }
 
     // Turns the forms of the refutation before into those of refutation r, from 0; the first one's stand behind the
-    // leaf's.
-    fn turn_to(&self, known: &mut Known, r: usize) -> Result<(), FormRefusal>
+    // leaf's. Answers how many of the first ones stay.
+    fn turn_to(&self, known: &mut Known, r: usize) -> Result<usize, FormRefusal>
         requires making { IsMaking self.now }
         requires before { IsBefore self.now r known.old }
         requires place { r < length (own_premises self.now.leaf) }
         ensures listed { IsChecked is_form_overflow (slice_index_or (own_premises self.now.leaf) r nothing).listed
             result }
-        ensures ok { OnOk result (known.new ≡ record known.old { forms = goal_forms self.now.leaf r }) }
-        ensures stay { OnOk result (take (length known.old.forms - 1) known.new.forms ≡ without_last known.old.forms) }
+        ensures turned { OnOk result (IsBefore self.now (r + 1) known.new) }
+        ensures stay { IfOk result (λ n. take n known.new.forms ≡ take n known.old.forms) }
     {
-        if r == 0 {
-            return self.leaf.push_goal(self.scope.alloc, known, r);
+        if r > 0 {
+            known.drop_last();
         }
-        self.leaf.next_goal(self.scope.alloc, known, r - 1)
+        let same = known.len();
+        self.leaf.push_goal(self.scope.alloc, known, r)?;
+        Ok(same)
     }
 
     // Refutation r, from 0, where the forms are those of the one before.
@@ -83,11 +84,10 @@ impl LeafMaking<'_> {
         requires first { AreFirst refuter.old known.old.forms }
         ensures gives { AgreesCounted (λ steps. steps) run_fault result work.new (made_at self.now.leaf.problem.now
             (case_of self.now.leaf) self.now.scope.quotients.now r work.old) }
-        ensures known { OnOk result (known.new ≡ record known.old { forms = goal_forms self.now.leaf r }) }
+        ensures turned { OnOk result (IsBefore self.now (r + 1) known.new) }
         ensures first { OnOk result (AreFirst refuter.new known.new.forms) }
     {
-        let same = known.len().saturating_sub(1);
-        self.turn_to(known, r)?;
+        let same = self.turn_to(known, r)?;
         refuter.keep(self.kept_forms(known.len()));
         let steps = self
             .scope

@@ -1,6 +1,5 @@
-use Rattle.solve_certified.proofs.Words.{rules, arith, ◌≡◌, ◌∙◌, ap, sym, ◌+◌, ◌++◌, [], ◌∷◌, List, option_copied, err_from_is_err_and, Refutation, LeafProofs, run_fault, KnownForms, case_of}
+use Rattle.solve_certified.proofs.Words.{rules, arith, ◌≡◌, ◌∙◌, ap, sym, ◌+◌, ◌++◌, [], ◌∷◌, List, option_copied, err_from_is_err_and, Refutation, LeafProofs, run_fault, case_of}
 use Rattle.certificate_check.proofs.Owned.{own_goals}
-use Rattle.solve_certified.proofs.GoalsBefore.{before_next}
 use Rattle.solve_certified.proofs.MadeGoals.{from_here, leaf_start, leaf_next, leaf_stop, leaf_end}
 use Rattle.solve_certified.proofs.leaf.LeafMaking.refute_each.Goals as goal
 
@@ -37,10 +36,7 @@ loop-r-preserved c =
     let pushed : c.push.new.self ≡ record c.loop-r.proofs { refutations = c.loop-r.proofs.refutations ++ c.in_ok-steps.steps ∷ [] } = search rules in
     let longer : c.push.new.self.refutations ≡ c.loop-r.proofs.refutations ++ c.in_ok-steps.steps ∷ [] = ap (λ (p : LeafProofs). p.refutations) pushed in
     record {
-      before = record {
-        width = ap (λ (k : KnownForms). k.width) c.in_ok-steps.ensures.known ∙ c.loop-r.invariant.before.width;
-        forms = ap (λ (k : KnownForms). k.forms) c.in_ok-steps.ensures.known ∙ sym (before_next c.args.self.now c.loop-r.r);
-      };
+      before = c.in_ok-steps.ensures.turned;
       first = c.in_ok-steps.ensures.first;
       shared = ap (λ (p : LeafProofs). p.shared) pushed ∙ c.loop-r.invariant.shared;
       made = c.loop-r.invariant.made
