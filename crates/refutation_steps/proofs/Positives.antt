@@ -1,6 +1,9 @@
--- Indices with positive multipliers, one by one; indices from 0 on.
-use Rattle.refutation_steps.proofs.Words.{◌≡◌, refl, ap, ◌∙◌, ℕ, zero, suc, ◌+◌, ◌<◌, ◌≤◌, ℤ, pos, negsuc, ints, ◌≤ℤ◌, ◌<ℤ◌, neg_ℤ, true, false, List, [], ◌∷◌, ◌++◌, length, length-append, take, drop, arith, sym, drop_more, take-append-le, is_positive, entry, negate, entry-negate, positive_terms, indices}
+-- Indices with positive multipliers, one by one; indices of rows.
+use Rattle.refutation_steps.proofs.Words.{◌≡◌, refl, ap, ◌∙◌, ℕ, zero, suc, ◌+◌, ◌-◌, ◌<◌, ◌≤◌, ℤ, pos, negsuc, ints, ◌≤ℤ◌, ◌<ℤ◌, neg_ℤ, true, false, List, [], ◌∷◌, ◌++◌, length, length-append, length-map, length-count, get_or_append_left, take, drop, arith, sym, drop_more, take-append-le, is_positive, entry, negate, entry-negate, positive_terms, indices}
 use Rattle.std.proofs.Math.Seq.{append_snoc}
+use Rattle.std.proofs.lemmas.List.{get_or-append_right, get_or_read}
+use Rattle.std.proofs.Common.{ap₂, get_or}
+use Rattle.pip_model.specs.Rows.{count_from}
 
 module _ (is ms : List ℤ) (i : ℕ) (h : i < length is) (k : length ms ≡ length is) where
   pub positive-here : is_positive (entry ms i) ≡ true → positive_terms (drop i is) (drop i ms) ≡ (entry is i, entry ms i) ∷ positive_terms (drop (i + 1) is) (drop (i + 1) ms)
@@ -47,10 +50,36 @@ opposite-later xs i h = ap is_positive (entry-negate xs i) ∙ rest (entry xs i)
     rest (pos (suc n)) h = refl
     rest (negsuc n) h = absurd (omega (arith, ints))
 
--- one index more
-pub indices-last : (i n k : ℕ) → i + n ≡ k → indices i (n + 1) ≡ indices i n ++ pos k ∷ []
-indices-last i n k e = let s : n + 1 ≡ suc n = omega arith in ap (indices i) s ∙ more i n ∙ ap (λ j. indices i n ++ pos j ∷ []) e
-  where
-    more : (i n : ℕ) → indices i (suc n) ≡ indices i n ++ pos (i + n) ∷ []
-    more i zero = ap (λ (k : ℕ). pos k ∷ []) (let e : i ≡ i + 0 = omega arith in e)
-    more i (suc n) = ap (λ (xs : List ℤ). pos i ∷ xs) (more (i + 1) n) ∙ ap (λ (k : ℕ). pos i ∷ (indices (i + 1) n ++ pos k ∷ [])) (let e : i + 1 + n ≡ i + suc n = omega arith in e)
+-- ---- the index of a row's form
+
+index_at : (i n k : ℕ) → k < n → entry (indices i n) k ≡ pos (i + k)
+index_at i zero k h = absurd (omega arith)
+index_at i (suc n) zero h = ap pos (let e : i ≡ i + 0 = omega arith in e)
+index_at i (suc n) (suc k) h = index_at (i + 1) n k (omega arith) ∙ ap pos (let e : i + 1 + k ≡ i + suc k = omega arith in e)
+
+-- the rows of m places, of n forms and of the cuts, and one behind the places
+module _ (rows places cuts : List ℤ) (n r m : ℕ) (is : rows ≡ places ++ indices 0 n ++ cuts) (same : m ≡ length places) (low : m ≤ r) where
+  length-front : length (places ++ indices 0 n) ≡ m + n
+  length-front = length-append places (indices 0 n) ∙ ap₂ (λ (k l : ℕ). k + l) (sym same) (length-map (count_from 0 n) pos ∙ length-count 0 n)
+
+  pub of_form : r - m < n → entry rows r ≡ pos (r - m)
+  of_form h =
+      let front = length-front in
+      ap (λ (X : List ℤ). entry X r) is
+      ∙ get_or_append_left (places ++ indices 0 n) cuts (pos 0) r (omega arith)
+      ∙ get_or-append_right places (indices 0 n) m r (pos 0) (sym same) low
+      ∙ index_at 0 n (r - m) h
+      ∙ ap pos (let e : 0 + (r - m) ≡ r - m = omega arith in e)
+
+  pub in_cuts : r < length rows → n ≤ r - m → r - m - n < length cuts
+  in_cuts h k =
+      let long : length rows ≡ length (places ++ indices 0 n) + length cuts = ap length is ∙ length-append (places ++ indices 0 n) cuts in
+      let front = length-front in
+      omega arith
+
+  pub of_cut : r < length rows → n ≤ r - m → (x : ℤ) → x ≡ get_or cuts (r - m - n) x → entry rows r ≡ x
+  of_cut h k x read =
+      ap (λ (X : List ℤ). entry X r) is
+      ∙ get_or-append_right (places ++ indices 0 n) cuts (m + n) r (pos 0) length-front (omega arith)
+      ∙ ap (entry cuts) (let e : r - (m + n) ≡ r - m - n = omega arith in e)
+      ∙ sym (get_or_read cuts (r - m - n) x (in_cuts h k) read (pos 0))

@@ -1,5 +1,5 @@
 -- The words of other modules that the proofs of this crate cite, passed on from one place. Declares nothing.
-pub use Rattle.std.proofs.Common.{◌≡◌, refl, ap, sym, ◌∙◌, ℕ, zero, suc, ◌<◌, ◌≤◌, ℤ, Bool, true, false, Option, Some, None, List, [], ◌∷◌, length, take, arith, length-append, ◌+◌, ◌++◌, pos, negsuc, drop, slice_set, append_assoc, All, rules}
+pub use Rattle.std.proofs.Common.{◌≡◌, refl, ap, sym, ◌∙◌, ℕ, zero, suc, ◌-◌, ◌<◌, ◌≤◌, ℤ, Bool, true, false, Option, Some, None, List, [], ◌∷◌, length, take, arith, length-append, ◌+◌, ◌++◌, pos, negsuc, drop, slice_set, append_assoc, All, rules}
 pub use Rattle.std.specs.Prelude.{Ok, if◌then◌else◌, ◌≤ℤ◌, ◌<ℤ◌, neg_ℤ}
 pub use Rattle.std.proofs.lemmas.List.{length-map, drop_more, take-append-le, get_or_append_left}
 pub use Rattle.std.proofs.lemmas.Int.{ints}

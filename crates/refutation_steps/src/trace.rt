@@ -1,6 +1,6 @@
 ghost use Rattle.std.specs.Prelude.{◌≡◌, ◌^◌, ◌<◌, [], ◌∷◌, ◌++◌, pos, ◌≤ℤ◌, ◌<ℤ◌, length, slice_set, All, IfOk, OnOk};
 ghost use Rattle.pip_model.specs.Forms.{entry, negate};
-ghost use Rattle.pip_model.specs.Refuting.{indices, positive_terms, first_trace, with_step, cut_step, last_step};
+ghost use Rattle.pip_model.specs.Refuting.{positive_terms, first_trace, with_step, cut_step, last_step};
 ghost use Rattle.pip_model.specs.Rows.{row_at};
 ghost use Rattle.affine_forms.specs.Checks.{Fits};
 ghost use Rattle.point_run.specs.Tableaus.{IsRow};
@@ -17,47 +17,45 @@ use std::marker::Model;
 use std::mem::replace;
 
 // For each row and each column of a run without parameters the index of the known form that is its quantity, the
-// index of the first step's form, and the steps so far.
+// index of the first step's form, and the steps so far. The rows are those of the places, of so many forms, and of the
+// cuts.
 #[derive(Drop)]
 pub struct Trace {
-    rows: Vec<i128>,
+    places: Vec<i128>,
+    forms: usize,
+    cuts: Vec<i128>,
     columns: Vec<i128>,
     first: i128,
     steps: Refutation,
 }
 
 impl Model for Trace {
-    ghost use Rattle.std.specs.Prelude.{◌^◌, pos, ◌+ℤ◌, ◌≤ℤ◌, ◌<ℤ◌, All, length};
+    ghost use Rattle.std.specs.Prelude.{◌^◌, ◌++◌, pos, ◌+ℤ◌, ◌≤ℤ◌, ◌<ℤ◌, All, length};
     ghost use Rattle.pip_model.specs.Refuting as model;
     ghost use Rattle.affine_forms.specs.Checks.{Fits};
 
     ghost Value = { model.Trace };
 
     ghost view = { λ t. record {
-      rows = t.rows.items;
+      rows = t.places.items ++ model.indices 0 t.forms ++ t.cuts.items;
       columns = t.columns.items;
       next = t.first +ℤ pos (length t.steps);
       steps = t.steps;
     } };
 
-    ghost invariant = { λ t. (All Fits t.rows.items) × (All Fits t.columns.items)
+    ghost invariant = { λ t. (All Fits t.places.items) × (All Fits t.cuts.items) × (All Fits t.columns.items)
         × (pos 0 ≤ℤ t.first) × (t.first <ℤ pos (2 ^ 64)) };
 }
 
-// Makes a list of these indices, and behind them those of so many forms from 0 on. After a refusal some of them may stand
-// there.
-fn write_indices(list: &mut Vec<i128>, places: &[i128], count: usize) -> Result<(), WantOfMemory>
-    requires places { All Fits places.now }
-    ensures value { OnOk result (list.new.items ≡ places.now ++ indices 0 count) }
-    ensures fits { All Fits list.new.items }
+// The numbers, each with the other sign.
+fn opposites(alloc: Global, numbers: &[i128]) -> Result<Vec<i128>, WantOfMemory>
+    requires { All Fits numbers.now }
+    ensures value { IfOk result (λ made. made.items ≡ negate numbers.now) }
+    ensures fits { IfOk result (λ made. All Fits made.items) }
 {
-    list.clear();
-    list.reserve(places.len().saturating_add(count))?;
-    list.extend_from_slice(places)?;
-    for i in 0..count {
-        list.push(i as i128)?;
-    }
-    Ok(())
+    let mut made = Vec::from_slice(alloc, numbers)?;
+    negate_all(&mut made);
+    Ok(made)
 }
 
 impl Trace {
@@ -66,7 +64,9 @@ impl Trace {
         ensures { result ≡ record { rows = []; columns = []; next = pos 0; steps = [] } }
     {
         Trace {
-            rows: Vec::new(alloc),
+            places: Vec::new(alloc),
+            forms: 0,
+            cuts: Vec::new(alloc),
             columns: Vec::new(alloc),
             first: 0,
             steps: Refutation::new(alloc),
@@ -77,7 +77,7 @@ impl Trace {
     fn no_steps(&self) -> Refutation
         ensures { result ≡ [] }
     {
-        Refutation::new(*self.rows.allocator())
+        Refutation::new(*self.columns.allocator())
     }
 
     /// Starts again with no step, in the rooms that it has: the rows of the places, and then of so many forms.
@@ -92,12 +92,32 @@ impl Trace {
         requires few { first <ℤ pos (2 ^ 64) }
         ensures { OnOk result (self.new ≡ first_trace places.now count first) }
     {
-        write_indices(&mut self.rows, places, count)?;
+        self.places.clear();
+        self.places.extend_from_slice(places)?;
+        self.forms = count;
+        self.cuts.clear();
         self.columns.clear();
         self.columns.extend_from_slice(places)?;
         self.first = first;
         self.steps = self.no_steps();
         Ok(())
+    }
+
+    // The index of the form that is the row's quantity.
+    fn index_of(&self, row: usize) -> i128
+        requires { row < length self.now.rows }
+        ensures value { result ≡ entry self.now.rows row }
+        ensures fits { Fits result }
+    {
+        let places = self.places.len();
+        if row < places {
+            return self.places[row];
+        }
+        let form = row - places;
+        if form < self.forms {
+            return form as i128;
+        }
+        self.cuts[form - self.forms]
     }
 
     /// The row's quantity is the column's from here on.
@@ -106,7 +126,7 @@ impl Trace {
         requires column { column < length self.old.columns }
         ensures { self.new ≡ record self.old { columns = slice_set self.old.columns column (entry self.old.rows row) } }
     {
-        self.columns[column] = self.rows[row];
+        self.columns[column] = self.index_of(row);
     }
 
     // The index of the form that the next step gives.
@@ -122,7 +142,7 @@ impl Trace {
         ensures { OnOk result (self.new ≡ record self.old { rows = self.old.rows ++ self.old.next ∷ [] }) }
     {
         let next = self.next();
-        self.rows.push(next)?;
+        self.cuts.push(next)?;
         Ok(())
     }
 
@@ -157,18 +177,21 @@ impl Trace {
         })
     }
 
-    // The pairs of the last step: the index of row r with the row's denominator, and each column that the row has below
-    // 0, so many times away.
-    fn last_terms(&self, alloc: Global, r: usize, row: &RowView<'_>) -> Result<Terms, WantOfMemory>
-        requires index { r < length self.now.rows }
+    // The pairs of the last step: the index of the row's form with the row's denominator, and each column that the row has
+    // below 0, so many times away.
+    fn last_terms(
+        &self,
+        alloc: Global,
+        index: i128,
+        row: &RowView<'_>,
+    ) -> Result<Terms, WantOfMemory>
+        requires index { Fits index }
         requires row { IsRow (length self.now.columns) 0 (row_of row.now) }
-        ensures { IfOk result (λ terms. terms
-            ≡ (last_step (row_of row.now) (entry self.now.rows r) self.now.columns).terms) }
+        ensures { IfOk result (λ terms. terms ≡ (last_step (row_of row.now) index self.now.columns).terms) }
     {
         let mut terms = Terms::new(alloc);
-        terms.push((self.rows[r], row.den))?;
-        let mut away = Vec::from_slice(alloc, row.coefs)?;
-        negate_all(&mut away);
+        terms.push((index, row.den))?;
+        let away = opposites(alloc, row.coefs)?;
         push_positive(&mut terms, &self.columns, &away)?;
         Ok(terms)
     }
@@ -180,7 +203,7 @@ impl Trace {
         ensures { OnOk result (self.new ≡ with_step self.old
             (last_step (row_of row.now) (entry self.old.rows r) self.old.columns)) }
     {
-        let terms = self.last_terms(alloc, r, row)?;
+        let terms = self.last_terms(alloc, self.index_of(r), row)?;
         self.push_step(Step { divisor: 1, terms })
     }
 
@@ -193,8 +216,8 @@ impl Trace {
             ≡ (entry self.now.rows at, den) ∷ positive_terms self.now.columns (negate coefs.now)) }
     {
         let pairs = count_negative(coefs).saturating_add(1);
-        let mut terms = Terms::with_capacity(*self.rows.allocator(), pairs)?;
-        terms.push((self.rows[at], den as i128))?;
+        let mut terms = Terms::with_capacity(*self.columns.allocator(), pairs)?;
+        terms.push((self.index_of(at), den as i128))?;
         push_opposites(&mut terms, &self.columns, coefs)?;
         Ok(terms)
     }
