@@ -1,5 +1,4 @@
-use Rattle.std.proofs.Common.{rules}
 use Rattle.promised_parts.proofs.readings.row.Goals as goal
 
 pub returns : goal.returns
-returns c = search rules
+returns c = c.row.ensures.reads
