@@ -1,5 +1,5 @@
 //! The examples that README.md and examples/ show. The trees and the pieces were computed by other programs.
-use crate::row::are_answered;
+use crate::row::all_hold;
 use std::test::Fail;
 
 const EXAMPLES: &[&str] = &[
@@ -19,5 +19,5 @@ const EXAMPLES: &[&str] = &[
 
 #[test]
 fn examples_are_answered(rt: HostRuntime) -> Result<(), Fail> {
-    are_answered(&rt, rt.alloc(), EXAMPLES)
+    all_hold(&rt, rt.alloc(), EXAMPLES)
 }

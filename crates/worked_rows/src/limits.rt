@@ -2,6 +2,7 @@
 use crate::row::{Wanted, line_ends_so};
 use crate::texts::repeat;
 use std::alloc::{AllocError, Global};
+use std::process::Abort;
 use std::test::Fail;
 
 // A text of many like parts: pieces, each with how often it is repeated.
@@ -245,30 +246,22 @@ fn is_kept(alloc: Global, limit: &Limit) -> Result<bool, AllocError> {
     line_ends_so(alloc, limit.words, made(alloc, limit.text)?, 4096, &wanted)
 }
 
-#[test]
-fn limits_are_kept(rt: HostRuntime) -> Result<(), Fail> {
-    for limit in LIMITS {
-        assert!(rt;
-            is_kept(rt.alloc(), limit)?,
-            "{}: {}",
-            limit.words,
-            limit.notes
-        );
+// Asserts that each limit is kept.
+fn are_kept(rt: &impl Abort, alloc: Global, limits: &[Limit]) -> Result<(), Fail> {
+    for limit in limits {
+        assert!(rt; is_kept(alloc, limit)?, "{}: {}", limit.words, limit.notes);
     }
     Ok(())
 }
 
 #[test]
+fn limits_are_kept(rt: HostRuntime) -> Result<(), Fail> {
+    are_kept(&rt, rt.alloc(), LIMITS)
+}
+
+#[test]
 fn bytes_of_inputs_are_limited(rt: HostRuntime) -> Result<(), Fail> {
-    for limit in LONGEST {
-        assert!(rt;
-            is_kept(rt.alloc(), limit)?,
-            "{}: {}",
-            limit.words,
-            limit.notes
-        );
-    }
-    Ok(())
+    are_kept(&rt, rt.alloc(), LONGEST)
 }
 
 // Whether the deepest answer is restricted to itself.

@@ -1,5 +1,5 @@
 //! The recipes of the guide, whose answers were compared with an enumeration.
-use crate::row::are_answered;
+use crate::row::all_hold;
 use std::test::Fail;
 
 const RECIPES: &[&str] = &[
@@ -33,5 +33,5 @@ const RECIPES: &[&str] = &[
 
 #[test]
 fn recipes_are_answered(rt: HostRuntime) -> Result<(), Fail> {
-    are_answered(&rt, rt.alloc(), RECIPES)
+    all_hold(&rt, rt.alloc(), RECIPES)
 }

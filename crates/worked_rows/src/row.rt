@@ -102,28 +102,14 @@ pub(crate) fn field(row: &str) -> (&str, &str) {
     }
 }
 
-// Whether a row is answered as it says: its name, the words with a blank between two of them, the input, and what the
-// sink gains. The notes gain nothing, and the status is 0.
-fn is_answered(alloc: Global, row: &str) -> Result<bool, AllocError> {
-    let (_, row) = field(row);
-    let (words, row) = field(row);
-    let (input, output) = field(row);
-    let wanted = Wanted {
-        output: output.as_bytes(),
-        notes: "",
-        status: 0,
-    };
-    text_ends_so(alloc, words, input, &wanted)
-}
-
-// Whether a row is refused as it says: its name, the words, the input, the status, what the notes gain, and what the sink
-// gains before that.
-fn is_refused(alloc: Global, row: &str) -> Result<bool, AllocError> {
+// Whether a row holds: its name, the words with a blank between two of them, the input, and what the sink gains; where a
+// run is refused also the status, and what the notes gain. Else the notes gain nothing, and the status is 0.
+fn holds(alloc: Global, row: &str) -> Result<bool, AllocError> {
     let (_, row) = field(row);
     let (words, row) = field(row);
     let (input, row) = field(row);
-    let (status, row) = field(row);
-    let (notes, output) = field(row);
+    let (output, row) = field(row);
+    let (status, notes) = field(row);
     let wanted = Wanted {
         output: output.as_bytes(),
         notes,
@@ -132,18 +118,10 @@ fn is_refused(alloc: Global, row: &str) -> Result<bool, AllocError> {
     text_ends_so(alloc, words, input, &wanted)
 }
 
-// Asserts that each row is answered as it says.
-pub(crate) fn are_answered(rt: &impl Abort, alloc: Global, rows: &[&str]) -> Result<(), Fail> {
+// Asserts that each row holds.
+pub(crate) fn all_hold(rt: &impl Abort, alloc: Global, rows: &[&str]) -> Result<(), Fail> {
     for row in rows {
-        assert!(rt; is_answered(alloc, row)?, "{row}");
-    }
-    Ok(())
-}
-
-// Asserts that each row is refused as it says.
-pub(crate) fn are_refused(rt: &impl Abort, alloc: Global, rows: &[&str]) -> Result<(), Fail> {
-    for row in rows {
-        assert!(rt; is_refused(alloc, row)?, "{row}");
+        assert!(rt; holds(alloc, row)?, "{row}");
     }
     Ok(())
 }

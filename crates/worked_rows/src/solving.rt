@@ -1,5 +1,5 @@
 //! Problems that are answered.
-use crate::row::are_answered;
+use crate::row::all_hold;
 use std::test::Fail;
 
 const SOLVED: &[&str] = &[
@@ -49,5 +49,5 @@ const SOLVED: &[&str] = &[
 
 #[test]
 fn solved(rt: HostRuntime) -> Result<(), Fail> {
-    are_answered(&rt, rt.alloc(), SOLVED)
+    all_hold(&rt, rt.alloc(), SOLVED)
 }

@@ -1,5 +1,5 @@
 //! Trials of problems that are drawn.
-use crate::row::are_answered;
+use crate::row::all_hold;
 use affine_rows::WantOfMemory;
 use pip_cli::{Generator, draw_problem};
 use std::alloc::Global;
@@ -12,7 +12,7 @@ const DRAWN: &[&str] = &[
 
 #[test]
 fn drawn(rt: HostRuntime) -> Result<(), Fail> {
-    are_answered(&rt, rt.alloc(), DRAWN)
+    all_hold(&rt, rt.alloc(), DRAWN)
 }
 
 // The first state of seed 0 gives 167951807, which is 2 modulo 3, and the first problem so many unknowns and one more.

@@ -1,5 +1,5 @@
 //! The words of the command line.
-use crate::row::{Wanted, are_answered, are_refused, ends_over, ends_so, line_ends_so};
+use crate::row::{Wanted, all_hold, ends_over, ends_so, line_ends_so};
 use std::alloc::{AllocError, Global};
 use std::test::Fail;
 
@@ -17,19 +17,15 @@ const WORDS: &[&str] = &[
     "one cut is allowed, and needed || pip restrict 1 --cuts 1 || (#[2 -1])((a)(list#[0 0])) || ((a)\n(list\n#[ 0 0]\n)\n)\n",
     "budgets of a comparison || pip same 0 --splits 0 --pivots=2 || ()((a)(list#[1]))((b)(list#[2])) || differ #[]\n",
     "the greatest seed || pip trial 18446744073709551615 0 ||  || problems 0 lists 0 bottoms 0 quotients 0 refused 0\n",
-];
-
-const REFUSED_WORDS: &[&str] = &[
-    "a budget behind a flag || pip solve --polylib --cuts 0 || 0 2\n-1\n1 4\n1 2 -1 -1\n || 5 || pip: budget of cuts 0\n || ",
-    "the greatest budgets, and one of 0 || pip solve --pivots=1000000000 --cuts 1000000 --splits 1000000 --nesting 0 || ((c) 1 1 1 0 -1 0 (#[2 0 -1]) ()) || 5 || pip: budget of nesting 0\n || ",
-    "zeros before a budget, and no words behind two strokes || pip solve --pivots 0001 -- || ((k) 2 0 1 0 -1 1 (#[2 -1 -1]) ()) || 5 || pip: budget of pivots 1\n || ",
-    "budgets of a choice || pip least 1 --nesting 1 --splits 1000000 || ()((x) (list #[1 0]))((y) (list #[0 3])) || 5 || pip: budget of nesting 1\n || ",
+    "a budget behind a flag || pip solve --polylib --cuts 0 || 0 2\n-1\n1 4\n1 2 -1 -1\n ||  || 5 || pip: budget of cuts 0\n",
+    "the greatest budgets, and one of 0 || pip solve --pivots=1000000000 --cuts 1000000 --splits 1000000 --nesting 0 || ((c) 1 1 1 0 -1 0 (#[2 0 -1]) ()) ||  || 5 || pip: budget of nesting 0\n",
+    "zeros before a budget, and no words behind two strokes || pip solve --pivots 0001 -- || ((k) 2 0 1 0 -1 1 (#[2 -1 -1]) ()) ||  || 5 || pip: budget of pivots 1\n",
+    "budgets of a choice || pip least 1 --nesting 1 --splits 1000000 || ()((x) (list #[1 0]))((y) (list #[0 3])) ||  || 5 || pip: budget of nesting 1\n",
 ];
 
 #[test]
 fn words_are_read(rt: HostRuntime) -> Result<(), Fail> {
-    are_answered(&rt, rt.alloc(), WORDS)?;
-    are_refused(&rt, rt.alloc(), REFUSED_WORDS)
+    all_hold(&rt, rt.alloc(), WORDS)
 }
 
 // Lines that give no command.
