@@ -21,7 +21,6 @@ use point_run::{Point, find_point};
 use run_counts::Work;
 use std::alloc::Global;
 use std::marker::Model;
-use std::mem::swap;
 use std::slice::from_ref;
 
 /// A context: forms over the parameters and quotients in scope, which it takes to be at least 0. Its width is their
@@ -44,13 +43,6 @@ pub struct Context {
     is_known: bool,
     // How many forms' run it is.
     known: usize,
-    // The run of the first forms, of fewer, where it is kept, and how many.
-    earlier: Remembered,
-    is_earlier: bool,
-    earlier_known: usize,
-    // Whether the context went back to the forms of the run. Who goes through the branches of a tree does so once for each,
-    // so no copy is made of the run then. Where the context goes back again, the run begins again.
-    is_last: bool,
     // Whether it was tried to make the run of all forms.
     is_tried: bool,
     question: Question,
@@ -106,7 +98,7 @@ impl Model for Context {
         } };
 
     ghost invariant = { λ k.
-        IsKnown k.width k.forms.items k.is_known k.known k.run k.is_earlier k.earlier_known k.earlier
+        IsKnown k.width k.forms.items k.is_known k.known k.run
         × IsTried k.is_tried k.known k.forms.items × IsAsking k.width k.forms.items k.lanes };
 }
 
@@ -123,10 +115,6 @@ impl Context {
             run: Remembered::new(alloc),
             is_known: false,
             known: 0,
-            earlier: Remembered::new(alloc),
-            is_earlier: false,
-            earlier_known: 0,
-            is_last: false,
             is_tried: false,
             question: Question::new(alloc),
             spares: Spares::new(alloc),
@@ -155,7 +143,6 @@ impl Context {
         self.width = width;
         self.is_known = false;
         self.known = 0;
-        self.is_earlier = false;
         self.is_tried = false;
     }
 
@@ -233,25 +220,8 @@ impl Context {
         self.spares.keep_from(&mut self.forms, mark.forms);
         self.lanes.back_to(mark.forms, mark.width);
         self.is_known = stays(self.is_known, self.known, self.width, mark);
-        self.is_earlier = stays(self.is_earlier, self.earlier_known, mark.width, mark);
         self.width = mark.width;
         self.is_tried = false;
-        self.take_earlier();
-        self.is_last = self.known == self.forms.len();
-    }
-
-    // Where no run is known, that of fewer forms is, if it is kept and has the context's width.
-    fn take_earlier(&mut self)
-        requires tried { self.old.tried ≡ false }
-        ensures kept { IsKeptContext self.old self.new }
-        ensures tried { self.new.tried ≡ false }
-    {
-        if !self.is_known && self.is_earlier && self.earlier.run.end.unknowns() == self.width {
-            swap(&mut self.run, &mut self.earlier);
-            self.known = self.earlier_known;
-            self.is_known = true;
-            self.is_earlier = false;
-        }
     }
 
     /// A whole vector of numbers from 0 on at which no form is below 0; None exactly where there is none. It is found
@@ -284,25 +254,13 @@ impl Context {
         self.spares.keep(form);
     }
 
-    // Keeps a copy of the run, where it is one of fewer forms than there are, and the context may go back to them.
-    #[tactic(auto, using(crate::proofs::Keeping::earlier_kept))]
-    fn keep_earlier(&mut self)
-        ensures kept { IsKeptContext self.old self.new }
-    {
-        if self.is_known && !self.is_last && self.known < self.forms.len() {
-            self.is_earlier = self.earlier.copy_from(&self.run).is_ok();
-            self.earlier_known = self.known;
-        }
-    }
-
-    // Makes the run of all forms alone, where that was not tried before, and keeps that of the first of them.
+    // Makes the run of all forms alone, where that was not tried before.
     #[inline(always)]
     fn prepare(&mut self)
         ensures kept { IsKeptContext self.old self.new }
         ensures tried { self.new.tried ≡ true }
     {
         if !self.is_tried {
-            self.keep_earlier();
             self.recall();
         }
     }
@@ -320,7 +278,6 @@ impl Context {
             remember(&mut self.run, self.width, &self.forms).is_ok()
         };
         self.known = self.forms.len();
-        self.is_last = false;
     }
 
     // Whether the context with these further forms has a point, by the remembered run of all its own; None where there

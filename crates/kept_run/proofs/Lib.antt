@@ -1,7 +1,7 @@
 mod Words
-pub mod Copying
 pub mod EndingBehind
 pub mod GoingFurther
+pub mod Longer
 pub mod OneFormMore
 pub mod PivotBehind
 pub mod Replaying

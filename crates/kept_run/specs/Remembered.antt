@@ -62,13 +62,6 @@ pub record IsReplay (first : List Row) (m : Replay) : Type 0 where
   pub run : RetracesTo (traced_point m.end.unknowns) first m.pivots.rows m.rows.items m.columns.items m.end.rows
   pub traced : RetracesTo (refute_from m.end.unknowns) first m.pivots.rows m.rows.items m.columns.items m.end.rows
 
--- the same pivots and rows
-pub record IsSameReplay (m copy : Replay) : Type 0 where
-  pub pivots : copy.pivots ≡ m.pivots
-  pub rows : copy.rows.items ≡ m.rows.items
-  pub columns : copy.columns.items ≡ m.columns.items
-  pub end : copy.end ≡ m.end
-
 -- it is known whether the last rows are an end
 pub record IsStopped (m : Remembered) : Type 0 where
   pub formed : IsFormed m.run

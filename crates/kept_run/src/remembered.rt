@@ -2,7 +2,7 @@ ghost use Rattle.std.specs.Prelude.{◌≡◌, ℕ, ◌+◌, ◌<◌, ◌≤◌,
 ghost use Rattle.pip_model.specs.Contexts.{IsContext};
 ghost use Rattle.pip_model.specs.Rows.{Row};
 ghost use Rattle.short_run.specs.Turns.{negative_from};
-ghost use Rattle.kept_run.specs.Remembered.{IsFormed, IsReplay, IsSameReplay, IsStopped, IsRemembered};
+ghost use Rattle.kept_run.specs.Remembered.{IsFormed, IsReplay, IsStopped, IsRemembered};
 ghost use Rattle.short_run.specs.Points.{first_rows, is_end};
 
 use affine_forms::{Form, WantOfMemory};
@@ -43,38 +43,6 @@ impl Remembered {
             end: ShortTableau::new(alloc, 0),
         };
         Remembered { run, at_end: false }
-    }
-}
-
-// Makes of some places these.
-fn copy_places(copy: &mut Vec<usize>, places: &[usize]) -> Result<(), WantOfMemory>
-    ensures { OnOk result (copy.new.items ≡ places.now) }
-{
-    copy.clear();
-    copy.extend_from_slice(places)?;
-    Ok(())
-}
-
-// Makes of some pivots these.
-fn copy_replay(copy: &mut Replay, m: &Replay) -> Result<(), WantOfMemory>
-    ensures { OnOk result (IsSameReplay m.now copy.new) }
-{
-    copy.pivots.copy_from(&m.pivots)?;
-    copy_places(&mut copy.rows, &m.rows)?;
-    copy_places(&mut copy.columns, &m.columns)?;
-    copy.end.copy_from(&m.end)?;
-    Ok(())
-}
-
-impl Remembered {
-    /// Becomes the same run as another.
-    #[tactic(auto, using(crate::proofs::Copying::remembered_same))]
-    pub fn copy_from(&mut self, m: &Remembered) -> Result<(), WantOfMemory>
-        ensures { OnOk result ((n : ℕ) (K : List (List ℤ)) → IsRemembered n K m.now → IsRemembered n K self.new) }
-    {
-        copy_replay(&mut self.run, &m.run)?;
-        self.at_end = m.at_end;
-        Ok(())
     }
 }
 

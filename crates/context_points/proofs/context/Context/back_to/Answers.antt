@@ -8,4 +8,4 @@ invariant_of-self c =
     let forms : c.keep_from.new.forms.items ≡ take c.args.mark.forms k.forms.items = search rules in
     let room : c.args.mark.forms ≤ length k.forms.items = search rules in
     let narrow : IsContext c.args.mark.width (take c.args.mark.forms k.forms.items) = search rules in
-    rw forms (known_front k.width k.forms.items k.is_known k.known k.run k.is_earlier k.earlier_known k.earlier c.self.invariant.0 c.args.mark.width c.args.mark.forms c.stays-self-inside.result c.stays-self-inside-2.result room narrow c.stays-self-inside.ensures c.stays-self-inside-2.ensures, (λ tried. absurd cc), c.back_to.ensures.asking k.width k.forms.items room c.self.invariant.2)
+    rw forms (known_front k.width k.forms.items k.is_known k.known k.run c.self.invariant.0 c.args.mark.width c.args.mark.forms c.stays-self-inside.result room narrow c.stays-self-inside.ensures, (λ tried. absurd cc), c.back_to.ensures.asking k.width k.forms.items room c.self.invariant.2)

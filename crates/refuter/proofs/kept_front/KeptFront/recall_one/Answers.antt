@@ -1,5 +1,5 @@
 use Rattle.refuter.proofs.Words.{rules, arith, ◌≡◌, [], ◌∷◌, ◌++◌}
-use Rattle.kept_run.proofs.Copying.{context_longer}
+use Rattle.kept_run.proofs.Longer.{context_longer}
 use Rattle.refuter.proofs.kept_front.KeptFront.recall_one.Goals as goal
 
 pub invariant_of-self-2 : goal.invariant_of-self-2
