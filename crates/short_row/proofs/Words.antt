@@ -26,7 +26,7 @@ pub use Rattle.row_laws.proofs.Contents.{content-divided, content-one}
 pub use Rattle.row_laws.proofs.Substituting.{row_parts}
 pub use Rattle.short_row.specs.Begun.{finished, begun_coefs, begun_constant, begun_row, begun_divisor, IsBegun}
 pub use Rattle.short_row.specs.Turned.{is_short_row, IsDenominatorOf, IsTurned}
-pub use Rattle.short_row.specs.Sized.{IsShortReduced, row_size, places_of}
+pub use Rattle.short_row.specs.Sized.{IsShortReduced, places_of}
 pub use Rattle.short_row.specs.Rows.{row_of}
 pub use Rattle.short_row.specs.Terms.{IsDivisor, IsNarrowed, IsShortDivisor}
 pub use Rattle.row_laws.specs.Lowest.{AreLowest, substituted_by}

@@ -1,4 +1,4 @@
-ghost use Rattle.std.specs.Prelude.{◌≡◌, ◌+◌, ◌≤◌, pos, drop, length, All};
+ghost use Rattle.std.specs.Prelude.{◌≡◌, ◌+◌, ◌≤◌, drop, length, All};
 ghost use Rattle.pip_model.specs.Forms.{entry, combine as combine_of};
 ghost use Rattle.pip_model.specs.Rows as model;
 ghost use Rattle.short_numbers.specs.Short.{IsShort};
@@ -53,9 +53,9 @@ fn put_halves(by: Factors, row: &mut [i64], p: &[i64]) -> usize
     combine_halves(by, numbers, others)
 }
 
-// Makes of the numbers of a row those after the pivot on row p and column c; whether they are short.
+/// Makes of the numbers of a row those after the pivot on row p and column c; whether they are short.
 #[inline(never)]
-fn turn_lowest(row: &mut [i64], unknowns: usize, p: &[i64], c: usize) -> bool
+pub fn turn(row: &mut [i64], unknowns: usize, p: &[i64], c: usize) -> bool
     requires { IsTurning unknowns p.now c row.old }
     ensures { IsTurned unknowns (model.eliminated (row_of_numbers unknowns p.now) c (row_of_numbers unknowns row.old)) result row.new }
 {
@@ -67,41 +67,4 @@ fn turn_lowest(row: &mut [i64], unknowns: usize, p: &[i64], c: usize) -> bool
         made,
     };
     end_put(row, unknowns, p, &put)
-}
-
-// The same where the pivot is 1: where its row has the denominator 1 too, nothing is to be divided.
-#[inline(never)]
-fn turn_unit(row: &mut [i64], unknowns: usize, p: &[i64], c: usize) -> bool
-    requires turning { IsTurning unknowns p.now c row.old }
-    requires unit { entry (row_of_numbers unknowns p.now).coefs c ≡ pos 1 }
-    ensures { IsTurned unknowns (model.eliminated (row_of_numbers unknowns p.now) c (row_of_numbers unknowns row.old)) result row.new }
-{
-    let by = Factors {
-        of_row: 1,
-        of_pivot: row[c + 1],
-    };
-    let made = put_halves(by, row, p);
-    if made + 1 == row.len() && p[0] == 1 {
-        row[c + 1] = by.of_pivot;
-        return true;
-    }
-    let put = Put {
-        by,
-        column: c,
-        made,
-    };
-    end_put(row, unknowns, p, &put)
-}
-
-/// Makes of the numbers of a row those after the pivot on row p and column c; whether they are short.
-#[inline(always)]
-pub fn turn(row: &mut [i64], unknowns: usize, p: &[i64], c: usize) -> bool
-    requires { IsTurning unknowns p.now c row.old }
-    ensures { IsTurned unknowns (model.eliminated (row_of_numbers unknowns p.now) c (row_of_numbers unknowns row.old)) result row.new }
-{
-    if p[c + 1] == 1 {
-        turn_unit(row, unknowns, p, c)
-    } else {
-        turn_lowest(row, unknowns, p, c)
-    }
 }

@@ -1,6 +1,6 @@
 use Rattle.short_row.proofs.Words.{rules, ◌≡◌, sym, subst, ◌+◌, arith, pos, to_z, of_z, w64, slice_index_or, entry, row_of_numbers, IsShort, IsShortDivisor}
 use Rattle.short_row.proofs.Puts.{entry_there, low_there, turning_terms, put_begun, put_turned}
-use Rattle.short_row.proofs.turning.turn_lowest.Goals as goal
+use Rattle.short_row.proofs.turning.turn.Goals as goal
 
 pub bounds-p-c : goal.bounds-p-c
 bounds-p-c c = omega (arith, c.requires.size, c.requires.some, c.requires.pivot.candidate.column)
