@@ -1,9 +1,6 @@
--- A turn of a question's run: it goes on, or the run ends, maybe after a pivot that is counted and not made.
-use Rattle.short_run.proofs.Words.{◌≡◌, false, ◌∙◌, refl, ap, sym, ℕ, ◌≤◌, arith, Bool, true, Option, Some, None, is_some, IfSome, IsTrue, ◌<◌, List, [], ◌∷◌, length, append-nil, all_fit, Row, row_at, first_fraction, entering, entering_listed, pivot, pivot_listed, Work, Done, Refused, Refusal, Again, turn, turn_by, last_turn, go_on, give, count_pivot, numbers_of, point_setting, again_run, falls-constant_class, negative_from, node_of, counted_cut, finds_point, length_pivot, entering_of, candidates, take, MinusAt, listed, ◌>>◌}
-use Rattle.point_turns.specs.Ended.{IsEndedBy}
-use Rattle.point_turns.specs.Tableaus.{IsRow}
+-- A turn of a question's run: it goes on, or the run ends.
+use Rattle.short_run.proofs.Words.{◌≡◌, false, ◌∙◌, refl, ap, sym, ℕ, ◌≤◌, true, Option, Some, None, IfSome, IsTrue, List, [], ◌∷◌, length, append-nil, all_fit, Row, row_at, first_fraction, entering, entering_listed, pivot, pivot_listed, Work, Done, Refused, Refusal, Again, turn, turn_by, last_turn, go_on, give, count_pivot, point_setting, negative_from, node_of, counted_cut, finds_point, entering_of, candidates, take, MinusAt, listed, ◌>>◌}
 use Rattle.short_run.proofs.Ending.{finds_here, finds_none}
-use Rattle.short_run.proofs.EndedRows.{finds_ended}
 use Rattle.short_run.proofs.FurtherRows.{IsStep, turn-alone}
 use Rattle.point_turns.proofs.Turning.{signs_of, turn_is, cut_again, cut_refused}
 
@@ -11,27 +8,7 @@ module _ (n : ℕ) (rows : List Row) (r c : ℕ) (is : IsStep rows r c) where
   pub pivot_goes_on : (w v : Work) → count_pivot w ≡ Done tt v → turn (point_setting n) (node_of rows) w ≡ Done (Again (node_of (pivot rows r c))) v
   pivot_goes_on w v e = turn-alone n rows r c w is ∙ ap (λ o. go_on o (λ counted. give (Again (node_of (pivot rows r c))))) e
 
-  pub pivot_ends : (w v : Work) (found : Bool) → n ≤ length rows → count_pivot w ≡ Done tt v → IsEndedBy n (pivot rows r c) found → finds_point n rows w ≡ Done found v
-  pivot_ends w v found long e ended =
-      let now = pivot rows r c in
-      let enough : n ≤ length (pivot rows r c) = let l = length_pivot rows r c in omega (arith, l, long) in
-      ap (λ o. go_on o (λ t. give (is_some (numbers_of t))))
-      (again_run (point_setting n) falls-constant_class (node_of rows) (node_of (pivot rows r c)) w v (pivot_goes_on w v e))
-      ∙ ap (λ (l : List Row). finds_point n l v) (sym (append-nil now))
-      ∙ finds_ended n now [] v enough refl found ended
-
 -- ---- at a row below 0
-
-pub step_of : (n : ℕ) (rows : List Row) (r c : ℕ) → negative_from 0 rows ≡ Some r → r < length rows → n ≤ length rows → IsRow n 0 (row_at rows r) → entering rows r ≡ Some c
-    → IsTrue (all_fit (entering_listed rows r)) → IsTrue (all_fit (pivot_listed rows r c)) → IsStep rows r c
-step_of n rows r c below within long row enters compared fits = record {
-  below = below;
-  within = within;
-  columns = omega (arith, row.coefs, long);
-  enters = enters;
-  compared = compared;
-  fits = fits;
-}
 
 module _ (n : ℕ) (rows : List Row) (r : ℕ) (below : negative_from 0 rows ≡ Some r) where
   none_enters : (u : List Row) (p : Row) (ks : List ℕ) → entering_of u p ks ≡ None → ks ≡ []

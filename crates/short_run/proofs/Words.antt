@@ -8,11 +8,10 @@ pub use Rattle.pip_model.specs.Forms.{constant, entry, widen_to}
 pub use Rattle.pip_model.specs.Tree.{Bottom}
 pub use Rattle.pip_model.specs.Rows.{Row, start, row_at, pivot, eliminated, eliminated_listed, candidates, first_fraction, count_from, unit_row, other_rows, pivot_listed, entering, entering_listed, entering_of, entering_of_listed, fraction_from}
 pub use Rattle.pip_model.specs.Run.{Work, Done, Refused, Refusal, Again, Closed, go_on, give, left, leaf, turn, numbers_of, point_setting, listed, count_pivot, Node, Setting, MinusAt, turn_by, last_turn, ◌>>◌, pivot_turn}
-pub use Rattle.pip_model.proofs.Fuel.{again_run, closed_run_from, falls-constant_class}
+pub use Rattle.pip_model.proofs.Fuel.{closed_run_from, falls-constant_class}
 pub use Rattle.pip_model.specs.Numbers.{is_nonneg, is_positive, fits}
 pub use Rattle.pip_model.proofs.Tests.{both}
 pub use Rattle.pip_model.specs.Listed.{all_fit}
-pub use Rattle.run_laws.proofs.RowsAt.{length_pivot}
 pub use Rattle.point_turns.specs.Turns.{node_of, negative_from, counted_cut}
 pub use Rattle.point_turns.specs.Points.{finds_point, EndsWith}
 pub use Rattle.short_run.specs.Stops.{stop_fault}

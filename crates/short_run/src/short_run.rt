@@ -1,13 +1,13 @@
-ghost use Rattle.std.specs.Prelude.{◌≡◌, ◌<◌, ◌≤◌, None, Some, ◌∷◌, [], ◌++◌, length, IfOk, IfErr, IfSome, OnOk};
+ghost use Rattle.std.specs.Prelude.{◌≡◌, ◌<◌, ◌≤◌, None, Some, ◌∷◌, [], ◌++◌, length, IfOk, OnOk};
 ghost use Rattle.pip_model.specs.Cuts.{constant_cut};
 ghost use Rattle.pip_model.specs.Rows.{row_at};
 ghost use Rattle.pip_model.specs.Run as model;
-ghost use Rattle.pip_model.specs.Run.{Refused, turn_by, MinusAt, AllPlus, point_setting};
-ghost use Rattle.point_turns.specs.Counts.{IsCountedRun, HasCounted};
+ghost use Rattle.pip_model.specs.Run.{turn_by, MinusAt, AllPlus, point_setting};
+ghost use Rattle.point_turns.specs.Counts.{IsCountedRun};
 ghost use Rattle.short_run.specs.Stops.{stop_fault};
 ghost use Rattle.point_turns.specs.TurnAt.{IsTurnAt};
 ghost use Rattle.point_turns.specs.Turns.{negative_from, node_of, made, counted_cut, HasSameScope};
-ghost use Rattle.point_turns.specs.Points.{finds_point, IsTurnOf};
+ghost use Rattle.point_turns.specs.Points.{finds_point};
 
 use crate::stop::Stop;
 use point_turns::{PointTurn, ShortTableau, Work};
@@ -80,66 +80,8 @@ pub fn take_turn(rows: &mut ShortTableau, work: &mut Work) -> Result<PointTurn, 
     }
 }
 
-// A turn of a question's run at a row below 0: whether a point is found where the run ends there or after the pivot;
-// none where it goes on, with the pivot made.
-fn pivot_or_end(rows: &mut ShortTableau, work: &mut Work, r: usize) -> Result<Option<bool>, Stop>
-    requires rows { rows.old.unknowns ≤ length rows.old.rows }
-    requires row { r < length rows.old.rows }
-    requires first { negative_from 0 rows.old.rows ≡ Some r }
-    ensures turn { IfOk result (IsTurnOf rows.old.unknowns rows.old.rows rows.new.rows work.old work.new) }
-    ensures refused { IfErr result (λ e. IfSome (stop_fault e) (λ f.
-        model.turn (point_setting rows.old.unknowns) (node_of rows.old.rows) work.old ≡ Refused f work.new)) }
-    ensures counted { HasCounted work.old work.new }
-    ensures scope { OnOk result (HasSameScope rows.old rows.new) }
-{
-    let Some(c) = rows.entering(r) else {
-        return Ok(Some(false));
-    };
-    work.count_pivot()?;
-    if let Some(found) = rows.ends_after_pivot(r, c) {
-        return Ok(Some(found));
-    }
-    if !rows.pivot(r, c) {
-        return Err(Stop::Long);
-    }
-    Ok(None)
-}
-
-// The same where no row is below 0: a point is found, or the run goes on with a cut.
-fn cut_or_end(rows: &mut ShortTableau, work: &mut Work) -> Result<Option<bool>, Stop>
-    requires rows { rows.old.unknowns ≤ length rows.old.rows }
-    requires none { negative_from 0 rows.old.rows ≡ None }
-    ensures turn { IfOk result (IsTurnOf rows.old.unknowns rows.old.rows rows.new.rows work.old work.new) }
-    ensures refused { IfErr result (λ e. IfSome (stop_fault e) (λ f.
-        model.turn (point_setting rows.old.unknowns) (node_of rows.old.rows) work.old ≡ Refused f work.new)) }
-    ensures counted { HasCounted work.old work.new }
-    ensures scope { OnOk result (HasSameScope rows.old rows.new) }
-{
-    let Some(i) = rows.first_fraction() else {
-        return Ok(Some(true));
-    };
-    count_and_cut(rows, i, work)?;
-    Ok(None)
-}
-
-// A turn of a question's run: whether a point is found where the run ends; none where it goes on.
-#[inline(always)]
-fn turn_or_end(rows: &mut ShortTableau, work: &mut Work) -> Result<Option<bool>, Stop>
-    requires { rows.old.unknowns ≤ length rows.old.rows }
-    ensures turn { IfOk result (IsTurnOf rows.old.unknowns rows.old.rows rows.new.rows work.old work.new) }
-    ensures refused { IfErr result (λ e. IfSome (stop_fault e) (λ f.
-        model.turn (point_setting rows.old.unknowns) (node_of rows.old.rows) work.old ≡ Refused f work.new)) }
-    ensures counted { HasCounted work.old work.new }
-    ensures scope { OnOk result (HasSameScope rows.old rows.new) }
-{
-    match rows.first_below() {
-        Some(r) => pivot_or_end(rows, work, r),
-        None => cut_or_end(rows, work),
-    }
-}
-
-/// The run of a question over short rows to its end: whether it finds a point. A last pivot is counted and not made. It
-/// stops at its 129th cut, since each cut is a row more that every pivot turns.
+/// The run of a question over short rows to its end: whether it finds a point. It stops at its 129th cut, since
+/// each cut is a row more that every pivot turns.
 pub fn run_short(rows: &mut ShortTableau, work: &mut Work) -> Result<bool, Stop>
     requires { rows.old.unknowns ≤ length rows.old.rows }
     ensures gives { IsCountedRun (λ b. b) stop_fault result work.old work.new
@@ -147,8 +89,10 @@ pub fn run_short(rows: &mut ShortTableau, work: &mut Work) -> Result<bool, Stop>
 {
     let most = rows.rows().saturating_add(MOST_CUTS);
     loop {
-        if let Some(found) = turn_or_end(rows, work)? {
-            return Ok(found);
+        match take_turn(rows, work)? {
+            PointTurn::Bottom(_) => return Ok(false),
+            PointTurn::List => return Ok(true),
+            PointTurn::Pivot(_, _) | PointTurn::Cut(_) => {}
         }
         if rows.rows() > most {
             return Err(Stop::Long);

@@ -168,21 +168,6 @@ module _ (n : ℕ) (p : Row) (c : ℕ) (i : Row) (pivot : IsPivot n 0 p c) (row 
   pub coefs_after : length (eliminated p c i).coefs ≡ n
   coefs_after = mapped_length (λ x. floor_div x (divisor (substituted p c i))) (substituted p c i).coefs ∙ coefs_put_in
 
--- a row with itself put in is 0
-module _ (n : ℕ) (p : Row) (c : ℕ) (pivot : IsPivot n 0 p c) where
-  own_constant : constant (substituted p c p).constant ≡ pos 0
-  own_constant = constant_put_in n p c p pivot pivot.row ∙ omega (arith, ints)
-
-  pub own_nonneg : is_nonneg (constant (eliminated p c p).constant) ≡ true
-  own_nonneg = nonneg_after n p c p pivot pivot.row ∙ ap is_nonneg own_constant
-
-  pub own_whole : is_whole (eliminated p c p).den (eliminated p c p).constant ≡ true
-  own_whole =
-      let d = (substituted p c p).den in
-      let none : pos 0 ≡ d *ℤ pos 0 = omega (arith, ints) in
-      let by_zero : divides (substituted p c p).den (pos 0) ≡ true = divides_multiple d (pos 0) (den_put_in n p c p pivot pivot.row) (record { times = pos 0; is = none }) in
-      whole_after n p c p pivot pivot.row (ap (divides (substituted p c p).den) own_constant ∙ by_zero)
-
 -- ---- all numbers, all rows
 
 pub one_more : (P : ℕ → Type 0) (n k : ℕ) → ((j : ℕ) → j < n → P j) → P n → k < n + 1 → P k

@@ -1,7 +1,6 @@
 mod Words
 pub mod Cutting
 pub mod Ended
-pub mod EndedPivot
 pub mod Entries
 pub mod Fitting
 pub mod OneRow

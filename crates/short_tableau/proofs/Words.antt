@@ -1,10 +1,10 @@
 -- The words of other modules that the proofs of this crate cite, passed on from one place. Declares nothing.
-pub use Rattle.std.proofs.Common.{rules, ◌≡◌, refl, ap, sym, ◌∙◌, ℕ, zero, suc, ◌+◌, ◌<◌, ◌≤◌, ℤ, pos, negsuc, ◌≤ℤ◌, ◌*ℤ◌, ◌-ℤ◌, Bool, true, false, List, [], ◌∷◌, ◌++◌, length, take, drop, arith, append-nil, length-append, length-drop, length-set, subst, ◌-◌, ◌*◌, neg_ℤ, map, to_z, of_z, unsigned_abs, ◌^◌}
+pub use Rattle.std.proofs.Common.{rules, ◌≡◌, refl, ap, sym, ◌∙◌, ℕ, zero, suc, ◌+◌, ◌<◌, ◌≤◌, ℤ, pos, negsuc, ◌≤ℤ◌, ◌*ℤ◌, ◌-ℤ◌, Bool, true, false, List, [], ◌∷◌, ◌++◌, length, take, drop, arith, append-nil, length-append, length-drop, length-set, subst, ◌-◌, ◌*◌, neg_ℤ, map, to_z, of_z}
 pub use Rattle.std.proofs.lemmas.Int.{fits_signed_from_abs, to_z-of_z, ints}
 pub use Rattle.std.proofs.Math.Bool.{and-false}
 pub use Rattle.std.proofs.lemmas.List.{take_at, drop_at, take_all, drop_all, take-append-drop, length-map, drop_more, set_at, get_or_at, map-append, get_or-map, get_or-set_same, get_or-drop, get_or-take, length-take-le, take-append-le, drop-append-le, set-get_or}
 pub use Rattle.std.proofs.lemmas.List.Folds.{list_all-append, list_all_at}
-pub use Rattle.std.specs.Prelude.{FitsSigned, slice_set, None, All, IsTrue, flat_map, if◌then◌else◌, slice_range, Some, IsFalse, IfSome, int_lt}
+pub use Rattle.std.specs.Prelude.{FitsSigned, slice_set, All, IsTrue, flat_map, if◌then◌else◌, slice_range, Some, IsFalse, IfSome, int_lt}
 pub use Rattle.std.specs.List.{list_all}
 pub use Rattle.std.proofs.lemmas.List.Elements.{All-head, All-tail, All-take, All-drop, All-append, All-set, All-same, All-push, All-cons}
 pub use Rattle.std.proofs.Math.Nat.{suc-mul, add-mul}

@@ -182,18 +182,4 @@ impl ShortTableau {
         let p = t.row(i);
         self.end_after(&p, c)
     }
-
-    /// Whether a point is found where a run over these rows ends after the pivot on row r and column c; none where it is
-    /// not known to end there. All numbers that the pivot lists fit.
-    pub fn ends_after_pivot(&self, r: usize, c: usize) -> Option<bool>
-        requires rows { self.now.unknowns ≤ length self.now.rows }
-        requires row { r < length self.now.rows }
-        requires candidate { IsCandidate self.now.unknowns (row_at self.now.rows r) c }
-        ensures listed { IsTrue (all_fit (model.pivot_listed self.now.rows r c)) }
-        ensures ends { IfSome result (IsEndedBy self.now.unknowns (model.pivot self.now.rows r c)) }
-    {
-        let _ = self.columns();
-        let p = self.row(r);
-        self.end_after(&p, c)
-    }
 }

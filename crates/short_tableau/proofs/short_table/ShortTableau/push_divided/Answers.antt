@@ -1,4 +1,4 @@
-use Rattle.short_tableau.proofs.Words.{◌≡◌, ◌∙◌, ap, sym, subst, arith, ℕ, pos, ◌≤ℤ◌, length, divided, row_of_numbers, row_size, IsShortRow, IsShortReduced, TableauRows, with_row}
+use Rattle.short_tableau.proofs.Words.{◌≡◌, ◌∙◌, ap, ℕ, divided, row_of_numbers, TableauRows, with_row}
 use Rattle.short_tableau.proofs.Places.{dense_push, pushed_view}
 use Rattle.short_tableau.proofs.short_table.ShortTableau.push_divided.Goals as goal
 
