@@ -5,3 +5,4 @@ pub use Rattle.form_laws.proofs.Columns
 pub use Rattle.form_laws.proofs.Divided
 pub use Rattle.form_laws.proofs.Invariant
 pub use Rattle.form_laws.proofs.Within
+mod Words

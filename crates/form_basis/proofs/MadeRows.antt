@@ -1,19 +1,10 @@
 -- A row that is tested to be its form's.
-use Rattle.std.proofs.Common.{◌≡◌, ◌∙◌, refl, ap, sym, ℕ, ◌+◌, ◌*◌, ◌<◌, ◌≤◌, ℤ, pos, negsuc, ◌*ℤ◌, ◌≤ℤ◌, unsigned_abs, arith, List, [], ◌∷◌, length, take, drop, length-drop}
-use Rattle.std.proofs.lemmas.Int.{ints}
-use Rattle.std.proofs.lemmas.List.{get_or-take, get_or-drop, length-take-le}
-use Rattle.pip_model.specs.Forms.{entry, scale}
-use Rattle.pip_model.specs.Rows.{divided}
+use Rattle.form_basis.proofs.Words.{◌≡◌, ◌∙◌, refl, ap, sym, ℕ, ◌+◌, ◌*◌, ◌<◌, ◌≤◌, ℤ, pos, negsuc, ◌*ℤ◌, ◌≤ℤ◌, unsigned_abs, arith, List, [], ◌∷◌, length, take, drop, length-drop, ints, get_or-take, get_or-drop, length-take-le, entry, scale, divided, row_of_numbers, TableauRows, entry_first, Basis, IsRead, summed, valued, combined, read}
 use Rattle.pip_model.proofs.Forms.{entry-scale}
 use Rattle.pip_model.proofs.Polynomials.{var, ◌⊗◌, ring}
 use Rattle.run_laws.proofs.Sums.{length-scale}
-use Rattle.row_laws.specs.Flat.{row_of_numbers}
-use Rattle.row_laws.specs.Tableaus.{TableauRows}
 use Rattle.row_laws.proofs.Unchanged.{scaled}
 use Rattle.form_laws.proofs.Divided.{same_entries, same_row, same_divided}
-use Rattle.form_laws.proofs.Turning.{entry_first}
-use Rattle.form_basis.specs.declared.basis.Basis.{Basis}
-use Rattle.form_basis.specs.ReadRows.{IsRead, summed, valued, combined, read}
 use Rattle.form_basis.proofs.ReadForms.{constant_is, columns_count}
 
 swap : (a b c e : ℤ) → a *ℤ b ≡ c *ℤ e → b *ℤ a ≡ e *ℤ c

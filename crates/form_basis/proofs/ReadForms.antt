@@ -1,22 +1,12 @@
 -- What is read of a form's row is the row.
-use Rattle.std.proofs.Common.{◌≡◌, ◌∙◌, refl, ap, sym, subst, ℕ, zero, suc, ◌+◌, ◌*◌, ◌^◌, ◌<◌, ◌≤◌, ℤ, pos, ◌*ℤ◌, ◌≤ℤ◌, ◌+ℤ◌, unsigned_abs, arith, List, [], ◌∷◌, ◌++◌, length, length-append, take, drop, map, get_or, All}
-use Rattle.std.proofs.lemmas.Int.{ints}
-use Rattle.std.proofs.lemmas.List.{take_all}
+use Rattle.form_basis.proofs.Words.{◌≡◌, ◌∙◌, refl, ap, sym, subst, ℕ, zero, suc, ◌+◌, ◌*◌, ◌^◌, ◌<◌, ◌≤◌, ℤ, pos, ◌*ℤ◌, ◌≤ℤ◌, ◌+ℤ◌, unsigned_abs, arith, List, [], ◌∷◌, ◌++◌, length, length-append, take, drop, map, get_or, All, ints, take_all, entry, dot, Row, count_from, divided, numbers_of, row_of_numbers, TableauRows, entry_first, length_counted, summable, column_at, columns_long, column_inside, part_coef, part_place, length_over, sum_within, own_step, OwnStep, Basis, IsRead, summed, valued, combined, read}
 use Rattle.std.proofs.lemmas.List.Elements.{All-take, All-drop}
-use Rattle.pip_model.specs.Forms.{entry, dot}
-use Rattle.pip_model.specs.Rows.{Row, count_from, divided}
-use Rattle.row_laws.specs.Flat.{numbers_of, row_of_numbers}
 use Rattle.row_laws.specs.Short.{IsShort, IsShortRow}
-use Rattle.row_laws.specs.Tableaus.{TableauRows}
 use Rattle.row_laws.proofs.Numbers.{row_again}
 use Rattle.form_laws.specs.ByForm.{coef, place, over}
 use Rattle.form_laws.specs.Bounds.{norm}
 use Rattle.form_laws.specs.Columns.{part, IsSummable}
-use Rattle.form_laws.proofs.Turning.{entry_first, length_counted}
 use Rattle.form_laws.proofs.Sizes.{all_short}
-use Rattle.form_laws.proofs.Columns.{summable, column_at, columns_long, column_inside, part_coef, part_place, length_over, sum_within, own_step, OwnStep}
-use Rattle.form_basis.specs.declared.basis.Basis.{Basis}
-use Rattle.form_basis.specs.ReadRows.{IsRead, summed, valued, combined, read}
 
 nothing_more : (n : ℕ) → n + 0 ≡ n
 nothing_more n = omega arith

@@ -1,17 +1,7 @@
 -- What the numbers of a basis tell.
-use Rattle.std.proofs.Common.{◌≡◌, ◌∙◌, refl, ap, sym, subst, ℕ, zero, suc, ◌+◌, ◌-◌, ◌*◌, ◌^◌, ◌<◌, ◌≤◌, ℤ, pos, ◌+ℤ◌, ◌*ℤ◌, unsigned_abs, arith, rules, nat_lt, true, false, List, [], ◌∷◌, ◌++◌, length, take, drop, get_or, append_assoc, append-nil}
-use Rattle.std.specs.Prelude.{All, flat_map}
-use Rattle.std.proofs.lemmas.Int.{ints, unsigned_abs-mul}
-use Rattle.std.proofs.lemmas.Nat.{mul-le}
+use Rattle.form_laws.proofs.Words.{◌≡◌, ◌∙◌, refl, ap, sym, subst, ℕ, zero, suc, ◌+◌, ◌-◌, ◌*◌, ◌^◌, ◌<◌, ◌≤◌, ℤ, pos, ◌+ℤ◌, ◌*ℤ◌, unsigned_abs, arith, rules, nat_lt, true, false, List, [], ◌∷◌, ◌++◌, length, take, drop, get_or, append_assoc, append-nil, flat_map, ints, unsigned_abs-mul, mul-le, take_all, map_more, All-more, All-push, All-weaker, floor_div, entry, dot, Row, count_from, row_at, form_row, coef, place, over, norm, part, columns_of, IsScaled, IsSummable}
+use Rattle.std.specs.Prelude.{All}
 use Rattle.std.proofs.lemmas.Grind.{common_steps}
-use Rattle.std.proofs.lemmas.List.{take_all, map_more}
-use Rattle.std.proofs.lemmas.List.Elements.{All-more, All-push, All-weaker}
-use Rattle.pip_model.specs.Numbers.{floor_div}
-use Rattle.pip_model.specs.Forms.{entry, dot}
-use Rattle.pip_model.specs.Rows.{Row, count_from, row_at, form_row}
-use Rattle.form_laws.specs.ByForm.{coef, place, over}
-use Rattle.form_laws.specs.Bounds.{norm}
-use Rattle.form_laws.specs.Columns.{part, columns_of, IsScaled, IsSummable}
 use Rattle.form_laws.proofs.Sizes.{size_sum}
 
 -- ---- sums, number after number

@@ -1,22 +1,9 @@
 -- Where a form's norm times the greatest number of the basis is below 2^63, the row that the form makes is short, and each listed number of
 -- its pivots and comparisons fits.
-use Rattle.std.proofs.Common.{◌≡◌, ◌∙◌, refl, ap, sym, ℕ, zero, suc, ◌+◌, ◌*◌, ◌^◌, ◌<◌, ◌≤◌, ℤ, pos, ◌+ℤ◌, ◌*ℤ◌, ◌≤ℤ◌, ◌<ℤ◌, unsigned_abs, arith, Bool, true, false, ◌&&◌, List, [], ◌∷◌, ◌++◌, length, take, drop, get_or}
-use Rattle.std.proofs.lemmas.Int.{ints, unsigned_abs-mul}
-use Rattle.std.proofs.lemmas.Nat.{mul-le}
-use Rattle.std.specs.Prelude.{map, All, flat_map, if◌then◌else◌}
-use Rattle.pip_model.specs.Numbers.{floor_div, fits, same_number}
-use Rattle.pip_model.specs.Forms.{entry, dot}
-use Rattle.pip_model.specs.Listed.{all_fit}
-use Rattle.pip_model.specs.Rows.{Row, divided, row_at, other_rows, eliminated_listed, pivot_listed, cross_products, up_to_difference, is_better, best_listed, entering_of_listed, entering_listed, candidates}
+use Rattle.form_laws.proofs.Words.{◌≡◌, ◌∙◌, refl, ap, sym, ℕ, zero, suc, ◌+◌, ◌*◌, ◌^◌, ◌<◌, ◌≤◌, ℤ, pos, ◌+ℤ◌, ◌*ℤ◌, ◌≤ℤ◌, ◌<ℤ◌, unsigned_abs, arith, Bool, true, false, ◌&&◌, List, [], ◌∷◌, ◌++◌, length, take, drop, get_or, ints, unsigned_abs-mul, mul-le, flat_map, if◌then◌else◌, floor_div, fits, same_number, entry, dot, all_fit, Row, divided, row_at, other_rows, eliminated_listed, pivot_listed, cross_products, up_to_difference, is_better, best_listed, entering_of_listed, entering_listed, candidates, entry-scale, length_floors, divisor, IsShort, IsShortRow, short_eliminated, coef, place, over, combination, by_form, Kept, Form, Whole, made, rows_by, norm, RowWithin, AllWithin, IsBounded, AllShort, KeptShort}
+use Rattle.std.specs.Prelude.{map, All}
 use Rattle.pip_model.proofs.Fitting.{fit_join}
-use Rattle.pip_model.proofs.Forms.{entry-scale}
-use Rattle.run_laws.proofs.Lengths.{length_floors}
-use Rattle.run_laws.proofs.RowsAt.{divisor}
 use Rattle.row_laws.proofs.Short.{short_fits}
-use Rattle.row_laws.specs.Short.{IsShort, IsShortRow}
-use Rattle.row_laws.proofs.ShortRows.{short_eliminated}
-use Rattle.form_laws.specs.ByForm.{coef, place, over, combination, by_form, Kept, Form, Whole, made, rows_by}
-use Rattle.form_laws.specs.Bounds.{norm, RowWithin, AllWithin, IsBounded, AllShort, KeptShort}
 use Rattle.form_laws.proofs.Divided.{undivided}
 use Rattle.form_laws.proofs.Turning.{entry_first, length_counted}
 

@@ -1,19 +1,10 @@
 -- The rows of a basis are wide, over its multiple, and within its bound.
-use Rattle.std.proofs.Common.{◌≡◌, ◌∙◌, refl, ap, sym, subst, ℕ, zero, suc, ◌+◌, ◌*◌, ◌^◌, ◌<◌, ◌≤◌, ℤ, pos, ◌*ℤ◌, ◌<ℤ◌, unsigned_abs, arith, ◌⊎◌, inl, inr, true, List, [], ◌∷◌, ◌++◌, length, map, take, drop, append-nil, All}
-use Rattle.std.proofs.lemmas.Int.{ints, unsigned_abs-mul}
-use Rattle.pip_model.specs.Numbers.{floor_div}
-use Rattle.pip_model.specs.Forms.{entry}
-use Rattle.pip_model.specs.Listed.{all_fit}
-use Rattle.pip_model.specs.Rows.{Row, pivot_listed, start, unit_row, count_from}
-use Rattle.row_laws.specs.Short.{IsShortRow}
-use Rattle.form_laws.specs.ByForm.{coef, place, over, by_form, Form, made, IsWide, AllWide, KeptWide, IsOver, MadeBy, AllForms}
-use Rattle.form_laws.specs.Bounds.{norm, AllWithin, IsBounded, AllShort, KeptShort}
-use Rattle.form_laws.specs.Columns.{part, IsScaled, IsBasis}
+use Rattle.std.proofs.Common.{map, All}
+use Rattle.form_laws.proofs.Words.{◌≡◌, ◌∙◌, refl, ap, sym, subst, ℕ, zero, suc, ◌+◌, ◌*◌, ◌^◌, ◌<◌, ◌≤◌, ℤ, pos, ◌*ℤ◌, ◌<ℤ◌, unsigned_abs, arith, ◌⊎◌, inl, inr, true, List, [], ◌∷◌, ◌++◌, length, take, drop, append-nil, ints, unsigned_abs-mul, floor_div, entry, all_fit, Row, pivot_listed, start, unit_row, count_from, IsShortRow, coef, place, over, by_form, Form, made, IsWide, AllWide, KeptWide, IsOver, MadeBy, AllForms, norm, AllWithin, IsBounded, AllShort, KeptShort, part, IsScaled, IsBasis, All-take, All-drop}
 use Rattle.form_laws.proofs.Columns.{column_at, part_coef, part_place}
 use Rattle.form_laws.proofs.Listed.{basis_short, pivot_refuses_none}
 use Rattle.form_laws.proofs.Sizes.{short_by_form}
 use Rattle.form_laws.proofs.Invariant.{rows_any, start_made}
-use Rattle.std.proofs.lemmas.List.Elements.{All-take, All-drop}
 
 all_behind : {X : Type 0} (P : X → Type 0) (x : X) (xs : List X) → All P (x ∷ xs) → All P xs
 all_behind P x xs h k d lt = h (suc k) d (omega (arith, lt))

@@ -1,22 +1,8 @@
 -- The first row below 0 among rows that are read off their forms.
-use Rattle.std.proofs.Common.{◌≡◌, ◌∙◌, refl, ap, sym, subst, ℕ, suc, ◌+◌, ◌-◌, ◌<◌, ◌≤◌, ℤ, pos, negsuc, ◌*ℤ◌, ◌≤ℤ◌, ◌<ℤ◌, arith, Bool, true, false, Option, Some, None, List, [], ◌∷◌, ◌++◌, length, map, drop, get_or, length-append}
-use Rattle.std.specs.Prelude.{if◌then◌else◌, All}
-use Rattle.std.proofs.lemmas.Int.{ints}
-use Rattle.std.proofs.lemmas.List.{drop_more, drop_all, drop-append-le, get_or-map, length-map, length-drop, map-append}
-use Rattle.pip_model.specs.Numbers.{is_nonneg}
-use Rattle.pip_model.specs.Forms.{entry, constant}
-use Rattle.pip_model.specs.Rows.{Row, row_at, form_row}
-use Rattle.pip_model.proofs.Forms.{entry-scale}
-use Rattle.row_laws.specs.Tableaus.{TableauRows}
-use Rattle.form_basis.specs.ByForm.{place}
+use Rattle.form_run.proofs.Words.{◌≡◌, ◌∙◌, refl, ap, sym, subst, ℕ, suc, ◌+◌, ◌-◌, ◌<◌, ◌≤◌, ℤ, pos, negsuc, ◌*ℤ◌, ◌≤ℤ◌, ◌<ℤ◌, arith, Bool, true, false, Option, Some, None, List, [], ◌∷◌, ◌++◌, length, map, drop, get_or, length-append, if◌then◌else◌, ints, drop_more, drop_all, drop-append-le, get_or-map, length-map, map-append, is_nonneg, entry, constant, Row, row_at, form_row, entry-scale, TableauRows, place, wide_by_form, negative_from, Basis, IsRead, valued, combined, read, IsAbove, behind, constant_is, negative-front}
+use Rattle.std.specs.Prelude.{All}
+use Rattle.std.proofs.lemmas.List.{length-drop}
 use Rattle.form_basis.proofs.Divided.{undivided}
-use Rattle.form_basis.proofs.Invariant.{wide_by_form}
-use Rattle.point_turns.specs.Turns.{negative_from}
-use Rattle.form_basis.specs.declared.basis.Basis.{Basis}
-use Rattle.form_basis.specs.ReadRows.{IsRead, valued, combined, read}
-use Rattle.form_run.specs.Held.{IsAbove, behind}
-use Rattle.form_basis.proofs.ReadForms.{constant_is}
-use Rattle.short_run.proofs.FurtherRows.{negative-front}
 
 same_sign : (x : ℕ) (z k : ℤ) → 0 < x → pos x *ℤ z ≡ k → is_nonneg z ≡ is_nonneg k
 same_sign x (pos n) (pos k) h e = refl

@@ -1,20 +1,6 @@
 -- Rows of forms behind the places' rows: the column that enters, the first fraction, a pivot.
-use Rattle.std.proofs.Common.{◌≡◌, ◌∙◌, refl, ap, sym, ℕ, ◌+◌, ◌-◌, ◌*◌, ◌^◌, ◌<◌, ◌≤◌, ℤ, pos, ◌≤ℤ◌, arith, true, List, [], ◌∷◌, ◌++◌, length, map, take, get_or, length-append, All}
-use Rattle.std.proofs.lemmas.Int.{ints}
-use Rattle.std.proofs.lemmas.Nat.{mul-le}
-use Rattle.std.proofs.lemmas.List.{take-append-le, length-map, get_or-map, get_or_append_left, get_or-append-add}
-use Rattle.pip_model.specs.Forms.{entry}
-use Rattle.pip_model.specs.Listed.{all_fit}
-use Rattle.pip_model.specs.Rows.{Row, row_at, form_row, eliminated, pivot, pivot_listed, entering, entering_of, entering_listed, entering_of_listed, candidates, first_fraction, fraction_from}
-use Rattle.row_laws.specs.Tableaus.{TableauRows}
-use Rattle.form_basis.specs.ByForm.{by_form, Kept, Form, turned, rows_by}
-use Rattle.form_basis.specs.Bounds.{norm}
-use Rattle.form_basis.proofs.Invariant.{pivot_made}
-use Rattle.form_basis.proofs.Within.{are_made, made_forms, none_refused, all_over}
-use Rattle.form_basis.specs.declared.basis.Basis.{Basis}
-use Rattle.form_run.specs.FlatLists.{NumberLists}
-use Rattle.form_basis.specs.ReadRows.{IsMeasured, IsRead, read}
-use Rattle.form_run.specs.Held.{IsHeld, all_rows}
+use Rattle.std.proofs.Common.{All}
+use Rattle.form_run.proofs.Words.{◌≡◌, ◌∙◌, refl, ap, sym, ℕ, ◌+◌, ◌-◌, ◌*◌, ◌^◌, ◌<◌, ◌≤◌, ℤ, pos, ◌≤ℤ◌, arith, true, List, [], ◌∷◌, ◌++◌, length, map, take, get_or, length-append, ints, mul-le, take-append-le, length-map, get_or-map, get_or_append_left, get_or-append-add, entry, all_fit, Row, row_at, form_row, eliminated, pivot, pivot_listed, entering, entering_of, entering_listed, entering_of_listed, candidates, first_fraction, fraction_from, TableauRows, by_form, Kept, Form, turned, rows_by, norm, pivot_made, are_made, made_forms, none_refused, all_over, Basis, NumberLists, IsMeasured, IsRead, read, IsHeld, all_rows}
 
 -- ---- what is held
 

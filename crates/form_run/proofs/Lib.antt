@@ -4,3 +4,4 @@ pub mod Below
 pub mod Factors
 pub mod MadeCuts
 pub mod Started
+mod Words

@@ -1,18 +1,7 @@
 -- A cut's form behind the others.
-use Rattle.std.proofs.Common.{◌≡◌, ◌∙◌, ap, sym, ℕ, ◌+◌, ◌*◌, ◌^◌, ◌<◌, ◌≤◌, ℤ, pos, ◌≤ℤ◌, arith, List, [], ◌∷◌, ◌++◌, length, map, append_assoc}
-use Rattle.std.proofs.lemmas.List.{map-append}
-use Rattle.std.proofs.lemmas.List.Elements.{All-push, All-weaker}
-use Rattle.pip_model.specs.Forms.{negate}
-use Rattle.pip_model.specs.Rows.{Row, divided}
-use Rattle.pip_model.specs.Cuts.{constant_cut, fractional_parts, residue_of}
-use Rattle.row_laws.specs.Tableaus.{TableauRows, with_row}
+use Rattle.form_run.proofs.Words.{◌≡◌, ◌∙◌, ap, sym, ℕ, ◌+◌, ◌*◌, ◌^◌, ◌<◌, ◌≤◌, ℤ, pos, ◌≤ℤ◌, arith, List, [], ◌∷◌, ◌++◌, length, map, append_assoc, map-append, All-push, All-weaker, negate, Row, divided, constant_cut, fractional_parts, residue_of, TableauRows, with_row, norm, Basis, read, NumberLists, IsHeld, all_rows}
 use Rattle.row_laws.proofs.Contents.{content-divided}
-use Rattle.form_basis.specs.Bounds.{norm}
 use Rattle.form_basis.proofs.Begun.{divided_reduced}
-use Rattle.form_basis.specs.declared.basis.Basis.{Basis}
-use Rattle.form_basis.specs.ReadRows.{read}
-use Rattle.form_run.specs.FlatLists.{NumberLists}
-use Rattle.form_run.specs.Held.{IsHeld, all_rows}
 
 -- a cut is divided already
 pub cut_divided : (r : Row) → pos 1 ≤ℤ r.den → divided (constant_cut r) ≡ constant_cut r

@@ -1,16 +1,8 @@
 -- The first rows of a question's run, and what the run tells of the question.
-use Rattle.std.proofs.Common.{◌≡◌, ◌∙◌, refl, ap, sym, ℕ, zero, suc, ◌+◌, ◌≤◌, ℤ, arith, List, [], ◌∷◌, ◌++◌, length, map, append-nil, is_some, All}
-use Rattle.std.proofs.lemmas.List.{length-map, map-append}
-use Rattle.std.proofs.lemmas.List.Elements.{All-cons, All-append}
+use Rattle.std.proofs.Common.{is_some, All}
+use Rattle.form_run.proofs.Words.{◌≡◌, ◌∙◌, refl, ap, sym, ℕ, zero, suc, ◌+◌, ◌≤◌, ℤ, arith, List, [], ◌∷◌, ◌++◌, length, map, append-nil, length-map, map-append, All-cons, All-append, widen_to, Tree, start, unit_row, count_from, Work, Outcome, Done, Refused, go_on, give, run_from, point, point_run, point_setting, length-count, length-widened, TableauRows, has_point, finds_point, first_rows, node_of}
 use Rattle.pip_model.specs.Contexts.{IsContext}
-use Rattle.pip_model.specs.Forms.{widen_to}
-use Rattle.pip_model.specs.Tree.{Tree}
-use Rattle.pip_model.specs.Rows.{start, unit_row, count_from}
-use Rattle.pip_model.specs.Run.{Work, Outcome, Done, Refused, go_on, give, run_from, numbers_of, point, point_run, point_setting}
-use Rattle.pip_model.proofs.Forms.{length-count, length-widened}
-use Rattle.row_laws.specs.Tableaus.{TableauRows}
-use Rattle.point_turns.specs.Points.{has_point, finds_point, first_rows}
-use Rattle.point_turns.specs.Turns.{node_of}
+use Rattle.pip_model.specs.Run.{numbers_of}
 use Rattle.short_run.proofs.Ending.{finds_here}
 
 pub start_long : (n w : ℕ) → length (start n w []) ≡ n

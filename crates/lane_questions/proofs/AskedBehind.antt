@@ -1,13 +1,6 @@
 -- A question in lanes is one form more behind the kept run of a context's forms.
-use Rattle.lane_questions.proofs.Words.{◌≡◌, ◌∙◌, ap, ap₂, sym, subst, ℕ, ◌^◌, ◌<◌, ℤ, List, [], ◌∷◌, ◌++◌, take, map-append, IsContext, IsNarrow}
-use Rattle.form_laws.specs.ByForm.{combination}
-use Rattle.scaled_laws.specs.Scaled.{row_over}
-use Rattle.scaled_laws.specs.Tables.{ScaledTable}
+use Rattle.lane_questions.proofs.Words.{◌≡◌, ◌∙◌, ap, ap₂, sym, subst, ℕ, ◌^◌, ◌<◌, ℤ, List, [], ◌∷◌, ◌++◌, take, map-append, IsContext, IsNarrow, combination, row_over, ScaledTable, IsBehind, lanes_of, all_lanes, AreWithin, LaneVertex, IsQuestion, forms_of}
 use Rattle.lane_run.specs.Laned.{numbers_of}
-use Rattle.lane_questions.specs.Behind.{IsBehind}
-use Rattle.lane_questions.specs.InLanes.{lanes_of, all_lanes, AreWithin}
-use Rattle.lane_questions.specs.Kept.{LaneVertex, IsQuestion}
-use Rattle.lane_run.specs.Runs.{forms_of}
 use Rattle.lane_questions.proofs.Widened.{widened, all_widened, all_modest}
 
 one_more_form : (n : ℕ) (K : List (List ℤ)) (c : List ℤ) → IsContext n K → IsNarrow n c → IsContext n (K ++ c ∷ [])

@@ -1,8 +1,5 @@
 -- What is kept of a context in lanes, from question to question.
-use Rattle.lane_questions.proofs.Words.{◌≡◌, ◌∙◌, refl, ap, sym, subst, ℕ, ◌+◌, ◌≤◌, ℤ, false, arith, zero, suc, List, [], ◌∷◌, ◌++◌, length, take, length-append, length-map, length-take-le, take-take, take-append-le, take-map, take_all, IsTrue, IfSome, Option, Some, None, IsNarrow}
-use Rattle.lane_questions.specs.InLanes.{lanes_of, all_lanes, AreFirst}
-use Rattle.lane_questions.specs.Kept.{LaneVertex, IsKeptLanes, IsEndedLanes, IsQuestion}
-use Rattle.lane_questions.specs.Asking.{LaneState, IsAsking, IsBegun, IsMade, unkept}
+use Rattle.lane_questions.proofs.Words.{◌≡◌, ◌∙◌, refl, ap, sym, subst, ℕ, ◌+◌, ◌≤◌, ℤ, false, arith, zero, suc, List, [], ◌∷◌, ◌++◌, length, take, length-append, length-map, length-take-le, take-take, take-append-le, take-map, take_all, IsTrue, IfSome, Option, Some, None, IsNarrow, lanes_of, all_lanes, AreFirst, LaneVertex, IsKeptLanes, IsEndedLanes, IsQuestion, LaneState, IsAsking, IsBegun, IsMade, unkept}
 
 -- ---- the first of some forms
 

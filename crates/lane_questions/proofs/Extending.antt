@@ -1,10 +1,5 @@
 -- The kept run goes on with all forms of a context, read in lanes.
-use Rattle.lane_questions.proofs.Words.{◌≡◌, ◌∙◌, ap, subst, ℕ, ◌^◌, ◌<◌, arith, None, ℤ, List, [], ◌++◌, map, append-nil, widen_to}
-use Rattle.scaled_laws.specs.Tables.{ScaledTable}
-use Rattle.point_turns.specs.Turns.{negative_from}
-use Rattle.lane_questions.specs.InLanes.{all_lanes, AreWithin}
-use Rattle.lane_questions.specs.Kept.{LaneVertex, IsKeptLanes, IsEndedLanes}
-use Rattle.lane_run.specs.Runs.{run_rows, forms_of, AreModest, IsRowBelow}
+use Rattle.lane_questions.proofs.Words.{◌≡◌, ◌∙◌, ap, subst, ℕ, ◌^◌, ◌<◌, arith, None, ℤ, List, [], ◌++◌, map, append-nil, widen_to, ScaledTable, negative_from, all_lanes, AreWithin, LaneVertex, IsKeptLanes, IsEndedLanes, run_rows, forms_of, AreModest, IsRowBelow}
 use Rattle.lane_questions.proofs.Widened.{all_widened, all_modest}
 
 module _ (n : ℕ) (K : List (List ℤ)) (v : LaneVertex) (all : List (List ℤ)) (kept : IsKeptLanes n K v) (is : all ≡ all_lanes K) where

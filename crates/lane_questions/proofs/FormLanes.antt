@@ -1,8 +1,6 @@
 -- Forms in lanes: the sum of their sizes, and their lanes one after the other.
-use Rattle.lane_questions.proofs.Words.{get_or, ◌≡◌, ◌∙◌, refl, ap, sym, ℕ, zero, suc, ◌+◌, ◌-◌, ◌^◌, ◌<◌, ◌≤◌, ℤ, pos, ◌-ℤ◌, neg_ℤ, unsigned_abs, to_z, of_z, w32, to_z-of_z, fits_signed_from_abs, FitsSigned, arith, List, [], ◌∷◌, ◌++◌, length, take, set, replicate, append_assoc, length-append, take-suc, set-append_seam, map-append, length-take-le, All-append, All-cons, All-nil, ints, slice_set, entry, constant, negate}
-use Rattle.form_laws.specs.Bounds.{norm}
-use Rattle.lanes.specs.Narrow.{AreLanes, IsNarrow}
-use Rattle.lane_questions.specs.InLanes.{lanes_of, all_lanes, IsWithin, AreWithin, AreFirst}
+use Rattle.lane_questions.proofs.Words.{get_or, ◌≡◌, ◌∙◌, refl, ap, sym, ℕ, zero, suc, ◌+◌, ◌-◌, ◌^◌, ◌<◌, ◌≤◌, ℤ, pos, ◌-ℤ◌, neg_ℤ, unsigned_abs, to_z, of_z, w32, to_z-of_z, fits_signed_from_abs, FitsSigned, arith, List, [], ◌∷◌, ◌++◌, length, take, set, replicate, append_assoc, length-append, take-suc, set-append_seam, map-append, length-take-le, All-append, All-cons, All-nil, ints, slice_set, entry, constant, negate, norm, AreLanes, lanes_of, all_lanes, IsWithin, AreWithin, AreFirst}
+use Rattle.lanes.specs.Narrow.{IsNarrow}
 
 -- ---- the sum of sizes
 

@@ -1,14 +1,7 @@
 -- The kept run of a context's forms: where it starts, that it goes on with further forms, and what it counts.
-use Rattle.lane_questions.proofs.Words.{◌≡◌, ◌∙◌, refl, ap, ap₂, sym, subst, ℕ, zero, suc, ◌+◌, ◌<◌, ◌≤◌, ℤ, pos, arith, true, List, [], ◌∷◌, ◌++◌, length, map, take, drop, append-nil, append_assoc, take_all, drop_all, length-map, take-append-drop, nat_lt, is_some, widen_to, IsContext, Tree, Row, start, unit_row, count_from, Work, Outcome, Done, Refused, go_on, give, count_pivot, run_from, numbers_of, point, point_run, point_setting, length-count}
-use Rattle.run_counts.specs.Counts.{HasCounted, HasRoomFor, counted_more}
-use Rattle.point_turns.specs.Points.{has_point, finds_point, first_rows}
-use Rattle.point_turns.specs.Turns.{node_of}
-use Rattle.form_laws.specs.ByForm.{Form, rows_by, AllForms}
+use Rattle.lane_questions.proofs.Words.{◌≡◌, ◌∙◌, refl, ap, ap₂, sym, subst, ℕ, zero, suc, ◌+◌, ◌<◌, ◌≤◌, ℤ, pos, arith, true, List, [], ◌∷◌, ◌++◌, length, map, take, drop, append-nil, append_assoc, take_all, drop_all, length-map, take-append-drop, nat_lt, is_some, widen_to, IsContext, Tree, Row, start, unit_row, count_from, Work, Outcome, Done, Refused, go_on, give, count_pivot, run_from, numbers_of, point, point_run, point_setting, length-count, HasCounted, HasRoomFor, counted_more, has_point, finds_point, first_rows, node_of, Form, rows_by, AllForms, ScaledTable, column_rows, LaneVertex, counted_pivots, IsKeptLanes, run_rows, AreModest}
 use Rattle.form_laws.proofs.Begun.{start_by}
-use Rattle.scaled_laws.specs.Tables.{ScaledTable, column_rows}
 use Rattle.scaled_laws.specs.Kept.{kept_of}
-use Rattle.lane_questions.specs.Kept.{LaneVertex, counted_pivots, IsKeptLanes}
-use Rattle.lane_run.specs.Runs.{run_rows, AreModest}
 
 -- ---- counts
 

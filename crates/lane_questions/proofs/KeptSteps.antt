@@ -1,11 +1,5 @@
 -- A kept run makes one pivot more.
-use Rattle.lane_questions.proofs.Words.{◌≡◌, ◌∙◌, refl, ap, sym, subst, ℕ, zero, suc, ◌+◌, arith, ℤ, List, ◌++◌, length, map, length-map, map-append, widen_to, Work, Outcome, Done, Refused, Counted, go_on, count_pivot}
-use Rattle.scaled_laws.specs.Tables.{ScaledTable}
-use Rattle.point_turns.specs.Points.{finds_point}
-use Rattle.lane_questions.specs.Kept.{LaneVertex, counted_pivots, IsKeptLanes}
-use Rattle.lane_run.specs.Pivots.{IsPivoted}
-use Rattle.lane_run.specs.Runs.{run_rows, IsRowBelow}
-use Rattle.lane_run.proofs.FrontPivot.{front_finds, below_further}
+use Rattle.lane_questions.proofs.Words.{◌≡◌, ◌∙◌, refl, ap, sym, subst, ℕ, zero, suc, ◌+◌, arith, ℤ, List, ◌++◌, length, map, length-map, map-append, widen_to, Work, Outcome, Done, Refused, Counted, go_on, count_pivot, ScaledTable, finds_point, LaneVertex, counted_pivots, IsKeptLanes, IsPivoted, run_rows, IsRowBelow, front_finds, below_further}
 
 -- k pivots and then one are k + 1 pivots
 pub one_more : {X : Type 0} (k : ℕ) (w : Work) (part : Counted X) → go_on (counted_pivots k w) (λ counted v. go_on (count_pivot v) (λ again. part)) ≡ go_on (counted_pivots (suc k) w) (λ counted. part)

@@ -1,18 +1,6 @@
 -- One form more behind the kept run of a context's forms: its row is the last one.
-use Rattle.lane_questions.proofs.Words.{◌≡◌, ◌∙◌, refl, ap, sym, subst, ℕ, suc, ◌+◌, ◌<◌, ℤ, pos, ◌≤ℤ◌, ◌<ℤ◌, arith, Bool, true, false, Option, Some, None, List, [], ◌∷◌, ◌++◌, length, map, take, length-append, map-append, get_or_at, if◌then◌else◌, IfSome, is_some, is_nonneg, entry, constant, widen_to, Row, row_at, divided, form_row, Work, Done, Refused, Refusal, go_on, give, numbers_of, count_pivot, turn, point_setting, refused_run_from, falls-constant_class}
-use Rattle.run_counts.specs.Counts.{HasRoomFor, counted_more}
-use Rattle.point_turns.specs.Points.{has_point, finds_point}
-use Rattle.point_turns.specs.Turns.{negative_from, node_of}
-use Rattle.form_laws.specs.ByForm.{by_form, combination}
-use Rattle.scaled_laws.specs.Scaled.{row_over}
-use Rattle.scaled_laws.specs.Tables.{ScaledTable}
-use Rattle.lanes.specs.Narrow.{AreLanes}
-use Rattle.lane_run.specs.Laned.{numbers_of as lane_numbers, AreUnused}
-use Rattle.lane_questions.specs.Behind.{IsBehind}
-use Rattle.lane_questions.specs.Kept.{LaneVertex, IsKeptLanes}
-use Rattle.lane_run.specs.Runs.{run_rows, forms_of, AreModest, IsRowBelow}
-use Rattle.lane_run.specs.Pivots.{IsEntering, IsPivoted}
-use Rattle.lane_run.proofs.FrontPivot.{rows_further, front_finds, front_refused}
+use Rattle.lane_questions.proofs.Words.{◌≡◌, ◌∙◌, refl, ap, sym, subst, ℕ, suc, ◌+◌, ◌<◌, ℤ, pos, ◌≤ℤ◌, ◌<ℤ◌, arith, Bool, true, false, Option, Some, None, List, [], ◌∷◌, ◌++◌, length, map, take, length-append, map-append, get_or_at, if◌then◌else◌, IfSome, is_some, is_nonneg, entry, constant, widen_to, Row, row_at, divided, form_row, Work, Done, Refused, Refusal, go_on, give, numbers_of, count_pivot, turn, point_setting, refused_run_from, falls-constant_class, HasRoomFor, counted_more, has_point, finds_point, negative_from, node_of, by_form, combination, row_over, ScaledTable, AreLanes, AreUnused, IsBehind, LaneVertex, IsKeptLanes, run_rows, forms_of, AreModest, IsRowBelow, IsEntering, IsPivoted, rows_further, front_finds, front_refused}
+use Rattle.lane_run.specs.Laned.{numbers_of as lane_numbers}
 use Rattle.lane_run.proofs.Parts.{below_zero, not_below, lanes_sign}
 use Rattle.lane_questions.proofs.KeptRuns.{goes_on_kept, asked_by_run}
 

@@ -1,10 +1,5 @@
 -- The point of a context itself, behind the kept run of its forms.
-use Rattle.lane_questions.proofs.Words.{◌≡◌, ◌∙◌, ap, sym, subst, ℕ, ◌^◌, ◌<◌, ◌≤◌, arith, ℤ, List, [], ◌++◌, map, append-nil, widen_to, Work}
-use Rattle.run_counts.specs.Counts.{HasRoomFor, counted_more}
-use Rattle.point_turns.specs.Points.{has_point, finds_point, first_rows}
-use Rattle.lane_questions.specs.InLanes.{all_lanes, AreWithin}
-use Rattle.lane_questions.specs.Kept.{LaneVertex, IsKeptLanes, IsEndedLanes}
-use Rattle.lane_run.specs.Runs.{run_rows, forms_of, AreModest}
+use Rattle.lane_questions.proofs.Words.{◌≡◌, ◌∙◌, ap, sym, subst, ℕ, ◌^◌, ◌<◌, ◌≤◌, arith, ℤ, List, [], ◌++◌, map, append-nil, widen_to, Work, HasRoomFor, counted_more, has_point, finds_point, first_rows, all_lanes, AreWithin, LaneVertex, IsKeptLanes, IsEndedLanes, run_rows, forms_of, AreModest}
 use Rattle.lane_questions.proofs.KeptRuns.{goes_on_kept, found_by_run}
 use Rattle.lane_questions.proofs.Widened.{all_widened, all_modest}
 

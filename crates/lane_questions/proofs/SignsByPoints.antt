@@ -1,11 +1,7 @@
 -- The sign of a form by two questions: one with its opposite, one with the form.
-use Rattle.lane_questions.proofs.Words.{◌≡◌, ◌∙◌, refl, ap, ap₂, sym, subst, ℕ, zero, suc, ◌-◌, ◌^◌, ◌<◌, ◌≤◌, ℤ, pos, ◌-ℤ◌, unsigned_abs, arith, true, false, Option, Some, None, List, [], ◌∷◌, ◌++◌, length, replicate, set-append_seam, ints, map-append, length-map, neg_ℤ, slice_set, is_some, IfSome, width, entry, coefficients, constant, negate, opposite, all_fit, opposite_listed, Work, Outcome, Done, Refused, Refusal, Plus, Minus, Unknown, go_on, give, point, class_below, class_above, class_by_points, form-parts, fit_cons, fits-le, length-opposite}
+use Rattle.lane_questions.proofs.Words.{◌≡◌, ◌∙◌, refl, ap, ap₂, sym, subst, ℕ, zero, suc, ◌-◌, ◌^◌, ◌<◌, ◌≤◌, ℤ, pos, ◌-ℤ◌, unsigned_abs, arith, true, false, Option, Some, None, List, [], ◌∷◌, ◌++◌, length, replicate, set-append_seam, ints, map-append, length-map, neg_ℤ, slice_set, is_some, IfSome, width, entry, coefficients, constant, negate, opposite, all_fit, opposite_listed, Work, Outcome, Done, Refused, Refusal, Plus, Minus, Unknown, go_on, give, point, class_below, class_above, class_by_points, form-parts, fit_cons, fits-le, length-opposite, has_point, AreLanes, lanes_of, LaneVertex, IsQuestion}
 use Rattle.run_laws.proofs.Scopes.{coefficients-end, constant-end}
 use Rattle.affine_forms.proofs.Opposites.{opposite_set}
-use Rattle.point_turns.specs.Points.{has_point}
-use Rattle.lanes.specs.Narrow.{AreLanes}
-use Rattle.lane_questions.specs.InLanes.{lanes_of}
-use Rattle.lane_questions.specs.Kept.{LaneVertex, IsQuestion}
 
 -- ---- the opposite in lanes
 

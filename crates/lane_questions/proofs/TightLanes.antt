@@ -1,11 +1,10 @@
 -- A form in lanes tightened, and put back.
-use Rattle.lane_questions.proofs.Words.{◌≡◌, ◌∙◌, refl, ap, sym, ℕ, zero, suc, ◌+◌, ◌-◌, ◌%◌, ◌^◌, ◌<◌, ◌≤◌, ℤ, pos, negsuc, ◌≤ℤ◌, ◌<ℤ◌, unsigned_abs, arith, List, [], ◌∷◌, ◌++◌, length, take, drop, replicate, get_or, append_assoc, length-append, length-drop, ints, get_or-map, get_or-drop, take_more, length-map, map-append, take-map, lt-ltb, All-append, All-cons, All-from_recursion, All-nil, All-take, div-le_self, AllByRecursion, take-append_seam, floor_div, euclid, gcd, gcd_of, entry, constant, coefficients, width, floor_divided, tighten, form-parts, euclid_below, gcd_one}
+use Rattle.lane_questions.proofs.Words.{◌≡◌, ◌∙◌, refl, ap, sym, ℕ, zero, suc, ◌+◌, ◌-◌, ◌%◌, ◌^◌, ◌<◌, ◌≤◌, ℤ, pos, negsuc, ◌≤ℤ◌, ◌<ℤ◌, unsigned_abs, arith, List, [], ◌∷◌, ◌++◌, length, take, drop, replicate, get_or, append_assoc, length-append, length-drop, ints, get_or-map, get_or-drop, take_more, length-map, map-append, take-map, lt-ltb, All-append, All-cons, All-from_recursion, All-nil, All-take, div-le_self, AllByRecursion, take-append_seam, floor_div, euclid, gcd, gcd_of, entry, constant, coefficients, width, floor_divided, tighten, form-parts, euclid_below, gcd_one, AreLanes, lanes_of, form_in}
 use Rattle.affine_forms.specs.Checks.{Fits}
 use Rattle.affine_forms.specs.Forms.{IsForm}
 use Rattle.affine_forms.proofs.Divisors.{gcd_step}
 use Rattle.affine_forms.proofs.Tightening.{tighten_divided, tighten_kept}
-use Rattle.lanes.specs.Narrow.{AreLanes, IsNarrow}
-use Rattle.lane_questions.specs.InLanes.{lanes_of, form_in}
+use Rattle.lanes.specs.Narrow.{IsNarrow}
 
 -- ---- numbers
 

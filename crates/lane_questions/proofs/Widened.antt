@@ -1,8 +1,6 @@
 -- Forms in lanes are the forms read over n places.
-use Rattle.lane_questions.proofs.Words.{◌≡◌, ◌∙◌, refl, ap, sym, subst, ℕ, zero, suc, ◌+◌, ◌-◌, ◌^◌, ◌<◌, ◌≤◌, ℤ, pos, arith, List, [], ◌∷◌, ◌++◌, length, map, take, replicate, take-replicate, width, coefficients, constant, widen_to, IsContext, IsNarrow, form-parts}
+use Rattle.lane_questions.proofs.Words.{◌≡◌, ◌∙◌, refl, ap, sym, subst, ℕ, zero, suc, ◌+◌, ◌-◌, ◌^◌, ◌<◌, ◌≤◌, ℤ, pos, arith, List, [], ◌∷◌, ◌++◌, length, map, take, replicate, take-replicate, width, coefficients, constant, widen_to, IsContext, IsNarrow, form-parts, lanes_of, all_lanes, AreWithin, forms_of, AreModest}
 use Rattle.lane_run.specs.Laned.{numbers_of}
-use Rattle.lane_questions.specs.InLanes.{lanes_of, all_lanes, AreWithin}
-use Rattle.lane_run.specs.Runs.{forms_of, AreModest}
 use Rattle.lane_run.proofs.Modest.{are_modest}
 
 -- ---- numbers

@@ -23,3 +23,23 @@ pub use Rattle.pip_model.specs.Numbers.{floor_div, euclid, gcd, gcd_of, is_nonne
 pub use Rattle.pip_model.specs.Rows.{Row, start, unit_row, count_from, row_at, divided, form_row, first_fraction}
 pub use Rattle.pip_model.specs.Run.{Work, Outcome, Done, Refused, Refusal, Plus, Minus, Unknown, go_on, give, point, class_below, class_above, class_by_points, Counted, count_pivot, run_from, numbers_of, point_run, point_setting, turn}
 pub use Rattle.pip_model.specs.Tree.{Tree}
+pub use Rattle.point_turns.specs.Points.{has_point, finds_point, first_rows}
+pub use Rattle.lanes.specs.Narrow.{AreLanes}
+pub use Rattle.lane_questions.specs.InLanes.{lanes_of, all_lanes, AreWithin, AreFirst, form_in, IsWithin}
+pub use Rattle.lane_questions.specs.Kept.{LaneVertex, IsQuestion, IsKeptLanes, IsEndedLanes, counted_pivots}
+pub use Rattle.run_counts.specs.Counts.{HasRoomFor, counted_more, HasCounted}
+pub use Rattle.lane_run.specs.Runs.{run_rows, forms_of, AreModest, IsRowBelow}
+pub use Rattle.scaled_laws.specs.Tables.{ScaledTable, column_rows}
+pub use Rattle.point_turns.specs.Turns.{negative_from, node_of}
+pub use Rattle.lane_run.specs.Pivots.{IsPivoted, IsEntering}
+pub use Rattle.lane_run.proofs.FrontPivot.{front_finds, below_further, rows_further, front_refused, front_closes}
+pub use Rattle.form_laws.specs.ByForm.{Form, rows_by, AllForms, combination, by_form}
+pub use Rattle.lane_questions.specs.Asking.{LaneState, IsAsking, IsBegun, IsMade, unkept}
+pub use Rattle.scaled_laws.specs.Scaled.{row_over}
+pub use Rattle.lane_questions.specs.Behind.{IsBehind}
+pub use Rattle.form_laws.specs.Bounds.{norm}
+pub use Rattle.lane_run.specs.Laned.{AreUnused}
+pub use Rattle.lane_questions.specs.contracts.questions.LaneQuestions.{the_view}
+pub use Rattle.run_counts.proofs.Counting.{counted_on, counted_none}
+pub use Rattle.lane_run.specs.Stops.{stop_fault}
+pub use Rattle.affine_forms.proofs.Mapped.{mapped, mapped_step}

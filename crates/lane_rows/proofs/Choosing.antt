@@ -1,15 +1,6 @@
 -- The comparison of two columns over rows of lanes.
-use Rattle.std.proofs.Common.{get_or, ◌≡◌, ◌∙◌, refl, ap, sym, subst, ℕ, ◌+◌, ◌<◌, ◌≤◌, ℤ, pos, ◌*ℤ◌, arith, false, List, [], length, take, drop}
-use Rattle.std.proofs.lemmas.List.{take_all, drop_all, get_or-take, length-take-le}
-use Rattle.std.specs.Prelude.{int_lt}
-use Rattle.pip_model.specs.Numbers.{is_positive}
-use Rattle.pip_model.specs.Forms.{entry}
-use Rattle.pip_model.specs.Rows.{Row, is_better}
-use Rattle.row_laws.specs.Choices.{product_at}
+use Rattle.lane_rows.proofs.Words.{get_or, ◌≡◌, ◌∙◌, refl, ap, sym, subst, ℕ, ◌+◌, ◌<◌, ◌≤◌, ℤ, pos, ◌*ℤ◌, arith, false, List, [], length, take, drop, take_all, drop_all, get_or-take, length-take-le, int_lt, is_positive, entry, Row, is_better, product_at, row_over, numbers_of, numbers_at, undivided_in, length_made, row_made}
 use Rattle.row_laws.proofs.Comparisons.{better_same, better_differ}
-use Rattle.scaled_laws.specs.Scaled.{row_over}
-use Rattle.lane_rows.specs.Laned.{numbers_of, numbers_at, undivided_in}
-use Rattle.scaled_laws.proofs.Places.{length_made, row_made}
 use Rattle.lane_rows.proofs.Numbers.{coefficient, numbers_long}
 
 pub front_coefficient : (n : ℕ) (x : List ℤ) (k : ℕ) → n < length x → k < n → entry (take n (numbers_of n x)) k ≡ entry x (k + 1)

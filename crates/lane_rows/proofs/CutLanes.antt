@@ -1,22 +1,6 @@
 -- The rows of cuts.
-use Rattle.std.proofs.Common.{get_or, ◌≡◌, ◌∙◌, refl, ap, sym, subst, ℕ, zero, suc, ◌+◌, ◌<◌, ◌≤◌, ℤ, pos, negsuc, ◌≤ℤ◌, neg_ℤ, unsigned_abs, arith, nat_lt, Bool, true, false, ◌⊎◌, inl, inr, List, [], ◌∷◌, ◌++◌, length, length-append, All}
-use Rattle.std.proofs.lemmas.Int.{ints}
-use Rattle.std.proofs.lemmas.Bool.{cases_lt}
-use Rattle.std.proofs.lemmas.List.{get_or_past}
-use Rattle.std.proofs.lemmas.List.Elements.{All-append, All-cons, All-nil}
-use Rattle.pip_model.specs.Forms.{entry}
-use Rattle.pip_model.specs.Rows.{Row, divided}
-use Rattle.run_laws.proofs.CutsAt.{mod_multiple}
-use Rattle.row_laws.proofs.RowLaws.{count_map}
-use Rattle.scaled_laws.specs.Tables.{ScaledTable, with_row}
-use Rattle.scaled_laws.proofs.Places.{same_made}
-use Rattle.pip_model.specs.Cuts.{constant_cut}
-use Rattle.scaled_laws.specs.Scaled.{row_over}
-use Rattle.form_laws.proofs.Turning.{entry_first, length_counted}
-use Rattle.scaled_laws.specs.Cut.{cut_numbers, left_of}
+use Rattle.lane_rows.proofs.Words.{get_or, ◌≡◌, ◌∙◌, refl, ap, sym, subst, ℕ, zero, suc, ◌+◌, ◌<◌, ◌≤◌, ℤ, pos, negsuc, ◌≤ℤ◌, neg_ℤ, unsigned_abs, arith, nat_lt, Bool, true, false, ◌⊎◌, inl, inr, List, [], ◌∷◌, ◌++◌, length, length-append, All, ints, cases_lt, get_or_past, All-append, All-cons, All-nil, entry, Row, divided, mod_multiple, count_map, ScaledTable, with_row, same_made, constant_cut, row_over, entry_first, length_counted, cut_numbers, left_of, AreLanes, numbers_of, numbers_at, rows_in, table_of, AreLaned, IsLaned}
 use Rattle.scaled_laws.proofs.Cutting.{cut_made, cut_within}
-use Rattle.lanes.specs.Narrow.{AreLanes}
-use Rattle.lane_rows.specs.Laned.{numbers_of, numbers_at, rows_in, table_of, AreLaned, IsLaned}
 use Rattle.lane_rows.proofs.Numbers.{coefficient, constant_entry, numbers_long, same_numbers}
 
 left_within : (l : ℤ) (b : Bool) (z : ℤ) (m : ℕ) → pos 1 ≤ℤ l → unsigned_abs l ≤ m → unsigned_abs (left_of l b z) ≤ m

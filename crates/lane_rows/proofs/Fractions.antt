@@ -1,17 +1,6 @@
 -- The first constant that the denominator does not divide.
-use Rattle.std.proofs.Common.{get_or, ◌≡◌, ◌∙◌, refl, ap, sym, ℕ, zero, suc, ◌+◌, ◌<◌, ℤ, pos, arith, Bool, true, false, Option, Some, None, List, [], ◌∷◌, length, take}
-use Rattle.std.specs.Prelude.{◌&&◌, if◌then◌else◌, IfSome, IfNone}
-use Rattle.std.specs.List.{list_all}
-use Rattle.std.proofs.lemmas.Int.{ints}
-use Rattle.std.proofs.lemmas.List.{get_or-take, length-take-le}
-use Rattle.pip_model.specs.Numbers.{divides, is_zero}
-use Rattle.pip_model.specs.Forms.{entry}
-use Rattle.pip_model.specs.Rows.{Row, row_at, form_row, is_whole, fraction_from, first_fraction}
-use Rattle.run_laws.proofs.CutsAt.{mod_multiple}
-use Rattle.scaled_laws.proofs.Scaled.{whole_over}
-use Rattle.scaled_laws.specs.Tables.{ScaledTable}
-use Rattle.lane_rows.specs.Laned.{numbers_at, table_of, AreLaned, IsLaned}
-use Rattle.lane_rows.specs.Read.{IsFirstLeft}
+use Rattle.std.proofs.Common.{Option}
+use Rattle.lane_rows.proofs.Words.{get_or, ◌≡◌, ◌∙◌, refl, ap, sym, ℕ, zero, suc, ◌+◌, ◌<◌, ℤ, pos, arith, Bool, true, false, Some, None, List, [], ◌∷◌, length, take, ◌&&◌, if◌then◌else◌, IfSome, IfNone, list_all, ints, get_or-take, length-take-le, divides, is_zero, entry, Row, row_at, form_row, is_whole, fraction_from, first_fraction, mod_multiple, whole_over, ScaledTable, numbers_at, table_of, AreLaned, IsLaned, IsFirstLeft}
 use Rattle.lane_rows.proofs.Numbers.{constants_are}
 use Rattle.lane_rows.proofs.Views.{count_is, columns_are, row_here}
 

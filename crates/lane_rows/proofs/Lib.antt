@@ -9,3 +9,4 @@ pub mod Values
 pub mod CutLanes
 pub mod Signs
 pub mod Fractions
+mod Words

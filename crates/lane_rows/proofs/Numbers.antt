@@ -1,17 +1,6 @@
 -- The numbers of a row of lanes: the coefficients of n columns, and then the constant.
-use Rattle.std.proofs.Common.{◌≡◌, ◌∙◌, refl, ap, sym, ℕ, zero, suc, ◌+◌, ◌<◌, ◌≤◌, ℤ, pos, ◌≤ℤ◌, ◌-ℤ◌, ◌*ℤ◌, arith, subst, ◌⊎◌, inl, inr, length-set, List, [], ◌∷◌, ◌++◌, length, take, drop, length-append, length-drop}
-use Rattle.std.proofs.lemmas.List.{get_or-drop, length-take-le, take_at, drop_at}
-use Rattle.std.proofs.lemmas.Bool.{cases_eq}
-use Rattle.std.specs.Prelude.{slice_set}
-use Rattle.pip_model.specs.Forms.{entry, combine, scale}
-use Rattle.pip_model.specs.Rows.{divided, eliminated}
-use Rattle.scaled_laws.specs.Scaled.{row_over}
-use Rattle.form_laws.proofs.Divided.{same_entries}
-use Rattle.scaled_laws.proofs.Scaled.{scaled_made}
+use Rattle.lane_rows.proofs.Words.{◌≡◌, ◌∙◌, refl, ap, sym, ℕ, zero, suc, ◌+◌, ◌<◌, ◌≤◌, ℤ, pos, ◌≤ℤ◌, ◌-ℤ◌, ◌*ℤ◌, arith, subst, ◌⊎◌, inl, inr, length-set, List, [], ◌∷◌, ◌++◌, length, take, drop, length-append, length-drop, get_or-drop, length-take-le, take_at, drop_at, cases_eq, slice_set, entry, combine, scale, divided, eliminated, row_over, same_entries, scaled_made, entry-combine, entry-scale, length-combine, entry-set_same, entry-set_other, length-scale, numbers_of}
 use Rattle.scaled_laws.specs.Turned.{turned}
-use Rattle.pip_model.proofs.Forms.{entry-combine, entry-scale, length-combine}
-use Rattle.run_laws.proofs.Sums.{entry-set_same, entry-set_other, length-scale}
-use Rattle.lane_rows.specs.Laned.{numbers_of}
 
 pub front_entry : (n : ℕ) (xs : List ℤ) (y : ℕ) (z : ℤ) → y < n → n ≤ length xs → entry (take n xs ++ z ∷ []) y ≡ entry xs y
 front_entry zero xs y z h e = absurd (omega arith)

@@ -1,18 +1,6 @@
 -- The rows that a pivot makes.
-use Rattle.std.proofs.Common.{get_or, ◌≡◌, ◌∙◌, ap, sym, subst, ℕ, ◌+◌, ◌*◌, ◌<◌, ◌≤◌, ◌^◌, ℤ, pos, ◌≤ℤ◌, ◌-ℤ◌, ◌*ℤ◌, unsigned_abs, arith, List, [], ◌++◌, length, map, take, drop}
-use Rattle.std.proofs.lemmas.Int.{ints, unsigned_abs-mul}
-use Rattle.std.proofs.lemmas.Nat.{mul-le}
-use Rattle.std.proofs.lemmas.List.{take_at, get_or_default}
-use Rattle.pip_model.specs.Forms.{entry, combine, scale}
-use Rattle.pip_model.specs.Rows.{divided, eliminated}
-use Rattle.pip_model.proofs.Forms.{entry-combine, entry-scale}
-use Rattle.run_laws.proofs.Sums.{entry-set_other}
-use Rattle.scaled_laws.specs.Scaled.{row_over}
+use Rattle.lane_rows.proofs.Words.{get_or, ◌≡◌, ◌∙◌, ap, sym, subst, ℕ, ◌+◌, ◌*◌, ◌<◌, ◌≤◌, ◌^◌, ℤ, pos, ◌≤ℤ◌, ◌-ℤ◌, ◌*ℤ◌, unsigned_abs, arith, List, [], ◌++◌, length, map, take, drop, ints, unsigned_abs-mul, mul-le, take_at, get_or_default, entry, combine, scale, divided, eliminated, entry-combine, entry-scale, entry-set_other, row_over, same_made, map_made, AreLanes, numbers_of, numbers_at, rows_in, AreUnused, AreLaned, IsLaned, IsVertex, AreTurned, CanTurn}
 use Rattle.scaled_laws.specs.Turned.{turned}
-use Rattle.scaled_laws.proofs.Places.{same_made, map_made}
-use Rattle.lanes.specs.Narrow.{AreLanes}
-use Rattle.lane_rows.specs.Laned.{numbers_of, numbers_at, rows_in, AreUnused, AreLaned, IsLaned, IsVertex}
-use Rattle.lane_rows.specs.Turned.{AreTurned, CanTurn}
 use Rattle.lane_rows.proofs.Numbers.{row_turned}
 
 no_factor : (l z : ℤ) → pos 1 ≤ℤ l → l *ℤ z ≡ pos 0 → z ≡ pos 0

@@ -1,22 +1,5 @@
 -- What a form makes of the columns' rows, lane by lane.
-use Rattle.std.proofs.Common.{get_or, ◌≡◌, ◌∙◌, ap, sym, subst, ℕ, zero, suc, ◌+◌, ◌^◌, ◌<◌, ◌≤◌, ℤ, pos, ◌+ℤ◌, ◌*ℤ◌, unsigned_abs, arith, eqb, Bool, true, false, ◌⊎◌, inl, inr, List, [], ◌∷◌, length, take, map, replicate, All}
-use Rattle.std.proofs.lemmas.Int.{ints, unsigned_abs-mul}
-use Rattle.std.proofs.lemmas.Bool.{cases_lt}
-use Rattle.std.proofs.lemmas.Nat.{mul-le}
-use Rattle.std.proofs.lemmas.List.{get_or_past, take_all}
-use Rattle.std.proofs.lemmas.List.Elements.{All-cons}
-use Rattle.std.specs.Prelude.{slice_set, if◌then◌else◌}
-use Rattle.pip_model.specs.Forms.{entry, dot, add, scale}
-use Rattle.pip_model.specs.Rows.{count_from}
-use Rattle.pip_model.proofs.Forms.{entry-scale, entry-zeros}
-use Rattle.run_laws.proofs.Sums.{entry-set_other, length-scale}
-use Rattle.form_laws.specs.Bounds.{norm}
-use Rattle.form_laws.proofs.Columns.{dot_more, entry_norm, sum_within}
-use Rattle.form_laws.proofs.Turning.{entry_first}
-use Rattle.scaled_laws.proofs.Places.{all_made, length_made}
-use Rattle.lanes.specs.Narrow.{AreAddable, AreLanes}
-use Rattle.lanes.proofs.Writing.{entry-add}
-use Rattle.lane_rows.specs.Read.{IsReadable, line}
+use Rattle.lane_rows.proofs.Words.{get_or, ◌≡◌, ◌∙◌, ap, sym, subst, ℕ, zero, suc, ◌+◌, ◌^◌, ◌<◌, ◌≤◌, ℤ, pos, ◌+ℤ◌, ◌*ℤ◌, unsigned_abs, arith, eqb, Bool, true, false, ◌⊎◌, inl, inr, List, [], ◌∷◌, length, take, map, replicate, All, ints, unsigned_abs-mul, cases_lt, mul-le, get_or_past, take_all, All-cons, slice_set, if◌then◌else◌, entry, dot, add, scale, count_from, entry-scale, entry-zeros, entry-set_other, length-scale, norm, dot_more, entry_norm, sum_within, entry_first, all_made, length_made, AreAddable, AreLanes, entry-add, IsReadable, line}
 
 one_term : (form : List ℤ) (a : ℤ) (ys : List ℤ) → dot form (take 1 (a ∷ ys)) ≡ entry form 0 *ℤ a
 one_term [] a ys = omega (arith, ints)

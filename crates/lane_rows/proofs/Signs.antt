@@ -1,17 +1,6 @@
 -- The signs of the constants.
-use Rattle.std.proofs.Common.{get_or, ◌≡◌, ◌∙◌, refl, ap, sym, ℕ, ◌+◌, ◌-◌, ◌<◌, ◌≤◌, ℤ, pos, negsuc, ◌≤ℤ◌, ◌<ℤ◌, arith, ◌⊎◌, inl, inr, zero, suc, Bool, true, false, List, [], length}
-use Rattle.std.specs.Prelude.{◌&&◌}
-use Rattle.std.specs.List.{list_all}
-use Rattle.std.proofs.lemmas.Int.{ints}
-use Rattle.std.proofs.lemmas.Bool.{cases_lt}
+use Rattle.lane_rows.proofs.Words.{get_or, ◌≡◌, ◌∙◌, refl, ap, sym, ℕ, ◌+◌, ◌-◌, ◌<◌, ◌≤◌, ℤ, pos, negsuc, ◌≤ℤ◌, ◌<ℤ◌, arith, ◌⊎◌, inl, inr, zero, suc, Bool, true, false, List, [], length, ◌&&◌, list_all, ints, cases_lt, is_nonneg, entry, Row, row_at, nonneg_over, ScaledTable, IsFirstBelow, numbers_at, table_of, AreLaned, IsLaned}
 use Rattle.std.proofs.lemmas.List.Folds.{list_all_at}
-use Rattle.pip_model.specs.Numbers.{is_nonneg}
-use Rattle.pip_model.specs.Forms.{entry}
-use Rattle.pip_model.specs.Rows.{Row, row_at}
-use Rattle.scaled_laws.proofs.Scaled.{nonneg_over}
-use Rattle.scaled_laws.specs.Tables.{ScaledTable}
-use Rattle.lanes.specs.Narrow.{IsFirstBelow}
-use Rattle.lane_rows.specs.Laned.{numbers_at, table_of, AreLaned, IsLaned}
 use Rattle.lane_rows.proofs.Numbers.{constants_are}
 use Rattle.lane_rows.proofs.Views.{count_is, columns_are, row_here}
 

@@ -1,21 +1,7 @@
 -- The rows of the columns, and no rows.
-use Rattle.std.proofs.Common.{get_or, ◌≡◌, ◌∙◌, ap, sym, subst, ℕ, zero, suc, ◌+◌, ◌<◌, ◌≤◌, ◌^◌, ℤ, pos, unsigned_abs, arith, ◌⊎◌, inl, inr, List, [], length, map, replicate, append-nil, length-set, All}
-use Rattle.std.proofs.lemmas.Int.{ints}
-use Rattle.std.proofs.lemmas.Bool.{cases_eq}
-use Rattle.std.proofs.lemmas.List.{length-replicate}
-use Rattle.std.specs.Prelude.{slice_set}
-use Rattle.pip_model.specs.Forms.{entry}
-use Rattle.pip_model.specs.Rows.{Row, divided, count_from, unit_row}
-use Rattle.pip_model.proofs.Forms.{entry-zeros}
-use Rattle.run_laws.proofs.Sums.{entry-set_same, entry-set_other}
-use Rattle.scaled_laws.specs.Scaled.{row_over}
-use Rattle.scaled_laws.specs.Tables.{column_rows}
+use Rattle.lane_rows.proofs.Words.{get_or, ◌≡◌, ◌∙◌, ap, sym, subst, ℕ, zero, suc, ◌+◌, ◌<◌, ◌≤◌, ◌^◌, ℤ, pos, unsigned_abs, arith, ◌⊎◌, inl, inr, List, [], length, map, replicate, append-nil, length-set, All, ints, cases_eq, length-replicate, slice_set, entry, Row, divided, count_from, unit_row, entry-zeros, entry-set_same, entry-set_other, row_over, column_rows, all_made, length_made, same_made, AreLanes, set_lanes, zeros_lanes, numbers_of, numbers_at, table_of, AreLaned, IsLaned}
 use Rattle.scaled_laws.specs.Units.{row_size, unit_numbers}
 use Rattle.scaled_laws.proofs.Begun.{unit_is}
-use Rattle.scaled_laws.proofs.Places.{all_made, length_made, same_made}
-use Rattle.lanes.specs.Narrow.{AreLanes}
-use Rattle.lanes.proofs.Writing.{set_lanes, zeros_lanes}
-use Rattle.lane_rows.specs.Laned.{numbers_of, numbers_at, table_of, AreLaned, IsLaned}
 use Rattle.lane_rows.proofs.Numbers.{same_numbers}
 
 abbrev unit_at : ℕ → ℤ → List ℤ

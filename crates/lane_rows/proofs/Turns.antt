@@ -1,16 +1,6 @@
 -- Rows of lanes that are turned one after the other.
-use Rattle.std.proofs.Common.{get_or, ◌≡◌, ◌∙◌, ap, sym, subst, ℕ, ◌+◌, ◌*◌, ◌^◌, ◌<◌, ◌≤◌, ℤ, ◌*ℤ◌, unsigned_abs, arith, ◌⊎◌, inl, inr, List, [], length, length-set, All}
-use Rattle.std.proofs.lemmas.Bool.{cases_eq}
-use Rattle.std.proofs.lemmas.Int.{unsigned_abs-mul}
-use Rattle.std.proofs.lemmas.Nat.{mul-le}
-use Rattle.std.proofs.lemmas.List.{get_or-set_same, get_or-set_other, get_or_default}
-use Rattle.std.proofs.lemmas.List.Elements.{All-set}
-use Rattle.std.specs.Prelude.{slice_set}
-use Rattle.pip_model.specs.Forms.{entry, scale}
-use Rattle.form_laws.proofs.Columns.{entry_within}
+use Rattle.lane_rows.proofs.Words.{get_or, ◌≡◌, ◌∙◌, ap, sym, subst, ℕ, ◌+◌, ◌*◌, ◌^◌, ◌<◌, ◌≤◌, ℤ, ◌*ℤ◌, unsigned_abs, arith, ◌⊎◌, inl, inr, List, [], length, length-set, All, cases_eq, unsigned_abs-mul, mul-le, get_or-set_same, get_or-set_other, get_or_default, All-set, slice_set, entry, scale, entry_within, AreLanes, AreTurnable, AreTurned, CanTurn}
 use Rattle.scaled_laws.specs.Turned.{turned}
-use Rattle.lanes.specs.Narrow.{AreLanes, AreTurnable}
-use Rattle.lane_rows.specs.Turned.{AreTurned, CanTurn}
 
 -- the first k rows are turned, their numbers not greater than m, and the others are as they were
 pub record TurnedTo (l : ℤ) (p : List ℤ) (lane : ℕ) (old now : List (List ℤ)) (k m : ℕ) : Type 0 where

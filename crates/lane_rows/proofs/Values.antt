@@ -1,23 +1,5 @@
 -- The constants of rows that forms make, by the vertex.
-use Rattle.std.proofs.Common.{get_or, ◌≡◌, ◌∙◌, refl, ap, sym, subst, ℕ, zero, suc, ◌+◌, ◌*◌, ◌<◌, ◌≤◌, ◌^◌, ℤ, pos, ◌+ℤ◌, ◌*ℤ◌, unsigned_abs, arith, eqb, Bool, true, false, ◌⊎◌, inl, inr, List, [], ◌∷◌, length, take, map, All}
-use Rattle.std.proofs.lemmas.Int.{ints, unsigned_abs-mul}
-use Rattle.std.proofs.lemmas.Bool.{cases_lt}
-use Rattle.std.proofs.lemmas.Nat.{mul-le}
-use Rattle.std.proofs.lemmas.List.{get_or-take, get_or_past, length-take-le, take_all, get_or_default}
-use Rattle.std.proofs.lemmas.List.Elements.{All-cons}
-use Rattle.std.specs.Prelude.{if◌then◌else◌}
-use Rattle.pip_model.specs.Forms.{entry, dot}
-use Rattle.pip_model.specs.Rows.{count_from}
-use Rattle.form_laws.specs.Bounds.{norm}
-use Rattle.form_laws.specs.ByForm.{combination, place}
-use Rattle.form_laws.proofs.Columns.{entry_norm, sum_within}
-use Rattle.form_laws.proofs.Divided.{same_entries}
-use Rattle.form_laws.proofs.Turning.{entry_first}
-use Rattle.scaled_laws.specs.Tables.{ScaledTable}
-use Rattle.scaled_laws.proofs.Places.{all_made, length_made}
-use Rattle.lanes.specs.Narrow.{AreLanes, IsSummable}
-use Rattle.lane_rows.specs.Laned.{numbers_of, table_of, AreLaned, IsLaned}
-use Rattle.lane_rows.specs.Read.{line}
+use Rattle.lane_rows.proofs.Words.{get_or, ◌≡◌, ◌∙◌, refl, ap, sym, subst, ℕ, zero, suc, ◌+◌, ◌*◌, ◌<◌, ◌≤◌, ◌^◌, ℤ, pos, ◌+ℤ◌, ◌*ℤ◌, unsigned_abs, arith, eqb, Bool, true, false, ◌⊎◌, inl, inr, List, [], ◌∷◌, length, take, map, All, ints, unsigned_abs-mul, cases_lt, mul-le, get_or-take, get_or_past, length-take-le, take_all, get_or_default, All-cons, if◌then◌else◌, entry, dot, count_from, norm, combination, place, entry_norm, sum_within, same_entries, entry_first, ScaledTable, all_made, length_made, AreLanes, IsSummable, numbers_of, table_of, AreLaned, IsLaned, line}
 use Rattle.lane_rows.proofs.Views.{constant_made}
 
 dot_front : (f u : List ℤ) (k : ℕ) → ((j : ℕ) → k ≤ j → entry u j ≡ pos 0) → dot f (take k u) ≡ dot f u

@@ -1,29 +1,8 @@
 -- What a table of rows of lanes tells.
-use Rattle.std.proofs.Common.{get_or, ◌≡◌, ◌∙◌, refl, ap, sym, subst, ℕ, zero, suc, ◌+◌, ◌<◌, ◌≤◌, ℤ, pos, ◌+ℤ◌, ◌*ℤ◌, unsigned_abs, arith, ◌⊎◌, inl, inr, eqb, Bool, false, List, [], ◌∷◌, length, take, drop, map, All}
-use Rattle.std.proofs.lemmas.Int.{ints}
-use Rattle.std.proofs.lemmas.Bool.{cases_eq}
-use Rattle.std.proofs.lemmas.List.{get_or-take, length-take-le, get_or_default}
-use Rattle.std.proofs.lemmas.List.Elements.{All-take, All-drop}
-use Rattle.std.specs.Prelude.{Option, IfSome, if◌then◌else◌}
-use Rattle.pip_model.specs.Numbers.{floor_div}
-use Rattle.pip_model.specs.Forms.{entry, dot}
-use Rattle.pip_model.specs.Rows.{Row, divided, row_at, count_from, candidates, entering_of}
-use Rattle.pip_model.proofs.Forms.{dot-take}
-use Rattle.row_laws.specs.Choices.{IsCandidate}
-use Rattle.form_laws.specs.Bounds.{AllWithin}
-use Rattle.form_laws.specs.ByForm.{coef, place, over, combination}
+use Rattle.lane_rows.proofs.Words.{get_or, ◌≡◌, ◌∙◌, refl, ap, sym, subst, ℕ, zero, suc, ◌+◌, ◌<◌, ◌≤◌, ℤ, pos, ◌+ℤ◌, ◌*ℤ◌, unsigned_abs, arith, ◌⊎◌, inl, inr, eqb, Bool, false, List, [], ◌∷◌, length, take, drop, map, All, ints, cases_eq, get_or-take, length-take-le, get_or_default, All-take, All-drop, IfSome, if◌then◌else◌, floor_div, entry, dot, Row, divided, row_at, count_from, candidates, entering_of, dot-take, IsCandidate, AllWithin, coef, place, over, combination, row_over, AreScaled, entry_within, same_entries, same_row, is_scaled, over_coef, over_place, entry_first, ScaledTable, length_made, row_made, take_made, same_made, map_made, all_made, AreLanes, numbers_of, numbers_at, rows_in, undivided_in, table_of, AreLaned, IsLaned, line}
+use Rattle.std.specs.Prelude.{Option}
 use Rattle.form_laws.specs.Columns.{IsScaled}
-use Rattle.scaled_laws.specs.Scaled.{row_over, AreScaled}
-use Rattle.form_laws.proofs.Columns.{entry_within}
-use Rattle.form_laws.proofs.Divided.{same_entries, same_row}
 use Rattle.scaled_laws.proofs.Entering.{chosen, entering_over}
-use Rattle.scaled_laws.proofs.Scaled.{is_scaled, over_coef, over_place}
-use Rattle.form_laws.proofs.Turning.{entry_first}
-use Rattle.scaled_laws.specs.Tables.{ScaledTable}
-use Rattle.scaled_laws.proofs.Places.{length_made, row_made, take_made, same_made, map_made, all_made}
-use Rattle.lanes.specs.Narrow.{AreLanes}
-use Rattle.lane_rows.specs.Laned.{numbers_of, numbers_at, rows_in, undivided_in, table_of, AreLaned, IsLaned}
-use Rattle.lane_rows.specs.Read.{line}
 use Rattle.lane_rows.proofs.Numbers.{coefficient, coefficients_are, constant_entry, constants_are, numbers_long}
 
 module _ (n : ℕ) (rows : List (List ℤ)) (l : ℤ) (m : ℕ) (t : ScaledTable) (is : table_of n rows l m ≡ t) where

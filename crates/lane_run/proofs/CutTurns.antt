@@ -1,20 +1,7 @@
 -- A turn of a question's run where no row is below 0.
-use Rattle.std.proofs.Common.{◌≡◌, ◌∙◌, ap, sym, ℕ, ◌<◌, ◌≤◌, ℤ, arith, true, Option, Some, None, List, [], ◌∷◌, ◌++◌, length, take, drop, map, append_assoc, length-append}
-use Rattle.std.specs.Prelude.{IfSome}
-use Rattle.std.proofs.lemmas.List.{take-append-le, drop-append-le, take_all, map-append}
-use Rattle.pip_model.specs.Rows.{Row, row_at, first_fraction, fraction_from}
-use Rattle.pip_model.specs.Cuts.{constant_cut}
-use Rattle.pip_model.specs.Run.{Work, Outcome, Done, Refused, Refusal, go_on, give, turn, count_cut, point_setting}
+use Rattle.lane_run.proofs.Words.{◌≡◌, ◌∙◌, ap, sym, ℕ, ◌<◌, ◌≤◌, ℤ, arith, true, Option, Some, None, List, [], ◌∷◌, ◌++◌, length, take, drop, map, append_assoc, length-append, IfSome, take-append-le, drop-append-le, take_all, map-append, Row, row_at, first_fraction, fraction_from, constant_cut, Work, Outcome, Done, Refused, Refusal, go_on, give, turn, count_cut, point_setting, rows_by, Kept, Form, Whole, made, AreScaled, kept_of, ScaledTable, with_row, finds_point, IsTurnOf, negative_from, node_of, counted_cut, finds_whole, cut_goes_on, cut_refuses, run_rows}
 use Rattle.run_laws.proofs.Fractions.{fraction_some}
-use Rattle.form_laws.specs.ByForm.{rows_by, Kept, Form, Whole, made}
 use Rattle.form_laws.proofs.Pivots.{rows_added}
-use Rattle.scaled_laws.specs.Scaled.{AreScaled}
-use Rattle.scaled_laws.specs.Kept.{kept_of}
-use Rattle.scaled_laws.specs.Tables.{ScaledTable, with_row}
-use Rattle.point_turns.specs.Points.{finds_point, IsTurnOf}
-use Rattle.point_turns.specs.Turns.{negative_from, node_of, counted_cut}
-use Rattle.short_run.proofs.QuestionTurns.{finds_whole, cut_goes_on, cut_refuses}
-use Rattle.lane_run.specs.Runs.{run_rows}
 use Rattle.lane_run.proofs.FirstBelow.{row_front}
 use Rattle.lane_run.proofs.Parts.{column_at, columns_long, one_constant}
 

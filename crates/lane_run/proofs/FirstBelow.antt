@@ -1,12 +1,5 @@
 -- The first row below 0 among rows that stand in parts one behind the other.
-use Rattle.std.proofs.Common.{◌≡◌, ◌∙◌, refl, ap, sym, ℕ, zero, suc, ◌+◌, ◌-◌, ◌<◌, ◌≤◌, ℤ, arith, ◌⊎◌, inl, inr, Bool, true, false, Some, None, List, [], ◌∷◌, ◌++◌, length, length-append}
-use Rattle.std.specs.Prelude.{if◌then◌else◌}
-use Rattle.std.proofs.lemmas.Bool.{cases_lt}
-use Rattle.std.proofs.lemmas.List.{get_or_append_left, get_or-append-add}
-use Rattle.pip_model.specs.Rows.{Row, row_at, form_row}
-use Rattle.point_turns.specs.Turns.{negative_from}
-use Rattle.scaled_laws.specs.Tables.{ScaledTable}
-use Rattle.lane_run.specs.Below.{is_above, AreAbove, IsFirstRowBelow}
+use Rattle.lane_run.proofs.Words.{◌≡◌, ◌∙◌, refl, ap, sym, ℕ, zero, suc, ◌+◌, ◌-◌, ◌<◌, ◌≤◌, ℤ, arith, ◌⊎◌, inl, inr, Bool, true, false, Some, None, List, [], ◌∷◌, ◌++◌, length, length-append, if◌then◌else◌, cases_lt, get_or_append_left, get_or-append-add, Row, row_at, form_row, negative_from, ScaledTable, is_above, AreAbove, IsFirstRowBelow}
 
 -- ---- as the run finds it
 

@@ -1,29 +1,11 @@
 -- The pivot at the first row below 0, where rows of forms are read off: it is the written run's, and the forms make the rows
 -- after it of the pivoted columns' rows.
-use Rattle.std.proofs.Common.{◌≡◌, ◌∙◌, refl, ap, sym, subst, ℕ, ◌+◌, ◌*◌, ◌^◌, ◌<◌, ◌≤◌, ℤ, pos, ◌<ℤ◌, arith, true, false, Option, Some, None, is_some, List, [], ◌∷◌, ◌++◌, length, map, take, drop, append-nil, append_assoc, length-append, All}
-use Rattle.std.specs.Prelude.{IfSome}
-use Rattle.std.proofs.lemmas.Int.{ints}
-use Rattle.std.proofs.lemmas.Nat.{mul-le}
-use Rattle.std.proofs.lemmas.List.{take-append-le, take_all, length-take-le, take-map, drop-map, drop_all}
-use Rattle.pip_model.specs.Forms.{entry}
+use Rattle.lane_run.proofs.Words.{◌≡◌, ◌∙◌, refl, ap, sym, subst, ℕ, ◌+◌, ◌*◌, ◌^◌, ◌<◌, ◌≤◌, ℤ, pos, ◌<ℤ◌, arith, true, false, Option, Some, None, is_some, List, [], ◌∷◌, ◌++◌, length, map, take, drop, append-nil, append_assoc, length-append, All, IfSome, ints, mul-le, take-append-le, take_all, length-take-le, take-map, drop-map, drop_all, entry, Row, row_at, eliminated, pivot, pivot_listed, entering, entering_of, entering_listed, candidates, Work, Outcome, Done, Refused, Refusal, Again, go_on, give, count_pivot, turn, point_setting, again_run, refused_run_from, falls-constant_class, norm, AllShort, Kept, Form, Whole, by_form, made, rows_by, turned, IsWide, AllWide, IsOver, MadeBy, row_wide, pivot_made, kept_of, AreScaled, ScaledTable, finds_point, negative_from, node_of, finds_no_column, pivot_refused, row_of, IsNarrowTable, IsEntering, IsPivoted, run_rows, AreModest, IsRowBelow}
 use Rattle.pip_model.specs.Listed.{all_fit}
-use Rattle.pip_model.specs.Rows.{Row, row_at, eliminated, pivot, pivot_listed, entering, entering_of, entering_listed, candidates}
-use Rattle.pip_model.specs.Run.{Work, Outcome, Done, Refused, Refusal, Again, go_on, give, count_pivot, turn, numbers_of, point_setting}
-use Rattle.pip_model.proofs.Fuel.{again_run, refused_run_from, falls-constant_class}
-use Rattle.form_laws.specs.Bounds.{norm, AllShort}
-use Rattle.form_laws.specs.ByForm.{Kept, Form, Whole, by_form, made, rows_by, turned, IsWide, AllWide, IsOver, MadeBy}
-use Rattle.form_laws.proofs.Invariant.{row_wide, pivot_made}
+use Rattle.pip_model.specs.Run.{numbers_of}
 use Rattle.form_laws.proofs.Within.{all_wide, all_over}
-use Rattle.scaled_laws.specs.Kept.{kept_of}
-use Rattle.scaled_laws.specs.Scaled.{AreScaled}
-use Rattle.scaled_laws.specs.Tables.{ScaledTable}
 use Rattle.scaled_laws.proofs.Within.{rows_are_short, are_made, made_kept, none_refused, comparison_refused, scaled_front, scaled_back}
-use Rattle.point_turns.specs.Points.{finds_point}
-use Rattle.point_turns.specs.Turns.{negative_from, node_of}
 use Rattle.short_run.proofs.FurtherRows.{IsStep, negative-front, row_at-front, turn-alone}
-use Rattle.short_run.proofs.QuestionTurns.{finds_no_column, pivot_refused}
-use Rattle.lane_run.specs.Pivots.{row_of, IsNarrowTable, IsEntering, IsPivoted}
-use Rattle.lane_run.specs.Runs.{run_rows, AreModest, IsRowBelow}
 
 -- ---- a turn that counts a pivot, and the run from there
 

@@ -6,3 +6,4 @@ pub mod Passed
 pub mod CutTurns
 pub mod Modest
 pub mod SameRun
+mod Words

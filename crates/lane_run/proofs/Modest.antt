@@ -1,11 +1,7 @@
 -- Forms in lanes as forms over some columns: their length, and the sum of their sizes.
-use Rattle.std.proofs.Common.{◌≡◌, ℕ, zero, suc, ◌+◌, ◌^◌, ◌<◌, ◌≤◌, ℤ, pos, unsigned_abs, arith, List, [], ◌∷◌, ◌++◌, get_or, take}
+use Rattle.lane_run.proofs.Words.{◌≡◌, ℕ, zero, suc, ◌+◌, ◌^◌, ◌<◌, ◌≤◌, ℤ, pos, unsigned_abs, arith, List, [], ◌∷◌, ◌++◌, get_or, take, norm, numbers_long, IsWithin, AreWithin, forms_of, IsModest, AreModest}
 use Rattle.std.proofs.lemmas.List.Elements.{All-map}
-use Rattle.form_laws.specs.Bounds.{norm}
 use Rattle.lane_rows.specs.Laned.{numbers_of}
-use Rattle.lane_rows.proofs.Numbers.{numbers_long}
-use Rattle.lane_run.specs.Within.{IsWithin, AreWithin}
-use Rattle.lane_run.specs.Runs.{forms_of, IsModest, AreModest}
 
 norm_behind : (xs : List ℤ) (z : ℤ) → norm (xs ++ z ∷ []) ≡ norm xs + unsigned_abs z
 norm_behind [] z = omega arith

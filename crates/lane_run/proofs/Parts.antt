@@ -1,26 +1,12 @@
 -- The parts of a point's rows: those of the columns, those that forms make, those of cuts. Which of them are below 0.
-use Rattle.std.proofs.Common.{◌≡◌, ◌∙◌, refl, ap, sym, ℕ, zero, suc, ◌+◌, ◌-◌, ◌<◌, ◌≤◌, ℤ, pos, negsuc, ◌≤ℤ◌, ◌<ℤ◌, arith, Bool, true, false, List, [], ◌∷◌, ◌++◌, length, get_or, take, drop, map, length-drop}
-use Rattle.std.specs.Prelude.{◌&&◌}
+use Rattle.lane_run.proofs.Words.{◌≡◌, ◌∙◌, refl, ap, sym, ℕ, zero, suc, ◌+◌, ◌-◌, ◌<◌, ◌≤◌, ℤ, pos, negsuc, ◌≤ℤ◌, ◌<ℤ◌, arith, Bool, true, false, List, [], ◌∷◌, ◌++◌, length, get_or, take, drop, map, length-drop, ◌&&◌, ints, get_or-take, get_or-drop, length-take-le, map-append, take_at, drop_at, is_nonneg, entry, constant, Row, row_at, form_row, divided, combination, by_form, place, made, wide_by_form, row_over, AreScaled, kept_of, ScaledTable, AreUnused, constants_are, is_above, AreAbove, IsFirstRowBelow, made_rows, value_of, run_rows, forms_of}
 use Rattle.std.specs.List.{list_all}
-use Rattle.std.proofs.lemmas.Int.{ints}
-use Rattle.std.proofs.lemmas.List.{get_or-take, get_or-drop, length-take-le, map-append, take_at, drop_at}
-use Rattle.pip_model.specs.Numbers.{is_nonneg}
-use Rattle.pip_model.specs.Forms.{entry, constant}
-use Rattle.pip_model.specs.Rows.{Row, row_at, form_row, divided}
-use Rattle.form_laws.specs.ByForm.{combination, by_form, place, made}
-use Rattle.form_laws.proofs.Invariant.{wide_by_form}
 use Rattle.form_laws.proofs.Divided.{same_row}
 use Rattle.form_laws.proofs.Turning.{length_counted}
 use Rattle.run_laws.proofs.Lengths.{length_map}
-use Rattle.scaled_laws.specs.Scaled.{row_over, AreScaled}
-use Rattle.scaled_laws.specs.Kept.{kept_of}
-use Rattle.scaled_laws.specs.Tables.{ScaledTable}
 use Rattle.scaled_laws.proofs.Scaled.{nonneg_over}
-use Rattle.lane_rows.specs.Laned.{numbers_of, AreUnused}
-use Rattle.lane_rows.proofs.Numbers.{constants_are}
+use Rattle.lane_rows.specs.Laned.{numbers_of}
 use Rattle.lanes.specs.Narrow.{AreLanes}
-use Rattle.lane_run.specs.Below.{is_above, AreAbove, IsFirstRowBelow, made_rows, value_of}
-use Rattle.lane_run.specs.Runs.{run_rows, forms_of}
 
 -- ---- the sign of one constant
 

@@ -1,6 +1,5 @@
 -- What a part tells of its answer, passed on.
-use Rattle.std.proofs.Common.{Option, Some, None}
-use Rattle.std.specs.Prelude.{IfSome, IfNone, IfOk, IfErr, Result, Ok, Err}
+use Rattle.lane_run.proofs.Words.{Option, Some, None, IfSome, IfNone, IfOk, IfErr, Result, Ok, Err}
 
 pub some_passed : {X : Type 0} (o : Option X) (P Q : X → Type 0) → ((x : X) → P x → Q x) → IfSome o P → IfSome o Q
 some_passed None P Q on h = h

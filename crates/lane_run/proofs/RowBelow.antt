@@ -1,14 +1,5 @@
 -- The first row below 0 of a point's run: of the columns, of the forms, of the cuts.
-use Rattle.std.proofs.Common.{◌≡◌, sym, subst, ℕ, ◌+◌, ◌*◌, ◌^◌, ◌<◌, ℤ, arith, None, List, ◌++◌, length, get_or, take, drop, length-append, All}
-use Rattle.std.proofs.lemmas.Nat.{mul-le}
-use Rattle.std.proofs.lemmas.List.{get_or_append_left, get_or-append-add}
-use Rattle.pip_model.specs.Rows.{Row}
-use Rattle.form_laws.specs.Bounds.{norm}
-use Rattle.scaled_laws.specs.Tables.{ScaledTable}
-use Rattle.point_turns.specs.Turns.{negative_from}
-use Rattle.lane_run.specs.Within.{IsWithin, AreWithin}
-use Rattle.lane_run.specs.Runs.{run_rows, forms_of, IsRowBelow}
-use Rattle.lane_run.specs.Below.{AreAbove, IsFirstRowBelow, IsReadBy, made_rows}
+use Rattle.lane_run.proofs.Words.{◌≡◌, sym, subst, ℕ, ◌+◌, ◌*◌, ◌^◌, ◌<◌, ℤ, arith, None, List, ◌++◌, length, get_or, take, drop, length-append, All, mul-le, get_or_append_left, get_or-append-add, Row, norm, ScaledTable, negative_from, IsWithin, AreWithin, run_rows, forms_of, IsRowBelow, AreAbove, IsFirstRowBelow, IsReadBy, made_rows}
 use Rattle.lane_run.proofs.FirstBelow.{none_negative, first_negative, both_above, first_front, first_behind}
 use Rattle.lane_run.proofs.Parts.{in_four_parts}
 

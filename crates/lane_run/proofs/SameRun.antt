@@ -1,15 +1,8 @@
 -- A question's run from turn to turn: it finds what it found from the first rows on.
-use Rattle.std.proofs.Common.{◌≡◌, ◌∙◌, refl, ap, sym, subst, ℕ, ℤ, ◌<◌, Bool, Option, Some, None, is_some, List}
-use Rattle.std.specs.Prelude.{IfSome, Ok, Err}
-use Rattle.pip_model.specs.Rows.{Row}
-use Rattle.pip_model.specs.Run.{Work, Refused, Refusal, left, turn, go_on, give, numbers_of, point_setting}
-use Rattle.pip_model.proofs.Fuel.{again_run, again_less, refused_run_from, falls-constant_class}
+use Rattle.lane_run.proofs.Words.{◌≡◌, ◌∙◌, refl, ap, sym, subst, ℕ, ℤ, ◌<◌, Bool, Option, Some, None, is_some, List, IfSome, Ok, Err, Row, Work, Refused, Refusal, left, turn, go_on, give, point_setting, again_run, again_less, refused_run_from, falls-constant_class, finds_point, IsTurnOf, node_of, ScaledTable, run_rows, forms_of}
+use Rattle.pip_model.specs.Run.{numbers_of}
 use Rattle.run_counts.specs.Counts.{HasCounted, IsCountedRun}
 use Rattle.run_counts.proofs.Counting.{counted_on, counted_none}
-use Rattle.point_turns.specs.Points.{finds_point, IsTurnOf}
-use Rattle.point_turns.specs.Turns.{node_of}
-use Rattle.scaled_laws.specs.Tables.{ScaledTable}
-use Rattle.lane_run.specs.Runs.{run_rows, forms_of}
 
 -- the run of n unknowns from the first rows and counts, which goes on from others
 pub record IsSameRun (n : ℕ) (first now : List Row) (before w : Work) : Type 0 where

@@ -1,14 +1,8 @@
 -- Numbers that are written one after the other.
-use Rattle.std.proofs.Common.{◌≡◌, ◌∙◌, refl, ap, sym, subst, ℕ, zero, suc, ◌+◌, ◌^◌, ◌<◌, ◌≤◌, ℤ, pos, ◌+ℤ◌, ◌-ℤ◌, ◌*ℤ◌, ◌≤ℤ◌, neg_ℤ, unsigned_abs, arith, nat_lt, ◌*◌, ◌⊎◌, inl, inr, List, [], ◌∷◌, length, length-set, replicate}
+use Rattle.lanes.proofs.Words.{◌≡◌, ◌∙◌, refl, ap, sym, subst, ℕ, zero, suc, ◌+◌, ◌^◌, ◌<◌, ◌≤◌, ℤ, pos, ◌+ℤ◌, ◌-ℤ◌, ◌*ℤ◌, ◌≤ℤ◌, neg_ℤ, unsigned_abs, arith, nat_lt, ◌*◌, ◌⊎◌, inl, inr, List, [], ◌∷◌, length, length-set, replicate, ints, unsigned_abs-mul, mul-le, length-map, get_or_past, slice_set, entry, add, combine, negate, scale, AreAddable, AreLanes, AreNarrowTimes, AreTurnable, IsNarrow, left_of}
 use Rattle.std.proofs.lemmas.Bool.{cases_eq}
-use Rattle.std.proofs.lemmas.Int.{ints, unsigned_abs-mul}
-use Rattle.std.proofs.lemmas.Nat.{mul-le}
-use Rattle.std.proofs.lemmas.List.{length-map, get_or_past}
-use Rattle.std.specs.Prelude.{slice_set}
-use Rattle.pip_model.specs.Forms.{entry, add, combine, negate, scale}
 use Rattle.pip_model.proofs.Forms.{length-add, length-combine, entry-combine, entry-negate, entry-scale, entry-zeros}
 use Rattle.run_laws.proofs.Sums.{entry-set_same, entry-set_other, length-scale}
-use Rattle.lanes.specs.Narrow.{AreAddable, AreLanes, AreNarrowTimes, AreTurnable, IsNarrow, left_of}
 
 -- the numbers before place i are as R says, those from there on are as they were
 pub record Written (R : ℕ → ℤ → Type 0) (old now : List ℤ) (i : ℕ) : Type 0 where

@@ -1,23 +1,11 @@
 -- Pivots of rows that are read off their forms.
-use Rattle.std.proofs.Common.{◌≡◌, ◌∙◌, refl, ap, sym, subst, ℕ, zero, suc, ◌+◌, ◌-◌, ◌*◌, ◌^◌, ◌<◌, ◌≤◌, ℤ, pos, ◌≤ℤ◌, ◌<ℤ◌, arith, true, List, [], ◌∷◌, ◌++◌, length, map, take, get_or, append-nil, All}
-use Rattle.std.proofs.lemmas.Int.{ints}
+use Rattle.std.proofs.Common.{append-nil}
+use Rattle.node_rows.proofs.Words.{◌≡◌, ◌∙◌, refl, ap, sym, subst, ℕ, zero, suc, ◌+◌, ◌-◌, ◌*◌, ◌^◌, ◌<◌, ◌≤◌, ℤ, pos, ◌≤ℤ◌, ◌<ℤ◌, arith, true, List, [], ◌∷◌, ◌++◌, length, map, take, get_or, All, ints, map-append, take-append-le, take_all, length-map, entry, length-count, Row, row_at, form_row, eliminated, pivot, pivot_listed, entering, entering_of, entering_listed, entering_of_listed, candidates, start, unit_row, count_from, IsShortRow, TableauRows, by_form, Kept, Form, turned, IsWide, rows_by, norm, AllShort, IsScaled, IsBasis, pivot_fits, Basis, IsRead, read, all_rows}
 use Rattle.std.proofs.lemmas.Nat.{mul-le}
-use Rattle.std.proofs.lemmas.List.{map-append, take-append-le, take_all, length-map}
-use Rattle.pip_model.specs.Forms.{entry}
 use Rattle.pip_model.specs.Listed.{all_fit}
-use Rattle.pip_model.proofs.Forms.{length-count}
-use Rattle.pip_model.specs.Rows.{Row, row_at, form_row, eliminated, pivot, pivot_listed, entering, entering_of, entering_listed, entering_of_listed, candidates, start, unit_row, count_from}
-use Rattle.row_laws.specs.Short.{IsShortRow}
-use Rattle.tableau.specs.Tableaus.{TableauRows}
-use Rattle.form_laws.specs.ByForm.{by_form, Kept, Form, turned, IsWide, rows_by}
-use Rattle.form_laws.specs.Bounds.{norm, AllShort}
-use Rattle.form_laws.specs.Columns.{IsScaled, IsBasis}
-use Rattle.form_laws.proofs.Sizes.{pivot_fits}
 use Rattle.form_laws.proofs.Pivots.{pivot_is_map}
 use Rattle.form_laws.proofs.Invariant.{pivot_made, wide_by_form}
 use Rattle.form_laws.proofs.Within.{start_read, rows_are_short, form_is_short, are_made, made_forms, none_refused, all_over}
-use Rattle.node_rows.specs.declared.basis.Basis.{Basis}
-use Rattle.node_rows.specs.ReadRows.{IsRead, read, all_rows}
 
 -- ---- rows by their places
 

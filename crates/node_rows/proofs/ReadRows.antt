@@ -1,28 +1,13 @@
 -- What is read of a form's row is the row.
-use Rattle.std.proofs.Common.{◌≡◌, ◌∙◌, refl, ap, sym, subst, ℕ, zero, suc, ◌+◌, ◌*◌, ◌^◌, ◌<◌, ◌≤◌, ℤ, pos, negsuc, ◌*ℤ◌, ◌≤ℤ◌, unsigned_abs, arith, true, List, [], ◌∷◌, length, take, drop, map, get_or, All}
+use Rattle.node_rows.proofs.Words.{◌≡◌, ◌∙◌, refl, ap, sym, subst, ℕ, zero, suc, ◌+◌, ◌*◌, ◌^◌, ◌<◌, ◌≤◌, ℤ, pos, negsuc, ◌*ℤ◌, ◌≤ℤ◌, unsigned_abs, arith, true, List, [], ◌∷◌, length, take, drop, map, get_or, All, ints, take_all, is_nonneg, entry, dot, Row, count_from, entry-scale, IsShort, IsShortRow, TableauRows, coef, place, over, norm, part, IsSummable, all_short, summable, column_at, columns_long, column_inside, part_coef, part_place, length_over, sum_within, own_step, OwnStep, Basis, IsRead, placed, summed, combined, read}
 use Rattle.std.specs.List.{list_all}
-use Rattle.std.proofs.lemmas.Int.{ints}
-use Rattle.std.proofs.lemmas.List.{take_all}
 use Rattle.std.proofs.lemmas.List.Elements.{All-take, All-drop}
-use Rattle.pip_model.specs.Numbers.{is_nonneg}
-use Rattle.pip_model.specs.Forms.{entry, dot}
-use Rattle.pip_model.specs.Rows.{Row, count_from}
-use Rattle.pip_model.proofs.Forms.{entry-scale}
 use Rattle.run_laws.proofs.Sums.{length-scale}
 use Rattle.affine_forms.specs.Checks.{Fits}
-use Rattle.row_laws.specs.Short.{IsShort, IsShortRow}
 use Rattle.row_laws.specs.Rows.{IsRow}
 use Rattle.row_laws.proofs.ShortRows.{fits_short}
-use Rattle.tableau.specs.Tableaus.{TableauRows}
-use Rattle.form_laws.specs.ByForm.{coef, place, over}
-use Rattle.form_laws.specs.Bounds.{norm}
-use Rattle.form_laws.specs.Columns.{part, IsSummable}
 use Rattle.form_laws.proofs.Divided.{undivided}
 use Rattle.form_laws.proofs.Turning.{entry_first, length_counted}
-use Rattle.form_laws.proofs.Sizes.{all_short}
-use Rattle.form_laws.proofs.Columns.{summable, column_at, columns_long, column_inside, part_coef, part_place, length_over, sum_within, own_step, OwnStep}
-use Rattle.node_rows.specs.declared.basis.Basis.{Basis}
-use Rattle.node_rows.specs.ReadRows.{IsRead, placed, summed, combined, read}
 
 short_fit : (z : ℤ) → unsigned_abs z < 2 ^ 63 → Fits z
 short_fit z h = fits_short (z ∷ []) (λ k d lt. first k d lt) 0 z (omega arith)

@@ -1,3 +1,4 @@
 pub mod Running
 pub mod Single
 pub mod Turning
+mod Words

@@ -1,17 +1,11 @@
 -- The run of rows without parameters, in either mode, from one turn to the next.
-use Rattle.std.proofs.Common.{◌≡◌, refl, ap, sym, ◌∙◌, ◌<◌, ◌≤◌, Bool, Option, Some, None, List, length, arith}
-use Rattle.std.specs.Prelude.{IfSome, Ok, Err}
-use Rattle.pip_model.specs.Tree.{Tree}
-use Rattle.pip_model.specs.Rows.{Row}
-use Rattle.pip_model.specs.Run.{Work, Outcome, Done, Refused, Refusal, Counted, Turn, Again, Closed, left, turn, run_from}
+use Rattle.std.proofs.Common.{◌≡◌}
+use Rattle.plain_run.proofs.Words.{refl, ap, sym, ◌∙◌, ◌<◌, ◌≤◌, Bool, Option, Some, None, List, length, arith, IfSome, Ok, Err, Tree, Row, Work, Outcome, Done, Refused, Refusal, Counted, Turn, Again, Closed, left, turn, run_from, node_of, HasSameScope, scope_none, scope_on, plain_setting}
 use Rattle.pip_model.proofs.Fuel.{again_less, again_run, closed_run_from, refused_run_from, falls-constant_class}
 use Rattle.run_counts.specs.Counts.{IsCountedRun, HasCounted}
 use Rattle.run_counts.proofs.Counting.{counted_none, counted_on}
 use Rattle.point_turns.specs.Tableaus.{TableauRows}
-use Rattle.point_turns.specs.Turns.{node_of, HasSameScope}
 use Rattle.point_turns.specs.Points.{ended}
-use Rattle.point_turns.proofs.Leaving.{scope_none, scope_on}
-use Rattle.plain_laws.specs.Plain.{plain_setting}
 
 -- ---- turn by turn
 

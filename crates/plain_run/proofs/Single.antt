@@ -1,8 +1,6 @@
 -- Lists of one number.
-use Rattle.pip_model.specs.Tree.{Component, reduced}
-use Rattle.pip_model.specs.Rows.{Row}
-use Rattle.pip_model.specs.Run.{row_component}
-use Rattle.std.proofs.Common.{◌≡◌, ◌∙◌, ap, ap₂, refl, List, [], ◌∷◌, length, ℤ, arith, slice_index_or}
+use Rattle.plain_run.proofs.Words.{Component, reduced, Row, row_component, ◌∙◌, ap, ap₂, refl, List, [], ◌∷◌, length, ℤ, arith, slice_index_or}
+use Rattle.std.proofs.Common.{◌≡◌}
 
 pub one_entry : (xs : List ℤ) (d : ℤ) → length xs ≡ 1 → slice_index_or xs 0 d ∷ [] ≡ xs
 one_entry [] d e = absurd (omega arith)

@@ -1,12 +1,8 @@
 -- The turns of rows without parameters, by the first row below 0.
-use Rattle.std.proofs.Common.{◌≡◌, ◌∙◌, ap, refl, ℕ, ◌+◌, Bool, true, false, List, [], ◌∷◌, Option, Some, None}
-use Rattle.std.specs.Prelude.{if◌then◌else◌}
+use Rattle.std.proofs.Common.{◌≡◌}
+use Rattle.plain_run.proofs.Words.{◌∙◌, ap, refl, ℕ, ◌+◌, Bool, true, false, List, [], ◌∷◌, Option, Some, None, if◌then◌else◌, Row, Work, Signs, AllPlus, MinusAt, turn, turn_by, negative_from, node_of, plain_setting}
 use Rattle.pip_model.specs.Numbers.{is_nonneg}
 use Rattle.pip_model.specs.Forms.{constant}
-use Rattle.pip_model.specs.Rows.{Row}
-use Rattle.pip_model.specs.Run.{Work, Signs, AllPlus, MinusAt, turn, turn_by}
-use Rattle.point_turns.specs.Turns.{negative_from, node_of}
-use Rattle.plain_laws.specs.Plain.{plain_setting}
 use Rattle.plain_laws.proofs.Plain.{first_minus, plain_turn_is}
 
 abbrev pub signs_of : Option ℕ → Signs

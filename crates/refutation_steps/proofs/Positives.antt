@@ -1,9 +1,6 @@
 -- Indices with positive multipliers, one by one; indices of rows.
-use Rattle.refutation_steps.proofs.Words.{◌≡◌, refl, ap, ◌∙◌, ℕ, zero, suc, ◌+◌, ◌-◌, ◌<◌, ◌≤◌, ℤ, pos, negsuc, ints, ◌≤ℤ◌, ◌<ℤ◌, neg_ℤ, true, false, List, [], ◌∷◌, ◌++◌, length, length-append, length-map, length-count, get_or_append_left, take, drop, arith, sym, drop_more, take-append-le, is_positive, entry, negate, entry-negate, positive_terms, indices}
+use Rattle.refutation_steps.proofs.Words.{◌≡◌, refl, ap, ◌∙◌, ℕ, zero, suc, ◌+◌, ◌-◌, ◌<◌, ◌≤◌, ℤ, pos, negsuc, ints, ◌≤ℤ◌, ◌<ℤ◌, neg_ℤ, true, false, List, [], ◌∷◌, ◌++◌, length, length-append, length-map, length-count, get_or_append_left, take, drop, arith, sym, drop_more, take-append-le, is_positive, entry, negate, entry-negate, positive_terms, indices, get_or-append_right, get_or_read, ap₂, get_or, count_from}
 use Rattle.std.proofs.Math.Seq.{append_snoc}
-use Rattle.std.proofs.lemmas.List.{get_or-append_right, get_or_read}
-use Rattle.std.proofs.Common.{ap₂, get_or}
-use Rattle.pip_model.specs.Rows.{count_from}
 
 module _ (is ms : List ℤ) (i : ℕ) (h : i < length is) (k : length ms ≡ length is) where
   pub positive-here : is_positive (entry ms i) ≡ true → positive_terms (drop i is) (drop i ms) ≡ (entry is i, entry ms i) ∷ positive_terms (drop (i + 1) is) (drop (i + 1) ms)

@@ -1,12 +1,9 @@
 -- A refutation is made exactly where the forms have no point, and is refused as the point would be.
-use Rattle.refutation_steps.proofs.Words.{Option, Some, None, List, ℤ, ℕ, ◌≡◌, refl, Ok, Refutation, Work, Outcome, Done, refute, run_fault}
-use Rattle.std.proofs.Common.{subst, Result, Err}
-use Rattle.std.specs.Prelude.{IfErr, IfSome}
+use Rattle.refutation_steps.proofs.Words.{Option, Some, None, List, ℤ, ℕ, ◌≡◌, refl, Ok, Refutation, Work, Outcome, Done, refute, run_fault, subst, Result, Err, IfErr, IfSome, Refused, point}
 use Rattle.pip_model.specs.Agreement.{AgreesCounted}
 use Rattle.pip_model.specs.Contexts.{IsContext, IsPointRefusal}
 use Rattle.pip_model.specs.RefutedPoint.{IsRefutedPoint}
 use Rattle.pip_model.specs.Run as run
-use Rattle.pip_model.specs.Run.{Refused, point}
 use Rattle.pip_problem.specs.declared.refusal.Refusal.{Refusal}
 use Rattle.run_laws.proofs.ContextRight.{narrow_of}
 use Rattle.run_laws.proofs.PointRefusals.{point-refusal}

@@ -1,12 +1,6 @@
 -- The rows of the columns.
-use Rattle.std.proofs.Common.{◌≡◌, ◌∙◌, refl, ap, sym, ℕ, ◌+◌, ◌-◌, ◌<◌, ℤ, pos, arith, List, take, drop, replicate}
-use Rattle.std.proofs.lemmas.List.{drop-set-lt, drop-replicate, take-replicate}
-use Rattle.std.proofs.Math.Seq.{take-set-lt}
-use Rattle.std.specs.Prelude.{slice_set}
-use Rattle.pip_model.specs.Rows.{divided, unit_row}
+use Rattle.scaled_laws.proofs.Words.{◌≡◌, ◌∙◌, refl, ap, sym, ℕ, ◌+◌, ◌-◌, ◌<◌, ℤ, pos, arith, List, take, drop, replicate, drop-set-lt, drop-replicate, take-replicate, take-set-lt, slice_set, divided, unit_row, row_over, row_size, unit_numbers}
 use Rattle.form_laws.proofs.RowLaws.{divided_whole}
-use Rattle.scaled_laws.specs.Scaled.{row_over}
-use Rattle.scaled_laws.specs.Units.{row_size, unit_numbers}
 
 pub unit_is : (n w c : ℕ) → c < n → divided (row_over n (pos 1) (unit_numbers (row_size n w) c)) ≡ unit_row n w c
 unit_is n w c h =

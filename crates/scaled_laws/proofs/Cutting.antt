@@ -1,19 +1,6 @@
 -- The cut by a row whose numbers stand over one denominator.
-use Rattle.std.proofs.Common.{◌≡◌, ◌∙◌, refl, ap, sym, ℕ, zero, suc, ◌+◌, ◌-◌, ◌<◌, ◌≤◌, ℤ, pos, negsuc, ◌*ℤ◌, ◌≤ℤ◌, ◌<ℤ◌, neg_ℤ, unsigned_abs, arith, rules, nat_lt, Bool, true, false, List, [], ◌∷◌, length, take, drop, map, length-drop, All}
-use Rattle.std.proofs.lemmas.Int.{ints}
-use Rattle.std.proofs.lemmas.List.{get_or-take, get_or-drop, get_or_default, length-take-le}
-use Rattle.pip_model.specs.Numbers.{floor_mod}
-use Rattle.pip_model.specs.Forms.{entry, scale, negate, residue}
-use Rattle.pip_model.specs.Rows.{Row, divided}
+use Rattle.scaled_laws.proofs.Words.{◌≡◌, ◌∙◌, refl, ap, sym, ℕ, zero, suc, ◌+◌, ◌-◌, ◌<◌, ◌≤◌, ℤ, pos, negsuc, ◌*ℤ◌, ◌≤ℤ◌, ◌<ℤ◌, neg_ℤ, unsigned_abs, arith, rules, nat_lt, Bool, true, false, List, [], ◌∷◌, length, take, drop, map, length-drop, All, ints, get_or-take, get_or-drop, get_or_default, length-take-le, floor_mod, entry, scale, negate, residue, Row, divided, rest_of, floor_mod-law, var, num, ◌⊗◌, ring, length_map, row_by, same_row, same_entries, Undivided, undivided, divided_multiple, entry_first, length_counted, row_over, row_size}
 use Rattle.pip_model.specs.Cuts.{constant_cut}
-use Rattle.pip_model.proofs.Division.{rest_of}
-use Rattle.pip_model.proofs.Laws.{floor_mod-law}
-use Rattle.pip_model.proofs.Polynomials.{var, num, ◌⊗◌, ring}
-use Rattle.run_laws.proofs.Lengths.{length_map}
-use Rattle.form_laws.proofs.Divided.{row_by, same_row, same_entries, Undivided, undivided, divided_multiple}
-use Rattle.form_laws.proofs.Turning.{entry_first, length_counted}
-use Rattle.scaled_laws.specs.Scaled.{row_over}
-use Rattle.scaled_laws.specs.Units.{row_size}
 use Rattle.scaled_laws.specs.Cut.{left_of, cut_numbers}
 use Rattle.scaled_laws.proofs.Scaled.{mod_over, den_positive}
 

@@ -1,20 +1,7 @@
 -- The column that enters is chosen by the numbers over one denominator as by the divided rows.
-use Rattle.std.proofs.Common.{◌≡◌, ◌∙◌, refl, ap, sym, subst, ℕ, zero, suc, ◌<◌, ℤ, pos, negsuc, ◌-ℤ◌, ◌*ℤ◌, ◌≤ℤ◌, ◌<ℤ◌, arith, Bool, true, false, List, [], ◌∷◌, length, take, map}
-use Rattle.std.proofs.lemmas.Int.{ints}
-use Rattle.std.specs.Prelude.{filter, int_lt, Option, Some, None, IfSome, if◌then◌else◌}
-use Rattle.pip_model.specs.Numbers.{is_positive}
-use Rattle.pip_model.specs.Forms.{entry}
+use Rattle.scaled_laws.proofs.Words.{◌≡◌, ◌∙◌, refl, ap, sym, subst, ℕ, zero, suc, ◌<◌, ℤ, pos, negsuc, ◌-ℤ◌, ◌*ℤ◌, ◌≤ℤ◌, ◌<ℤ◌, arith, Bool, true, false, List, [], ◌∷◌, length, take, map, ints, filter, int_lt, Option, Some, None, IfSome, if◌then◌else◌, is_positive, entry, Row, divided, count_from, cross_products, is_better, best, entering_of, candidates, mul_nn, mul_pp, factor_p, var, ◌⊖◌, ◌⊗◌, ring, entry-scale, length_floors, divisor, coef, row_over, Undivided, undivided}
 use Rattle.pip_model.specs.Problem.{lex_less}
-use Rattle.pip_model.specs.Rows.{Row, divided, count_from, cross_products, is_better, best, entering_of, candidates}
-use Rattle.pip_model.proofs.Order.{mul_nn, mul_pp, factor_p}
-use Rattle.pip_model.proofs.Polynomials.{var, ◌⊖◌, ◌⊗◌, ring}
-use Rattle.pip_model.proofs.Forms.{entry-scale}
-use Rattle.run_laws.proofs.Lengths.{length_floors}
-use Rattle.run_laws.proofs.RowsAt.{divisor}
 use Rattle.form_laws.specs.Choices.{IsCandidate}
-use Rattle.form_laws.specs.ByForm.{coef}
-use Rattle.scaled_laws.specs.Scaled.{row_over}
-use Rattle.form_laws.proofs.Divided.{Undivided, undivided}
 
 -- ---- a positive factor on both sides
 

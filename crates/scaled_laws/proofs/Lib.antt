@@ -5,3 +5,4 @@ pub mod Turned
 pub mod Entering
 pub mod Cutting
 pub mod Within
+mod Words

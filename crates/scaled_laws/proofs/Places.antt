@@ -1,7 +1,5 @@
 -- Lists made by their places.
-use Rattle.std.proofs.Common.{◌≡◌, ◌∙◌, refl, ap, ℕ, zero, suc, ◌+◌, ◌<◌, ◌≤◌, arith, List, ◌∷◌, length, take, map, All}
-use Rattle.std.proofs.lemmas.List.Elements.{All-nil, All-cons}
-use Rattle.pip_model.specs.Rows.{Row, row_at, count_from}
+use Rattle.scaled_laws.proofs.Words.{◌≡◌, ◌∙◌, refl, ap, ℕ, zero, suc, ◌+◌, ◌<◌, ◌≤◌, arith, List, ◌∷◌, length, take, map, All, All-nil, All-cons, Row, row_at, count_from}
 
 pub length_made : {X : Type 0} (g : ℕ → X) (i k : ℕ) → length (map g (count_from i k)) ≡ k
 length_made g i zero = refl

@@ -1,26 +1,7 @@
 -- Rows whose numbers stand over one denominator, and the rows that they are once they are divided.
-use Rattle.std.proofs.Common.{◌≡◌, ◌∙◌, refl, ap, sym, subst, ℕ, zero, suc, ◌+◌, ◌*◌, ◌<◌, ℤ, pos, negsuc, ◌+ℤ◌, ◌-ℤ◌, ◌*ℤ◌, ◌≤ℤ◌, ◌<ℤ◌, arith, List, [], ◌∷◌, length, take, drop, length-drop}
-use Rattle.std.proofs.lemmas.Int.{ints}
-use Rattle.std.proofs.lemmas.List.{get_or-take, length-take-le, take-map, drop-map, drop-set-lt}
-use Rattle.std.proofs.Math.Seq.{take-set-lt}
-use Rattle.std.specs.Prelude.{slice_set}
+use Rattle.scaled_laws.proofs.Words.{◌≡◌, ◌∙◌, refl, ap, sym, subst, ℕ, zero, suc, ◌+◌, ◌*◌, ◌<◌, ℤ, pos, negsuc, ◌+ℤ◌, ◌-ℤ◌, ◌*ℤ◌, ◌≤ℤ◌, ◌<ℤ◌, arith, List, [], ◌∷◌, length, take, drop, length-drop, ints, get_or-take, length-take-le, take-map, drop-map, drop-set-lt, take-set-lt, slice_set, floor_div, floor_mod, divides, is_nonneg, is_zero, entry, combine, scale, Row, divided, substituted, eliminated, floor-unique, floor_div-law, floor_mod-law, mul_nn, mul_pp, factor_p, var, ◌⊕◌, ◌⊖◌, ◌⊗◌, ring, ring_by, entry-scale, length_floors, divisor, coef, place, IsScaled, row_over, same_row, Undivided, undivided, divided_multiple, eliminated_divided, set_scaled}
 use Rattle.std.specs.List.{list_all}
-use Rattle.pip_model.specs.Numbers.{floor_div, floor_mod, divides, is_nonneg, is_zero}
-use Rattle.pip_model.specs.Forms.{entry, combine, scale}
-use Rattle.pip_model.specs.Rows.{Row, divided, substituted, eliminated}
-use Rattle.pip_model.proofs.Division.{floor-unique}
-use Rattle.pip_model.proofs.Laws.{floor_div-law, floor_mod-law}
-use Rattle.pip_model.proofs.Order.{mul_nn, mul_pp, factor_p}
-use Rattle.pip_model.proofs.Polynomials.{var, ◌⊕◌, ◌⊖◌, ◌⊗◌, ring, ring_by}
-use Rattle.pip_model.proofs.Forms.{entry-scale}
-use Rattle.run_laws.proofs.Lengths.{length_floors}
-use Rattle.run_laws.proofs.RowsAt.{divisor}
 use Rattle.form_laws.proofs.Unchanged.{scaled}
-use Rattle.form_laws.specs.ByForm.{coef, place}
-use Rattle.form_laws.specs.Columns.{IsScaled}
-use Rattle.scaled_laws.specs.Scaled.{row_over}
-use Rattle.form_laws.proofs.Divided.{same_row, Undivided, undivided, divided_multiple}
-use Rattle.form_laws.proofs.Turning.{eliminated_divided, set_scaled}
 
 -- ---- what a row was divided by
 

@@ -1,9 +1,5 @@
 -- A row with another put in, solved for a column.
-use Rattle.std.proofs.Common.{◌≡◌, ◌∙◌, refl, ap, sym, ℕ, zero, suc, ℤ, pos, ◌-ℤ◌, ◌*ℤ◌, arith, List, [], ◌∷◌, length}
-use Rattle.std.proofs.lemmas.Int.{ints}
-use Rattle.std.specs.Prelude.{slice_set}
-use Rattle.pip_model.specs.Forms.{entry, combine, scale}
-use Rattle.form_laws.proofs.Turning.{set_scaled}
+use Rattle.scaled_laws.proofs.Words.{◌≡◌, ◌∙◌, refl, ap, sym, ℕ, zero, suc, ℤ, pos, ◌-ℤ◌, ◌*ℤ◌, arith, List, [], ◌∷◌, length, ints, slice_set, entry, combine, scale, set_scaled}
 use Rattle.scaled_laws.specs.Turned.{turned}
 
 swap : (x y : ℤ) → x *ℤ y ≡ y *ℤ x

@@ -1,17 +1,11 @@
 -- Rows whose numbers over one denominator are within a bound are short, and so are those that forms make of them.
-use Rattle.std.proofs.Common.{◌≡◌, refl, ◌∙◌, ap, sym, subst, ℕ, zero, suc, ◌+◌, ◌*◌, ◌^◌, ◌<◌, ℤ, pos, ◌<ℤ◌, arith, true, List, [], ◌∷◌, ◌++◌, length, map, take, drop, append-nil, All}
-use Rattle.std.proofs.lemmas.Int.{ints}
-use Rattle.std.proofs.lemmas.List.Elements.{All-take, All-drop}
+use Rattle.scaled_laws.proofs.Words.{◌≡◌, refl, ◌∙◌, ap, sym, subst, ℕ, zero, suc, ◌+◌, ◌*◌, ◌^◌, ◌<◌, ℤ, pos, ◌<ℤ◌, arith, true, List, [], ◌∷◌, ◌++◌, length, map, take, drop, append-nil, All, ints, All-take, All-drop, Row, pivot_listed, entering_listed, start, unit_row, count_from, by_form, Form, made, AllWide, KeptWide, IsOver, MadeBy, AllForms, IsScaled, AreScaled}
 use Rattle.pip_model.specs.Listed.{all_fit}
-use Rattle.pip_model.specs.Rows.{Row, pivot_listed, entering_listed, start, unit_row, count_from}
-use Rattle.form_laws.specs.ByForm.{by_form, Form, made, AllWide, KeptWide, IsOver, MadeBy, AllForms}
 use Rattle.form_laws.specs.Bounds.{norm, AllWithin, AllShort, KeptShort}
-use Rattle.form_laws.specs.Columns.{IsScaled}
 use Rattle.form_laws.proofs.Listed.{basis_short, made_short}
 use Rattle.form_laws.proofs.Sizes.{pivot_fits, entering_fits}
 use Rattle.form_laws.proofs.Invariant.{rows_any, start_made}
 use Rattle.form_laws.proofs.Within.{all_wide, all_over}
-use Rattle.scaled_laws.specs.Scaled.{AreScaled}
 use Rattle.scaled_laws.specs.Kept.{kept_of}
 
 all_behind : {X : Type 0} (P : X → Type 0) (x : X) (xs : List X) → All P (x ∷ xs) → All P xs

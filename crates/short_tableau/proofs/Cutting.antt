@@ -1,9 +1,7 @@
 -- The cut by a short row.
-use Rattle.short_tableau.proofs.Words.{◌≡◌, refl, ap, sym, ◌∙◌, subst, ℕ, ◌+◌, ◌-◌, ◌*◌, ◌<◌, ◌≤◌, ℤ, pos, ◌≤ℤ◌, neg_ℤ, ◌-ℤ◌, ints, to_z, of_z, to_z-of_z, w64, fits_signed_from_abs, FitsSigned, IsShort, divided, length-drop, length-take-le, List, length, map, take, drop, arith, append-nil, slice_range, take_all, drop_all, length-map, constant_cut, fractional_parts, residue_of, negate, residue, floor_mod, Row, row_at, mapped, row_of_numbers, numbers_of, IsShortRow, row_from, content-divided, row_size, rows_in, IsShortReduced, IsDense}
+use Rattle.short_tableau.proofs.Words.{◌≡◌, refl, ap, sym, ◌∙◌, subst, ℕ, ◌+◌, ◌-◌, ◌*◌, ◌<◌, ◌≤◌, ℤ, pos, ◌≤ℤ◌, neg_ℤ, ◌-ℤ◌, ints, to_z, of_z, to_z-of_z, w64, fits_signed_from_abs, FitsSigned, IsShort, divided, length-drop, length-take-le, List, length, map, take, drop, arith, append-nil, slice_range, take_all, drop_all, length-map, constant_cut, fractional_parts, residue_of, negate, residue, floor_mod, Row, row_at, mapped, row_of_numbers, numbers_of, IsShortRow, row_from, content-divided, row_size, rows_in, IsShortReduced, IsDense, numbers_again, short_row, divided_positive}
 use Rattle.std.proofs.lemmas.Simd.{map-map}
-use Rattle.row_laws.proofs.Numbers.{numbers_again}
 use Rattle.short_tableau.proofs.Places.{IsSplit, split_twice, split_read, split_row}
-use Rattle.short_row.proofs.ShortParts.{short_row, divided_positive}
 
 -- ---- the opposite of a short number, as code holds it
 

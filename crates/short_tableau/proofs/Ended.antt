@@ -1,12 +1,6 @@
 -- The signs of a row's numbers after a pivot, read off before it is divided.
-use Rattle.short_tableau.proofs.Words.{◌≡◌, refl, ap, sym, ◌∙◌, ℕ, zero, suc, ◌+◌, ◌<◌, ◌≤◌, ℤ, pos, negsuc, ◌≤ℤ◌, ◌*ℤ◌, ◌-ℤ◌, true, false, List, [], ◌∷◌, length, map, arith, ints, entry, constant, Row, divided, substituted, eliminated, gcd, gcd_of, floor_div, floor_mod, floor_divided, gcd_between, is_positive, get_or-map, get_or-set_same, combine, length-combine, entry-combine, length-map, length-set, eliminated_none, quotient_positive, IsPivot, IsShortReduced, Some, row_at, form_row, drop, drop_more, take, get_or-take, length-take-le, negative_from, fraction_from}
-use Rattle.std.specs.Prelude.{◌+ℤ◌, ◌≢◌}
-use Rattle.std.proofs.lemmas.List.{get_or-set_other}
+use Rattle.short_tableau.proofs.Words.{◌≡◌, refl, ap, sym, ◌∙◌, ℕ, zero, suc, ◌+◌, ◌<◌, ◌≤◌, ℤ, pos, negsuc, ◌≤ℤ◌, ◌*ℤ◌, ◌-ℤ◌, true, false, List, [], ◌∷◌, length, map, arith, ints, entry, constant, Row, divided, substituted, eliminated, gcd, gcd_of, floor_div, floor_mod, floor_divided, gcd_between, is_positive, get_or-map, get_or-set_same, combine, length-combine, entry-combine, length-map, length-set, eliminated_none, quotient_positive, IsPivot, IsShortReduced, Some, row_at, form_row, drop, drop_more, take, get_or-take, length-take-le, negative_from, fraction_from, ◌+ℤ◌, ◌≢◌, get_or-set_other, some_product, list_any, is_nonneg, is_zero, divides, is_whole}
 use Rattle.pip_model.proofs.RingLaws.{*ℤ_assoc}
-use Rattle.row_laws.proofs.Substituting.{some_product}
-use Rattle.std.specs.List.{list_any}
-use Rattle.pip_model.specs.Numbers.{is_nonneg, is_zero, divides}
-use Rattle.pip_model.specs.Rows.{is_whole}
 use Rattle.pip_model.proofs.Laws.{floor_mod-law}
 use Rattle.pip_model.proofs.Division.{Multiple, gcd-divides, floor-exact, floor-unique, rest_of}
 

@@ -1,8 +1,6 @@
 -- One row, whose constant form is over no places.
-use Rattle.short_tableau.proofs.Words.{◌≡◌, sym, ap, ◌∙◌, subst, ℕ, ℤ, List, length, arith, Row, unit_row, row_of_numbers, numbers_of, row_size, IsShortReduced, IsPivot}
-use Rattle.short_row.specs.Sized.{places_of}
+use Rattle.short_tableau.proofs.Words.{◌≡◌, sym, ap, ◌∙◌, subst, ℕ, ℤ, List, length, arith, Row, unit_row, row_of_numbers, numbers_of, row_size, IsShortReduced, IsPivot, places_of, numbers_again}
 use Rattle.short_row.specs.Put.{IsTurning}
-use Rattle.row_laws.proofs.Numbers.{numbers_again}
 
 pub no_places : (n : ℕ) (zs : List ℤ) → length zs ≡ row_size n → places_of n zs ≡ 0
 no_places n zs e = omega (arith, e)

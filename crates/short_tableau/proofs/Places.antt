@@ -1,6 +1,5 @@
 -- Rows in their places.
-use Rattle.short_tableau.proofs.Words.{◌≡◌, refl, ap, sym, ◌∙◌, subst, ℕ, zero, suc, ◌+◌, ◌-◌, ◌*◌, ◌<◌, ◌≤◌, ℤ, Bool, true, false, List, [], ◌∷◌, ◌++◌, length, map, take, drop, arith, append-nil, length-append, length-drop, slice_set, IsTrue, take_at, drop_at, take-append-le, drop-append-le, get_or_at, set_at, length-map, map-append, take_all, drop_all, take-append-drop, length-take-le, get_or-map, list_all-append, list_all_at, and-false, list_all, All-same, All-set, All-take, All-drop, All-push, All-append, All-cons, suc-mul, add-mul, Row, row_at, form_row, unit_row, eliminated, pivot, IsCandidate, row_of_numbers, numbers_of, mapped, TableauRows, with_row, row_size, rows_in, IsShortReduced, IsPivot, IsDense, is_short_row, AreTurned}
-use Rattle.row_laws.proofs.Numbers.{row_again}
+use Rattle.short_tableau.proofs.Words.{◌≡◌, refl, ap, sym, ◌∙◌, subst, ℕ, zero, suc, ◌+◌, ◌-◌, ◌*◌, ◌<◌, ◌≤◌, ℤ, Bool, true, false, List, [], ◌∷◌, ◌++◌, length, map, take, drop, arith, append-nil, length-append, length-drop, slice_set, IsTrue, take_at, drop_at, take-append-le, drop-append-le, get_or_at, set_at, length-map, map-append, take_all, drop_all, take-append-drop, length-take-le, get_or-map, list_all-append, list_all_at, and-false, list_all, All-same, All-set, All-take, All-drop, All-push, All-append, All-cons, suc-mul, add-mul, Row, row_at, form_row, unit_row, eliminated, pivot, IsCandidate, row_of_numbers, numbers_of, mapped, TableauRows, with_row, row_size, rows_in, IsShortReduced, IsPivot, IsDense, is_short_row, AreTurned, row_again}
 
 one_more : (i l : ℕ) → suc i * l ≡ l + i * l
 one_more i l = suc-mul i l ∙ omega arith

@@ -1,5 +1,4 @@
-use Rattle.std.proofs.Common.{◌+ℤ◌, ◌*ℤ◌, refl, w64}
-use Rattle.std.proofs.lemmas.Int.{to_z-of_z, fits_signed_from_abs}
+use Rattle.form_basis.proofs.Words.{◌+ℤ◌, ◌*ℤ◌, refl, w64, to_z-of_z, fits_signed_from_abs}
 use Rattle.form_basis.proofs.products.add_product.Goals as goal
 
 pub overflow_mul-result : goal.overflow_mul-result

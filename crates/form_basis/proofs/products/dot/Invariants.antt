@@ -1,4 +1,4 @@
-use Rattle.std.proofs.Common.{◌≡◌, take}
+use Rattle.form_basis.proofs.Words.{◌≡◌, take}
 use Rattle.pip_model.specs.Forms as model
 use Rattle.form_basis.proofs.products.dot.Given as goal
 

@@ -1,5 +1,4 @@
-use Rattle.std.proofs.Common.{rules}
-use Rattle.form_laws.proofs.Columns.{norm_more}
+use Rattle.form_basis.proofs.Words.{rules, norm_more}
 use Rattle.form_basis.proofs.products.norm.Goals as goal
 
 pub loop-number-preserved : goal.loop-number-preserved

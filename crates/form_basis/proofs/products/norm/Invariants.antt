@@ -1,4 +1,4 @@
-use Rattle.std.proofs.Common.{◌≡◌, take}
+use Rattle.form_basis.proofs.Words.{◌≡◌, take}
 use Rattle.form_laws.specs.Bounds as bounds
 use Rattle.form_basis.proofs.products.norm.Given as goal
 

@@ -1,5 +1,4 @@
-use Rattle.std.proofs.Common.{rules}
-use Rattle.form_laws.proofs.Columns.{part_coef}
+use Rattle.form_basis.proofs.Words.{rules, part_coef}
 use Rattle.form_basis.proofs.reading.coefficient.Goals as goal
 
 pub returns : goal.returns

@@ -1,4 +1,4 @@
-use Rattle.std.proofs.Common.{rules}
+use Rattle.form_basis.proofs.Words.{rules}
 use Rattle.form_basis.proofs.ReadForms.{inside, column_is, read_summable}
 use Rattle.form_basis.proofs.reading.sum.Goals as goal
 

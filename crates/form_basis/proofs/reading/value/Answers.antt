@@ -1,4 +1,4 @@
-use Rattle.std.proofs.Common.{rules}
+use Rattle.form_basis.proofs.Words.{rules}
 use Rattle.form_basis.proofs.ReadForms.{part_constant, value_step}
 use Rattle.form_basis.proofs.reading.value.Goals as goal
 

@@ -1,6 +1,4 @@
-use Rattle.std.proofs.Common.{rules, arith, ◌≡◌, ℕ, ◌+◌, ◌<◌, ◌*ℤ◌}
-use Rattle.pip_model.specs.Forms.{entry}
-use Rattle.form_basis.specs.ReadRows.{summed, valued}
+use Rattle.form_basis.proofs.Words.{rules, arith, ◌≡◌, ℕ, ◌+◌, ◌<◌, ◌*ℤ◌, entry, summed, valued}
 use Rattle.form_basis.proofs.MadeRows.{row_made}
 use Rattle.form_basis.proofs.row_test.makes_row.Goals as goal
 

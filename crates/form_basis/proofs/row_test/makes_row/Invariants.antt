@@ -1,6 +1,4 @@
-use Rattle.std.proofs.Common.{◌≡◌, ℕ, ◌+◌, ◌<◌, ◌*ℤ◌}
-use Rattle.pip_model.specs.Forms.{entry}
-use Rattle.form_basis.specs.ReadRows.{summed}
+use Rattle.form_basis.proofs.Words.{◌≡◌, ℕ, ◌+◌, ◌<◌, ◌*ℤ◌, entry, summed}
 use Rattle.form_basis.proofs.row_test.makes_row.Given as goal
 
 abbrev pub invariant-loop-k : goal.invariant-loop-k

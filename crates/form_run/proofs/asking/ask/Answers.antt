@@ -1,6 +1,5 @@
-use Rattle.std.proofs.Common.{rules, ◌≡◌, ◌++◌}
+use Rattle.form_run.proofs.Words.{rules, ◌≡◌, ◌++◌, first_rows}
 use Rattle.short_run.proofs.Leaving.{run_same}
-use Rattle.point_turns.specs.Points.{first_rows}
 use Rattle.form_run.proofs.Started.{finds_is}
 use Rattle.form_run.proofs.asking.ask.Goals as goal
 

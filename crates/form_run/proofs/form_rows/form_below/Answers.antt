@@ -1,5 +1,4 @@
-use Rattle.std.proofs.Common.{rules, arith, ◌≡◌, pos, ◌<ℤ◌, ◌≤ℤ◌, length, to_z, of_z}
-use Rattle.std.proofs.lemmas.Int.{ints}
+use Rattle.form_run.proofs.Words.{rules, arith, ◌≡◌, pos, ◌<ℤ◌, ◌≤ℤ◌, length, to_z, of_z, ints}
 use Rattle.std.specs.Int.{w64}
 use Rattle.form_run.proofs.Below.{form_read, form_above, form_negative, none_negative}
 use Rattle.form_run.proofs.form_rows.form_below.Goals as goal

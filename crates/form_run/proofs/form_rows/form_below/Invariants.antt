@@ -1,6 +1,4 @@
-use Rattle.std.proofs.Common.{◌≡◌, ◌+◌, map, drop, length}
-use Rattle.point_turns.specs.Turns.{negative_from}
-use Rattle.form_basis.specs.ReadRows.{read}
+use Rattle.form_run.proofs.Words.{◌≡◌, ◌+◌, map, drop, length, negative_from, read}
 use Rattle.form_run.proofs.form_rows.form_below.Given as goal
 
 abbrev pub invariant-loop-i : goal.invariant-loop-i

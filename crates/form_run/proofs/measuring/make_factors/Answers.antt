@@ -1,6 +1,4 @@
-use Rattle.std.proofs.Common.{rules}
-use Rattle.form_basis.specs.Columns.{IsScaled}
-use Rattle.form_basis.proofs.Columns.{all_taken, scaled_more}
+use Rattle.form_run.proofs.Words.{rules, IsScaled, all_taken, scaled_more}
 use Rattle.form_run.proofs.Factors.{factors_more, factors_all}
 use Rattle.form_run.proofs.measuring.make_factors.Goals as goal
 

@@ -1,6 +1,5 @@
-use Rattle.std.proofs.Common.{◌≡◌, take, All}
-use Rattle.form_basis.specs.Columns.{IsScaled}
-use Rattle.form_run.specs.Factors.{factors_of}
+use Rattle.std.proofs.Common.{All}
+use Rattle.form_run.proofs.Words.{◌≡◌, take, IsScaled, factors_of}
 use Rattle.form_run.proofs.measuring.make_factors.Given as goal
 
 abbrev pub invariant-loop-j : goal.invariant-loop-j

@@ -1,8 +1,4 @@
-use Rattle.std.proofs.Common.{rules, arith, ◌≡◌, ◌++◌, ◌∷◌, [], ◌≤◌, ◌*ℤ◌, subst, ℤ, unsigned_abs}
-use Rattle.pip_model.specs.Numbers.{floor_div}
-use Rattle.pip_model.specs.Rows.{row_at}
-use Rattle.form_basis.specs.Columns.{part}
-use Rattle.form_basis.proofs.Columns.{items_more, within_more, over_taken}
+use Rattle.form_run.proofs.Words.{rules, arith, ◌≡◌, ◌++◌, ◌∷◌, [], ◌≤◌, ◌*ℤ◌, subst, ℤ, unsigned_abs, floor_div, row_at, part, items_more, within_more, over_taken}
 use Rattle.form_run.proofs.measuring.push_column.Goals as goal
 
 pub loop-j-preserved : goal.loop-j-preserved

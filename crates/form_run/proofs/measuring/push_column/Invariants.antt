@@ -1,6 +1,5 @@
-use Rattle.std.proofs.Common.{◌≡◌, ◌≤◌, ◌++◌, take, All, unsigned_abs}
-use Rattle.form_basis.specs.ByForm.{over}
-use Rattle.form_basis.specs.Columns.{part}
+use Rattle.std.proofs.Common.{All}
+use Rattle.form_run.proofs.Words.{◌≡◌, ◌≤◌, ◌++◌, take, unsigned_abs, over, part}
 use Rattle.form_run.proofs.measuring.push_column.Given as goal
 
 abbrev pub invariant-loop-j : goal.invariant-loop-j

@@ -1,7 +1,4 @@
-use Rattle.std.proofs.Common.{rules, ◌≡◌, ◌++◌, subst, ℤ}
-use Rattle.form_basis.specs.ByForm.{over}
-use Rattle.form_basis.specs.Columns.{part}
-use Rattle.form_basis.proofs.Columns.{columns_step}
+use Rattle.form_run.proofs.Words.{rules, ◌≡◌, ◌++◌, subst, ℤ, over, part, columns_step}
 use Rattle.form_run.proofs.measuring.push_columns.Goals as goal
 
 pub loop-k-preserved : goal.loop-k-preserved

@@ -1,8 +1,5 @@
-use Rattle.std.proofs.Common.{◌≡◌, ◌≤◌, All, unsigned_abs}
-use Rattle.std.specs.Prelude.{flat_map}
-use Rattle.pip_model.specs.Rows.{count_from}
-use Rattle.form_basis.specs.ByForm.{over}
-use Rattle.form_basis.specs.Columns.{part}
+use Rattle.std.proofs.Common.{All}
+use Rattle.form_run.proofs.Words.{◌≡◌, ◌≤◌, unsigned_abs, flat_map, count_from, over, part}
 use Rattle.form_run.proofs.measuring.push_columns.Given as goal
 
 abbrev pub invariant-loop-k : goal.invariant-loop-k

@@ -1,4 +1,4 @@
-use Rattle.std.proofs.Common.{rules}
+use Rattle.form_run.proofs.Words.{rules}
 use Rattle.form_run.proofs.HeldRows.{empty_held}
 use Rattle.form_run.proofs.pivoting.clear.Goals as goal
 

@@ -1,7 +1,5 @@
-use Rattle.std.proofs.Common.{rules}
+use Rattle.form_run.proofs.Words.{rules, summed, numbers_made}
 use Rattle.row_laws.proofs.RowLaws.{count_map}
-use Rattle.form_basis.specs.ReadRows.{summed}
-use Rattle.form_basis.proofs.ReadForms.{numbers_made}
 use Rattle.form_run.proofs.room.read.Goals as goal
 
 pub loop-k-preserved : goal.loop-k-preserved

@@ -1,6 +1,4 @@
-use Rattle.std.proofs.Common.{◌≡◌, ◌∷◌, map}
-use Rattle.pip_model.specs.Rows.{count_from}
-use Rattle.form_basis.specs.ReadRows.{summed}
+use Rattle.form_run.proofs.Words.{◌≡◌, ◌∷◌, map, count_from, summed}
 use Rattle.form_run.proofs.room.read.Given as goal
 
 abbrev pub invariant-loop-k : goal.invariant-loop-k

@@ -1,10 +1,5 @@
-use Rattle.std.proofs.Common.{rules, ◌≡◌, ◌∙◌, [], ◌∷◌, ap, sym, subst, ℕ}
-use Rattle.pip_model.specs.Rows.{Row, divided}
-use Rattle.row_laws.specs.Flat.{numbers_of, row_of_numbers}
-use Rattle.row_laws.specs.Short.{IsShortRow}
-use Rattle.row_laws.specs.Tableaus.{with_row}
-use Rattle.form_basis.specs.ReadRows.{combined}
-use Rattle.form_basis.proofs.ReadForms.{size_is, short_is, divided_is}
+use Rattle.form_run.proofs.Words.{rules, ◌≡◌, ◌∙◌, [], ◌∷◌, ap, sym, subst, ℕ, Row, divided, row_of_numbers, IsShortRow, with_row, combined, size_is, short_is, divided_is}
+use Rattle.row_laws.specs.Flat.{numbers_of}
 use Rattle.form_run.proofs.room.read_form.Goals as goal
 
 pub push_divided-requires-clause-size : goal.push_divided-requires-clause-size

@@ -1,9 +1,5 @@
-use Rattle.std.proofs.Common.{rules, ◌≡◌, ◌∙◌, refl, arith, length}
+use Rattle.form_run.proofs.Words.{rules, ◌≡◌, ◌∙◌, refl, arith, length, row_at, Done, stop_fault, counted_cut}
 use Rattle.std.proofs.lemmas.Grind.{common_steps}
-use Rattle.pip_model.specs.Rows.{row_at}
-use Rattle.pip_model.specs.Run.{Done}
-use Rattle.short_run.specs.Stops.{stop_fault}
-use Rattle.point_turns.specs.Turns.{counted_cut}
 use Rattle.point_turns.proofs.Turning.{cut_again, cut_refused}
 use Rattle.form_run.proofs.run.last_turn.Goals as goal
 

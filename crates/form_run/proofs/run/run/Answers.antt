@@ -1,10 +1,6 @@
-use Rattle.std.proofs.Common.{rules, ◌≡◌, ap, true, false}
+use Rattle.form_run.proofs.Words.{rules, ◌≡◌, ap, true, false, Bottom, Again, Closed, Done, turn, leaf, point_setting, go_on, give, stop_fault, node_of, HasSameScope, starts_run, run_goes_on, run_less, run_closed}
 use Rattle.std.specs.Prelude.{is_some}
-use Rattle.pip_model.specs.Tree.{Bottom}
-use Rattle.pip_model.specs.Run.{Again, Closed, Done, turn, leaf, point_setting, go_on, give, numbers_of}
-use Rattle.short_run.specs.Stops.{stop_fault}
-use Rattle.point_turns.specs.Turns.{node_of, HasSameScope}
-use Rattle.point_turns.proofs.Pointing.{starts_run, run_goes_on, run_less, run_closed}
+use Rattle.pip_model.specs.Run.{numbers_of}
 use Rattle.form_run.proofs.run.run.Goals as goal
 
 pub loop-init : goal.loop-init

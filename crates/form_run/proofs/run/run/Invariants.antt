@@ -1,5 +1,4 @@
-use Rattle.pip_model.specs.Run.{left}
-use Rattle.point_turns.proofs.Pointing.{IsOneRun}
+use Rattle.form_run.proofs.Words.{left, IsOneRun}
 use Rattle.form_run.proofs.run.run.Given as goal
 
 abbrev pub invariant-loop : goal.invariant-loop

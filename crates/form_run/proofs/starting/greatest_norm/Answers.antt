@@ -1,5 +1,4 @@
-use Rattle.std.proofs.Common.{rules, ◌≤◌, subst, List, ℤ}
-use Rattle.form_basis.proofs.Columns.{all_taken, norms_more}
+use Rattle.form_run.proofs.Words.{rules, ◌≤◌, subst, List, ℤ, all_taken, norms_more}
 use Rattle.form_basis.specs.Bounds as bounds
 use Rattle.form_run.proofs.starting.greatest_norm.Goals as goal
 

@@ -1,4 +1,5 @@
-use Rattle.std.proofs.Common.{◌≤◌, take, All}
+use Rattle.form_run.proofs.Words.{◌≤◌, take}
+use Rattle.std.proofs.Common.{All}
 use Rattle.form_basis.specs.Bounds as bounds
 use Rattle.form_run.proofs.starting.greatest_norm.Given as goal
 

@@ -1,7 +1,5 @@
-use Rattle.std.proofs.Common.{rules, arith, ◌≡◌, ◌∙◌, ap, sym, ◌+◌, length, List, ℤ, All}
-use Rattle.pip_model.specs.Rows.{Row}
-use Rattle.form_basis.proofs.Within.{start_read}
-use Rattle.form_basis.specs.ReadRows.{IsMeasured}
+use Rattle.std.proofs.Common.{All}
+use Rattle.form_run.proofs.Words.{rules, arith, ◌≡◌, ◌∙◌, ap, sym, ◌+◌, length, List, ℤ, Row, start_read, IsMeasured}
 use Rattle.form_run.proofs.starting.measured.Goals as goal
 
 pub returns-clause-value : goal.returns-clause-value

@@ -1,5 +1,4 @@
-use Rattle.std.proofs.Common.{◌≡◌, ◌++◌, map, take}
-use Rattle.pip_model.specs.Forms.{widen_to}
+use Rattle.form_run.proofs.Words.{◌≡◌, ◌++◌, map, take, widen_to}
 use Rattle.form_run.proofs.starting.push_forms.Given as goal
 
 abbrev pub invariant-loop-form : goal.invariant-loop-form

@@ -1,6 +1,5 @@
-use Rattle.std.proofs.Common.{rules, ◌≡◌, sym, subst, ℕ, ◌+◌, ◌++◌, [], List, ℤ, length, map, All}
-use Rattle.pip_model.specs.Forms.{widen_to}
-use Rattle.pip_model.specs.Rows.{start}
+use Rattle.std.proofs.Common.{All}
+use Rattle.form_run.proofs.Words.{rules, ◌≡◌, sym, subst, ℕ, ◌+◌, ◌++◌, [], List, ℤ, length, map, widen_to, start}
 use Rattle.form_run.proofs.Started.{start_long, both_wide}
 use Rattle.form_run.proofs.starting.start_by_forms.Goals as goal
 

@@ -1,4 +1,4 @@
-use Rattle.std.proofs.Common.{◌≡◌, ◌+◌, length}
+use Rattle.form_run.proofs.Words.{◌≡◌, ◌+◌, length}
 use Rattle.form_run.proofs.starting.unit_forms.Given as goal
 
 abbrev pub invariant-loop-c : goal.invariant-loop-c

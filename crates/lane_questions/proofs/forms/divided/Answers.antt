@@ -1,5 +1,4 @@
-use Rattle.lane_questions.proofs.Words.{rules, arith, ◌≡◌, ◌∙◌, pos, to_z, of_z, w32, slice_set, entry, floor_div}
-use Rattle.affine_forms.proofs.Mapped.{mapped_step}
+use Rattle.lane_questions.proofs.Words.{rules, arith, ◌≡◌, ◌∙◌, pos, to_z, of_z, w32, slice_set, entry, floor_div, mapped_step}
 use Rattle.lane_questions.proofs.forms.divided.Goals as goal
 
 pub loop-k-preserved : goal.loop-k-preserved

@@ -1,6 +1,4 @@
-use Rattle.lane_questions.proofs.Words.{◌≡◌, floor_div}
-use Rattle.affine_forms.proofs.Mapped.{mapped}
-use Rattle.lanes.specs.Narrow.{AreLanes}
+use Rattle.lane_questions.proofs.Words.{◌≡◌, floor_div, mapped, AreLanes}
 use Rattle.lane_questions.proofs.forms.divided.Given as goal
 
 abbrev pub invariant-loop-k : goal.invariant-loop-k

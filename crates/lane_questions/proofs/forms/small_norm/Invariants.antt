@@ -1,6 +1,4 @@
-use Rattle.lane_questions.proofs.Words.{◌≡◌, ◌≤◌, ◌*◌, take}
-use Rattle.form_laws.specs.Bounds.{norm}
-use Rattle.lanes.specs.Narrow.{AreLanes}
+use Rattle.lane_questions.proofs.Words.{◌≡◌, ◌≤◌, ◌*◌, take, norm, AreLanes}
 use Rattle.lane_questions.proofs.forms.small_norm.Given as goal
 
 abbrev pub invariant-loop-k : goal.invariant-loop-k

@@ -1,5 +1,4 @@
-use Rattle.lane_questions.proofs.Words.{rules, ◌≡◌, ◌∙◌, drop, floor_divided, gcd_of}
-use Rattle.lane_questions.specs.InLanes.{lanes_of}
+use Rattle.lane_questions.proofs.Words.{rules, ◌≡◌, ◌∙◌, drop, floor_divided, gcd_of, lanes_of}
 use Rattle.lane_questions.proofs.TightLanes.{kept_lanes, divided_lanes}
 use Rattle.lane_questions.proofs.forms.tightened.Goals as goal
 

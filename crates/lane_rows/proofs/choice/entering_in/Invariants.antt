@@ -1,9 +1,4 @@
-use Rattle.std.proofs.Common.{◌≡◌, ◌<◌, pos}
-use Rattle.std.specs.Prelude.{IfSome}
-use Rattle.pip_model.specs.Rows.{entering_of, candidates}
-use Rattle.row_laws.specs.Choices.{choice, candidates_from, IsCandidate}
-use Rattle.scaled_laws.specs.Scaled.{row_over}
-use Rattle.lane_rows.specs.Laned.{numbers_of, undivided_in}
+use Rattle.lane_rows.proofs.Words.{◌≡◌, ◌<◌, pos, IfSome, entering_of, candidates, choice, candidates_from, IsCandidate, row_over, numbers_of, undivided_in}
 use Rattle.lane_rows.proofs.choice.entering_in.Given as goal
 
 abbrev pub invariant-loop-k : goal.invariant-loop-k

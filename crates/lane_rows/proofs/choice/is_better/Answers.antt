@@ -1,6 +1,4 @@
-use Rattle.std.proofs.Common.{get_or, rules, arith, ◌≡◌, ◌<◌, ◌∙◌, sym, subst, [], length}
-use Rattle.std.proofs.lemmas.List.{get_or_default}
-use Rattle.lanes.specs.Narrow.{AreLanes}
+use Rattle.lane_rows.proofs.Words.{get_or, rules, arith, ◌≡◌, ◌<◌, ◌∙◌, sym, subst, [], length, get_or_default, AreLanes}
 use Rattle.lane_rows.proofs.Choosing.{same, differ, none_better}
 use Rattle.lane_rows.proofs.choice.is_better.Goals as goal
 

@@ -1,7 +1,4 @@
-use Rattle.std.proofs.Common.{◌≡◌, pos, drop}
-use Rattle.pip_model.specs.Rows.{is_better}
-use Rattle.scaled_laws.specs.Scaled.{row_over}
-use Rattle.lane_rows.specs.Laned.{numbers_of, undivided_in}
+use Rattle.lane_rows.proofs.Words.{◌≡◌, pos, drop, is_better, row_over, numbers_of, undivided_in}
 use Rattle.lane_rows.proofs.choice.is_better.Given as goal
 
 abbrev pub invariant-loop-i : goal.invariant-loop-i

@@ -1,10 +1,5 @@
-use Rattle.std.proofs.Common.{rules, ◌≡◌, ◌∙◌, ap, sym, arith, ◌<◌, ◌+◌, pos, length, ℕ, List, true, false, Some}
-use Rattle.pip_model.specs.Forms.{entry}
-use Rattle.pip_model.specs.Numbers.{is_positive}
-use Rattle.row_laws.specs.Choices.{choice, candidates_from}
+use Rattle.lane_rows.proofs.Words.{rules, ◌≡◌, ◌∙◌, ap, sym, arith, ◌<◌, ◌+◌, pos, length, ℕ, List, true, false, Some, entry, is_positive, choice, candidates_from, row_over, numbers_of, undivided_in}
 use Rattle.row_laws.proofs.Choosing.{candidate_more, candidate_less, choice_step}
-use Rattle.scaled_laws.specs.Scaled.{row_over}
-use Rattle.lane_rows.specs.Laned.{numbers_of, undivided_in}
 use Rattle.lane_rows.proofs.Choosing.{sign_there, front_long}
 use Rattle.lane_rows.proofs.choice.next_best.Goals as goal
 

@@ -1,7 +1,4 @@
-use Rattle.std.proofs.Common.{rules, arith, ◌≡◌, ◌∙◌, ◌+◌, ◌<◌, ◌^◌, ◌*ℤ◌, ap, sym, subst, unsigned_abs, ℤ, [], to_z, of_z}
-use Rattle.std.proofs.lemmas.List.{get_or_default}
-use Rattle.std.specs.Int.{w32}
-use Rattle.pip_model.specs.Forms.{entry}
+use Rattle.lane_rows.proofs.Words.{rules, arith, ◌≡◌, ◌∙◌, ◌+◌, ◌<◌, ◌^◌, ◌*ℤ◌, ap, sym, subst, unsigned_abs, ℤ, [], to_z, of_z, get_or_default, w32, entry}
 use Rattle.lane_rows.proofs.ReadLanes.{ReadTo, addable, constant_small, read_begun, read_end, read_step}
 use Rattle.lane_rows.proofs.reading.combined.Goals as goal
 

@@ -1,5 +1,4 @@
-use Rattle.std.proofs.Common.{rules, ◌+◌}
-use Rattle.pip_model.specs.Forms.{entry}
+use Rattle.lane_rows.proofs.Words.{rules, ◌+◌, entry}
 use Rattle.lane_rows.proofs.Fractions.{one_divides}
 use Rattle.lane_rows.proofs.reading.first_left.Goals as goal
 

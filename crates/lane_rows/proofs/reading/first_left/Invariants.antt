@@ -1,6 +1,4 @@
-use Rattle.std.proofs.Common.{◌≡◌, ◌+◌, ◌<◌, ℕ, true}
-use Rattle.pip_model.specs.Numbers.{divides}
-use Rattle.pip_model.specs.Forms.{entry}
+use Rattle.lane_rows.proofs.Words.{◌≡◌, ◌+◌, ◌<◌, ℕ, true, divides, entry}
 use Rattle.lane_rows.proofs.reading.first_left.Given as goal
 
 abbrev pub invariant-loop-i : goal.invariant-loop-i

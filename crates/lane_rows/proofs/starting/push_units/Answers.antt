@@ -1,6 +1,4 @@
-use Rattle.std.proofs.Common.{rules, ◌+◌, ℤ, List, pos, replicate}
-use Rattle.std.specs.Prelude.{slice_set}
-use Rattle.row_laws.proofs.RowLaws.{count_map}
+use Rattle.lane_rows.proofs.Words.{rules, ◌+◌, ℤ, List, pos, replicate, slice_set, count_map}
 use Rattle.lane_rows.proofs.starting.push_units.Goals as goal
 
 pub loop-k-preserved : goal.loop-k-preserved

@@ -1,6 +1,4 @@
-use Rattle.std.proofs.Common.{◌≡◌, ◌+◌, map, pos, replicate}
-use Rattle.std.specs.Prelude.{slice_set}
-use Rattle.pip_model.specs.Rows.{count_from}
+use Rattle.lane_rows.proofs.Words.{◌≡◌, ◌+◌, map, pos, replicate, slice_set, count_from}
 use Rattle.lane_rows.proofs.starting.push_units.Given as goal
 
 abbrev pub invariant-loop-k : goal.invariant-loop-k

@@ -1,4 +1,4 @@
-use Rattle.lane_rows.specs.Laned.{IsVertex}
+use Rattle.lane_rows.proofs.Words.{IsVertex}
 use Rattle.lane_rows.proofs.starting.vertex.Given as goal
 
 abbrev pub invariant-loop-j : goal.invariant-loop-j

@@ -1,5 +1,4 @@
-use Rattle.std.proofs.Common.{rules, refl}
-use Rattle.scaled_laws.proofs.Turned.{scaled_one}
+use Rattle.lane_rows.proofs.Words.{rules, refl, scaled_one}
 use Rattle.lane_rows.proofs.turning.over_scale.Goals as goal
 
 pub returns-then-l-eq1-clause-value : goal.returns-then-l-eq1-clause-value

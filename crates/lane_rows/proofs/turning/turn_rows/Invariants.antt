@@ -1,4 +1,4 @@
-use Rattle.std.proofs.Common.{◌<◌, ◌≤◌, ◌^◌}
+use Rattle.lane_rows.proofs.Words.{◌<◌, ◌≤◌, ◌^◌}
 use Rattle.lane_rows.proofs.Turns.{TurnedTo}
 use Rattle.lane_rows.proofs.turning.turn_rows.Given as goal
 

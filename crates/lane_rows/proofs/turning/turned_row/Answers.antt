@@ -1,5 +1,4 @@
-use Rattle.std.proofs.Common.{rules, ◌∙◌, sym}
-use Rattle.scaled_laws.proofs.Turned.{turned_none, turned_made}
+use Rattle.lane_rows.proofs.Words.{rules, ◌∙◌, sym, turned_none, turned_made}
 use Rattle.lane_rows.proofs.turning.turned_row.Goals as goal
 
 pub returns-then-a-l-clause-made : goal.returns-then-a-l-clause-made

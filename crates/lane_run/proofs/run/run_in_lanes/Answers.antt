@@ -1,7 +1,4 @@
-use Rattle.std.proofs.Common.{rules, ◌≡◌, ◌∙◌, ◌++◌}
-use Rattle.pip_model.specs.Run.{Done, Again, turn, point_setting}
-use Rattle.point_turns.specs.Turns.{node_of}
-use Rattle.lane_run.specs.Runs.{run_rows, forms_of}
+use Rattle.lane_run.proofs.Words.{rules, ◌≡◌, ◌∙◌, ◌++◌, Done, Again, turn, point_setting, node_of, run_rows, forms_of}
 use Rattle.lane_run.proofs.SameRun.{same_on, less_left, turn_over}
 use Rattle.lane_run.proofs.run.run_in_lanes.Goals as goal
 

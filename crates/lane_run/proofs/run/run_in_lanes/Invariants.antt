@@ -1,6 +1,4 @@
-use Rattle.std.proofs.Common.{◌≡◌, ◌++◌}
-use Rattle.pip_model.specs.Run.{left}
-use Rattle.lane_run.specs.Runs.{run_rows, forms_of}
+use Rattle.lane_run.proofs.Words.{◌≡◌, ◌++◌, left, run_rows, forms_of}
 use Rattle.lane_run.proofs.SameRun.{IsSameRun}
 use Rattle.lane_run.proofs.run.run_in_lanes.Given as goal
 

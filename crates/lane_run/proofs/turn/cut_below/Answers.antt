@@ -1,10 +1,4 @@
-use Rattle.std.proofs.Common.{◌≡◌, ◌∙◌, ap, sym, arith, rules, ℕ, ◌+◌, ◌<◌, ◌≤◌, pos, true, false, ◌<ℤ◌, ◌≤ℤ◌, to_z, of_z, length, ◌⊎◌, inl, inr}
-use Rattle.std.proofs.lemmas.Int.{ints}
-use Rattle.std.proofs.lemmas.Bool.{cases_lt}
-use Rattle.std.specs.Int.{w32}
-use Rattle.pip_model.specs.Numbers.{is_nonneg}
-use Rattle.pip_model.specs.Rows.{row_at}
-use Rattle.lane_run.specs.Below.{is_above}
+use Rattle.lane_run.proofs.Words.{◌≡◌, ◌∙◌, ap, sym, arith, rules, ℕ, ◌+◌, ◌<◌, ◌≤◌, pos, true, false, ◌<ℤ◌, ◌≤ℤ◌, to_z, of_z, length, ◌⊎◌, inl, inr, ints, cases_lt, w32, is_nonneg, row_at, is_above}
 use Rattle.lane_run.proofs.Parts.{below_zero, not_below, lanes_at, cut_is_below}
 use Rattle.lane_run.proofs.turn.cut_below.Goals as goal
 

@@ -1,6 +1,4 @@
-use Rattle.std.proofs.Common.{◌≡◌, ℕ, ◌<◌, ◌≤◌, true}
-use Rattle.pip_model.specs.Rows.{row_at}
-use Rattle.lane_run.specs.Below.{is_above}
+use Rattle.lane_run.proofs.Words.{◌≡◌, ℕ, ◌<◌, ◌≤◌, true, row_at, is_above}
 use Rattle.lane_run.proofs.turn.cut_below.Given as goal
 
 abbrev pub invariant-loop-i : goal.invariant-loop-i

@@ -1,12 +1,4 @@
-use Rattle.std.proofs.Common.{rules, arith, ◌≡◌, sym, subst, Some, None}
-use Rattle.std.proofs.lemmas.Grind.{common_steps}
-use Rattle.pip_model.specs.Run.{Done, count_cut}
-use Rattle.pip_model.specs.Rows.{row_at, first_fraction}
-use Rattle.pip_model.specs.Cuts.{constant_cut}
-use Rattle.pip_problem.specs.Faults.{run_fault}
-use Rattle.scaled_laws.specs.Tables.{ScaledTable, with_row}
-use Rattle.point_turns.specs.Points.{IsTurnOf}
-use Rattle.lane_run.specs.Runs.{run_rows}
+use Rattle.lane_run.proofs.Words.{rules, arith, ◌≡◌, sym, subst, Some, None, common_steps, Done, count_cut, row_at, first_fraction, constant_cut, run_fault, ScaledTable, with_row, IsTurnOf, run_rows}
 use Rattle.lane_run.proofs.CutTurns.{fraction_inside, point_found, cut_added, all_stopped}
 use Rattle.lane_run.proofs.turn.cut_or_end.Goals as goal
 

@@ -1,11 +1,5 @@
-use Rattle.std.proofs.Common.{◌≡◌, ◌∙◌, ap, sym, arith, rules, ℤ, List, get_or, [], true, false, pos, ◌<ℤ◌, ◌≤ℤ◌, take, to_z, of_z, below_more}
-use Rattle.std.proofs.lemmas.Int.{ints}
-use Rattle.std.proofs.lemmas.List.{get_or_default}
-use Rattle.std.specs.Int.{w32}
-use Rattle.pip_model.specs.Numbers.{is_nonneg}
-use Rattle.form_laws.specs.ByForm.{combination}
+use Rattle.lane_run.proofs.Words.{◌≡◌, ◌∙◌, ap, sym, arith, rules, ℤ, List, get_or, [], true, false, pos, ◌<ℤ◌, ◌≤ℤ◌, take, to_z, of_z, below_more, ints, get_or_default, w32, is_nonneg, combination, value_of}
 use Rattle.lane_rows.specs.Laned.{numbers_of}
-use Rattle.lane_run.specs.Below.{value_of}
 use Rattle.lane_run.proofs.Parts.{below_zero, not_below, made_above, made_below}
 use Rattle.lane_run.proofs.turn.form_below.Goals as goal
 

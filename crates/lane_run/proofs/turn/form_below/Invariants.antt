@@ -1,6 +1,4 @@
-use Rattle.std.proofs.Common.{◌≡◌, ℕ, ◌<◌, true, get_or, []}
-use Rattle.pip_model.specs.Numbers.{is_nonneg}
-use Rattle.lane_run.specs.Below.{value_of}
+use Rattle.lane_run.proofs.Words.{◌≡◌, ℕ, ◌<◌, true, get_or, [], is_nonneg, value_of}
 use Rattle.lane_run.proofs.turn.form_below.Given as goal
 
 abbrev pub invariant-loop-form : goal.invariant-loop-form

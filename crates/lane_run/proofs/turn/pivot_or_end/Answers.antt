@@ -1,8 +1,4 @@
-use Rattle.std.proofs.Common.{rules, arith, ◌≡◌}
-use Rattle.std.proofs.lemmas.Grind.{common_steps}
-use Rattle.pip_model.specs.Run.{Done, count_pivot}
-use Rattle.pip_problem.specs.Faults.{run_fault}
-use Rattle.lane_run.specs.Pivots.{IsPivoted}
+use Rattle.lane_run.proofs.Words.{rules, arith, ◌≡◌, common_steps, Done, count_pivot, run_fault, IsPivoted}
 use Rattle.lane_run.proofs.FrontPivot.{front_closes, front_refused, front_goes_on}
 use Rattle.lane_run.proofs.turn.pivot_or_end.Goals as goal
 

@@ -1,7 +1,4 @@
-use Rattle.std.proofs.Common.{◌≡◌, ◌++◌, None, drop}
-use Rattle.point_turns.specs.Turns.{negative_from}
-use Rattle.lane_run.specs.Below.{AreAbove, IsFirstRowBelow}
-use Rattle.lane_run.specs.Runs.{run_rows, forms_of, IsRowBelow}
+use Rattle.lane_run.proofs.Words.{◌≡◌, ◌++◌, None, drop, negative_from, AreAbove, IsFirstRowBelow, run_rows, forms_of, IsRowBelow}
 use Rattle.lane_run.proofs.Parts.{columns_above, column_below}
 use Rattle.lane_run.proofs.Passed.{some_passed, none_passed}
 use Rattle.lane_run.proofs.RowBelow.{front_read, back_read, of_column, of_form, of_further, of_cut, none_of_all}

@@ -1,9 +1,5 @@
-use Rattle.std.proofs.Common.{◌≡◌, ◌++◌, ℤ, Bool, Option, List, arith}
-use Rattle.pip_model.specs.Run.{Refused, Refusal, turn, point_setting}
+use Rattle.lane_run.proofs.Words.{◌≡◌, ◌++◌, ℤ, Bool, Option, List, arith, Refused, Refusal, turn, point_setting, IsTurnOf, node_of, run_rows, forms_of, AreModest, IsRowBelow}
 use Rattle.short_run.specs.Stops.{stop_fault}
-use Rattle.point_turns.specs.Points.{IsTurnOf}
-use Rattle.point_turns.specs.Turns.{node_of}
-use Rattle.lane_run.specs.Runs.{run_rows, forms_of, AreModest, IsRowBelow}
 use Rattle.lane_run.proofs.Modest.{are_modest}
 use Rattle.lane_run.proofs.Passed.{ok_passed, err_passed}
 use Rattle.lane_run.proofs.turn.turn_or_end.Goals as goal

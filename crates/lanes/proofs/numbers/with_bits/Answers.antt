@@ -1,4 +1,4 @@
-use Rattle.std.proofs.lemmas.Nat.{or_lt}
+use Rattle.lanes.proofs.Words.{or_lt}
 use Rattle.lanes.proofs.numbers.with_bits.Goals as goal
 
 pub returns-clause-narrow : goal.returns-clause-narrow

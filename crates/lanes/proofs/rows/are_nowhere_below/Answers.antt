@@ -1,7 +1,4 @@
-use Rattle.std.proofs.Common.{rules, arith, get_or, ◌≡◌, ◌∙◌, ap, pos, to_z, of_z}
-use Rattle.std.specs.Int.{w32}
-use Rattle.pip_model.specs.Numbers.{is_nonneg}
-use Rattle.pip_model.specs.Forms.{entry}
+use Rattle.lanes.proofs.Words.{rules, arith, get_or, ◌≡◌, ◌∙◌, ap, pos, to_z, of_z, w32, is_nonneg, entry}
 use Rattle.lanes.proofs.Sums.{nonneg_all, nonneg_next}
 use Rattle.lanes.proofs.rows.are_nowhere_below.Goals as goal
 

@@ -1,6 +1,4 @@
-use Rattle.std.proofs.Common.{◌≡◌, take}
-use Rattle.std.specs.List.{list_all}
-use Rattle.pip_model.specs.Numbers.{is_nonneg}
+use Rattle.lanes.proofs.Words.{◌≡◌, take, list_all, is_nonneg}
 use Rattle.lanes.proofs.rows.are_nowhere_below.Given as goal
 
 abbrev pub invariant-loop-k : goal.invariant-loop-k

@@ -1,5 +1,4 @@
-use Rattle.std.proofs.Common.{rules, arith}
-use Rattle.std.proofs.lemmas.Int.{to_z-of_z}
+use Rattle.lanes.proofs.Words.{rules, arith, to_z-of_z}
 use Rattle.lanes.proofs.Writing.{written_step, divided_end, divided_lanes}
 use Rattle.lanes.proofs.rows.divide.Goals as goal
 

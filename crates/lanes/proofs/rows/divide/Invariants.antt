@@ -1,5 +1,4 @@
-use Rattle.std.proofs.Common.{◌≡◌, ◌*ℤ◌}
-use Rattle.pip_model.specs.Forms.{entry}
+use Rattle.lanes.proofs.Words.{◌≡◌, ◌*ℤ◌, entry}
 use Rattle.lanes.proofs.Writing.{Written}
 use Rattle.lanes.proofs.rows.divide.Given as goal
 

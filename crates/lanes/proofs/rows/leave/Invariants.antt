@@ -1,6 +1,4 @@
-use Rattle.std.proofs.Common.{◌≡◌, ◌<◌, ◌^◌, nat_lt, unsigned_abs}
-use Rattle.pip_model.specs.Forms.{entry}
-use Rattle.lanes.specs.Narrow.{left_of}
+use Rattle.lanes.proofs.Words.{◌≡◌, ◌<◌, ◌^◌, nat_lt, unsigned_abs, entry, left_of}
 use Rattle.lanes.proofs.Writing.{Written}
 use Rattle.lanes.proofs.rows.leave.Given as goal
 

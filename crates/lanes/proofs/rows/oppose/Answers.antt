@@ -1,4 +1,4 @@
-use Rattle.std.proofs.Common.{rules, arith}
+use Rattle.lanes.proofs.Words.{rules, arith}
 use Rattle.lanes.proofs.Writing.{written_step, negated_end, negated_lanes}
 use Rattle.lanes.proofs.rows.oppose.Goals as goal
 

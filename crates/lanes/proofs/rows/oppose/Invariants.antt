@@ -1,5 +1,4 @@
-use Rattle.std.proofs.Common.{◌≡◌, neg_ℤ}
-use Rattle.pip_model.specs.Forms.{entry}
+use Rattle.lanes.proofs.Words.{◌≡◌, neg_ℤ, entry}
 use Rattle.lanes.proofs.Writing.{Written}
 use Rattle.lanes.proofs.rows.oppose.Given as goal
 

@@ -1,4 +1,4 @@
-use Rattle.std.proofs.Common.{arith}
+use Rattle.lanes.proofs.Words.{arith}
 use Rattle.lanes.proofs.Sums.{nowhere_below}
 use Rattle.lanes.proofs.rows.place_below.Goals as goal
 

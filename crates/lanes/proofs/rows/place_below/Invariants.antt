@@ -1,5 +1,4 @@
-use Rattle.std.proofs.Common.{ℕ, ◌<◌, pos, ◌≤ℤ◌}
-use Rattle.pip_model.specs.Forms.{entry}
+use Rattle.lanes.proofs.Words.{ℕ, ◌<◌, pos, ◌≤ℤ◌, entry}
 use Rattle.lanes.proofs.rows.place_below.Given as goal
 
 abbrev pub invariant-loop-k : goal.invariant-loop-k

@@ -1,4 +1,4 @@
-use Rattle.std.proofs.Common.{rules, arith}
+use Rattle.lanes.proofs.Words.{rules, arith}
 use Rattle.lanes.proofs.Sums.{sizes_all, sizes_more}
 use Rattle.lanes.proofs.rows.size_of_all.Goals as goal
 

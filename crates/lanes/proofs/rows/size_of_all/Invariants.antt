@@ -1,4 +1,4 @@
-use Rattle.std.proofs.Common.{◌<◌, ◌≤◌, ◌^◌, take, All, unsigned_abs}
+use Rattle.lanes.proofs.Words.{◌<◌, ◌≤◌, ◌^◌, take, All, unsigned_abs}
 use Rattle.lanes.proofs.rows.size_of_all.Given as goal
 
 abbrev pub invariant-loop-k : goal.invariant-loop-k

@@ -1,6 +1,4 @@
-use Rattle.std.proofs.Common.{rules, arith, get_or, ◌≡◌, ◌∙◌, ◌+ℤ◌, ◌*ℤ◌, ◌<◌, ◌^◌, ap, sym, subst, pos, unsigned_abs, ℤ, to_z, of_z}
-use Rattle.std.specs.Int.{w32}
-use Rattle.pip_model.specs.Forms.{entry}
+use Rattle.lanes.proofs.Words.{rules, arith, get_or, ◌≡◌, ◌∙◌, ◌+ℤ◌, ◌*ℤ◌, ◌<◌, ◌^◌, ap, sym, subst, pos, unsigned_abs, ℤ, to_z, of_z, w32, entry}
 use Rattle.lanes.proofs.Sums.{sum_all, sum_narrow, sum_next, sum_none}
 use Rattle.lanes.proofs.rows.sum_products.Goals as goal
 

@@ -1,5 +1,4 @@
-use Rattle.std.proofs.Common.{◌≡◌, take}
-use Rattle.pip_model.specs.Forms.{dot}
+use Rattle.lanes.proofs.Words.{◌≡◌, take, dot}
 use Rattle.lanes.proofs.rows.sum_products.Given as goal
 
 abbrev pub invariant-loop-k : goal.invariant-loop-k

@@ -1,5 +1,4 @@
-use Rattle.std.proofs.Common.{rules, arith}
-use Rattle.std.proofs.lemmas.Int.{to_z-of_z}
+use Rattle.lanes.proofs.Words.{rules, arith, to_z-of_z}
 use Rattle.lanes.proofs.Writing.{written_step, combined_end, combined_lanes}
 use Rattle.lanes.proofs.rows.turn.Goals as goal
 

@@ -1,5 +1,4 @@
-use Rattle.std.proofs.Common.{pos, ◌≤ℤ◌}
-use Rattle.row_laws.specs.Short.{IsShort}
+use Rattle.node_rows.proofs.Words.{pos, ◌≤ℤ◌, IsShort}
 use Rattle.node_rows.proofs.basis.common.Given as goal
 
 abbrev pub invariant-loop-j : goal.invariant-loop-j

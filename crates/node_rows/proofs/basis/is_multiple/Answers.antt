@@ -1,6 +1,4 @@
-use Rattle.std.proofs.Common.{rules}
-use Rattle.form_laws.specs.Columns.{IsScaled}
-use Rattle.form_laws.proofs.Columns.{all_taken, scaled_more}
+use Rattle.node_rows.proofs.Words.{rules, IsScaled, all_taken, scaled_more}
 use Rattle.node_rows.proofs.basis.is_multiple.Goals as goal
 
 pub loop-j-preserved : goal.loop-j-preserved

@@ -1,5 +1,4 @@
-use Rattle.std.proofs.Common.{take, All}
-use Rattle.form_laws.specs.Columns.{IsScaled}
+use Rattle.node_rows.proofs.Words.{take, All, IsScaled}
 use Rattle.node_rows.proofs.basis.is_multiple.Given as goal
 
 abbrev pub invariant-loop-j : goal.invariant-loop-j

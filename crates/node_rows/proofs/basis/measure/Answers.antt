@@ -1,4 +1,4 @@
-use Rattle.std.proofs.Common.{rules}
+use Rattle.node_rows.proofs.Words.{rules}
 use Rattle.node_rows.proofs.basis.measure.Goals as goal
 
 pub push_columns-requires-clause-room : goal.push_columns-requires-clause-room

@@ -1,6 +1,4 @@
-use Rattle.std.proofs.Common.{rules, arith}
-use Rattle.form_laws.specs.Columns.{part}
-use Rattle.form_laws.proofs.Columns.{items_more, within_more, over_taken}
+use Rattle.node_rows.proofs.Words.{rules, arith, part, items_more, within_more, over_taken}
 use Rattle.node_rows.proofs.basis.push_column.Goals as goal
 
 pub loop-j-preserved : goal.loop-j-preserved

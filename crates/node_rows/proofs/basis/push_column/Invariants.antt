@@ -1,6 +1,4 @@
-use Rattle.std.proofs.Common.{◌≡◌, ◌≤◌, ◌++◌, take, All, unsigned_abs}
-use Rattle.form_laws.specs.ByForm.{over}
-use Rattle.form_laws.specs.Columns.{part}
+use Rattle.node_rows.proofs.Words.{◌≡◌, ◌≤◌, ◌++◌, take, All, unsigned_abs, over, part}
 use Rattle.node_rows.proofs.basis.push_column.Given as goal
 
 abbrev pub invariant-loop-j : goal.invariant-loop-j

@@ -1,7 +1,4 @@
-use Rattle.std.proofs.Common.{rules, w64, to_z, of_z}
-use Rattle.form_laws.specs.ByForm.{over}
-use Rattle.form_laws.specs.Columns.{part}
-use Rattle.form_laws.proofs.Columns.{columns_step}
+use Rattle.node_rows.proofs.Words.{rules, w64, to_z, of_z, over, part, columns_step}
 use Rattle.node_rows.proofs.basis.push_columns.Goals as goal
 
 pub loop-k-preserved : goal.loop-k-preserved

@@ -1,8 +1,5 @@
-use Rattle.std.proofs.Common.{◌≡◌, ◌≤◌, All, unsigned_abs}
+use Rattle.node_rows.proofs.Words.{◌≡◌, ◌≤◌, All, unsigned_abs, count_from, over, part}
 use Rattle.std.specs.Prelude.{flat_map}
-use Rattle.pip_model.specs.Rows.{count_from}
-use Rattle.form_laws.specs.ByForm.{over}
-use Rattle.form_laws.specs.Columns.{part}
 use Rattle.node_rows.proofs.basis.push_columns.Given as goal
 
 abbrev pub invariant-loop-k : goal.invariant-loop-k

@@ -1,9 +1,5 @@
-use Rattle.std.proofs.Common.{◌≡◌, ◌∙◌, ap, sym, subst, ℕ, ◌+◌, ◌<◌, ℤ, List, [], ◌∷◌, ◌++◌, length, take, map, get_or}
-use Rattle.std.proofs.lemmas.List.{append-nil, append_assoc, map_more, take_all}
-use Rattle.pip_model.specs.Rows.{Row}
-use Rattle.tableau.specs.Tableaus.{TableauRows, with_row}
-use Rattle.node_rows.specs.declared.basis.Basis.{Basis}
-use Rattle.node_rows.specs.ReadRows.{IsRead, read, all_rows}
+use Rattle.node_rows.proofs.Words.{◌≡◌, ◌∙◌, ap, sym, subst, ℕ, ◌+◌, ◌<◌, ℤ, List, [], ◌∷◌, ◌++◌, length, take, map, get_or, append_assoc, map_more, take_all, Row, TableauRows, with_row, Basis, IsRead, read, all_rows}
+use Rattle.std.proofs.lemmas.List.{append-nil}
 use Rattle.node_rows.proofs.node_rows.all_made.Goals as goal
 
 none : (t : TableauRows) (b : Basis) → t ≡ all_rows t b []

@@ -1,5 +1,4 @@
-use Rattle.std.proofs.Common.{◌≡◌, take}
-use Rattle.node_rows.specs.ReadRows.{all_rows}
+use Rattle.node_rows.proofs.Words.{◌≡◌, take, all_rows}
 use Rattle.node_rows.proofs.node_rows.all_made.Given as goal
 
 abbrev pub invariant-loop-form : goal.invariant-loop-form

@@ -1,4 +1,4 @@
-use Rattle.std.proofs.Common.{rules}
+use Rattle.node_rows.proofs.Words.{rules}
 use Rattle.node_rows.proofs.ReadRows.{read_again}
 use Rattle.node_rows.proofs.node_rows.same_basis.Goals as goal
 

@@ -1,5 +1,4 @@
-use Rattle.std.proofs.Common.{rules}
-use Rattle.form_laws.proofs.Columns.{dot_none, dot_step}
+use Rattle.node_rows.proofs.Words.{rules, dot_none, dot_step}
 use Rattle.node_rows.proofs.products.dot.Goals as goal
 
 pub loop-i-init : goal.loop-i-init

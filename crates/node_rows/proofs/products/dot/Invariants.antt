@@ -1,4 +1,4 @@
-use Rattle.std.proofs.Common.{◌≡◌, take}
+use Rattle.node_rows.proofs.Words.{◌≡◌, take}
 use Rattle.pip_model.specs.Forms as model
 use Rattle.node_rows.proofs.products.dot.Given as goal
 

@@ -1,6 +1,4 @@
-use Rattle.std.proofs.Common.{rules, ◌≤◌, subst, List, ℤ, []}
-use Rattle.std.proofs.lemmas.List.{get_or_read}
-use Rattle.form_laws.proofs.Columns.{all_taken, norms_more}
+use Rattle.node_rows.proofs.Words.{rules, ◌≤◌, subst, List, ℤ, [], get_or_read, all_taken, norms_more}
 use Rattle.form_laws.specs.Bounds as bounds
 use Rattle.node_rows.proofs.products.greatest_norm.Goals as goal
 

@@ -1,4 +1,4 @@
-use Rattle.std.proofs.Common.{◌≤◌, take, All}
+use Rattle.node_rows.proofs.Words.{◌≤◌, take, All}
 use Rattle.form_laws.specs.Bounds as bounds
 use Rattle.node_rows.proofs.products.greatest_norm.Given as goal
 

@@ -1,5 +1,4 @@
-use Rattle.std.proofs.Common.{rules}
-use Rattle.form_laws.proofs.Columns.{norm_more}
+use Rattle.node_rows.proofs.Words.{rules, norm_more}
 use Rattle.node_rows.proofs.products.norm.Goals as goal
 
 pub loop-entry-preserved : goal.loop-entry-preserved

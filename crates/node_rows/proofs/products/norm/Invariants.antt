@@ -1,4 +1,4 @@
-use Rattle.std.proofs.Common.{◌≡◌, take}
+use Rattle.node_rows.proofs.Words.{◌≡◌, take}
 use Rattle.form_laws.specs.Bounds as bounds
 use Rattle.node_rows.proofs.products.norm.Given as goal
 

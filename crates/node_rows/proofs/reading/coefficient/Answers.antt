@@ -1,5 +1,4 @@
-use Rattle.std.proofs.Common.{rules}
-use Rattle.form_laws.proofs.Columns.{part_coef}
+use Rattle.node_rows.proofs.Words.{rules, part_coef}
 use Rattle.node_rows.proofs.reading.coefficient.Goals as goal
 
 pub returns : goal.returns

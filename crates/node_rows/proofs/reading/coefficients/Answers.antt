@@ -1,6 +1,4 @@
-use Rattle.std.proofs.Common.{rules}
-use Rattle.row_laws.proofs.RowLaws.{count_map}
-use Rattle.node_rows.specs.ReadRows.{summed}
+use Rattle.node_rows.proofs.Words.{rules, count_map, summed}
 use Rattle.node_rows.proofs.reading.coefficients.Goals as goal
 
 pub loop-k-preserved : goal.loop-k-preserved

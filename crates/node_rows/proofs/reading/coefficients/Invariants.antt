@@ -1,6 +1,4 @@
-use Rattle.std.proofs.Common.{◌≡◌, map}
-use Rattle.pip_model.specs.Rows.{count_from}
-use Rattle.node_rows.specs.ReadRows.{summed}
+use Rattle.node_rows.proofs.Words.{◌≡◌, map, count_from, summed}
 use Rattle.node_rows.proofs.reading.coefficients.Given as goal
 
 abbrev pub invariant-loop-k : goal.invariant-loop-k

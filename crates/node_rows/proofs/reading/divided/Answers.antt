@@ -1,6 +1,4 @@
-use Rattle.std.proofs.Common.{rules, ◌≡◌, ◌∙◌, ap, ℤ}
-use Rattle.pip_model.specs.Numbers.{gcd, gcd_of}
-use Rattle.pip_model.specs.Forms.{floor_divided}
+use Rattle.node_rows.proofs.Words.{rules, ◌≡◌, ◌∙◌, ap, ℤ, gcd, gcd_of, floor_divided}
 use Rattle.node_rows.proofs.reading.divided.Goals as goal
 
 pub returns : goal.returns

@@ -1,6 +1,4 @@
-use Rattle.std.proofs.Common.{◌∙◌, ap, sym, subst, ℤ, pos, ◌≤ℤ◌, arith}
-use Rattle.std.proofs.lemmas.Int.{ints}
-use Rattle.pip_model.specs.Numbers.{gcd, gcd_of}
+use Rattle.node_rows.proofs.Words.{◌∙◌, ap, sym, subst, ℤ, pos, ◌≤ℤ◌, arith, ints, gcd, gcd_of}
 use Rattle.pip_model.proofs.Gcd.{gcd_assoc}
 use Rattle.affine_forms.proofs.Bits.{held, held_fits}
 use Rattle.node_rows.proofs.reading.divisor.Goals as goal

@@ -1,4 +1,4 @@
-use Rattle.std.proofs.Common.{rules}
+use Rattle.node_rows.proofs.Words.{rules}
 use Rattle.node_rows.proofs.ReadRows.{nonneg_read}
 use Rattle.node_rows.proofs.reading.is_nowhere_below.Goals as goal
 

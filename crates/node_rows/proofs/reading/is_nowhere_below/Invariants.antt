@@ -1,5 +1,4 @@
-use Rattle.std.proofs.Common.{ℕ, ◌<◌, pos, ◌≤ℤ◌}
-use Rattle.node_rows.specs.ReadRows.{placed}
+use Rattle.node_rows.proofs.Words.{ℕ, ◌<◌, pos, ◌≤ℤ◌, placed}
 use Rattle.node_rows.proofs.reading.is_nowhere_below.Given as goal
 
 abbrev pub invariant-loop-m : goal.invariant-loop-m

@@ -1,5 +1,4 @@
-use Rattle.std.proofs.Common.{rules}
-use Rattle.form_laws.proofs.Columns.{part_place}
+use Rattle.node_rows.proofs.Words.{rules, part_place}
 use Rattle.node_rows.proofs.ReadRows.{place_step}
 use Rattle.node_rows.proofs.reading.place.Goals as goal
 

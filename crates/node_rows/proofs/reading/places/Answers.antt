@@ -1,6 +1,4 @@
-use Rattle.std.proofs.Common.{rules}
-use Rattle.row_laws.proofs.RowLaws.{count_map}
-use Rattle.node_rows.specs.ReadRows.{placed}
+use Rattle.node_rows.proofs.Words.{rules, count_map, placed}
 use Rattle.node_rows.proofs.reading.places.Goals as goal
 
 pub loop-m-preserved : goal.loop-m-preserved

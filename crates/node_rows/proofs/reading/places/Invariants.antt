@@ -1,6 +1,4 @@
-use Rattle.std.proofs.Common.{◌≡◌, map}
-use Rattle.pip_model.specs.Rows.{count_from}
-use Rattle.node_rows.specs.ReadRows.{placed}
+use Rattle.node_rows.proofs.Words.{◌≡◌, map, count_from, placed}
 use Rattle.node_rows.proofs.reading.places.Given as goal
 
 abbrev pub invariant-loop-m : goal.invariant-loop-m

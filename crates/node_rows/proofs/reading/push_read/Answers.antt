@@ -1,4 +1,4 @@
-use Rattle.std.proofs.Common.{rules}
+use Rattle.node_rows.proofs.Words.{rules}
 use Rattle.node_rows.proofs.ReadRows.{combined_row}
 use Rattle.node_rows.proofs.reading.push_read.Goals as goal
 

@@ -1,4 +1,4 @@
-use Rattle.std.proofs.Common.{rules}
+use Rattle.node_rows.proofs.Words.{rules}
 use Rattle.node_rows.proofs.ReadRows.{inside, column_is, read_summable}
 use Rattle.node_rows.proofs.reading.sum.Goals as goal
 

@@ -1,4 +1,4 @@
-use Rattle.std.proofs.Common.{◌≡◌, take}
+use Rattle.node_rows.proofs.Words.{◌≡◌, take}
 use Rattle.node_rows.proofs.shared_forms.copies.Given as goal
 
 abbrev pub invariant-loop-form : goal.invariant-loop-form

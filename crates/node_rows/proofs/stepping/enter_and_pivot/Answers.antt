@@ -1,8 +1,5 @@
-use Rattle.std.proofs.lemmas.Grind.{common_steps}
-use Rattle.std.proofs.Common.{arith, ◌≡◌, ◌∙◌, sym, ap, [], ◌++◌, map}
+use Rattle.node_rows.proofs.Words.{common_steps, arith, ◌≡◌, ◌∙◌, sym, ap, [], ◌++◌, map, TableauRows, read}
 use Rattle.std.proofs.lemmas.List.{append-nil}
-use Rattle.tableau.specs.Tableaus.{TableauRows}
-use Rattle.node_rows.specs.ReadRows.{read}
 use Rattle.node_rows.proofs.stepping.enter_and_pivot.Goals as goal
 
 pub returns-then-is_empty-clause-gives : goal.returns-then-is_empty-clause-gives

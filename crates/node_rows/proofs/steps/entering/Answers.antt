@@ -1,6 +1,4 @@
-use Rattle.std.proofs.Common.{rules, arith, ◌≡◌, ◌<◌, ◌-◌, length, map, get_or, subst, sym}
-use Rattle.pip_model.specs.Rows.{row_at}
-use Rattle.node_rows.specs.ReadRows.{IsRead, read, all_rows}
+use Rattle.node_rows.proofs.Words.{rules, arith, ◌≡◌, ◌<◌, ◌-◌, length, map, get_or, subst, sym, row_at, IsRead, read, all_rows}
 use Rattle.node_rows.proofs.Pivoting.{all_long, row_behind, least, entering_front, listed_front, entering_with, listed_with}
 use Rattle.node_rows.proofs.steps.entering.Goals as goal
 

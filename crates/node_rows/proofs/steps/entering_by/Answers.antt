@@ -1,8 +1,5 @@
-use Rattle.std.proofs.Common.{arith, ◌≡◌, ◌∙◌, ap, sym, subst, ◌≤◌, length, IfSome}
-use Rattle.pip_model.specs.Rows.{Row, row_at, entering}
-use Rattle.tableau.specs.Tableaus.{TableauRows, with_row}
+use Rattle.node_rows.proofs.Words.{arith, ◌≡◌, ◌∙◌, ap, sym, subst, ◌≤◌, length, IfSome, Row, row_at, entering, TableauRows, with_row, read}
 use Rattle.dual_pivot.specs.Choices.{IsCandidate}
-use Rattle.node_rows.specs.ReadRows.{read}
 use Rattle.node_rows.proofs.Pivoting.{row_last, with_long}
 use Rattle.node_rows.proofs.steps.entering_by.Goals as goal
 

@@ -1,4 +1,4 @@
-use Rattle.std.proofs.Common.{rules}
+use Rattle.node_rows.proofs.Words.{rules}
 use Rattle.node_rows.proofs.Pivoting.{front_fits, front_pivot}
 use Rattle.node_rows.proofs.steps.pivoted_at.Goals as goal
 

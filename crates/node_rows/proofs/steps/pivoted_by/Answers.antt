@@ -1,4 +1,4 @@
-use Rattle.std.proofs.Common.{rules}
+use Rattle.node_rows.proofs.Words.{rules}
 use Rattle.node_rows.proofs.Pivoting.{with_pivot}
 use Rattle.node_rows.proofs.steps.pivoted_by.Goals as goal
 

@@ -1,8 +1,4 @@
-use Rattle.std.proofs.Common.{rules, arith, ◌≡◌, ◌∙◌, ap, subst, sym, ℕ, pos, ◌≤ℤ◌, length}
-use Rattle.pip_model.specs.Rows.{Row, pivot}
-use Rattle.pip_model.specs.Forms.{entry}
-use Rattle.tableau.specs.Tableaus.{TableauRows, with_row}
-use Rattle.node_rows.specs.ReadRows.{read}
+use Rattle.node_rows.proofs.Words.{rules, arith, ◌≡◌, ◌∙◌, ap, subst, sym, ℕ, pos, ◌≤ℤ◌, length, Row, pivot, entry, TableauRows, with_row, read}
 use Rattle.node_rows.proofs.Pivoting.{row_last, with_fits, with_long}
 use Rattle.node_rows.proofs.steps.pivoted_with.Goals as goal
 

@@ -1,5 +1,4 @@
-use Rattle.std.proofs.Common.{rules, arith, ◌≡◌, is_some}
-use Rattle.std.proofs.lemmas.Grind.{common_steps}
+use Rattle.node_rows.proofs.Words.{rules, arith, ◌≡◌, is_some, common_steps}
 use Rattle.node_rows.proofs.steps.step.Goals as goal
 
 pub returns-in_err-column-clause-gives : goal.returns-in_err-column-clause-gives

@@ -1,7 +1,4 @@
-use Rattle.std.proofs.Common.{rules, ◌≡◌, subst, pos, ◌≤ℤ◌}
-use Rattle.pip_model.specs.Rows.{Row, row_at}
-use Rattle.pip_model.specs.Forms.{entry}
-use Rattle.node_rows.specs.ReadRows.{read, all_rows}
+use Rattle.node_rows.proofs.Words.{rules, ◌≡◌, subst, pos, ◌≤ℤ◌, Row, row_at, entry, read, all_rows}
 use Rattle.node_rows.proofs.Pivoting.{row_behind}
 use Rattle.node_rows.proofs.steps.turned.Goals as goal
 

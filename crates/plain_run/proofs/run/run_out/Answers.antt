@@ -1,11 +1,6 @@
-use Rattle.std.proofs.Common.{rules, arith, ◌≡◌, true, false}
-use Rattle.std.proofs.lemmas.Grind.{common_steps}
-use Rattle.pip_model.specs.Tree.{Bottom}
-use Rattle.pip_model.specs.Run.{Again, Closed, Done, turn, leaf}
+use Rattle.std.proofs.Common.{◌≡◌}
+use Rattle.plain_run.proofs.Words.{rules, arith, true, false, common_steps, Bottom, Again, Closed, Done, turn, leaf, node_of, plain_setting, scope_on}
 use Rattle.short_run.specs.Stops.{stop_fault}
-use Rattle.point_turns.specs.Turns.{node_of}
-use Rattle.plain_laws.specs.Plain.{plain_setting}
-use Rattle.point_turns.proofs.Leaving.{scope_on}
 use Rattle.plain_run.proofs.Running.{starts_run, run_goes_on, run_less, run_closed, run_refused}
 use Rattle.plain_run.proofs.run.run_out.Goals as goal
 

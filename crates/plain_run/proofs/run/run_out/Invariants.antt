@@ -1,4 +1,4 @@
-use Rattle.pip_model.specs.Run.{left}
+use Rattle.plain_run.proofs.Words.{left}
 use Rattle.plain_run.proofs.Running.{IsPlainRun}
 use Rattle.plain_run.proofs.run.run_out.Given as goal
 

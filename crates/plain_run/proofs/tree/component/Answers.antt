@@ -1,6 +1,4 @@
-use Rattle.std.proofs.lemmas.Grind.{common_steps}
-use Rattle.std.proofs.Common.{rules, arith}
-use Rattle.pip_model.specs.Rows.{row_at}
+use Rattle.plain_run.proofs.Words.{common_steps, rules, arith, row_at}
 use Rattle.plain_run.proofs.Single.{component_is}
 use Rattle.plain_run.proofs.tree.component.Goals as goal
 

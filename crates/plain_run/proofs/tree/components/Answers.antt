@@ -1,9 +1,6 @@
-use Rattle.std.proofs.Common.{rules, []}
+use Rattle.plain_run.proofs.Words.{rules, [], form_row, row_component, IsComponent}
 use Rattle.std.proofs.lemmas.List.{map_more}
 use Rattle.std.proofs.lemmas.List.Elements.{All-push}
-use Rattle.pip_model.specs.Rows.{form_row}
-use Rattle.pip_model.specs.Run.{row_component}
-use Rattle.quast.specs.Components.{IsComponent}
 use Rattle.plain_run.proofs.tree.components.Goals as goal
 
 pub loop-i-preserved : goal.loop-i-preserved

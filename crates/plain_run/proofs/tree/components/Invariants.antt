@@ -1,6 +1,5 @@
-use Rattle.std.specs.Prelude.{◌≡◌, map, take, All}
-use Rattle.pip_model.specs.Run.{row_component}
-use Rattle.quast.specs.Components.{IsComponent}
+use Rattle.std.specs.Prelude.{◌≡◌}
+use Rattle.plain_run.proofs.Words.{map, take, All, row_component, IsComponent}
 use Rattle.plain_run.proofs.tree.components.Given as goal
 
 abbrev pub invariant-loop-i : goal.invariant-loop-i

@@ -1,4 +1,4 @@
-use Rattle.std.proofs.Common.{rules, pos}
+use Rattle.plain_run.proofs.Words.{rules, pos}
 use Rattle.plain_run.proofs.Single.{one_entry}
 use Rattle.plain_run.proofs.tree.constant_of.Goals as goal
 

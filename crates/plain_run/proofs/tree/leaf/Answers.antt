@@ -1,4 +1,4 @@
-use Rattle.std.proofs.Common.{rules}
+use Rattle.plain_run.proofs.Words.{rules}
 use Rattle.quast.proofs.Lists.{list-components}
 use Rattle.plain_run.proofs.tree.leaf.Goals as goal
 

@@ -1,5 +1,4 @@
-use Rattle.refutation_steps.proofs.Words.{rules, ◌≡◌, Bottom, Again, Closed, Done, turn, point_setting, stop_fault, node_of}
-use Rattle.point_run.specs.TurnAt.{IsTurnAt}
+use Rattle.refutation_steps.proofs.Words.{rules, ◌≡◌, Bottom, Again, Closed, Done, turn, point_setting, stop_fault, node_of, IsTurnAt}
 use Rattle.short_run.specs.PointTurn.TheVariants as code
 use Rattle.refutation_steps.proofs.Tracing.{starts_trace, goes-on-pivot, goes-on-cut, goes-less, ends-bottom}
 use Rattle.refutation_steps.proofs.form_refute.refute_on.Goals as goal

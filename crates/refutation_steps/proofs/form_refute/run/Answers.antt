@@ -1,7 +1,4 @@
-use Rattle.refutation_steps.proofs.Words.{rules, ◌≡◌, ◌∙◌, ap, ℕ, ◌++◌, [], List, ℤ, length, first_trace}
-use Rattle.std.proofs.Common.{append-nil}
-use Rattle.point_run.proofs.Leaving.{run_same}
-use Rattle.point_run.specs.Tableaus.{TableauRows}
+use Rattle.refutation_steps.proofs.Words.{rules, ◌≡◌, ◌∙◌, ap, ℕ, ◌++◌, [], List, ℤ, length, first_trace, append-nil, run_same, TableauRows}
 use Rattle.short_run.specs.Points.{first_rows}
 use Rattle.refutation_steps.proofs.Tracing.{first-traced, first-run}
 use Rattle.refutation_steps.proofs.form_refute.run.Goals as goal

@@ -1,5 +1,4 @@
-use Rattle.refutation_steps.proofs.Words.{rules, ◌≡◌, length, first_trace}
-use Rattle.point_run.proofs.Leaving.{run_same}
+use Rattle.refutation_steps.proofs.Words.{rules, ◌≡◌, length, first_trace, run_same}
 use Rattle.refutation_steps.proofs.Tracing.{first-traced, first-run}
 use Rattle.refutation_steps.proofs.refute.run.Goals as goal
 

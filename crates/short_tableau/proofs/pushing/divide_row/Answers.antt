@@ -1,6 +1,5 @@
-use Rattle.short_tableau.proofs.Words.{rules, ◌≡◌, ◌∙◌, ap, sym, subst, ◌++◌, to_z, of_z, slice_set, w64, divided, row_of_numbers, IsShortRow, row_from}
+use Rattle.short_tableau.proofs.Words.{rules, ◌≡◌, ◌∙◌, ap, sym, subst, ◌++◌, to_z, of_z, slice_set, w64, divided, row_of_numbers, IsShortRow, row_from, row_join}
 use Rattle.short_tableau.proofs.Cutting.{divided_row}
-use Rattle.short_row.proofs.ShortParts.{row_join}
 use Rattle.short_tableau.proofs.pushing.divide_row.Goals as goal
 
 pub returns-clause-row : goal.returns-clause-row

@@ -1,5 +1,4 @@
-use Rattle.short_tableau.proofs.Words.{rules}
-use Rattle.short_row.proofs.UnitNumbers.{form_written, form_short}
+use Rattle.short_tableau.proofs.Words.{rules, form_written, form_short}
 use Rattle.short_tableau.proofs.pushing.make_form.Goals as goal
 
 pub returns-then-narrow_all-clause-items : goal.returns-then-narrow_all-clause-items

@@ -1,5 +1,4 @@
-use Rattle.short_tableau.proofs.Words.{rules, pos, arith}
-use Rattle.short_row.proofs.UnitNumbers.{written_step, short_step}
+use Rattle.short_tableau.proofs.Words.{rules, pos, arith, written_step, short_step}
 use Rattle.short_tableau.proofs.pushing.narrow_all.Goals as goal
 
 pub loop-i-preserved : goal.loop-i-preserved

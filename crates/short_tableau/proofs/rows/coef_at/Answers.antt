@@ -1,5 +1,5 @@
-use Rattle.short_tableau.proofs.Words.{rules, arith, sym, subst, ◌≡◌, ◌+◌, pos, to_z, of_z, entry, row_at, IsShort, rows_in}
-use Rattle.std.proofs.Common.{slice_index_or, w64}
+use Rattle.short_tableau.proofs.Words.{rules, arith, sym, subst, ◌≡◌, ◌+◌, pos, to_z, of_z, entry, row_at, IsShort, rows_in, slice_index_or}
+use Rattle.std.proofs.Common.{w64}
 use Rattle.short_tableau.proofs.Entries.{coef_here}
 use Rattle.short_tableau.proofs.Places.{dense_row}
 use Rattle.short_tableau.proofs.rows.coef_at.Goals as goal

@@ -1,6 +1,5 @@
-use Rattle.short_tableau.proofs.Words.{rules}
+use Rattle.short_tableau.proofs.Words.{rules, unit_reduced}
 use Rattle.short_tableau.proofs.Places.{split_twice, split_front, split_back, split_pivot, pivot_made, long_before, long_behind}
-use Rattle.short_row.proofs.ShortParts.{unit_reduced}
 use Rattle.short_tableau.proofs.OneRow.{unit_made}
 use Rattle.short_tableau.proofs.rows.pivot_rows.Goals as goal
 

@@ -1,5 +1,4 @@
-use Rattle.std.proofs.Common.{rules, arith, ◌≡◌, ◌∙◌, ap, sym, ◌<◌, ◌*◌, take, drop, [], get_or}
-use Rattle.form_run.specs.FlatLists.{NumberLists}
+use Rattle.form_run.proofs.Words.{rules, arith, ◌≡◌, ◌∙◌, ap, sym, ◌<◌, ◌*◌, take, drop, [], get_or, NumberLists}
 use Rattle.form_run.proofs.Lists.{count_is, list_here}
 use Rattle.form_run.proofs.flat_lists.FlatLists.at.Goals as goal
 

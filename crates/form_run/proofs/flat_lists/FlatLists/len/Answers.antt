@@ -1,5 +1,4 @@
-use Rattle.std.proofs.Common.{rules, ◌≡◌, ◌∙◌, ap, subst, ℕ, ◌*◌, ◌^◌, ◌<◌, length}
-use Rattle.form_run.specs.FlatLists.{NumberLists}
+use Rattle.form_run.proofs.Words.{rules, ◌≡◌, ◌∙◌, ap, subst, ℕ, ◌*◌, ◌^◌, ◌<◌, length, NumberLists}
 use Rattle.form_run.proofs.Lists.{count_is}
 use Rattle.form_run.proofs.flat_lists.FlatLists.len.Goals as goal
 

@@ -1,5 +1,4 @@
-use Rattle.std.proofs.Common.{rules, ◌≡◌, ◌∙◌, ap, sym, ℕ, ◌+◌, ◌++◌, length}
-use Rattle.form_run.specs.FlatLists.{NumberLists, lists_in}
+use Rattle.form_run.proofs.Words.{rules, ◌≡◌, ◌∙◌, ap, sym, ℕ, ◌+◌, ◌++◌, length, NumberLists, lists_in}
 use Rattle.form_run.proofs.Lists.{pushed_view}
 use Rattle.form_run.proofs.flat_lists.FlatLists.push.Goals as goal
 

@@ -1,4 +1,4 @@
-use Rattle.std.proofs.Common.{arith, ◌∙◌}
+use Rattle.form_run.proofs.Words.{arith, ◌∙◌}
 use Rattle.form_run.proofs.Lists.{count_is, length_lists}
 use Rattle.form_run.proofs.flat_lists.FlatLists.set.Goals as goal
 

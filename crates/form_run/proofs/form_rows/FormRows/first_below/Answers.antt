@@ -1,8 +1,4 @@
-use Rattle.std.proofs.Common.{rules, arith, ◌≡◌, ◌∙◌, ◌+◌, ap, sym, ℕ, map, length, Some, None}
-use Rattle.row_laws.specs.Tableaus.{TableauRows}
-use Rattle.short_run.proofs.FurtherRows.{negative-front}
-use Rattle.point_turns.specs.Turns.{negative_from}
-use Rattle.form_basis.specs.ReadRows.{read}
+use Rattle.form_run.proofs.Words.{rules, arith, ◌≡◌, ◌∙◌, ◌+◌, ap, sym, ℕ, map, length, Some, None, TableauRows, negative-front, negative_from, read}
 use Rattle.form_run.proofs.Below.{behind_all}
 use Rattle.form_run.proofs.HeldRows.{reads, all_long}
 use Rattle.form_run.proofs.form_rows.FormRows.first_below.Goals as goal

@@ -1,10 +1,4 @@
-use Rattle.std.proofs.Common.{rules, arith, ◌≡◌, ◌∙◌, ap, sym, subst, ◌<◌, pos, ◌≤ℤ◌, length, map, IsTrue}
-use Rattle.pip_model.specs.Forms.{entry}
-use Rattle.pip_model.specs.Listed.{all_fit}
-use Rattle.pip_model.specs.Rows.{Row, row_at, eliminated, pivot, pivot_listed}
-use Rattle.row_laws.specs.Tableaus.{TableauRows}
-use Rattle.form_basis.specs.ReadRows.{IsMeasured}
-use Rattle.form_run.specs.Held.{all_rows}
+use Rattle.form_run.proofs.Words.{rules, arith, ◌≡◌, ◌∙◌, ap, sym, subst, ◌<◌, pos, ◌≤ℤ◌, length, map, IsTrue, entry, all_fit, Row, row_at, eliminated, pivot, pivot_listed, TableauRows, IsMeasured, all_rows}
 use Rattle.form_run.proofs.Below.{none_above}
 use Rattle.form_run.proofs.HeldRows.{all_listed, all_pivot}
 use Rattle.form_run.proofs.form_rows.FormRows.pivot.Goals as goal

@@ -1,11 +1,4 @@
-use Rattle.std.proofs.Common.{rules, arith, ◌≡◌, ◌∙◌, [], ◌∷◌, ◌++◌, ap, sym, subst, ℕ, ◌+◌, ◌<◌, pos, ◌≤ℤ◌, length}
-use Rattle.pip_model.specs.Cuts.{constant_cut}
-use Rattle.pip_model.specs.Rows.{Row, row_at, form_row, divided}
-use Rattle.row_laws.specs.Flat.{row_of_numbers}
-use Rattle.row_laws.specs.Tableaus.{TableauRows, with_row}
-use Rattle.form_run.specs.FlatLists.{NumberLists}
-use Rattle.form_basis.specs.ReadRows.{read}
-use Rattle.form_run.specs.Held.{IsHeld, IsAbove, all_rows}
+use Rattle.form_run.proofs.Words.{rules, arith, ◌≡◌, ◌∙◌, [], ◌∷◌, ◌++◌, ap, sym, subst, ℕ, ◌+◌, ◌<◌, pos, ◌≤ℤ◌, length, constant_cut, Row, row_at, form_row, divided, row_of_numbers, TableauRows, with_row, NumberLists, read, IsHeld, IsAbove, all_rows}
 use Rattle.form_run.proofs.Below.{above_more}
 use Rattle.form_run.proofs.HeldRows.{row_front}
 use Rattle.form_run.proofs.MadeCuts.{cut_divided, row_added, held_more}

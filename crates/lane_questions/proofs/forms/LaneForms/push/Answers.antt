@@ -1,6 +1,4 @@
-use Rattle.lane_questions.proofs.Words.{rules, arith, ◌≡◌, [], ◌∷◌, ◌++◌, subst, sym}
-use Rattle.form_laws.specs.Bounds.{norm}
-use Rattle.lane_questions.specs.InLanes.{AreWithin}
+use Rattle.lane_questions.proofs.Words.{rules, arith, ◌≡◌, [], ◌∷◌, ◌++◌, subst, sym, norm, AreWithin}
 use Rattle.lane_questions.proofs.FormLanes.{within_pushed}
 use Rattle.lane_questions.proofs.forms.LaneForms.push.Goals as goal
 

@@ -1,5 +1,4 @@
-use Rattle.lane_questions.proofs.Words.{rules, ◌≡◌, [], ◌∷◌, ◌++◌}
-use Rattle.lane_questions.specs.InLanes.{lanes_of}
+use Rattle.lane_questions.proofs.Words.{rules, ◌≡◌, [], ◌∷◌, ◌++◌, lanes_of}
 use Rattle.lane_questions.proofs.FormLanes.{first_step, first_place}
 use Rattle.lane_questions.proofs.forms.LaneForms.read.Goals as goal
 

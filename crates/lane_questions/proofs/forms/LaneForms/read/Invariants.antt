@@ -1,5 +1,4 @@
-use Rattle.lane_questions.proofs.Words.{◌≡◌, length}
-use Rattle.lane_questions.specs.InLanes.{AreFirst}
+use Rattle.lane_questions.proofs.Words.{◌≡◌, length, AreFirst}
 use Rattle.lane_questions.proofs.forms.LaneForms.read.Given as goal
 
 abbrev pub invariant-loop-i : goal.invariant-loop-i

@@ -1,8 +1,4 @@
-use Rattle.lane_questions.proofs.Words.{rules, arith, refl, ap, sym, subst, ◌≡◌, ◌++◌, [], ◌∷◌, ℤ, List}
-use Rattle.form_laws.specs.Bounds.{norm}
-use Rattle.lane_questions.specs.Behind.{IsBehind}
-use Rattle.lane_questions.specs.InLanes.{AreWithin}
-use Rattle.lane_questions.specs.Kept.{LaneVertex}
+use Rattle.lane_questions.proofs.Words.{rules, arith, refl, ap, sym, subst, ◌≡◌, ◌++◌, [], ◌∷◌, ℤ, List, norm, IsBehind, AreWithin, LaneVertex}
 use Rattle.lane_questions.proofs.AskedBehind.{behind}
 use Rattle.lane_questions.proofs.FormLanes.{within_pushed}
 use Rattle.lane_questions.proofs.kept.KeptLanes.ask_readable.Goals as goal

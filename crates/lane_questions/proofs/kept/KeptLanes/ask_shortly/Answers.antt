@@ -1,5 +1,4 @@
-use Rattle.lane_questions.proofs.Words.{arith, sym, subst, ℤ, List}
-use Rattle.lane_questions.specs.Kept.{IsQuestion}
+use Rattle.lane_questions.proofs.Words.{arith, sym, subst, ℤ, List, IsQuestion}
 use Rattle.lane_questions.proofs.FormLanes.{within_more}
 use Rattle.lane_questions.proofs.kept.KeptLanes.ask_shortly.Goals as goal
 

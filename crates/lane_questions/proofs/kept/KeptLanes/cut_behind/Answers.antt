@@ -1,11 +1,4 @@
-use Rattle.lane_questions.proofs.Words.{rules, ◌≡◌, ◌∙◌, ◌++◌, ap, sym, subst, Bool, true, None, ℤ, List, AgreesCounted, first_fraction, Done}
-use Rattle.run_counts.proofs.Counting.{counted_none}
-use Rattle.scaled_laws.specs.Tables.{ScaledTable}
-use Rattle.lane_run.specs.Stops.{stop_fault}
-use Rattle.point_turns.specs.Points.{finds_point}
-use Rattle.point_turns.specs.Turns.{negative_from}
-use Rattle.lane_questions.specs.Kept.{LaneVertex}
-use Rattle.lane_run.specs.Runs.{run_rows, forms_of}
+use Rattle.lane_questions.proofs.Words.{rules, ◌≡◌, ◌∙◌, ◌++◌, ap, sym, subst, Bool, true, None, ℤ, List, AgreesCounted, first_fraction, Done, counted_none, ScaledTable, stop_fault, finds_point, negative_from, LaneVertex, run_rows, forms_of}
 use Rattle.lane_run.proofs.CutTurns.{point_found}
 use Rattle.lane_questions.proofs.kept.KeptLanes.cut_behind.Goals as goal
 

@@ -1,5 +1,4 @@
-use Rattle.lane_questions.proofs.Words.{rules, refl, ap, ◌∙◌}
-use Rattle.lane_questions.specs.Kept.{LaneVertex}
+use Rattle.lane_questions.proofs.Words.{rules, refl, ap, ◌∙◌, LaneVertex}
 use Rattle.lane_questions.proofs.KeptRuns.{kept_further}
 use Rattle.lane_questions.proofs.Extending.{ends_here, below_here, modest_here}
 use Rattle.lane_questions.proofs.kept.KeptLanes.extend.Goals as goal

@@ -1,6 +1,4 @@
-use Rattle.lane_questions.proofs.Words.{◌≡◌, ℕ, ℤ, List, take, IsContext}
-use Rattle.lane_questions.specs.InLanes.{all_lanes}
-use Rattle.lane_questions.specs.Kept.{IsKeptLanes}
+use Rattle.lane_questions.proofs.Words.{◌≡◌, ℕ, ℤ, List, take, IsContext, all_lanes, IsKeptLanes}
 use Rattle.lane_questions.proofs.kept.KeptLanes.extend.Given as goal
 
 abbrev pub invariant-loop : goal.invariant-loop

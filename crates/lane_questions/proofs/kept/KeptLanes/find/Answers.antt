@@ -1,8 +1,4 @@
-use Rattle.lane_questions.proofs.Words.{rules, arith, refl, ◌≡◌, ap, sym, subst, pos, ◌<ℤ◌, ◌≤ℤ◌, to_z, of_z, Bool, ◌++◌, ints, w32, AgreesCounted}
-use Rattle.run_counts.proofs.Counting.{counted_on}
-use Rattle.scaled_laws.specs.Tables.{ScaledTable}
-use Rattle.lane_run.specs.Stops.{stop_fault}
-use Rattle.lane_questions.specs.Kept.{LaneVertex}
+use Rattle.lane_questions.proofs.Words.{rules, arith, refl, ◌≡◌, ap, sym, subst, pos, ◌<ℤ◌, ◌≤ℤ◌, to_z, of_z, Bool, ◌++◌, ints, w32, AgreesCounted, counted_on, ScaledTable, stop_fault, LaneVertex}
 use Rattle.lane_questions.proofs.KeptRuns.{counted_kept}
 use Rattle.lane_questions.proofs.OneBehind.{goes_on_behind, forms_behind, modest_behind, row_behind, none_behind}
 use Rattle.lane_questions.proofs.kept.KeptLanes.find.Goals as goal

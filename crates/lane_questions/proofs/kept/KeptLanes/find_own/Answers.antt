@@ -1,7 +1,4 @@
-use Rattle.lane_questions.proofs.Words.{rules, refl, ◌∙◌, ap, sym, subst, Bool, AgreesCounted}
-use Rattle.run_counts.proofs.Counting.{counted_on}
-use Rattle.lane_run.specs.Stops.{stop_fault}
-use Rattle.lane_questions.specs.Kept.{LaneVertex}
+use Rattle.lane_questions.proofs.Words.{rules, refl, ◌∙◌, ap, sym, subst, Bool, AgreesCounted, counted_on, stop_fault, LaneVertex}
 use Rattle.lane_questions.proofs.KeptRuns.{counted_kept}
 use Rattle.lane_questions.proofs.OwnPoint.{modest_own, forms_own, goes_on_own}
 use Rattle.lane_questions.proofs.kept.KeptLanes.find_own.Goals as goal

@@ -1,11 +1,5 @@
-use Rattle.lane_questions.proofs.Words.{rules, arith, ◌≡◌, ◌∙◌, ap, sym, subst, Bool, Some, None, common_steps, AgreesCounted, Done, count_pivot}
+use Rattle.lane_questions.proofs.Words.{rules, arith, ◌≡◌, ◌∙◌, ap, sym, subst, Bool, Some, None, common_steps, AgreesCounted, Done, count_pivot, counted_none, counted_on, ScaledTable, stop_fault, LaneVertex, IsEntering, IsPivoted, front_closes}
 use Rattle.pip_problem.specs.Faults.{run_fault}
-use Rattle.run_counts.proofs.Counting.{counted_none, counted_on}
-use Rattle.scaled_laws.specs.Tables.{ScaledTable}
-use Rattle.lane_run.specs.Stops.{stop_fault}
-use Rattle.lane_questions.specs.Kept.{LaneVertex}
-use Rattle.lane_run.specs.Pivots.{IsEntering, IsPivoted}
-use Rattle.lane_run.proofs.FrontPivot.{front_closes}
 use Rattle.lane_questions.proofs.OneBehind.{goes_on_pivoted, refused_at_pivot}
 use Rattle.lane_questions.proofs.kept.KeptLanes.pivot_behind.Goals as goal
 

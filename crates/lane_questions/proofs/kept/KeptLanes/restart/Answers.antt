@@ -1,5 +1,4 @@
-use Rattle.lane_questions.proofs.Words.{rules, ◌≡◌, refl}
-use Rattle.scaled_laws.specs.Tables.{column_rows}
+use Rattle.lane_questions.proofs.Words.{rules, ◌≡◌, refl, column_rows}
 use Rattle.lane_questions.proofs.KeptRuns.{begins}
 use Rattle.lane_questions.proofs.kept.KeptLanes.restart.Goals as goal
 

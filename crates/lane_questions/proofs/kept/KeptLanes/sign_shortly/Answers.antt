@@ -1,8 +1,4 @@
-use Rattle.lane_questions.proofs.Words.{rules, arith, sym, subst, ◌≡◌, [], ◌∷◌, ◌++◌, true, false, ℤ, List, common_steps, opposite, Done}
-use Rattle.run_counts.proofs.Counting.{counted_on}
-use Rattle.point_turns.specs.Points.{has_point}
-use Rattle.lane_run.specs.Stops.{stop_fault}
-use Rattle.lane_questions.specs.Kept.{IsQuestion}
+use Rattle.lane_questions.proofs.Words.{rules, arith, sym, subst, ◌≡◌, [], ◌∷◌, ◌++◌, true, false, ℤ, List, common_steps, opposite, Done, counted_on, has_point, stop_fault, IsQuestion}
 use Rattle.lane_questions.proofs.FormLanes.{within_more}
 use Rattle.lane_questions.proofs.SignsByPoints.{opposite_question, question_fits, nowhere_below, refused_below, everywhere_below, of_both_signs, refused_above}
 use Rattle.lane_questions.proofs.kept.KeptLanes.sign_shortly.Goals as goal

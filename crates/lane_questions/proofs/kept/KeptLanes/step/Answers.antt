@@ -1,6 +1,4 @@
-use Rattle.lane_questions.proofs.Words.{rules, ◌≡◌, sym, subst, ◌+◌, ℕ, map, widen_to}
-use Rattle.lane_questions.specs.Kept.{LaneVertex, IsKeptLanes}
-use Rattle.lane_run.specs.Runs.{IsRowBelow}
+use Rattle.lane_questions.proofs.Words.{rules, ◌≡◌, sym, subst, ◌+◌, ℕ, map, widen_to, LaneVertex, IsKeptLanes, IsRowBelow}
 use Rattle.lane_questions.proofs.KeptSteps.{steps_on}
 use Rattle.lane_questions.proofs.kept.KeptLanes.step.Goals as goal
 

@@ -1,7 +1,4 @@
-use Rattle.lane_questions.proofs.Words.{ap, sym, subst, arith, ◌≡◌, length, ◌∙◌, IsTrue, IsNarrow}
-use Rattle.lane_questions.specs.contracts.questions.LaneQuestions.{the_view}
-use Rattle.lane_questions.specs.InLanes.{lanes_of}
-use Rattle.lane_questions.specs.Asking.{LaneState, IsAsking}
+use Rattle.lane_questions.proofs.Words.{ap, sym, subst, arith, ◌≡◌, length, ◌∙◌, IsTrue, IsNarrow, the_view, lanes_of, LaneState, IsAsking}
 use Rattle.lane_questions.proofs.AskingLaws.{question, told}
 use Rattle.lane_questions.proofs.questions.LaneQuestions.ask.Goals as goal
 

@@ -1,6 +1,4 @@
-use Rattle.lane_questions.proofs.Words.{rules, refl, sym, subst, ◌∙◌, take}
-use Rattle.lane_questions.specs.contracts.questions.LaneQuestions.{the_view}
-use Rattle.lane_questions.specs.Asking.{LaneState, IsAsking}
+use Rattle.lane_questions.proofs.Words.{rules, refl, sym, subst, ◌∙◌, take, the_view, LaneState, IsAsking}
 use Rattle.lane_questions.proofs.AskingLaws.{asking_front, kept_front, earlier_front}
 use Rattle.lane_questions.proofs.questions.LaneQuestions.back_to.Goals as goal
 

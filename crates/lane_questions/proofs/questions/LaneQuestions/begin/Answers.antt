@@ -1,6 +1,4 @@
-use Rattle.lane_questions.proofs.Words.{refl, sym, subst, arith, ap, ◌∙◌, IsTrue}
-use Rattle.lane_questions.specs.contracts.questions.LaneQuestions.{the_view}
-use Rattle.lane_questions.specs.Asking.{LaneState, IsAsking}
+use Rattle.lane_questions.proofs.Words.{refl, sym, subst, arith, ap, ◌∙◌, IsTrue, the_view, LaneState, IsAsking}
 use Rattle.lane_questions.proofs.AskingLaws.{asked_first, unkept_from, asking_unkept, same_earlier, copied_earlier, begun_kept}
 use Rattle.lane_questions.proofs.questions.LaneQuestions.begin.Goals as goal
 

@@ -1,6 +1,4 @@
-use Rattle.lane_questions.proofs.Words.{refl, sym, subst}
-use Rattle.lane_questions.specs.contracts.questions.LaneQuestions.{the_view}
-use Rattle.lane_questions.specs.Asking.{IsAsking}
+use Rattle.lane_questions.proofs.Words.{refl, sym, subst, the_view, IsAsking}
 use Rattle.lane_questions.proofs.AskingLaws.{asking_longer}
 use Rattle.lane_questions.proofs.questions.LaneQuestions.grow.Goals as goal
 

@@ -1,7 +1,4 @@
-use Rattle.lane_questions.proofs.Words.{ap, sym, subst, ◌≡◌, ◌∙◌, false}
-use Rattle.lane_questions.specs.contracts.questions.LaneQuestions.{the_view}
-use Rattle.lane_questions.specs.InLanes.{all_lanes}
-use Rattle.lane_questions.specs.Asking.{LaneState, IsAsking, IsBegun, unkept}
+use Rattle.lane_questions.proofs.Words.{ap, sym, subst, ◌≡◌, ◌∙◌, false, the_view, all_lanes, LaneState, IsAsking, IsBegun, unkept}
 use Rattle.lane_questions.proofs.AskingLaws.{asking_read, unkept_from, asked_first, same_earlier}
 use Rattle.lane_questions.proofs.questions.LaneQuestions.make_run.Goals as goal
 

@@ -1,6 +1,4 @@
-use Rattle.lane_questions.proofs.Words.{refl, sym, subst, length, true}
-use Rattle.lane_questions.specs.contracts.questions.LaneQuestions.{the_view}
-use Rattle.lane_questions.specs.Asking.{LaneState, IsAsking, IsMade, unkept}
+use Rattle.lane_questions.proofs.Words.{refl, sym, subst, length, true, the_view, LaneState, IsAsking, IsMade, unkept}
 use Rattle.lane_questions.proofs.AskingLaws.{asking_made}
 use Rattle.lane_questions.proofs.questions.LaneQuestions.prepare.Goals as goal
 

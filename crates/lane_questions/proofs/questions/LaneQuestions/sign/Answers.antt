@@ -1,6 +1,4 @@
-use Rattle.lane_questions.proofs.Words.{rules, sym, subst, IsTrue}
-use Rattle.lane_questions.specs.contracts.questions.LaneQuestions.{the_view}
-use Rattle.lane_questions.specs.Asking.{LaneState, IsAsking}
+use Rattle.lane_questions.proofs.Words.{rules, sym, subst, IsTrue, the_view, LaneState, IsAsking}
 use Rattle.lane_questions.proofs.AskingLaws.{question, told}
 use Rattle.lane_questions.proofs.questions.LaneQuestions.sign.Goals as goal
 

@@ -1,6 +1,4 @@
-use Rattle.lane_questions.proofs.Words.{sym, subst, ◌+◌}
-use Rattle.lane_questions.specs.contracts.questions.LaneQuestions.{the_view}
-use Rattle.lane_questions.specs.Asking.{IsAsking}
+use Rattle.lane_questions.proofs.Words.{sym, subst, ◌+◌, the_view, IsAsking}
 use Rattle.lane_questions.proofs.AskingLaws.{asking_unkept}
 use Rattle.lane_questions.proofs.questions.LaneQuestions.widen.Goals as goal
 

@@ -1,4 +1,4 @@
-use Rattle.std.proofs.Common.{rules}
+use Rattle.lane_rows.proofs.Words.{rules}
 use Rattle.lane_rows.proofs.Fractions.{fraction_all}
 use Rattle.lane_rows.proofs.lane_rows.LaneRows.first_fraction.Goals as goal
 

@@ -1,13 +1,4 @@
-use Rattle.std.proofs.Common.{rules, arith, ◌≡◌, ◌∙◌, ◌+◌, ◌*◌, ◌^◌, ◌<◌, ◌≤◌, ◌++◌, All, ap, sym, subst, unsigned_abs, ℕ, ℤ, List, length, map, take, drop, to_z, of_z}
-use Rattle.std.specs.Int.{w32}
-use Rattle.pip_model.specs.Forms.{entry}
-use Rattle.pip_model.specs.Rows.{divided, eliminated}
-use Rattle.scaled_laws.specs.Scaled.{row_over}
-use Rattle.scaled_laws.specs.Tables.{ScaledTable}
-use Rattle.lane_rows.specs.Laned.{numbers_of, rows_in, AreLaned, AreUnused, IsVertex}
-use Rattle.form_laws.proofs.Columns.{entry_within}
-use Rattle.lanes.specs.Narrow.{AreLanes}
-use Rattle.lane_rows.specs.Turned.{AreTurned, CanTurn}
+use Rattle.lane_rows.proofs.Words.{rules, arith, ◌≡◌, ◌∙◌, ◌+◌, ◌*◌, ◌^◌, ◌<◌, ◌≤◌, ◌++◌, All, ap, sym, subst, unsigned_abs, ℕ, ℤ, List, length, map, take, drop, to_z, of_z, w32, entry, divided, eliminated, row_over, ScaledTable, numbers_of, rows_in, AreLaned, AreUnused, IsVertex, entry_within, AreLanes, AreTurned, CanTurn}
 use Rattle.lane_rows.proofs.Pivoted.{can_turn, pivoted, put_back, rows_pivoted}
 use Rattle.lane_rows.proofs.Views.{columns_are}
 use Rattle.lane_rows.proofs.lane_rows.LaneRows.pivot.Goals as goal

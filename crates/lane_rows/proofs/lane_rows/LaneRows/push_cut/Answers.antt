@@ -1,10 +1,4 @@
-use Rattle.std.proofs.Common.{rules, arith, ◌≡◌, ◌<◌, ◌∙◌, ◌++◌, ap, sym, subst, nat_lt, ℤ, [], ◌∷◌, length, to_z, of_z}
-use Rattle.std.proofs.lemmas.List.{get_or_default}
-use Rattle.std.specs.Int.{w32}
-use Rattle.pip_model.specs.Forms.{entry}
-use Rattle.pip_model.specs.Cuts.{constant_cut}
-use Rattle.scaled_laws.specs.Cut.{left_of}
-use Rattle.lane_rows.specs.Laned.{IsLaned}
+use Rattle.lane_rows.proofs.Words.{rules, arith, ◌≡◌, ◌<◌, ◌∙◌, ◌++◌, ap, sym, subst, nat_lt, ℤ, [], ◌∷◌, length, to_z, of_z, get_or_default, w32, entry, constant_cut, left_of, IsLaned}
 use Rattle.lane_rows.proofs.CutLanes.{cut_laned, laned_more, row_cut, table_more}
 use Rattle.lane_rows.proofs.Views.{count_is, row_here}
 use Rattle.lane_rows.proofs.lane_rows.LaneRows.push_cut.Goals as goal

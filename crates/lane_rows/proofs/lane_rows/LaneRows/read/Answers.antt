@@ -1,8 +1,4 @@
-use Rattle.std.proofs.Common.{rules, ◌≡◌, ◌∙◌, ◌*◌, ◌<◌, ◌≤◌, ◌^◌, ap, sym, subst, pos, unsigned_abs, ℕ, ℤ, List, to_z, of_z}
-use Rattle.std.specs.Int.{w32}
-use Rattle.pip_model.specs.Forms.{entry, dot}
-use Rattle.form_laws.specs.Bounds.{norm}
-use Rattle.lane_rows.specs.Read.{line}
+use Rattle.lane_rows.proofs.Words.{rules, ◌≡◌, ◌∙◌, ◌*◌, ◌<◌, ◌≤◌, ◌^◌, ap, sym, subst, pos, unsigned_abs, ℕ, ℤ, List, to_z, of_z, w32, entry, dot, norm, line}
 use Rattle.lane_rows.proofs.Values.{made_unused, made_within}
 use Rattle.lane_rows.proofs.Views.{columns_are, most_is, read_row}
 use Rattle.lane_rows.proofs.lane_rows.LaneRows.read.Goals as goal

@@ -1,6 +1,4 @@
-use Rattle.std.proofs.Common.{rules, arith, ◌∙◌, sym, subst, ℕ, []}
-use Rattle.std.proofs.lemmas.List.{get_or_default}
-use Rattle.lane_rows.specs.Laned.{IsLaned}
+use Rattle.lane_rows.proofs.Words.{rules, arith, ◌∙◌, sym, subst, ℕ, [], get_or_default, IsLaned}
 use Rattle.lane_rows.proofs.Views.{count_is, columns_are, most_is, row_is}
 use Rattle.lane_rows.proofs.lane_rows.LaneRows.row.Goals as goal
 

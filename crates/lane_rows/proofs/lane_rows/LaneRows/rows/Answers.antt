@@ -1,4 +1,4 @@
-use Rattle.std.proofs.Common.{rules}
+use Rattle.lane_rows.proofs.Words.{rules}
 use Rattle.lane_rows.proofs.Views.{count_is}
 use Rattle.lane_rows.proofs.lane_rows.LaneRows.rows.Goals as goal
 

@@ -1,4 +1,4 @@
-use Rattle.std.proofs.Common.{arith}
+use Rattle.lane_rows.proofs.Words.{arith}
 use Rattle.lane_rows.proofs.Views.{count_is, columns_are}
 use Rattle.lane_rows.proofs.lane_rows.LaneRows.unknowns.Goals as goal
 

@@ -1,6 +1,4 @@
-use Rattle.std.proofs.Common.{rules, ◌≡◌, ◌∙◌, ◌*◌, ◌<◌, ◌^◌, sym, subst, ℕ, to_z, of_z}
-use Rattle.std.specs.Int.{w32}
-use Rattle.form_laws.specs.Bounds.{norm}
+use Rattle.lane_rows.proofs.Words.{rules, ◌≡◌, ◌∙◌, ◌*◌, ◌<◌, ◌^◌, sym, subst, ℕ, to_z, of_z, w32, norm}
 use Rattle.lane_rows.proofs.Values.{vertex_summable, value_row}
 use Rattle.lane_rows.proofs.Views.{most_is}
 use Rattle.lane_rows.proofs.lane_rows.LaneRows.value.Goals as goal

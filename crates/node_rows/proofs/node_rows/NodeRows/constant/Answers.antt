@@ -1,4 +1,4 @@
-use Rattle.std.proofs.Common.{rules, ◌≡◌, ◌-◌, get_or}
+use Rattle.node_rows.proofs.Words.{rules, ◌≡◌, ◌-◌, get_or}
 use Rattle.node_rows.proofs.Pivoting.{read_at, read_item, read_wide}
 use Rattle.node_rows.proofs.node_rows.NodeRows.constant.Goals as goal
 

@@ -1,9 +1,5 @@
-use Rattle.std.proofs.Common.{rules, arith, ◌≡◌, ◌∙◌, refl, ap, ℤ, List, [], ◌∷◌, length, map}
-use Rattle.std.proofs.lemmas.List.{append-nil, length-append}
-use Rattle.pip_model.specs.Rows.{Row}
-use Rattle.tableau.specs.Tableaus.{TableauRows}
-use Rattle.node_rows.specs.declared.basis.Basis.{Basis}
-use Rattle.node_rows.specs.ReadRows.{read, all_rows}
+use Rattle.node_rows.proofs.Words.{rules, arith, ◌≡◌, ◌∙◌, refl, ap, ℤ, List, [], ◌∷◌, length, map, length-append, Row, TableauRows, Basis, read, all_rows}
+use Rattle.std.proofs.lemmas.List.{append-nil}
 use Rattle.node_rows.proofs.node_rows.NodeRows.copy_from.Goals as goal
 
 none_left : (t : TableauRows) (b : Basis) (forms : List (List ℤ)) → (all_rows t b forms).rows ≡ [] → forms ≡ []

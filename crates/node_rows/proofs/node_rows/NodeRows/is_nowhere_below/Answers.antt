@@ -1,4 +1,4 @@
-use Rattle.std.proofs.Common.{rules, ◌≡◌, ◌-◌, get_or}
+use Rattle.node_rows.proofs.Words.{rules, ◌≡◌, ◌-◌, get_or}
 use Rattle.node_rows.proofs.Pivoting.{read_at}
 use Rattle.node_rows.proofs.node_rows.NodeRows.is_nowhere_below.Goals as goal
 

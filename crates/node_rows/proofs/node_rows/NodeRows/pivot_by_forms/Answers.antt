@@ -1,9 +1,4 @@
-use Rattle.std.proofs.Common.{rules, arith, ◌≡◌, ◌∙◌, refl, ap, subst, sym, ◌<◌, length, map, List, ℤ}
-use Rattle.std.proofs.lemmas.List.{length-map}
-use Rattle.pip_model.specs.Rows.{row_at, eliminated, pivot}
-use Rattle.tableau.specs.Tableaus.{TableauRows}
-use Rattle.form_laws.specs.Columns.{IsBasis}
-use Rattle.node_rows.specs.ReadRows.{all_rows}
+use Rattle.node_rows.proofs.Words.{rules, arith, ◌≡◌, ◌∙◌, refl, ap, subst, sym, ◌<◌, length, map, List, ℤ, length-map, row_at, eliminated, pivot, TableauRows, IsBasis, all_rows}
 use Rattle.node_rows.proofs.Pivoting.{long, all_listed, all_pivot, read_after, same_rows}
 use Rattle.node_rows.proofs.node_rows.NodeRows.pivot_by_forms.Goals as goal
 

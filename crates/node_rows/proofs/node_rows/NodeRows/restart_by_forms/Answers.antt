@@ -1,5 +1,4 @@
-use Rattle.std.proofs.Common.{rules, arith, ap, ◌≡◌, ◌∙◌, refl, subst, sym, ◌+◌, length, All, List, ℤ}
-use Rattle.tableau.specs.Tableaus.{TableauRows}
+use Rattle.node_rows.proofs.Words.{rules, arith, ap, ◌≡◌, ◌∙◌, refl, subst, sym, ◌+◌, length, All, List, ℤ, TableauRows}
 use Rattle.node_rows.proofs.Pivoting.{start_long, start_rows}
 use Rattle.node_rows.proofs.node_rows.NodeRows.restart_by_forms.Goals as goal
 

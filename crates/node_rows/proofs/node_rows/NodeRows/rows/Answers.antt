@@ -1,4 +1,4 @@
-use Rattle.std.proofs.Common.{rules, ◌<◌, ◌^◌, length}
+use Rattle.node_rows.proofs.Words.{rules, ◌<◌, ◌^◌, length}
 use Rattle.node_rows.proofs.ReadRows.{few}
 use Rattle.node_rows.proofs.node_rows.NodeRows.rows.Goals as goal
 

@@ -1,5 +1,4 @@
-use Rattle.std.proofs.Common.{rules, ◌≡◌, ◌∙◌}
-use Rattle.node_rows.specs.ReadRows.{all_rows}
+use Rattle.node_rows.proofs.Words.{rules, ◌≡◌, ◌∙◌, all_rows}
 use Rattle.node_rows.proofs.Pivoting.{same_rows}
 use Rattle.node_rows.proofs.node_rows.NodeRows.try_clone.Goals as goal
 

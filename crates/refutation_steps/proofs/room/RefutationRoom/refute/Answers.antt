@@ -1,9 +1,5 @@
-use Rattle.refutation_steps.proofs.Words.{◌≡◌, ◌∙◌, ap, sym, ℤ, refute_by, ℕ, zero, suc, Bool, false, refl, [], length, arith}
-use Rattle.std.specs.Int.{w128}
-use Rattle.std.proofs.lemmas.Int.{to_z-of_z}
-use Rattle.std.specs.Prelude.{◌==◌}
+use Rattle.refutation_steps.proofs.Words.{◌≡◌, ◌∙◌, ap, sym, ℤ, refute_by, ℕ, zero, suc, Bool, false, refl, [], length, arith, w128, to_z-of_z, ◌==◌, run_same}
 use Rattle.std.proofs.lemmas.Bool.{false≢true}
-use Rattle.point_run.proofs.Leaving.{run_same}
 use Rattle.refutation_steps.proofs.Tracing.{refute_by_run}
 use Rattle.refutation_steps.proofs.room.RefutationRoom.refute.Goals.{else-is_empty-via-then-is_empty+else-is_empty-2, else-is_empty-via-else-is_empty}
 use Rattle.refutation_steps.proofs.room.RefutationRoom.refute.Goals as goal

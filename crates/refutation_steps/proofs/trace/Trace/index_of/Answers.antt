@@ -1,7 +1,4 @@
-use Rattle.refutation_steps.proofs.Words.{rules, ◌≡◌, ◌-◌, arith, Fits}
-use Rattle.std.proofs.Common.{get_or, to_z, of_z}
-use Rattle.std.specs.Int.{w128}
-use Rattle.std.proofs.lemmas.List.Elements.{All-get_or}
+use Rattle.refutation_steps.proofs.Words.{rules, ◌≡◌, ◌-◌, arith, Fits, get_or, to_z, of_z, w128, All-get_or}
 use Rattle.refutation_steps.proofs.Positives.{of_form, of_cut, in_cuts}
 use Rattle.refutation_steps.proofs.trace.Trace.index_of.Goals as goal
 

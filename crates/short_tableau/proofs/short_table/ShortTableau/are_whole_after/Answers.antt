@@ -1,5 +1,4 @@
-use Rattle.short_tableau.proofs.Words.{rules, ◌≡◌, ◌∙◌, sym, true, row_at, row_of, eliminated}
-use Rattle.pip_model.specs.Rows.{is_whole}
+use Rattle.short_tableau.proofs.Words.{rules, ◌≡◌, ◌∙◌, sym, true, row_at, row_of, eliminated, is_whole}
 use Rattle.short_tableau.proofs.Ended.{fraction_next}
 use Rattle.short_tableau.proofs.short_table.ShortTableau.are_whole_after.Goals as goal
 

@@ -1,5 +1,4 @@
-use Rattle.short_tableau.proofs.Words.{◌≡◌, drop, take, fraction_from, first_fraction, row_of}
-use Rattle.short_tableau.specs.Ended.{turned_by}
+use Rattle.short_tableau.proofs.Words.{◌≡◌, drop, take, fraction_from, first_fraction, row_of, turned_by}
 use Rattle.short_tableau.proofs.short_table.ShortTableau.are_whole_after.Given as goal
 
 abbrev pub invariant-loop-i : goal.invariant-loop-i

@@ -1,5 +1,4 @@
-use Rattle.short_tableau.proofs.Words.{◌≡◌, take, IfSome, row_of, choice, candidates, candidates_from, IsCandidate}
-use Rattle.pip_model.specs.Rows.{entering_of}
+use Rattle.short_tableau.proofs.Words.{◌≡◌, take, IfSome, row_of, choice, candidates, candidates_from, IsCandidate, entering_of}
 use Rattle.short_tableau.proofs.short_table.ShortTableau.entering_by.Given as goal
 
 abbrev pub invariant-loop-k : goal.invariant-loop-k

@@ -1,5 +1,4 @@
-use Rattle.short_tableau.proofs.Words.{rules, ◌≡◌, ◌∙◌, sym, true, false, constant, row_at, row_of, eliminated}
-use Rattle.pip_model.specs.Numbers.{is_nonneg}
+use Rattle.short_tableau.proofs.Words.{rules, ◌≡◌, ◌∙◌, sym, true, false, constant, row_at, row_of, eliminated, is_nonneg}
 use Rattle.short_tableau.proofs.Ended.{negative_here, negative_next}
 use Rattle.short_tableau.proofs.short_table.ShortTableau.first_below_after.Goals as goal
 

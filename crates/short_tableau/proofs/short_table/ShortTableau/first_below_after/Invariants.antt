@@ -1,5 +1,4 @@
-use Rattle.short_tableau.proofs.Words.{◌≡◌, drop, negative_from, row_of}
-use Rattle.short_tableau.specs.Ended.{turned_by}
+use Rattle.short_tableau.proofs.Words.{◌≡◌, drop, negative_from, row_of, turned_by}
 use Rattle.short_tableau.proofs.short_table.ShortTableau.first_below_after.Given as goal
 
 abbrev pub invariant-loop-i : goal.invariant-loop-i

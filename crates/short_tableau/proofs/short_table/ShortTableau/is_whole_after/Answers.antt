@@ -1,6 +1,4 @@
-use Rattle.short_tableau.proofs.Words.{rules, ◌≡◌, true, constant, row_at, row_of, substituted, ◌∙◌, pos, [], entry}
-use Rattle.pip_model.specs.Numbers.{divides}
-use Rattle.pip_model.specs.Rows.{is_whole, form_row}
+use Rattle.short_tableau.proofs.Words.{rules, ◌≡◌, true, constant, row_at, row_of, substituted, ◌∙◌, pos, [], entry, divides, is_whole, form_row}
 use Rattle.short_tableau.proofs.Ended.{whole_after, whole_stays}
 use Rattle.short_tableau.proofs.short_table.ShortTableau.is_whole_after.Goals as goal
 

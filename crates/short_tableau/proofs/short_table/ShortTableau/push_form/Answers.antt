@@ -1,6 +1,5 @@
-use Rattle.short_tableau.proofs.Words.{rules, ◌≡◌, ◌∙◌, ap, arith, ◌++◌, ℕ, widen_to, form_row, numbers_of, IsShortRow, TableauRows, with_row}
+use Rattle.short_tableau.proofs.Words.{rules, ◌≡◌, ◌∙◌, ap, arith, ◌++◌, ℕ, widen_to, form_row, numbers_of, IsShortRow, TableauRows, with_row, form_kept}
 use Rattle.short_tableau.proofs.Places.{dense_push, pushed_view}
-use Rattle.short_row.proofs.UnitNumbers.{form_kept}
 use Rattle.short_tableau.proofs.short_table.ShortTableau.push_form.Goals as goal
 
 pub invariant_of-self : goal.invariant_of-self

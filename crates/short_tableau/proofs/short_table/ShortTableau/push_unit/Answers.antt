@@ -1,6 +1,5 @@
-use Rattle.short_tableau.proofs.Words.{◌≡◌, ◌∙◌, ap, arith, ℕ, unit_row, TableauRows, with_row}
+use Rattle.short_tableau.proofs.Words.{◌≡◌, ◌∙◌, ap, arith, ℕ, unit_row, TableauRows, with_row, unit_reduced}
 use Rattle.short_tableau.proofs.Places.{dense_push, pushed_view}
-use Rattle.short_row.proofs.ShortParts.{unit_reduced}
 use Rattle.short_tableau.proofs.short_table.ShortTableau.push_unit.Goals as goal
 
 pub invariant_of-self-2 : goal.invariant_of-self-2
