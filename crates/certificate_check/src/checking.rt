@@ -14,7 +14,7 @@ use crate::vector::{START, check_context, is_vector};
 use crate::verdict::{CheckRefusal, Verdict};
 use crate::walk::{TreeCheck, leaves};
 use certificate_parts::Certificate;
-use leaf_check::{Fault, check_void};
+use leaf_check::{Fault, GoalForms, check_void};
 use pip_problem::Problem;
 use quast::{Answer, Quast};
 use std::alloc::Global;
@@ -53,8 +53,12 @@ fn check_leaves(
         shares: certificate.shares(),
         proofs,
     };
+    let mut forms = GoalForms::new(alloc);
     let mut path = NodePath::new(alloc, problem.params());
-    walk.check_node(alloc, &mut path, tree.root(), 0)?;
+    let checked = walk.check_node(alloc, &mut forms, &mut path, tree.root(), 0);
+    drop(path);
+    drop(forms);
+    checked?;
     Ok(())
 }
 

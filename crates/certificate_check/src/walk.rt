@@ -10,7 +10,7 @@ ghost use Rattle.certificate_check.specs.Walks.{below, leaf_tree, IsAt};
 use crate::path::NodePath;
 use affine_forms::FormRefusal;
 use certificate_parts::LeafProofs;
-use leaf_check::{Fault, Leaf, Spot, has_shape};
+use leaf_check::{Fault, GoalForms, Leaf, Spot, has_shape};
 use pip_problem::Problem;
 use quast::{Component, Node};
 use std::alloc::Global;
@@ -48,10 +48,12 @@ fn first_list(node: &Node) -> Option<&[Component]>
 }
 
 impl TreeCheck<'_> {
-    // Checks leaf l, from 0, which ends the path, and answers the place of the next.
+    // Checks leaf l, from 0, which ends the path, and answers the place of the next. Its forms are made in the rooms of
+    // those of others.
     fn check_leaf(
         &self,
         alloc: Global,
+        forms: &mut GoalForms,
         path: &NodePath,
         l: usize,
         list: Option<&[Component]>,
@@ -68,7 +70,7 @@ impl TreeCheck<'_> {
             path: path.as_slice(),
             list,
         };
-        leaf.check(alloc, &self.proofs[l])?;
+        leaf.check(alloc, forms, &self.proofs[l])?;
         Ok(l + 1)
     }
 
@@ -103,6 +105,7 @@ impl TreeCheck<'_> {
     pub(crate) fn check_node(
         &self,
         alloc: Global,
+        forms: &mut GoalForms,
         path: &mut NodePath,
         node: &Node,
         l: usize,
@@ -113,17 +116,19 @@ impl TreeCheck<'_> {
         ensures path { OnOk result (path.new ≡ path.old) }
     {
         match node {
-            Node::Bottom => self.check_leaf(alloc, path, l, None),
-            Node::Leaf(components) => self.check_leaf(alloc, path, l, Some(components.as_slice())),
+            Node::Bottom => self.check_leaf(alloc, forms, path, l, None),
+            Node::Leaf(components) => {
+                self.check_leaf(alloc, forms, path, l, Some(components.as_slice()))
+            }
             Node::Select(v, a, b) => {
                 let (scope, n) = (path.scope(), path.len());
                 path.push(alloc, v)?;
-                let second = self.check_node(alloc, path, a, l)?;
+                let second = self.check_node(alloc, forms, path, a, l)?;
                 path.go_back(scope, n);
                 if let Err(refusal) = path.push_opposite(alloc, v) {
                     return Err(self.refusal_at(refusal, b, second));
                 }
-                let next = self.check_node(alloc, path, b, second)?;
+                let next = self.check_node(alloc, forms, path, b, second)?;
                 path.go_back(scope, n);
                 Ok(next)
             }
@@ -132,7 +137,7 @@ impl TreeCheck<'_> {
                 if let Err(refusal) = path.push_bounds(alloc, v, *d) {
                     return Err(self.refusal_at(refusal, a, l));
                 }
-                let next = self.check_node(alloc, path, a, l)?;
+                let next = self.check_node(alloc, forms, path, a, l)?;
                 path.go_back(scope, n);
                 Ok(next)
             }

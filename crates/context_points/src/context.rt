@@ -30,10 +30,10 @@ use std::slice::from_ref;
 ///
 /// From one question with a form more to the next a context keeps its own forms' run: up to its end in lanes, over at
 /// most seven places and while its numbers are narrow; and where that does not answer the first pivots of the run, no
-/// more than it has places and forms, and the rows that they made. It goes on from these where forms were added, and
-/// keeps those from which it went on last, unless it went back to their forms before; it goes back to them where the
-/// forms added were dropped, and begins again where more were dropped, or its width changed. Their room stays, and so
-/// does that of a question's rows and form.
+/// more than it has places and forms, and the rows that they made. Each goes on where forms were added, and begins
+/// again where one of its forms was dropped or the width changed; but in lanes it goes back to the run from which it
+/// went on last, where that has only forms that stay. The room of both stays, and so does that of a question's rows and
+/// form.
 #[derive(Drop)]
 pub struct Context {
     width: usize,

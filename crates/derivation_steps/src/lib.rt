@@ -12,4 +12,4 @@ pub use absurd::is_absurd;
 pub use fault::{Fault, Spot};
 pub use step::{derive, derives_absurd};
 pub use step_sum::StepSum;
-pub use sum::{add_multiple, zeros};
+pub use sum::add_multiple;

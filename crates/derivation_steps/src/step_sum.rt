@@ -48,6 +48,14 @@ impl StepSum {
         }
     }
 
+    /// Makes it the sum of no terms, over so many places. Its room stays.
+    pub fn restart(&mut self, width: usize)
+        ensures { self.new ≡ record { width = width; coefficients = []; constant = pos 0 } }
+    {
+        self.clear();
+        self.width = width;
+    }
+
     // Makes it the sum of no terms. Its room stays.
     pub(crate) fn clear(&mut self)
         ensures { self.new ≡ record self.old { coefficients = []; constant = pos 0 } }

@@ -1,23 +1,9 @@
-ghost use Rattle.std.specs.Prelude.{◌≡◌, ◌+◌, ◌+ℤ◌, pos, replicate, ◌*ℤ◌, ◌≤◌, [], ◌∷◌, ◌++◌, length, take, drop, All, IfOk, OnOk};
+ghost use Rattle.std.specs.Prelude.{◌≡◌, ◌+◌, ◌+ℤ◌, ◌*ℤ◌, ◌≤◌, [], ◌∷◌, ◌++◌, length, take, drop, All, IfOk, OnOk};
 ghost use Rattle.pip_model.specs.Agreement.{IsChecked};
 ghost use Rattle.pip_model.specs.Check as model;
 ghost use Rattle.affine_forms.specs.Checks.{Fits, is_overflow};
 
-use affine_forms::{Overflow, WantOfMemory, plus, times};
-use std::alloc::Global;
-
-/// A sum of no terms, over so many places.
-pub fn zeros(alloc: Global, width: usize) -> Result<Vec<i128>, WantOfMemory>
-    ensures value { IfOk result (λ sum. sum.items ≡ replicate (width + 1) (pos 0)) }
-    ensures fits { IfOk result (λ sum. All Fits sum.items) }
-{
-    let Some(entries) = width.checked_add(1) else {
-        return Err(WantOfMemory);
-    };
-    let mut sum = Vec::with_capacity(alloc, entries)?;
-    sum.resize(entries, 0)?;
-    Ok(sum)
-}
+use affine_forms::{Overflow, plus, times};
 
 // The next entry, `sum + m*c`.
 pub(crate) fn add_product(sum: i128, m: i128, c: i128) -> Result<i128, Overflow>

@@ -1,6 +1,5 @@
 -- Where a run shows a point, the first row behind its own that is below 0 ends it where no column enters there.
-use Rattle.kept_run.proofs.Words.{◌≡◌, ◌∙◌, refl, ap, sym, ℕ, suc, ◌+◌, ◌-◌, arith, Bool, true, false, Option, Some, None, is_none, List, [], ◌∷◌, ◌++◌, length, if◌then◌else◌, get_or-append_right, is_nonneg, constant, Row, row_at, form_row, candidates, first_fraction, Work, Done, both, negative_from, is_end, EndsWith, IsClosing, go_on, replayed, finds_point, asked, IsStopped, Remembered}
-use Rattle.short_run.proofs.Ending.{none_of, no_candidates, finds_none}
+use Rattle.kept_run.proofs.Words.{◌≡◌, ◌∙◌, refl, ap, sym, ℕ, suc, ◌+◌, ◌-◌, arith, Bool, true, false, Option, Some, None, is_none, List, [], ◌∷◌, ◌++◌, length, if◌then◌else◌, get_or-append_right, is_nonneg, constant, Row, row_at, form_row, candidates, first_fraction, Work, Done, both, negative_from, is_end, EndsWith, IsClosing, go_on, replayed, finds_point, asked, IsStopped, Remembered, none_of, no_candidates, finds_none}
 
 -- so many places later
 abbrev later : ℕ → Option ℕ → Option ℕ

@@ -1,7 +1,5 @@
 -- A run remembered goes on with further rows behind its first ones: they are turned by its pivots, and stand behind its last rows.
-use Rattle.kept_run.proofs.Words.{◌≡◌, ◌∙◌, refl, ap, sym, ℕ, ◌+◌, ◌<◌, ℤ, arith, List, [], ◌∷◌, ◌++◌, length, map, get_or, drop, Bool, true, false, flat_map, if◌then◌else◌, map-append, drop_more, append_assoc, flat_map-append, all_fit, Row, row_at, form_row, eliminated, eliminated_listed, Work, Outcome, Done, Refused, Overflow, ◌>>◌, go_on, give, listed, count_pivot, Counted, Node, Trace, node_of, turned, replayed, RetracesTo, IsTurned, exchanges}
-use Rattle.std.specs.Prelude.{◌&&◌}
-use Rattle.short_run.proofs.FurtherRows.{all_fit-append}
+use Rattle.kept_run.proofs.Words.{◌≡◌, ◌∙◌, refl, ap, sym, ℕ, ◌+◌, ◌<◌, ℤ, arith, List, [], ◌∷◌, ◌++◌, length, map, get_or, drop, Bool, true, false, flat_map, if◌then◌else◌, map-append, drop_more, append_assoc, flat_map-append, all_fit, Row, row_at, form_row, eliminated, eliminated_listed, Work, Outcome, Done, Refused, Overflow, ◌>>◌, go_on, give, listed, count_pivot, Counted, Node, Trace, node_of, turned, replayed, RetracesTo, IsTurned, exchanges, ◌&&◌, all_fit-append}
 
 abbrev counted_on : Work → Outcome (Unit {0})
 counted_on v = Done tt v

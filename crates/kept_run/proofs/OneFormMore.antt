@@ -1,6 +1,5 @@
 -- What a run with further rows behind its first ones tells of a context with further forms.
-use Rattle.kept_run.proofs.Words.{◌≡◌, ◌∙◌, refl, ap, sym, ℕ, zero, suc, ℤ, List, [], ◌∷◌, ◌++◌, is_some, arith, Bool, Option, Some, None, IfSome, Result, run_fault, IsCountedRun, map-append, append_assoc, Tree, Row, Work, Outcome, Done, Refused, go_on, give, run_from, numbers_of, point, point_run, point_setting, node_of, has_point, finds_point, replayed, asked, first_trace, pos, form_rows, first_rows, IsReplay, IsRemembered, Remembered}
-use Rattle.short_run.proofs.Ending.{finds_here}
+use Rattle.kept_run.proofs.Words.{◌≡◌, ◌∙◌, refl, ap, sym, ℕ, zero, suc, ℤ, List, [], ◌∷◌, ◌++◌, is_some, arith, Bool, Option, Some, None, IfSome, Result, run_fault, IsCountedRun, map-append, append_assoc, Tree, Row, Work, Outcome, Done, Refused, go_on, give, run_from, numbers_of, point, point_run, point_setting, node_of, has_point, finds_point, replayed, asked, first_trace, pos, form_rows, first_rows, IsReplay, IsRemembered, Remembered, finds_here}
 use Rattle.short_run.proofs.Leaving.{run_same}
 use Rattle.pip_problem.specs.declared.refusal.Refusal as code
 

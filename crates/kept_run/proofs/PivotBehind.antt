@@ -1,13 +1,9 @@
 -- Where a run shows a point, the first pivot with a row behind its own.
-use Rattle.kept_run.proofs.Words.{◌≡◌, ◌∙◌, refl, ap, sym, ℕ, ◌+◌, ◌≤◌, arith, Bool, true, Option, Some, None, is_none, is_some, IsTrue, IfSome, List, [], ◌∷◌, ◌++◌, length, drop, flat_map, append-nil, length-append, length-map, drop_all, all_fit, Row, row_at, form_row, unit_row, other_rows, entering, entering_listed, pivot, eliminated_listed, first_fraction, Work, Done, Refused, Refusal, turn, go_on, give, count_pivot, numbers_of, point_setting, again_run, refused_run_from, falls-constant_class, both, negative_from, node_of, is_end, finds_point}
-use Rattle.std.proofs.lemmas.List.{take_at, get_or_at}
+use Rattle.kept_run.proofs.Words.{◌≡◌, ◌∙◌, refl, ap, sym, ℕ, ◌+◌, ◌≤◌, arith, Bool, true, Option, Some, None, is_none, is_some, IsTrue, IfSome, List, [], ◌∷◌, ◌++◌, length, drop, flat_map, append-nil, length-append, length-map, drop_all, all_fit, Row, row_at, form_row, unit_row, other_rows, entering, entering_listed, pivot, eliminated_listed, first_fraction, Work, Done, Refused, Refusal, turn, go_on, give, count_pivot, numbers_of, point_setting, again_run, refused_run_from, falls-constant_class, both, negative_from, node_of, is_end, finds_point, take_at, get_or_at, IsPivotBehind, none_of, IsStep}
 use Rattle.short_run.specs.Ended.{IsEndedBy, turned_by}
 use Rattle.short_run.proofs.Places.{pivot_sides}
-use Rattle.kept_run.specs.Remembered.{IsPivotBehind}
-use Rattle.short_run.proofs.Ending.{none_of}
 use Rattle.kept_run.proofs.EndingBehind.{negative-behind}
 use Rattle.short_run.proofs.EndedRows.{finds_ended}
-use Rattle.short_run.proofs.FurtherRows.{IsStep}
 use Rattle.short_run.proofs.QuestionTurns.{pivot_goes_on, pivot_refused}
 
 module _ (n : ℕ) (E : List Row) (R : Row) (c : ℕ) (long : n ≤ length E) (end : is_end n E ≡ true) (is : IsPivotBehind n E (R ∷ []) c) where

@@ -6,11 +6,10 @@ mod behind;
 mod further;
 mod question;
 mod remembered;
-mod spares;
 
 pub use asking::ask_shortly;
 pub use behind::{put_behind, rows_behind};
 pub use further::{go_further, goes_further};
 pub use question::Question;
 pub use remembered::{Remembered, Replay, remember};
-pub use spares::Spares;
+pub use spare_forms::Spares;

@@ -46,6 +46,16 @@ impl Derivation {
         }
     }
 
+    // No forms over so many places from now on. Their rooms are kept for those that are made.
+    pub(crate) fn restart(&mut self, made: &mut Known, width: usize)
+        ensures forms { self.new ≡ record { width = width; forms = [] } }
+        ensures made { made.new ≡ made.old }
+    {
+        self.truncate(made, 0);
+        self.width = width;
+        self.sum.restart(width);
+    }
+
     // Takes room for so many more forms.
     pub(crate) fn reserve(&mut self, forms: usize) -> Result<(), WantOfMemory>
         ensures { self.new ≡ self.old }
@@ -61,12 +71,15 @@ impl Derivation {
         self.forms.len()
     }
 
-    // Drops the forms behind the first n.
+    // Drops the forms behind the first n. Their rooms are kept for those that are made.
     #[tactic(auto, using(crate::proofs::Steps::take_over))]
-    pub(crate) fn truncate(&mut self, n: usize)
-        ensures { self.new ≡ record self.old { forms = take n self.old.forms } }
+    pub(crate) fn truncate(&mut self, made: &mut Known, n: usize)
+        ensures forms { self.new ≡ record self.old { forms = take n self.old.forms } }
+        ensures made { made.new ≡ made.old }
     {
-        self.forms.truncate(n);
+        if n < self.forms.len() {
+            made.keep_from(&mut self.forms, n);
+        }
     }
 
     // Puts a form behind the others. A refusal leaves them as they were.
@@ -80,12 +93,13 @@ impl Derivation {
         Ok(())
     }
 
-    // Drops the last form.
-    pub(crate) fn drop_last(&mut self)
-        ensures { self.new ≡ record self.old { forms = without_last self.old.forms } }
+    // Drops the last form. Its room is kept for those that are made.
+    pub(crate) fn drop_last(&mut self, made: &mut Known)
+        ensures forms { self.new ≡ record self.old { forms = without_last self.old.forms } }
+        ensures made { made.new ≡ made.old }
     {
         let rest = self.len().saturating_sub(1);
-        self.truncate(rest);
+        self.truncate(made, rest);
     }
 
     // Moves these forms behind the others.

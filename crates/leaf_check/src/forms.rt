@@ -1,4 +1,4 @@
-ghost use Rattle.std.specs.Prelude.{◌≡◌, ◌+◌, ◌≤◌, ◌<◌, pos, length, map, All, IfOk};
+ghost use Rattle.std.specs.Prelude.{◌≡◌, ◌+◌, ◌≤◌, ◌<◌, [], pos, length, map, replicate, All, IfOk};
 ghost use Rattle.pip_model.specs.Forms.{unit_form, widen_to};
 ghost use Rattle.pip_model.specs.Check as model;
 ghost use Rattle.affine_forms.specs.Checks.{Fits};
@@ -7,27 +7,42 @@ ghost use Rattle.leaf_check.specs.Known.{ArePushed};
 
 use crate::known::Known;
 use affine_forms::{Form, WantOfMemory};
-use derivation_steps::zeros;
-use std::alloc::Global;
 
-// A form over so many places that is a number at one of them.
+// Zeros for so many places and a constant, in a room.
+fn zeros(room: Vec<i128>, width: usize) -> Result<Vec<i128>, WantOfMemory>
+    requires { room.items ≡ [] }
+    ensures value { IfOk result (λ made. made.items ≡ replicate (width + 1) (pos 0)) }
+    ensures fits { IfOk result (λ made. All Fits made.items) }
+{
+    let Some(entries) = width.checked_add(1) else {
+        return Err(WantOfMemory);
+    };
+    let mut made = room;
+    made.resize(entries, 0)?;
+    Ok(made)
+}
+
+// A form over so many places that is a number at one of them, in a room.
 #[tactic(auto, using(crate::proofs::Making::unit_made))]
-fn unit(alloc: Global, width: usize, place: usize) -> Result<Form, WantOfMemory>
-    requires { place < width }
+fn unit(room: Vec<i128>, width: usize, place: usize) -> Result<Form, WantOfMemory>
+    requires empty { room.items ≡ [] }
+    requires place { place < width }
     ensures { IfOk result (λ form. form ≡ unit_form width place (pos 1)) }
 {
-    let mut made = zeros(alloc, width)?;
+    let mut made = zeros(room, width)?;
     made[place] = 1;
     Ok(Form::from_entries(made))
 }
 
-// The entries of a form, read over so many places. There is room for those of a form over `room` places.
+// The entries of a form, read over so many places, in a room, that has place for those of a form over `most` places
+// from then on.
 pub(crate) fn widened_entries(
-    alloc: Global,
+    room: Vec<i128>,
     width: usize,
     form: &[i128],
-    room: usize,
+    most: usize,
 ) -> Result<Vec<i128>, WantOfMemory>
+    requires empty { room.items ≡ [] }
     requires form { IsForm form.now }
     requires narrow { length form.now ≤ width + 1 }
     ensures value { IfOk result (λ made. made.items ≡ widen_to width form.now) }
@@ -35,31 +50,34 @@ pub(crate) fn widened_entries(
     ensures fits { IfOk result (λ made. All Fits made.items) }
 {
     let (front, constant) = form.split_at(form.len() - 1);
-    let mut made = Vec::with_capacity(alloc, room.saturating_add(1))?;
+    let mut made = room;
+    made.reserve(most.saturating_add(1))?;
     made.extend_from_slice(front)?;
     made.resize(width, 0)?;
     made.extend_from_slice(constant)?;
     Ok(made)
 }
 
-// The form read over so many places.
-pub(crate) fn widen_form(alloc: Global, width: usize, form: &Form) -> Result<Form, WantOfMemory>
-    requires { length form.now ≤ width + 1 }
+// The form read over so many places, in a room.
+fn widen_form(room: Vec<i128>, width: usize, form: &Form) -> Result<Form, WantOfMemory>
+    requires empty { room.items ≡ [] }
+    requires narrow { length form.now ≤ width + 1 }
     ensures value { IfOk result (λ made. made ≡ widen_to width form.now) }
     ensures long { IfOk result (λ made. length made ≡ width + 1) }
 {
-    let entries = widened_entries(alloc, width, form.as_slice(), width)?;
+    let entries = widened_entries(room, width, form.as_slice(), width)?;
     Ok(Form::from_entries(entries))
 }
 
-// A tableau row over the parameters and quotients in scope, and then the unknowns.
+// A tableau row over the parameters and quotients in scope, and then the unknowns, in a room.
 #[tactic(auto, using(crate::proofs::Making::row_made))]
 fn turned_row(
-    alloc: Global,
+    room: Vec<i128>,
     unknowns: usize,
     scope: usize,
     row: &Form,
 ) -> Result<Form, WantOfMemory>
+    requires empty { room.items ≡ [] }
     requires some { unknowns < length row.now }
     requires within { length row.now ≤ unknowns + scope + 1 }
     ensures value { IfOk result (λ made. made ≡ model.row_form unknowns scope row.now) }
@@ -68,7 +86,8 @@ fn turned_row(
     let (front, rest) = row.as_slice().split_at(unknowns);
     let (coefficients, constant) = rest.split_at(rest.len() - 1);
     let entries = scope.saturating_add(unknowns).saturating_add(1);
-    let mut made = Vec::with_capacity(alloc, entries)?;
+    let mut made = room;
+    made.reserve(entries)?;
     made.extend_from_slice(coefficients)?;
     made.resize(scope, 0)?;
     made.extend_from_slice(front)?;
@@ -78,33 +97,28 @@ fn turned_row(
 
 impl Known {
     // Puts the places from one on behind the forms: each says that its place is at least 0.
-    pub(crate) fn push_places(
-        &mut self,
-        alloc: Global,
-        first: usize,
-        n: usize,
-    ) -> Result<(), WantOfMemory>
+    pub(crate) fn push_places(&mut self, first: usize, n: usize) -> Result<(), WantOfMemory>
         requires { first + n ≤ self.old.width }
         ensures pushed { ArePushed result
             (model.places_from self.old.width first n) self.old self.new }
     {
         let width = self.width();
         for i in 0..n {
-            let form = unit(alloc, width, first + i)?;
+            let form = unit(self.room(), width, first + i)?;
             self.push(form)?;
         }
         Ok(())
     }
 
     // Puts these forms, read over all places, behind the others.
-    pub(crate) fn push_widened(&mut self, alloc: Global, forms: &[Form]) -> Result<(), WantOfMemory>
+    pub(crate) fn push_widened(&mut self, forms: &[Form]) -> Result<(), WantOfMemory>
         requires { All (λ c. length c ≤ self.old.width + 1) forms.now }
         ensures pushed { ArePushed result
             (map (widen_to self.old.width) forms.now) self.old self.new }
     {
         let width = self.width();
         for form in forms {
-            let form = widen_form(alloc, width, form)?;
+            let form = widen_form(self.room(), width, form)?;
             self.push(form)?;
         }
         Ok(())
@@ -113,7 +127,6 @@ impl Known {
     // Puts the tableau's rows, whose unknowns stand behind the other places, behind the forms.
     pub(crate) fn push_rows(
         &mut self,
-        alloc: Global,
         unknowns: usize,
         scope: usize,
         rows: &[Form],
@@ -125,7 +138,7 @@ impl Known {
             (map (model.row_form unknowns scope) rows.now) self.old self.new }
     {
         for row in rows {
-            let form = turned_row(alloc, unknowns, scope, row)?;
+            let form = turned_row(self.room(), unknowns, scope, row)?;
             self.push(form)?;
         }
         Ok(())

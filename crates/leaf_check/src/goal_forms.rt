@@ -1,4 +1,4 @@
-ghost use Rattle.std.specs.Prelude.{◌≡◌, ◌^◌, ◌+◌, ◌<◌, ◌≤◌, ℤ, List, [], length, map, IfOk, OnOk, IsTrue, slice_index_or, option_copied};
+ghost use Rattle.std.specs.Prelude.{◌≡◌, ◌^◌, ◌+◌, ◌<◌, ℤ, List, [], length, map, OnOk, IsTrue, slice_index_or, option_copied};
 ghost use Rattle.pip_model.specs.Agreement.{Agrees};
 ghost use Rattle.pip_model.specs.Check as model;
 ghost use Rattle.derivation_steps.specs.Faults.{fault_of};
@@ -14,29 +14,45 @@ use certificate_parts::{Refutation, Step};
 use derivation_steps::{Fault, Spot};
 use std::alloc::Global;
 
-// The forms of a leaf's refutations, one after the other, as the check keeps them: behind the leaf's and those that the
-// shared steps give. What two of them have in common is made once; what is made is moved there.
+/// The forms of a leaf's refutations, one after the other, as the check keeps them: behind the leaf's and those that the
+/// shared steps give. What two of them have in common is made once; what is made is moved there. Their rooms serve the
+/// next leaf.
 #[derive(Drop)]
-pub(crate) struct GoalForms {
+pub struct GoalForms {
     pub(crate) made: Known,
     pub(crate) kept: Derivation,
 }
 
 impl GoalForms {
-    // The leaf's forms, and those that the shared steps give of them.
-    pub(crate) fn start(alloc: Global, leaf: &Leaf<'_>, shared: &[Step]) -> Result<GoalForms, Fault>
+    /// Those of no leaf. It takes no memory.
+    pub fn new(alloc: Global) -> GoalForms {
+        GoalForms {
+            made: Known::new(alloc, 0),
+            kept: Derivation::new(alloc, 0),
+        }
+    }
+
+    // Makes of them the leaf's forms, and those that the shared steps give of them.
+    pub(crate) fn restart(
+        &mut self,
+        alloc: Global,
+        leaf: &Leaf<'_>,
+        shared: &[Step],
+    ) -> Result<(), Fault>
         requires { IsLeaf leaf.now.problem.now (case_of leaf.now) }
-        ensures gives { Agrees (λ g. g.kept.forms) fault_of result (model.after_steps leaf.now.number 0 0
+        ensures gives { Agrees (λ _. self.new.kept.forms) fault_of result (model.after_steps leaf.now.number 0 0
             (leaf.now.scope + leaf.now.problem.now.unknowns)
             (model.scope_forms leaf.now.problem.now (case_of leaf.now)) shared.now) }
-        ensures over { IfOk result (AreOf leaf.now) }
+        ensures over { OnOk result (AreOf leaf.now self.new) }
     {
-        let mut made = leaf.start(alloc)?;
-        let mut kept = Derivation::new(alloc, made.width());
-        kept.reserve(leaf.most_forms())?;
-        kept.put_all(&mut made)?;
-        kept.add_steps(alloc, leaf.number, 0, shared)?;
-        Ok(GoalForms { made, kept })
+        self.made.keep_rooms();
+        let width = leaf.width()?;
+        self.kept.restart(&mut self.made, width);
+        leaf.restart(&mut self.made)?;
+        self.kept.reserve(leaf.most_forms())?;
+        self.kept.put_all(&mut self.made)?;
+        self.kept.add_steps(alloc, leaf.number, 0, shared)?;
+        Ok(())
     }
 
     // Turns those of the refutation before into those of refutation r, from 0.
@@ -65,7 +81,7 @@ impl GoalForms {
             Err(FormRefusal::WantOfMemory) => return Err(Fault::WantOfMemory),
         }
         if r > 0 {
-            self.kept.drop_last();
+            self.kept.drop_last(&mut self.made);
         }
         self.kept.put_all(&mut self.made)?;
         Ok(())
@@ -96,7 +112,7 @@ impl GoalForms {
         self.turn_to(alloc, leaf, r)?;
         let before = self.kept.len();
         self.kept.refute(alloc, leaf.number, r + 1, steps)?;
-        self.kept.truncate(before);
+        self.kept.truncate(&mut self.made, before);
         Ok(())
     }
 

@@ -59,14 +59,15 @@ fn opposite_over(width: usize, form: Form) -> Result<Form, FormRefusal>
     Ok(form)
 }
 
-// The row over the scope, with the components put for the unknowns.
+// The row over the scope, with the components put for the unknowns, in a room.
 fn row_at(
-    alloc: Global,
+    room: Vec<i128>,
     unknowns: usize,
     scope: usize,
     row: &Form,
     components: &[Component],
 ) -> Result<Form, FormRefusal>
+    requires empty { room.items ≡ [] }
     requires some { unknowns < length row.now }
     requires within { length row.now ≤ unknowns + scope + 1 }
     requires count { length components.now ≤ unknowns }
@@ -78,20 +79,21 @@ fn row_at(
     ensures long { IfOk result (λ r. length r ≡ scope + 1) }
 {
     let (_, rest) = row.as_slice().split_at(unknowns);
-    let mut sum = widened_entries(alloc, scope, rest, scope.saturating_add(unknowns))?;
+    let mut sum = widened_entries(room, scope, rest, scope.saturating_add(unknowns))?;
     put_in(&mut sum, row.as_slice(), components)?;
     Ok(Form::from_entries(sum))
 }
 
 // The goal of the refutation of a tableau row, over the scope and then the unknowns: the row with the components put
-// for the unknowns is below 0.
+// for the unknowns is below 0. It is made in a room.
 pub(crate) fn row_goal(
-    alloc: Global,
+    room: Vec<i128>,
     unknowns: usize,
     scope: usize,
     row: &Form,
     components: &[Component],
 ) -> Result<Form, FormRefusal>
+    requires empty { room.items ≡ [] }
     requires some { unknowns < length row.now }
     requires within { length row.now ≤ unknowns + scope + 1 }
     requires count { length components.now ≤ unknowns }
@@ -107,23 +109,24 @@ pub(crate) fn row_goal(
         Some(width) => width,
         None => return Err(FormRefusal::WantOfMemory),
     };
-    let r = row_at(alloc, unknowns, scope, row, components)?;
+    let r = row_at(room, unknowns, scope, row, components)?;
     opposite_over(width, r)
 }
 
-// The goal of the refutation of a component's sign: it is below 0.
+// The goal of the refutation of a component's sign: it is below 0. It is made in a room.
 pub(crate) fn sign_goal(
-    alloc: Global,
+    room: Vec<i128>,
     width: usize,
     component: &Component,
 ) -> Result<Form, FormRefusal>
-    requires { length component.now.form ≤ width + 1 }
+    requires empty { room.items ≡ [] }
+    requires narrow { length component.now.form ≤ width + 1 }
     ensures listed { IsChecked is_form_overflow (opposite_listed component.now.form) result }
     ensures value { IfOk result (λ made. made ≡ widen_to width (opposite component.now.form)) }
     ensures long { IfOk result (λ made. length made ≡ width + 1) }
 {
     let form = component.form();
-    let entries = widened_entries(alloc, form.width(), form.as_slice(), width)?;
+    let entries = widened_entries(room, form.width(), form.as_slice(), width)?;
     opposite_over(width, Form::from_entries(entries))
 }
 

@@ -1,7 +1,8 @@
-ghost use Rattle.std.specs.Prelude.{◌≡◌, ◌+◌, ◌++◌, [], ◌∷◌, length, take, All, OnOk, OnErr};
+ghost use Rattle.std.specs.Prelude.{◌≡◌, ◌+◌, ◌≤◌, ◌++◌, [], ◌∷◌, length, take, All, OnOk, OnErr};
 ghost use Rattle.leaf_check.specs.Goals.{without_last};
 
 use affine_forms::{Form, WantOfMemory};
+use spare_forms::Spares;
 use std::alloc::Global;
 use std::marker::Model;
 
@@ -10,6 +11,8 @@ use std::marker::Model;
 pub struct Known {
     width: usize,
     forms: Vec<Form>,
+    // Forms that were dropped, as room for others.
+    spares: Spares,
 }
 
 impl Model for Known {
@@ -24,14 +27,47 @@ impl Model for Known {
 }
 
 impl Known {
-    // No forms over so many places. It takes no memory.
-    pub(crate) fn new(alloc: Global, width: usize) -> Known
+    /// No forms over so many places. It takes no memory.
+    pub fn new(alloc: Global, width: usize) -> Known
         ensures { result ≡ record { width = width; forms = [] } }
     {
         Known {
             width,
             forms: Vec::new(alloc),
+            spares: Spares::new(alloc),
         }
+    }
+
+    /// No forms over so many places from now on. It takes no memory.
+    pub fn restart(&mut self, width: usize)
+        ensures { self.new ≡ record { width = width; forms = [] } }
+    {
+        self.truncate(0);
+        self.width = width;
+    }
+
+    /// From now on the rooms of forms that are dropped are kept for others, where there is memory for their list.
+    pub fn keep_rooms(&mut self)
+        ensures { self.new ≡ self.old }
+    {
+        self.spares.make_room();
+    }
+
+    // Keeps the rooms of all but the first so many of some forms, which leave them.
+    pub(crate) fn keep_from(&mut self, forms: &mut Vec<Form>, first: usize)
+        requires { first ≤ length forms.old.items }
+        ensures forms { forms.new.items ≡ take first forms.old.items }
+        ensures same { self.new ≡ self.old }
+    {
+        self.spares.keep_from(forms, first);
+    }
+
+    // No numbers, in the room of a form that was dropped where one is kept.
+    pub(crate) fn room(&mut self) -> Vec<i128>
+        ensures empty { result.items ≡ [] }
+        ensures same { self.new ≡ self.old }
+    {
+        self.spares.take()
     }
 
     /// The number of places.
@@ -70,7 +106,9 @@ impl Known {
     pub fn truncate(&mut self, n: usize)
         ensures { self.new ≡ record self.old { forms = take n self.old.forms } }
     {
-        self.forms.truncate(n);
+        if n < self.forms.len() {
+            self.spares.keep_from(&mut self.forms, n);
+        }
     }
 
     // Moves the forms behind these. Where there is no memory for that they stay.

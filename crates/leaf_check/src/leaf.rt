@@ -1,4 +1,4 @@
-ghost use Rattle.std.specs.Prelude.{◌≡◌, ◌+◌, ◌≤◌, ◌<◌, true, pos, Some, length, take, IfOk, OnOk, OnErr, IsTrue, slice_index_or, option_copied};
+ghost use Rattle.std.specs.Prelude.{◌≡◌, ◌+◌, ◌≤◌, ◌<◌, true, pos, Some, length, IfOk, OnOk, IsTrue, slice_index_or, option_copied};
 ghost use Rattle.std.specs.List.{list_all};
 ghost use Rattle.pip_model.specs.Numbers.{same_number};
 ghost use Rattle.pip_model.specs.Tree.{Component};
@@ -77,23 +77,31 @@ pub fn has_shape(problem: &Problem, list: Option<&[Component]>, proofs: &LeafPro
 }
 
 impl Leaf<'_> {
-    /// The forms that each refutation of the leaf starts from: the parameters, the context rows, the path.
-    pub fn start(&self, alloc: Global) -> Result<Known, WantOfMemory>
+    // The number of places of its forms: what is in scope, and the unknowns.
+    pub(crate) fn width(&self) -> Result<usize, WantOfMemory>
+        ensures { IfOk result (λ width. width ≡ self.now.scope + self.now.problem.now.unknowns) }
+    {
+        self.scope
+            .checked_add(self.problem.unknowns())
+            .ok_or(WantOfMemory)
+    }
+
+    /// Makes of known forms those that each refutation of the leaf starts from: the parameters, the context rows, the
+    /// path.
+    pub fn restart(&self, known: &mut Known) -> Result<(), WantOfMemory>
         requires { IsLeaf self.now.problem.now (case_of self.now) }
-        ensures { IfOk result (λ k. k ≡ record {
+        ensures { OnOk result (known.new ≡ record {
           width = self.now.scope + self.now.problem.now.unknowns;
           forms = model.scope_forms self.now.problem.now (case_of self.now);
         }) }
     {
-        let Some(width) = self.scope.checked_add(self.problem.unknowns()) else {
-            return Err(WantOfMemory);
-        };
-        let mut known = Known::new(alloc, width);
+        let width = self.width()?;
+        known.restart(width);
         known.reserve(self.most_forms())?;
-        known.push_places(alloc, 0, self.problem.params())?;
-        known.push_widened(alloc, self.problem.context())?;
-        known.push_widened(alloc, self.path)?;
-        Ok(known)
+        known.push_places(0, self.problem.params())?;
+        known.push_widened(self.problem.context())?;
+        known.push_widened(self.path)?;
+        Ok(())
     }
 
     // How many forms a refutation starts from at most.
@@ -112,22 +120,21 @@ impl Leaf<'_> {
     }
 
     // Puts the unknowns and the tableau's rows behind the forms.
-    fn push_unknowns(&self, alloc: Global, known: &mut Known) -> Result<(), WantOfMemory>
+    fn push_unknowns(&self, known: &mut Known) -> Result<(), WantOfMemory>
         requires leaf { IsLeaf self.now.problem.now (case_of self.now) }
         requires width { known.old.width ≡ self.now.scope + self.now.problem.now.unknowns }
         ensures pushed { ArePushed result
             (model.unknown_forms self.now.problem.now (case_of self.now)) known.old known.new }
     {
         let unknowns = self.problem.unknowns();
-        known.push_places(alloc, self.scope, unknowns)?;
-        known.push_rows(alloc, unknowns, self.scope, self.problem.rows())?;
+        known.push_places(self.scope, unknowns)?;
+        known.push_rows(unknowns, self.scope, self.problem.rows())?;
         Ok(())
     }
 
     // Puts the goal that a tableau row fails behind the forms.
     fn push_row_goal(
         &self,
-        alloc: Global,
         known: &mut Known,
         components: &[Component],
         row: &Form,
@@ -143,18 +150,14 @@ impl Leaf<'_> {
             (model.row_premises self.now.problem.now (case_of self.now) components.now row.now).known
             known.old known.new }
     {
-        let form = row_goal(alloc, self.problem.unknowns(), self.scope, row, components)?;
+        let room = known.room();
+        let form = row_goal(room, self.problem.unknowns(), self.scope, row, components)?;
         known.push(form)?;
         Ok(())
     }
 
     // Puts the goal that a component is below 0 behind the forms.
-    fn push_sign_goal(
-        &self,
-        alloc: Global,
-        known: &mut Known,
-        component: &Component,
-    ) -> Result<(), FormRefusal>
+    fn push_sign_goal(&self, known: &mut Known, component: &Component) -> Result<(), FormRefusal>
         requires width { known.old.width ≡ self.now.scope + self.now.problem.now.unknowns }
         requires wide { length component.now.form ≡ self.now.scope + 1 }
         ensures listed { IsChecked is_form_overflow
@@ -163,7 +166,8 @@ impl Leaf<'_> {
             (model.sign_premises self.now.problem.now (case_of self.now) component.now).known
             known.old known.new }
     {
-        let form = sign_goal(alloc, known.width(), component)?;
+        let room = known.room();
+        let form = sign_goal(room, known.width(), component)?;
         known.push(form)?;
         Ok(())
     }
@@ -187,7 +191,7 @@ impl Leaf<'_> {
             (model.least_premises self.now.problem.now (case_of self.now) front.now).known
             known.old known.new }
     {
-        self.push_unknowns(alloc, known)?;
+        self.push_unknowns(known)?;
         known.push_smaller(alloc, self.scope, front, 0)?;
         Ok(())
     }
@@ -214,11 +218,11 @@ impl Leaf<'_> {
     {
         let rows = self.problem.rows();
         if r < rows.len() {
-            return self.push_row_goal(alloc, known, components, &rows[r]);
+            return self.push_row_goal(known, components, &rows[r]);
         }
         let sign = r - rows.len();
         if sign < components.len() {
-            return self.push_sign_goal(alloc, known, &components[sign]);
+            return self.push_sign_goal(known, &components[sign]);
         }
         let (front, _) = components.split_at(sign - components.len() + 1);
         self.push_least_goal(alloc, known, front)
@@ -239,7 +243,7 @@ impl Leaf<'_> {
         match self.list {
             Some(components) => self.push_list_goal(alloc, known, components, r),
             None => {
-                self.push_unknowns(alloc, known)?;
+                self.push_unknowns(known)?;
                 Ok(())
             }
         }
@@ -291,7 +295,12 @@ impl Leaf<'_> {
     }
 
     // Checks the shared steps and the refutations, of which there are as many as the leaf has.
-    fn check_proofs(&self, alloc: Global, proofs: &LeafProofs) -> Result<(), Fault>
+    fn check_proofs(
+        &self,
+        alloc: Global,
+        forms: &mut GoalForms,
+        proofs: &LeafProofs,
+    ) -> Result<(), Fault>
         requires leaf { IsLeaf self.now.problem.now (case_of self.now) }
         requires whole { IsTrue (model.is_whole_list self.now.problem.now.unknowns (option_copied self.now.list)) }
         requires count { length proofs.now.refutations
@@ -300,15 +309,19 @@ impl Leaf<'_> {
             (self.now.scope + self.now.problem.now.unknowns) (model.leaf_forms self.now.problem.now (case_of self.now))
             (own_premises self.now) proofs.now) }
     {
-        let mut forms = GoalForms::start(alloc, self, proofs.shared().as_slice())?;
-        let checked = forms.refute_all(alloc, self, proofs.as_slice());
-        drop(forms);
-        checked
+        forms.restart(alloc, self, proofs.shared().as_slice())?;
+        forms.refute_all(alloc, self, proofs.as_slice())
     }
 
     /// Checks the leaf by its proofs: a list is whole, there are as many refutations as there are to be, and each
-    /// succeeds behind the shared steps. It ends at the first condition that is false or number that does not fit.
-    pub fn check(&self, alloc: Global, proofs: &LeafProofs) -> Result<(), Fault>
+    /// succeeds behind the shared steps. It ends at the first condition that is false or number that does not fit. Its forms
+    /// are made in the rooms of those of other leaves.
+    pub fn check(
+        &self,
+        alloc: Global,
+        forms: &mut GoalForms,
+        proofs: &LeafProofs,
+    ) -> Result<(), Fault>
         requires { IsLeaf self.now.problem.now (case_of self.now) }
         ensures { Agrees (λ _. tt) fault_of result
             (model.check_leaf self.now.problem.now true self.now.number (case_of self.now) proofs.now) }
@@ -320,6 +333,6 @@ impl Leaf<'_> {
                 step: 0,
             }));
         }
-        self.check_proofs(alloc, proofs)
+        self.check_proofs(alloc, forms, proofs)
     }
 }

@@ -10,6 +10,7 @@ mod leaf;
 mod void;
 
 pub use derivation_steps::{Fault, Spot};
+pub use goal_forms::GoalForms;
 pub use known::Known;
 pub use leaf::{Leaf, has_shape, refutation_count};
 pub use void::{check_void, void_forms};

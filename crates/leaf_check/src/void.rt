@@ -19,8 +19,8 @@ pub fn void_forms(alloc: Global, problem: &Problem) -> Result<Known, WantOfMemor
     }) }
 {
     let mut known = Known::new(alloc, problem.params());
-    known.push_places(alloc, 0, problem.params())?;
-    known.push_widened(alloc, problem.context())?;
+    known.push_places(0, problem.params())?;
+    known.push_widened(problem.context())?;
     Ok(known)
 }
 

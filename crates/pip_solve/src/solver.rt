@@ -7,6 +7,7 @@ ghost use Rattle.pip_model.specs.Run.{IsBudget, answered, first_node, run_from, 
 ghost use Rattle.pip_model.specs.Agreement.{Agrees, AgreesCounted};
 ghost use Rattle.pip_model.specs.WellFormed.{IsProblem, IsWellFormedAnswer};
 ghost use Rattle.pip_problem.specs.Faults.{run_fault};
+ghost use Rattle.run_counts.specs.Counts.{IsCountedRun};
 ghost use Rattle.quast.specs.Answers.{answer_of, IsOver};
 ghost use Rattle.node_turn.specs.Turns.{tree_in};
 ghost use Rattle.pip_solve.specs.Frames.{HasRoom};
@@ -15,8 +16,8 @@ ghost use Rattle.pip_solve.specs.Starts.{IsFirstPath};
 use crate::node::run;
 use crate::plain::plain_tree;
 use crate::rooms::Rooms;
-use crate::starting::{start_path, start_rows};
-use node_turn::{NodeRows, Path, Work};
+use crate::starting::{add_forms, start_path, start_rows};
+use node_turn::{NodeRows, Path, Point, Work};
 use pip_problem::{Limits, Problem, Refusal};
 use quast::{Answer, Quast};
 use std::alloc::Global;
@@ -89,7 +90,7 @@ impl Solver {
     }
 
     // The tree of a problem whose context has a point.
-    pub(crate) fn tree_anew(
+    fn tree_anew(
         &mut self,
         problem: &Problem,
         levels: usize,
@@ -103,6 +104,45 @@ impl Solver {
     {
         start_path(problem, levels, &mut self.path)?;
         self.tree(problem, levels, work)
+    }
+
+    /// The point that `context_point` finds for a problem, in the room that is kept.
+    pub fn context_point(
+        &mut self,
+        problem: &Problem,
+        work: &mut Work,
+    ) -> Result<Option<Point>, Refusal>
+        ensures gives { IsCountedRun (λ o. o) run_fault result work.old work.new
+            (model.point problem.now.params problem.now.context) }
+    {
+        let alloc = self.rows.allocator();
+        let context = &mut self.path.context;
+        context.restart(problem.params());
+        add_forms(problem, context, 0)?;
+        context.point(alloc, work)
+    }
+
+    /// The answer that `answer_from` gives, in the room that is kept.
+    pub fn answer_from(
+        &mut self,
+        problem: &Problem,
+        point: &Option<Point>,
+        limits: &Limits,
+        work: &mut Work,
+    ) -> Result<Answer, Refusal>
+        requires budget { work.old.budget ≡ limits.now }
+        ensures gives { AgreesCounted answer_of run_fault result work.new
+            (model.answer_from problem.now point.now work.old) }
+        ensures scope { IfOk result (IsOver problem.now.params) }
+    {
+        let levels = limits.nesting() as usize;
+        match point {
+            None => Ok(Answer::Void),
+            Some(_) => {
+                let tree = self.tree_anew(problem, levels, work)?;
+                Ok(Answer::Tree(tree))
+            }
+        }
     }
 
     // The answer of the run, after what was counted.

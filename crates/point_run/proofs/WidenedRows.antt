@@ -1,5 +1,8 @@
 -- The row of a form that is read over all columns.
 use Rattle.point_run.proofs.Words.{◌≡◌, refl, ap, sym, ◌∙◌, ℕ, ◌+◌, ◌-◌, ◌<◌, ◌≤◌, ℤ, pos, arith, List, [], ◌∷◌, ◌++◌, length, map, take, get_or, drop, replicate, length-append, append_assoc, drop_more, drop_all, take_all, take-append-le, drop-append-le, length-take-le, length-replicate, map_more, map-append, gcd, gcd_of, floor_div, floor_divided, width, coefficients, constant, widen_to, Row, divided, form_row, unit_row, count_from, start, TableauRows}
+use Rattle.std.proofs.Common.{ap₂, All}
+use Rattle.std.proofs.lemmas.List.Elements.{All-head, All-tail}
+use Rattle.pip_model.proofs.Forms.{widen_same}
 use Rattle.affine_forms.proofs.Divisors.{gcd_one, floor_divided_one}
 
 abbrev whole_row : List ℤ → List ℤ → Row
@@ -51,3 +54,10 @@ start_more n forms i form now next h before more =
     (append_assoc units (map (form_row n) first) (form_row n widened ∷ [])
     ∙ ap (λ (rows : List Row). units ++ rows) (sym (map-append (form_row n) first (widened ∷ [])))
     ∙ ap (λ (fs : List (List ℤ)). units ++ map (form_row n) fs) (sym (map_more (widen_to n) forms i form h)))
+
+-- forms that are over all columns are read as they are
+pub all_over : (n : ℕ) (forms : List (List ℤ)) → All (λ c. length c ≡ n + 1) forms → map (widen_to n) forms ≡ forms
+all_over n [] h = refl
+all_over n (c ∷ forms) h =
+    ap₂ (λ (d : List ℤ) (ds : List (List ℤ)). d ∷ ds) (widen_same n c (All-head (λ (c : List ℤ). length c ≡ n + 1) c forms h))
+    (all_over n forms (All-tail (λ (c : List ℤ). length c ≡ n + 1) c forms h))

@@ -1,4 +1,4 @@
-ghost use Rattle.std.specs.Prelude.{◌≡◌, ◌+◌, ◌≤◌, [], ◌∷◌, ◌++◌, length, map, IfOk, OnOk};
+ghost use Rattle.std.specs.Prelude.{◌≡◌, ◌+◌, ◌≤◌, [], ◌∷◌, ◌++◌, length, map, All, IfOk, IsTrue, OnOk};
 ghost use Rattle.pip_model.specs.Contexts.{IsContext};
 ghost use Rattle.pip_model.specs.Forms.{widen_to};
 ghost use Rattle.pip_model.specs.Rows as model;
@@ -43,6 +43,13 @@ pub fn push_form(alloc: Global, rows: &mut Tableau, form: &Form) -> Result<(), W
     push_widened(rows, form.as_slice(), &mut coefficients)
 }
 
+// Whether each form is over so many places.
+fn are_over(forms: &[Form], places: usize) -> bool
+    ensures { IsTrue result → All (λ c. length c ≡ places + 1) forms.now }
+{
+    forms.iter().all(|form| form.width() == places)
+}
+
 /// The forms as rows over the unknowns alone: one column for each place, and no parameters.
 pub fn start_rows(alloc: Global, places: usize, forms: &[Form]) -> Result<Tableau, WantOfMemory>
     requires { IsContext places forms.now }
@@ -50,6 +57,10 @@ pub fn start_rows(alloc: Global, places: usize, forms: &[Form]) -> Result<Tablea
         ≡ record { unknowns = places; width = 0; rows = model.start places 0 (map (widen_to places) forms.now) }) }
     ensures rows { IfOk result (λ rows. places ≤ length rows.rows) }
 {
+    if are_over(forms, places) {
+        let rows = Tableau::start(alloc, places, 0, forms)?;
+        return Ok(rows);
+    }
     let mut rows = Tableau::start(alloc, places, 0, &[])?;
     let mut coefficients = Vec::with_capacity(alloc, places)?;
     for form in forms {

@@ -116,20 +116,21 @@ impl LeafMaking<'_> {
         Ok(proofs)
     }
 
-    // The refutations of the leaf, in the order of the check, by a refuter that may have made those of others.
+    // The refutations of the leaf, in the order of the check, by a refuter that may have made those of others, in the
+    // room of others' forms.
     pub(crate) fn refute_all(
         &self,
         refuter: &mut Refuter,
+        known: &mut Known,
         work: &mut Work,
     ) -> Result<LeafProofs, Refusal>
         requires { IsMaking self.now }
         ensures { AgreesCounted (λ proofs. proofs) run_fault result work.new (made_proofs self.now.leaf.problem.now
             (case_of self.now.leaf) self.now.scope.quotients.now work.old) }
     {
-        let mut known = self.leaf.start(self.scope.alloc)?;
+        known.keep_rooms();
+        self.leaf.restart(known)?;
         refuter.forget();
-        let proofs = self.refute_each(refuter, &mut known, work);
-        drop(known);
-        proofs
+        self.refute_each(refuter, known, work)
     }
 }

@@ -9,4 +9,4 @@ mod refutation;
 mod trail;
 mod walk;
 
-pub use certified::solve_with_certificate;
+pub use certified::{Certifier, solve_with_certificate};

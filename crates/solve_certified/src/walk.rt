@@ -8,7 +8,7 @@ ghost use Rattle.solve_certified.specs.Walks.{made_below, IsAt};
 use crate::leaf::LeafMaking;
 use crate::refutation::Scope;
 use crate::trail::Trail;
-use certificate_check::Leaf;
+use certificate_check::{Known, Leaf};
 use certificate_parts::Certificate;
 use pip_problem::{Problem, Refusal};
 use quast::{Component, Node};
@@ -16,11 +16,13 @@ use refuter::Refuter;
 use run_counts::Work;
 use std::alloc::Global;
 
-// What a walk makes: the certificate of the leaves so far. One refuter makes the refutations of all of them.
+// What a walk makes: the certificate of the leaves so far. One refuter makes the refutations of all of them, of forms in
+// one room.
 #[derive(Drop)]
 pub(crate) struct TreeMaking {
     pub(crate) certificate: Certificate,
     pub(crate) refuter: Refuter,
+    pub(crate) known: Known,
 }
 
 // The walk over the tree of an answer, in whose order the refutations are made.
@@ -67,7 +69,7 @@ impl Walk<'_> {
                 quotients: trail.quotients(),
             },
         };
-        let proofs = leaf_making.refute_all(&mut making.refuter, work)?;
+        let proofs = leaf_making.refute_all(&mut making.refuter, &mut making.known, work)?;
         making.certificate.push(proofs)?;
         Ok(())
     }

@@ -14,13 +14,12 @@ use leaf_certificate::print_certificate;
 use pip_problem::{Limits, Problem};
 use quast::Answer;
 use quast_text::print_answer;
-use solve_certified::solve_with_certificate;
-use std::alloc::Global;
+use solve_certified::Certifier;
 
 // The answer of a problem and its certificate. A rational problem is refused before its run.
 #[tactic(auto, using(crate::proofs::Certifying::certified_ok, crate::proofs::Certifying::certified_none, crate::proofs::Certifying::certified_refused))]
 fn certify(
-    alloc: Global,
+    certifier: &mut Certifier,
     limits: &Limits,
     problem: &Problem,
 ) -> Result<(Answer, Certificate), Ending>
@@ -31,7 +30,7 @@ fn certify(
     if !problem.integer() {
         return Err(Ending::RationalCertificate);
     }
-    let made = solve_with_certificate(alloc, problem, limits)?;
+    let made = certifier.solve_with_certificate(problem, limits)?;
     let (answer, certificate) = made;
     let certificate = certificate?;
     Ok((answer, certificate))
@@ -53,7 +52,7 @@ fn print_certified(
 
 // Puts the text of a problem's answer and of its certificate into `text`.
 pub(crate) fn write_certified(
-    alloc: Global,
+    certifier: &mut Certifier,
     limits: &Limits,
     problem: &Problem,
     text: &mut Vec<u8>,
@@ -62,7 +61,7 @@ pub(crate) fn write_certified(
     ensures own { IfErr result IsOfItem }
     ensures text { IsTextOfItem (certified_text limits.now problem.now) result text.new.items }
 {
-    let (answer, certificate) = certify(alloc, limits, problem)?;
+    let (answer, certificate) = certify(certifier, limits, problem)?;
     let printed = print_certified(problem.comment(), &answer, &certificate, text);
     drop(answer);
     drop(certificate);

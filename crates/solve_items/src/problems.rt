@@ -45,7 +45,7 @@ fn answer_next_in<S: Source, K: Sink>(
     match next_problem_in(&mut kept.spare, window, source)? {
         Some((problem, _)) => {
             kept.text.clear();
-            let solved = write_solution(&mut kept.solver, options, &problem, &mut kept.text);
+            let solved = write_solution(&mut kept.certifier, options, &problem, &mut kept.text);
             keep_rows(&mut kept.spare, problem);
             solved?;
             write_all(sink, &kept.text)?;
@@ -114,14 +114,14 @@ fn write_problems_in<S: Source, K: Sink>(
     ensures faults { EndsByFaults (S.faults source.old) (S.faults source.new) (K.faults sink.old) (K.faults sink.new)
         result }
 {
-    let alloc = kept.solver.allocator();
+    let alloc = kept.certifier.solver.allocator();
     let mut window = Window::try_new(alloc)?;
     while answer_next_in(kept, options, &mut window, source, sink)? {}
     Ok(())
 }
 
 /// Answers the native problems of an input one by one, up to the first refusal. No more is held than a problem, a piece
-/// less one, one answer and what is kept for the next: the room of the solver, at most 1,024 rows of at most 64
+/// less one, one answer and what is kept for the next: the room of runs and certificates, at most 1,024 rows of at most 64
 /// coefficients, and 1 MiB for a text.
 pub fn write_problems<S: Source, K: Sink>(
     alloc: Global,

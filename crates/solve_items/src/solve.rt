@@ -17,6 +17,7 @@ use polylib_reader::read_matrices;
 use quast::Answer;
 use quast_simplify::simplify_answer;
 use quast_text::print_answer;
+use solve_certified::Certifier;
 use std::alloc::Global;
 
 // The answer, simplified where that is asked for.
@@ -50,7 +51,7 @@ fn write_answer(
 
 // Puts the text of a problem's answer into `text`, with its certificate where that is asked for.
 pub(crate) fn write_solution(
-    solver: &mut Solver,
+    certifier: &mut Certifier,
     options: &SolveOptions,
     problem: &Problem,
     text: &mut Vec<u8>,
@@ -60,9 +61,9 @@ pub(crate) fn write_solution(
     ensures text { IsTextOfItem (text_of (Solve (options_of options.now)) problem.now) result text.new.items }
 {
     if options.certificate {
-        write_certified(solver.allocator(), &options.limits, problem, text)
+        write_certified(certifier, &options.limits, problem, text)
     } else {
-        write_answer(solver, options, problem, text)
+        write_answer(&mut certifier.solver, options, problem, text)
     }
 }
 
@@ -98,9 +99,9 @@ impl Items for Matrices<'_> {
     }
 
     fn put(&self, alloc: Global, problem: &mut Problem, text: &mut Vec<u8>) -> Result<(), Ending> {
-        let mut solver = Solver::new(alloc);
-        let written = write_solution(&mut solver, self.options, problem, text);
-        drop(solver);
+        let mut certifier = Certifier::new(alloc);
+        let written = write_solution(&mut certifier, self.options, problem, text);
+        drop(certifier);
         written
     }
 }

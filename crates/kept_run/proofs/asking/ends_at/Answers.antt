@@ -1,5 +1,4 @@
-use Rattle.kept_run.proofs.Words.{rules}
-use Rattle.short_run.proofs.Ending.{ends_above}
+use Rattle.kept_run.proofs.Words.{rules, ends_above}
 use Rattle.kept_run.proofs.EndingBehind.{ends_below}
 use Rattle.kept_run.proofs.asking.ends_at.Goals as goal
 

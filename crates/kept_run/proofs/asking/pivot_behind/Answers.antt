@@ -1,5 +1,4 @@
-use Rattle.kept_run.proofs.Words.{rules, arith, common_steps, ◌≡◌, ◌∙◌, ◌++◌, ap, sym, subst, ℕ, Bool, List, length, Row, pivot, Done, count_pivot, stop_fault, finds_point, counted_on, AgreesCounted}
-use Rattle.pip_problem.specs.Faults.{run_fault}
+use Rattle.kept_run.proofs.Words.{rules, arith, common_steps, ◌≡◌, ◌∙◌, ◌++◌, ap, sym, subst, ℕ, Bool, List, length, Row, pivot, Done, count_pivot, stop_fault, finds_point, counted_on, AgreesCounted, run_fault}
 use Rattle.kept_run.proofs.PivotBehind.{behind_refused, behind_ends, behind_goes_on}
 use Rattle.kept_run.proofs.asking.pivot_behind.Goals as goal
 

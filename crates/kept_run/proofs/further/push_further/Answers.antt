@@ -1,5 +1,4 @@
-use Rattle.kept_run.proofs.Words.{rules, arith, ◌≡◌, ◌∙◌, refl, ap, subst, List, [], ◌∷◌, ◌++◌, length, length-append, widen_to, Row, row_at, form_row, TableauRows, refute_from, traced_point, IsTurned}
-use Rattle.short_run.proofs.Ending.{only}
+use Rattle.kept_run.proofs.Words.{rules, arith, ◌≡◌, ◌∙◌, refl, ap, subst, List, [], ◌∷◌, ◌++◌, length, length-append, widen_to, Row, row_at, form_row, TableauRows, refute_from, traced_point, IsTurned, only}
 use Rattle.kept_run.proofs.GoingFurther.{retraces_further}
 use Rattle.kept_run.proofs.Retracing.{retraces-made}
 use Rattle.kept_run.proofs.further.push_further.Goals as goal

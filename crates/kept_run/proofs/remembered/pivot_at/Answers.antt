@@ -1,5 +1,4 @@
-use Rattle.kept_run.proofs.Words.{rules, arith, ◌∙◌, ap, length, refute_from, TableauRows, traced_point, length_pivot}
-use Rattle.short_run.proofs.FurtherRows.{IsStep}
+use Rattle.kept_run.proofs.Words.{rules, arith, ◌∙◌, ap, length, refute_from, TableauRows, traced_point, length_pivot, IsStep}
 use Rattle.kept_run.proofs.Retracing.{points, refutes, retraces-more, retraces-made, within-more, places-more}
 use Rattle.kept_run.proofs.remembered.pivot_at.Goals as goal
 

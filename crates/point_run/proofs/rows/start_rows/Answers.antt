@@ -1,7 +1,13 @@
 use Rattle.point_run.proofs.Words.{◌≡◌, ◌∙◌, ap, ◌++◌, [], ◌∷◌, List, ℤ, map, take, get_or, widen_to, form_row, TableauRows}
 use Rattle.point_turns.proofs.Pointing.{length_start}
-use Rattle.point_run.proofs.WidenedRows.{start_more}
+use Rattle.point_run.proofs.WidenedRows.{all_over, start_more}
 use Rattle.point_run.proofs.rows.start_rows.Goals as goal
+
+pub returns-then-are_over-clause-value : goal.returns-then-are_over-clause-value
+returns-then-are_over-clause-value c = rw (all_over c.args.places c.args.forms.now (c.are_over.ensures c.if-are_over.true)) c.in_ok-rows.ensures
+
+pub returns-then-are_over-clause-rows : goal.returns-then-are_over-clause-rows
+returns-then-are_over-clause-rows c = rw c.in_ok-rows.ensures (length_start c.args.places 0 c.args.forms.now)
 
 pub loop-form-preserved : goal.loop-form-preserved
 loop-form-preserved c =

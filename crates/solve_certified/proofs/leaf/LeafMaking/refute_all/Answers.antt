@@ -1,8 +1,8 @@
 use Rattle.solve_certified.proofs.Words.{rules, refl}
 use Rattle.solve_certified.proofs.leaf.LeafMaking.refute_all.Goals as goal
 
-pub refute_each-proofs-requires-clause-before : goal.refute_each-proofs-requires-clause-before
-refute_each-proofs-requires-clause-before c = record { width = search rules; behind = record { forms = search rules } }
+pub refute_each-requires-clause-before : goal.refute_each-requires-clause-before
+refute_each-requires-clause-before c = record { width = search rules; behind = record { forms = search rules } }
 
-pub refute_each-proofs-requires-clause-first : goal.refute_each-proofs-requires-clause-first
-refute_each-proofs-requires-clause-first c = record { first = rw c.forget.ensures refl }
+pub refute_each-requires-clause-first : goal.refute_each-requires-clause-first
+refute_each-requires-clause-first c = record { first = rw c.forget.ensures refl }

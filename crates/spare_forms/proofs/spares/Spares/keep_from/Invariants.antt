@@ -1,6 +1,6 @@
-use Rattle.kept_run.proofs.Words.{◌≡◌, ◌+◌, length, take}
+use Rattle.std.proofs.Common.{◌≡◌, ◌+◌, length, take}
 use Rattle.std.specs.Prelude.{vec_capacity}
-use Rattle.kept_run.proofs.spares.Spares.keep_from.Given as goal
+use Rattle.spare_forms.proofs.spares.Spares.keep_from.Given as goal
 
 abbrev pub invariant-loop : goal.invariant-loop
 invariant-loop l = (take l.first l.forms.items ≡ take l.first l.fn.forms.items)

@@ -1,5 +1,5 @@
 use Rattle.solve_certified.proofs.Told.{is_right, is_reached, is_well_formed, is_certificate}
-use Rattle.solve_certified.proofs.certified.solve_with_certificate.Goals as goal
+use Rattle.solve_certified.proofs.certified.Certifier.solve_with_certificate.Goals as goal
 
 pub returns-clause-right : goal.returns-clause-right
 returns-clause-right c = is_right c.args.problem.now c.args.limits.now c.certificate_from_start-certified.result c.certificate_from_start-certified.ensures.gives c.certificate_from_start-certified.ensures.problem

@@ -1,7 +1,7 @@
 use Rattle.solve_certified.proofs.Words.{answer_of}
 use Rattle.certificate_parts.proofs.Fitting.{all_from_vector}
 use Rattle.solve_certified.proofs.Whole.{answer_whole, point_numbers}
-use Rattle.solve_certified.proofs.certified.certificate_from_start.Goals as goal
+use Rattle.solve_certified.proofs.certified.Certifier.certificate_from_start.Goals as goal
 
 pub certificate_of-requires-clause-whole : goal.certificate_of-requires-clause-whole
 certificate_of-requires-clause-whole c =
