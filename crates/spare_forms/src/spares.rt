@@ -58,14 +58,21 @@ impl Spares {
         }
     }
 
-    /// Keeps all but the first so many of some forms, which leave them.
+    // Whether there is room for one more, and not many are kept.
+    fn has_room(&self) -> bool {
+        self.forms.len() < MOST_SPARES && self.forms.len() < self.forms.capacity()
+    }
+
+    /// Keeps all but the first so many of some forms, as far as there is room for them; all of these leave them.
     pub fn keep_from(&mut self, forms: &mut Vec<Form>, first: usize)
         requires { first ≤ length forms.old.items }
         ensures forms { forms.new.items ≡ take first forms.old.items }
         ensures room { vec_capacity forms.new ≡ vec_capacity forms.old }
     {
-        for _ in first..forms.len() {
+        while first < forms.len() && self.has_room() {
             self.keep_last(forms);
         }
+        // What is dropped then goes from the first on, so that the last blocks of the heap are free.
+        forms.truncate(first);
     }
 }
