@@ -19,6 +19,7 @@ use crate::rooms::Rooms;
 use crate::starting::{add_forms, start_path, start_rows};
 use node_turn::{NodeRows, Path, Point, Work};
 use pip_problem::{Limits, Problem, Refusal};
+use plain_run::point_shortly;
 use quast::{Answer, Quast};
 use std::alloc::Global;
 
@@ -116,6 +117,13 @@ impl Solver {
             (model.point problem.now.params problem.now.context) }
     {
         let alloc = self.rows.allocator();
+        if problem.params() > 0 {
+            let room = &mut self.rooms.plain;
+            let forms = problem.context();
+            if let Some(found) = point_shortly(alloc, room, problem.params(), forms, work) {
+                return found;
+            }
+        }
         let context = &mut self.path.context;
         context.restart(problem.params());
         add_forms(problem, context, 0)?;

@@ -25,7 +25,7 @@ use std::slice::from_ref;
 
 // The same number.
 #[inline(always)]
-fn wide(x: i64) -> i128
+pub(crate) fn wide(x: i64) -> i128
     ensures { result ≡ x }
 {
     x as i128
@@ -33,7 +33,7 @@ fn wide(x: i64) -> i128
 
 // The constant of a row without parameters.
 #[inline(always)]
-fn constant_of(constant: &[i64]) -> i128
+pub(crate) fn constant_of(constant: &[i64]) -> i128
     requires { length constant.now ≡ 1 }
     ensures { result ∷ [] ≡ constant.now }
 {

@@ -8,7 +8,7 @@ mod rows;
 mod steps;
 
 pub use gomory_cut::{RowView, Tableau, view_of};
-pub use point::Point;
+pub use point::{Point, reduced_constant};
 pub use point_run::{find_point, run_on};
 pub use point_turn::take_turn;
 pub use point_turns::PointTurn;

@@ -1,8 +1,9 @@
-ghost use Rattle.std.specs.Prelude.{◌≡◌, [], ◌<◌, ◌≤◌, length, map, take, IfOk};
+ghost use Rattle.std.specs.Prelude.{◌≡◌, [], ◌<◌, ◌≤◌, pos, ◌≤ℤ◌, length, map, take, All, IfOk};
 ghost use Rattle.pip_model.specs.Forms.{constant};
-ghost use Rattle.pip_model.specs.Tree.{Component};
+ghost use Rattle.pip_model.specs.Tree.{Component, reduced};
 ghost use Rattle.pip_model.specs.Rows.{row_at};
 ghost use Rattle.pip_model.specs.Run.{row_component};
+ghost use Rattle.affine_forms.specs.Checks.{Fits};
 
 use affine_forms::{WantOfMemory, floor_div, gcd_with};
 use gomory_cut::Tableau;
@@ -39,6 +40,13 @@ impl Point {
         self.values.truncate(n);
     }
 
+    /// The point of these numbers. It takes no memory.
+    pub fn from_values(values: Vec<i128>) -> Point
+        ensures { result ≡ values.items }
+    {
+        Point { values }
+    }
+
     /// The point of no places.
     pub fn empty(alloc: Global) -> Point
         ensures { result ≡ [] }
@@ -49,6 +57,18 @@ impl Point {
     }
 }
 
+/// The constant of a component in lowest terms, of a denominator and a form without coefficients.
+pub fn reduced_constant(den: i128, form: &[i128]) -> i128
+    requires positive { pos 1 ≤ℤ den }
+    requires fits { Fits den }
+    requires form_fits { All Fits form.now }
+    requires single { length form.now ≡ 1 }
+    ensures { result ≡ constant (reduced den form.now).form }
+{
+    let divisor = gcd_with(den, form);
+    floor_div(form[0], divisor)
+}
+
 // The value of the unknown of row i.
 fn value_at(rows: &Tableau, i: usize) -> i128
     requires width { rows.now.width ≡ 0 }
@@ -56,8 +76,7 @@ fn value_at(rows: &Tableau, i: usize) -> i128
     ensures { result ≡ constant (row_component (row_at rows.now.rows i)).form }
 {
     let row = rows.row(i);
-    let divisor = gcd_with(row.den, row.constant);
-    floor_div(row.constant[0], divisor)
+    reduced_constant(row.den, row.constant)
 }
 
 // The unknowns' values.

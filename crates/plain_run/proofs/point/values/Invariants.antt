@@ -1,0 +1,7 @@
+use Rattle.std.proofs.Common.{◌≡◌}
+use Rattle.plain_run.proofs.Words.{map, take, Component, row_component}
+use Rattle.pip_model.specs.Forms.{constant}
+use Rattle.plain_run.proofs.point.values.Given as goal
+
+abbrev pub invariant-loop-i : goal.invariant-loop-i
+invariant-loop-i l = l.values.items ≡ map (λ (c : Component). constant c.form) (map row_component (take l.i l.rows.rows))
