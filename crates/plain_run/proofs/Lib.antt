@@ -1,4 +1,3 @@
-pub mod Running
 pub mod Single
 pub mod Turning
 mod Words

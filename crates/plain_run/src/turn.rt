@@ -8,26 +8,7 @@ ghost use Rattle.plain_laws.specs.Plain.{plain_setting};
 
 use point_turns::{PointTurn, ShortTableau};
 use run_counts::Work;
-use short_run::{Stop, take_turn};
-
-// At a row below 0: no point where no column enters, else a pivot.
-fn pivot_turn(rows: &mut ShortTableau, work: &mut Work, r: usize) -> Result<PointTurn, Stop>
-    requires rows { rows.old.unknowns ≤ length rows.old.rows }
-    requires row { r < length rows.old.rows }
-    requires first { negative_from 0 rows.old.rows ≡ Some r }
-    ensures gives { IsCountedRun (made rows.old.unknowns rows.new.rows) stop_fault result work.old work.new
-        (turn_by (plain_setting rows.old.unknowns false) (node_of rows.old.rows) (MinusAt r)) }
-    ensures scope { OnOk result (HasSameScope rows.old rows.new) }
-{
-    let Some(c) = rows.entering(r) else {
-        return Ok(PointTurn::Bottom(r));
-    };
-    work.count_pivot()?;
-    if !rows.pivot(r, c) {
-        return Err(Stop::Long);
-    }
-    Ok(PointTurn::Pivot(r, c))
-}
+use short_run::{Stop, pivot_turn, take_turn};
 
 // One turn in rational mode: a pivot at a row below 0, else the rows show the point.
 #[tactic(auto, using(crate::proofs::Turning::rational_turn_is))]

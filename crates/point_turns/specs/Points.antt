@@ -1,11 +1,10 @@
 -- What the run without parameters of some forms or rows finds.
-use Rattle.std.specs.Prelude.{◌≡◌, ℕ, ◌+◌, ◌≤◌, ℤ, Bool, true, false, Option, Some, None, ◌&&◌, is_none, is_some, List, ◌++◌, length, map}
+use Rattle.std.specs.Prelude.{◌≡◌, ℕ, ◌≤◌, ℤ, Bool, true, false, Option, Some, None, ◌&&◌, is_none, is_some, List, ◌++◌, length, map}
 use Rattle.pip_model.specs.Forms.{widen_to}
 use Rattle.pip_model.specs.Tree.{Tree, Bottom}
 use Rattle.pip_model.specs.Rows.{Row, form_row, start, first_fraction}
-use Rattle.pip_model.specs.Run.{Work, Counted, Done, ◌>>=◌, ◌>>◌, give, Again, turn, leaf, run_from, numbers_of, point, point_setting}
+use Rattle.pip_model.specs.Run.{Work, Counted, Done, ◌>>=◌, give, Again, turn, leaf, run_from, numbers_of, point, point_setting}
 use Rattle.point_turns.specs.Turns.{negative_from, node_of}
-use Rattle.point_turns.specs.Turns.{made}
 
 -- whether a context has a point
 abbrev pub has_point : ℕ → List (List ℤ) → Counted Bool

@@ -7,5 +7,5 @@ mod stop;
 
 pub use point_turns::ShortTableau;
 pub use short_rows::{push_short, start_short};
-pub use short_run::{run_short, take_turn};
+pub use short_run::{pivot_turn, run_short, take_turn};
 pub use stop::Stop;

@@ -15,8 +15,9 @@ use point_turns::{PointTurn, ShortTableau, Work};
 // How many cuts a question's run makes in short rows.
 const MOST_CUTS: usize = 128;
 
-// At a row below 0: no point where no column enters, else a pivot.
-fn pivot_turn(rows: &mut ShortTableau, work: &mut Work, r: usize) -> Result<PointTurn, Stop>
+/// The turn at a row below 0: no point where no column enters, else a pivot.
+#[inline(always)]
+pub fn pivot_turn(rows: &mut ShortTableau, work: &mut Work, r: usize) -> Result<PointTurn, Stop>
     requires rows { rows.old.unknowns ≤ length rows.old.rows }
     requires row { r < length rows.old.rows }
     requires first { negative_from 0 rows.old.rows ≡ Some r }

@@ -1,9 +1,9 @@
 use Rattle.plain_run.proofs.Words.{left}
-use Rattle.plain_run.proofs.Running.{IsPlainRun}
+use Rattle.point_turns.proofs.Pointing.{IsOneRun}
 use Rattle.plain_run.proofs.run.run_out.Given as goal
 
 abbrev pub invariant-loop : goal.invariant-loop
-invariant-loop l = IsPlainRun l.integer l.fn.rows l.rows l.fn.work l.work
+invariant-loop l = IsOneRun l.integer l.fn.rows l.rows l.fn.work l.work
 
 abbrev pub decreases-loop : goal.decreases-loop
 decreases-loop l = left l.work
