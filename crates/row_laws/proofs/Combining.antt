@@ -1,5 +1,5 @@
 -- A row with another put in, in place.
-use Rattle.row_laws.proofs.Words.{◌≡◌, refl, ap, sym, subst, ◌∙◌, ℕ, ◌+◌, ◌^◌, ◌<◌, ◌≤◌, ℤ, pos, ◌-ℤ◌, ◌*ℤ◌, ◌&&◌, Bool, true, false, List, [], ◌∷◌, ◌++◌, length, take, drop, get_or, set, append_assoc, arith, unsigned_abs, IsTrue, All, slice_set, list_all, ltb-true, lt-ltb, drop_more, take_more, set_at, get_or_at, length-take, take_all, drop_all, append-nil, length-combine, both, fits, combine, remove, all_fit, combine_listed, product_fits, short_fits, Fits, listed_at, is_short, ints, All-push}
+use Rattle.row_laws.proofs.Words.{◌≡◌, refl, ap, sym, subst, ◌∙◌, ℕ, ◌+◌, ◌^◌, ◌<◌, ◌≤◌, ℤ, pos, ◌-ℤ◌, ◌*ℤ◌, ◌&&◌, Bool, true, List, [], ◌∷◌, ◌++◌, length, take, drop, get_or, set, append_assoc, arith, unsigned_abs, IsTrue, All, slice_set, list_all, ltb-true, lt-ltb, drop_more, take_more, set_at, get_or_at, length-take, take_all, drop_all, append-nil, length-combine, both, fits, combine, remove, all_fit, combine_listed, product_fits, short_fits, Fits, listed_at, is_short, ints}
 use Rattle.row_laws.proofs.Places.{listed_but, remove_parts, set_combine}
 use Rattle.row_laws.proofs.Unchanged.{set-same}
 

@@ -1,6 +1,6 @@
 -- A row after a pivot, made by factors in lowest terms: where the numbers of both rows have no common divisor, its
 -- divisor divides both denominators.
-use Rattle.row_laws.proofs.Words.{◌≡◌, ◌∙◌, refl, ap, sym, subst, ℕ, zero, suc, ◌*◌, ◌<◌, ℤ, pos, negsuc, ◌≤ℤ◌, ◌-ℤ◌, ◌*ℤ◌, unsigned_abs, arith, List, [], ◌∷◌, length, AllByRecursion, ints, floor_div, floor_divided, gcd, gcd_of, entry, combine, scale, Row, divided, eliminated, floor-unique, Multiple, gcd-divides, through, all_through, common, common-IsGcd, common-scaled, times-one, size-divided, floor-exact, content, IsReduced, IsElimination, AreLowest, substituted_by, map-set, dvd_antisymm, eq-one_of_dvd-one, gcd_between, gcd-greatest, gcd_one, multiple-dvd, var, ◌⊖◌, ◌⊗◌, ring}
+use Rattle.row_laws.proofs.Words.{◌≡◌, ◌∙◌, refl, ap, sym, subst, ℕ, suc, ◌*◌, ◌<◌, ℤ, pos, negsuc, ◌≤ℤ◌, ◌-ℤ◌, ◌*ℤ◌, unsigned_abs, arith, List, [], ◌∷◌, length, AllByRecursion, ints, floor_div, floor_divided, gcd, gcd_of, entry, combine, scale, Row, divided, eliminated, floor-unique, Multiple, gcd-divides, through, all_through, common, common-IsGcd, common-scaled, times-one, size-divided, floor-exact, content, IsReduced, IsElimination, AreLowest, substituted_by, map-set, dvd_antisymm, eq-one_of_dvd-one, gcd_between, gcd-greatest, gcd_one, multiple-dvd, var, ◌⊖◌, ◌⊗◌, ring}
 use Rattle.pip_model.proofs.RingLaws.{*ℤ_assoc, *ℤ_left_comm}
 use Rattle.std.proofs.Math.IntN.{*ℤ_comm}
 use Rattle.row_laws.proofs.Contents.{content-divides, content-greatest}

@@ -1,6 +1,6 @@
 -- A row whose entry in the pivot's column is 0, and whose numbers have no common divisor, stays as it is in a pivot. The pivot's listed
 -- numbers of the row are its own numbers times the pivot, and zeros.
-use Rattle.row_laws.proofs.Words.{◌≡◌, ◌∙◌, refl, ap, sym, ℕ, zero, suc, ◌<◌, ℤ, pos, ◌-ℤ◌, ◌*ℤ◌, unsigned_abs, arith, List, [], ◌∷◌, ◌++◌, length, Bool, true, false, ◌&&◌, slice_set, IsTrue, All, list_all-append, list_all-from_AllPass, ints, unsigned_abs-mul, fits, floor_div, gcd, gcd_of, entry, combine, floor_divided, remove, scale, all_fit, combine_listed, Row, divided, substituted, eliminated, eliminated_listed, floor-unique, common-scaled, content, set-get_or, entry-scale, scale_one}
+use Rattle.row_laws.proofs.Words.{◌≡◌, ◌∙◌, refl, ap, ℕ, zero, suc, ◌<◌, ℤ, pos, ◌-ℤ◌, ◌*ℤ◌, unsigned_abs, arith, List, [], ◌∷◌, ◌++◌, length, Bool, true, false, ◌&&◌, slice_set, IsTrue, All, list_all-append, list_all-from_AllPass, ints, unsigned_abs-mul, fits, floor_div, gcd, gcd_of, entry, combine, floor_divided, remove, scale, all_fit, combine_listed, Row, divided, substituted, eliminated, eliminated_listed, floor-unique, common-scaled, content, set-get_or, entry-scale, scale_one}
 
 -- ---- the divisor of multiples is the multiple of the divisor
 
