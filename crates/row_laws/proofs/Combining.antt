@@ -6,9 +6,6 @@ use Rattle.row_laws.proofs.Unchanged.{set-same}
 pub short_bound : (z : ℤ) → IsTrue (is_short z) → unsigned_abs z < 2 ^ 63
 short_bound z e = ltb-true (unsigned_abs z) (2 ^ 63) e
 
-difference_bound : (x y : ℤ) → unsigned_abs x < 2 ^ 126 → unsigned_abs y < 2 ^ 126 → unsigned_abs (x -ℤ y) < 2 ^ 127
-difference_bound x y h k = grind arith
-
 short_three : (a x b y : ℤ) → IsTrue (is_short a) → IsTrue (is_short x) → IsTrue (is_short b) → IsTrue (is_short y)
     → Fits (a *ℤ x) × Fits (b *ℤ y) × Fits (a *ℤ x -ℤ b *ℤ y)
 short_three a x b y ha hx hb hy =
@@ -16,7 +13,7 @@ short_three a x b y ha hx hb hy =
     let pb = product_fits b y (short_bound b hb) (short_bound y hy) in (
       short_fits a x (short_bound a ha) (short_bound x hx),
       short_fits b y (short_bound b hb) (short_bound y hy),
-      lt-ltb (unsigned_abs (a *ℤ x -ℤ b *ℤ y)) (2 ^ 127) (difference_bound (a *ℤ x) (b *ℤ y) pa pb),
+      lt-ltb (unsigned_abs (a *ℤ x -ℤ b *ℤ y)) (2 ^ 127) (grind arith),
     )
 
 -- short numbers make numbers that fit

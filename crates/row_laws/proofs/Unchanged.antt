@@ -56,9 +56,6 @@ set-same xs c z e = rw (← e) (set-get_or xs c (pos 0))
 pub any_zero : (a : ℤ) → a *ℤ pos 0 ≡ pos 0
 any_zero a = omega (arith, ints)
 
-zero_entry : (a : ℤ) (xs : List ℤ) (c : ℕ) (d : ℤ) → entry xs c ≡ pos 0 → entry (scale a xs) c ≡ pos 0 *ℤ d
-zero_entry a xs c d e = entry-scale a xs c ∙ rw e (omega (arith, ints))
-
 swap : (x : ℕ) (d : ℤ) → d *ℤ pos x ≡ pos x *ℤ d
 swap x d = omega (arith, ints)
 
@@ -71,7 +68,7 @@ substituted-none p c i x a b e f =
       b,
       combine-none (pos x) i.coefs p.coefs e,
       combine-none (pos x) i.constant p.constant f,
-      set-same (scale (pos x) i.coefs) c (pos 0 *ℤ p.den) (zero_entry (pos x) i.coefs c p.den b),
+      set-same (scale (pos x) i.coefs) c (pos 0 *ℤ p.den) (entry-scale (pos x) i.coefs c ∙ rw b (omega (arith, ints))),
       swap x i.den,
     ) refl
 
