@@ -19,5 +19,5 @@ pub use Rattle.scaled_laws.specs.Units.{row_size, unit_numbers}
 pub use Rattle.std.proofs.Math.Seq.{take-set-lt}
 pub use Rattle.std.specs.Prelude.{slice_set, filter, int_lt, Option, Some, None, IfSome, if◌then◌else◌}
 pub use Rattle.pip_model.proofs.Order.{mul_nn, mul_pp, factor_p}
-pub use Rattle.pip_model.proofs.Forms.{entry-scale}
+pub use Rattle.pip_model.proofs.Forms.{entry-scale, scale_one}
 pub use Rattle.run_laws.proofs.RowsAt.{divisor}
