@@ -138,12 +138,7 @@ pub record DotStep (f c : List ℤ) (i : ℕ) (sum : ℤ) : Type 0 where
 pub dot_step : (f c : List ℤ) (i : ℕ) (sum : ℤ) → IsSummable f c → i < length c → sum ≡ dot f (take i c) → DotStep f c i sum
 dot_step f c i sum h lt e =
     let more : sum +ℤ entry f i *ℤ entry c i ≡ dot f (take (i + 1) c) = ap (λ (z : ℤ). z +ℤ entry f i *ℤ entry c i) e ∙ sym (dot_more f c i lt (omega (arith, lt, h.length))) in
-    record {
-      short = h.entries i;
-      product = h.products i;
-      all = rw more (h.sums (i + 1));
-      next = more;
-    }
+    record { short = h.entries i; product = h.products i; all = rw more (h.sums (i + 1)); next = more }
 
 -- ---- the first rows
 
