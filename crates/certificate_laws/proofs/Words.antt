@@ -47,7 +47,7 @@ pub use Rattle.check_laws.proofs.Paths.{leaf_value, length-leaf_cases}
 pub use Rattle.pip_model.proofs.Polynomials.{var, num, ◌⊕◌, ◌⊖◌, ◌⊗◌, ring, ring_by, ring_by_2}
 pub use Rattle.run_laws.proofs.Equations.{Equation, Says, AllSay, Wide}
 pub use Rattle.run_laws.proofs.Sums.{dot-set_left, length-scale}
-pub use Rattle.pip_model.proofs.Forms.{widen_same, entry-zeros, entry-negate, entry-scale, constant-plus}
+pub use Rattle.pip_model.proofs.Forms.{widen_same, entry-zeros, entry-widened, entry-negate, entry-scale, constant-plus}
 pub use Rattle.pip_model.specs.Right.{IsRight, IsPoint, IsWholeMinimum, IsRationalMinimum}
 pub use Rattle.pip_model.specs.WellFormed.{IsProblem, IsRow}
 pub use Rattle.check_laws.proofs.Points.{smaller_from-cons, Sized, length-put_in, value-point_row}

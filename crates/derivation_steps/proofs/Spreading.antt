@@ -1,16 +1,8 @@
 -- Sums and forms whose last coefficients are left out where they are 0.
-use Rattle.derivation_steps.proofs.Words.{◌≡◌, refl, ap, ap₂, subst, derived, length-add, sym, ◌∙◌, ℕ, zero, suc, ◌+◌, ◌-◌, ◌<◌, ◌≤◌, ℤ, ◌+ℤ◌, ◌*ℤ◌, pos, negsuc, Bool, true, false, ◌&&◌, List, [], ◌∷◌, ◌++◌, length, take, drop, replicate, append_assoc, arith, ints, IsFalse, length-append, length-map, length-take, length-drop, length-replicate, take_at, get_or_at, fits, scale, add, entry, constant, width, coefficients, widen_to, all_fit, plus_term, plus_term_listed, is_divisible, fit_behind, IsTrue}
-use Rattle.std.proofs.lemmas.List.{map-append, take-append-drop, get_or_append_left, get_or-take, take_more, take_all}
-use Rattle.std.proofs.lemmas.List.Folds.{list_all-append}
+use Rattle.derivation_steps.proofs.Words.{◌≡◌, refl, ap, ap₂, derived, length-add, sym, ◌∙◌, ℕ, zero, suc, ◌+◌, ◌-◌, ◌<◌, ◌≤◌, ℤ, ◌+ℤ◌, ◌*ℤ◌, pos, negsuc, Bool, true, false, ◌&&◌, List, [], ◌∷◌, ◌++◌, length, take, drop, replicate, append_assoc, arith, ints, length-append, length-map, length-take, length-drop, length-replicate, take_at, get_or_at, fits, scale, add, entry, constant, width, coefficients, widen_to, all_fit, plus_term, plus_term_listed, is_divisible, fit_behind, map-append, take-append-drop, take_more, take_all, list_all-append, ◌≤ℤ◌, Some, divides, floor_div, is_zero, is_negative, floor_divided, is_absurd, fit_zeros, fit_drop, fit_join, fit_cons, spread, total, PartSum, IsPartSum}
 use Rattle.std.proofs.Math.Nat.{zero-div, zero-mod, mod-one}
 use Rattle.std.specs.List.{list_all}
-use Rattle.std.specs.Prelude.{◌≤ℤ◌, Some}
-use Rattle.pip_model.specs.Numbers.{divides, floor_div, is_zero, is_negative}
-use Rattle.pip_model.specs.Forms.{floor_divided}
-use Rattle.pip_model.specs.Check.{is_absurd}
 use Rattle.pip_model.specs.Rows.{is_whole}
-use Rattle.pip_model.proofs.Fitting.{fit_zeros, fit_drop, fit_join, fit_cons}
-use Rattle.derivation_steps.specs.Sums.{spread, total, PartSum, IsPartSum, EndsAtItsLast}
 use Rattle.certificate_parts.proofs.Fitting.{vector_fits_from}
 
 -- ---- zeros
@@ -67,9 +59,8 @@ no_multiple_listed sum c e h =
 
 add_parts : (a b c d : List ℤ) → length a ≡ length c → add (a ++ b) (c ++ d) ≡ add a c ++ add b d
 add_parts [] b [] d e = refl
-add_parts [] b (y ∷ c) d e = absurd (omega arith)
-add_parts (x ∷ a) b [] d e = absurd (omega arith)
 add_parts (x ∷ a) b (y ∷ c) d e = ap (λ (l : List ℤ). (x +ℤ y) ∷ l) (add_parts a b c d (omega arith))
+add_parts _ b _ d e = absurd (omega arith)
 
 module _ (a b : List ℤ) (m : ℤ) (c d : List ℤ) (e : length a ≡ length c) where
   scaled : length a ≡ length (scale m c)
@@ -132,10 +123,8 @@ module _ (w : ℕ) (cs : List ℤ) (t m : ℤ) (front : List ℤ) (u : ℤ) (h :
 
   rest : length behind ≡ w - length front
   rest =
-      let e = length-append (drop (length front) cs) (replicate (w - length cs) (pos 0)) in
-      let f = length-drop (length front) cs in
       let g = length-replicate (w - length cs) (pos 0) in
-      omega (arith, e, f, g, h, k)
+      omega (arith, (length-append (drop (length front) cs) (replicate (w - length cs) (pos 0))), (length-drop (length front) cs), g, h, k)
 
   as_zeros : length behind ≡ length zeros
   as_zeros = rest ∙ sym (length-replicate (w - length front) (pos 0))
@@ -225,11 +214,9 @@ total_fits s p =
 
 pub length-total : (s : PartSum) → IsPartSum s → length (total s) ≡ s.width + 1
 length-total s p =
-    let e = length-append (s.coefficients ++ replicate (s.width - length s.coefficients) (pos 0)) (s.constant ∷ []) in
     let f = length-append s.coefficients (replicate (s.width - length s.coefficients) (pos 0)) in
     let g = length-replicate (s.width - length s.coefficients) (pos 0) in
-    let h = p.within in
-    omega (arith, e, f, g, h)
+    omega (arith, (length-append (s.coefficients ++ replicate (s.width - length s.coefficients) (pos 0)) (s.constant ∷ [])), f, g, p.within)
 
 module _ (s r : PartSum) (m : ℤ) (form front : List ℤ) (u : ℤ) (p : IsPartSum s) (some : 0 < length form) (k : length form ≤ s.width + 1) (reach : r ≡ record s { coefficients = s.coefficients ++ replicate (length front - length s.coefficients) (pos 0) }) (f : front ≡ take (length form - 1) form) (e : u ≡ entry form (length form - 1)) where
   pub added_listed : all_fit (plus_term_listed (total s) m (widen_to s.width form)) ≡ all_fit (plus_term_listed (take (length front) r.coefficients) m front ++ (m *ℤ u) ∷ (r.constant +ℤ m *ℤ u) ∷ [])
@@ -274,16 +261,6 @@ module _ (s r : PartSum) (m : ℤ) (form places front : List ℤ) (n : ℕ) (u :
   narrow_added now is =
       added s r m short front u p (omega (arith, count)) (omega (arith, count, places_long, within, k, some)) reach (sym (coefficients_before front u)) (sym (constant_behind front u)) now is
       ∙ ap (λ (c : List ℤ). plus_term (total s) m c) short_same
-
-pub ends_front : (n : ℕ) (cs : List ℤ) (t : ℤ) → n ≤ length cs → (0 < n → IsFalse (is_zero (entry cs (n - 1)))) → EndsAtItsLast (take n cs ++ t ∷ [])
-ends_front n cs t h e k =
-    let long : length (take n cs ++ t ∷ []) ≡ n + 1 = (let f = length-append (take n cs) (t ∷ []) in let g = length-take n cs in omega (arith, f, g, h)) in
-    let front : length (take n cs) ≡ n = (let g = length-take n cs in omega (arith, g, h)) in
-    let at : length (take n cs ++ t ∷ []) - 2 ≡ n - 1 = omega (arith, long) in
-    let some : 0 < n = omega (arith, long, k) in
-    let same : entry (take n cs ++ t ∷ []) (length (take n cs ++ t ∷ []) - 2) ≡ entry cs (n - 1) =
-    ap (λ (j : ℕ). entry (take n cs ++ t ∷ []) j) at ∙ get_or_append_left (take n cs) (t ∷ []) (pos 0) (n - 1) (omega (arith, front, some)) ∙ get_or-take n cs (n - 1) (pos 0) (omega (arith, some)) in
-    subst (λ (z : ℤ). IsFalse (is_zero z)) (sym same) (e some)
 
 -- ---- divisors
 
@@ -349,9 +326,3 @@ pub not_divided : (sum : List ℤ) → is_divisible (pos 1) sum ≡ true
 not_divided sum = all_whole (coefficients sum)
 
 -- ---- nothing added
-
-pub nothing_added : (sum m : ℤ) → sum +ℤ m *ℤ pos 0 ≡ sum
-nothing_added sum m = ap (λ (z : ℤ). sum +ℤ z) (times_zero m) ∙ plus_zero sum
-
-pub nothing_listed : (sum m : ℤ) → IsTrue (fits sum) → IsTrue (all_fit ((m *ℤ pos 0) ∷ (sum +ℤ m *ℤ pos 0) ∷ []))
-nothing_listed sum m h = rw (nothing_added sum m, times_zero m, h) refl

@@ -1,7 +1,5 @@
 -- What a step derives comes behind the known forms.
-use Rattle.derivation_steps.proofs.Words.{◌≡◌, refl, ap, ◌∙◌, ℕ, ◌+◌, ℤ, pos, List, [], ◌∷◌, ◌++◌, replicate, Bool, true, false, Ok, Err, int_le, ◌>>=◌, ◌>>◌, Step, Spot, Checks, holds, sum_of, is_divisible, derived, after_step}
-use Rattle.pip_model.specs.Check.{is_absurd, ends_absurd}
-use Rattle.derivation_steps.specs.Steps.{absurd_after, derived_from}
+use Rattle.derivation_steps.proofs.Words.{◌≡◌, refl, ap, ◌∙◌, ℕ, ◌+◌, ℤ, pos, List, [], ◌∷◌, ◌++◌, replicate, Bool, true, false, Ok, Err, int_le, ◌>>=◌, ◌>>◌, Step, Spot, Checks, holds, sum_of, is_divisible, derived, after_step, is_absurd, ends_absurd, absurd_after, derived_from}
 use Rattle.derivation_steps.proofs.Spreading.{not_divided}
 use Rattle.pip_model.proofs.Gcd.{floor_divided_one}
 
@@ -22,9 +20,8 @@ step_derives at w known s e =
 
 -- the last of the known forms
 pub ends_behind : (known : List (List ℤ)) (c : List ℤ) → ends_absurd (known ++ c ∷ []) ≡ is_absurd c
-ends_behind [] c = refl
-ends_behind (d ∷ []) c = refl
 ends_behind (d ∷ e ∷ known) c = ends_behind (e ∷ known) c
+ends_behind _ c = refl
 
 pub absurd_made : (at : Spot) (w : ℕ) (known : List (List ℤ)) (s : Step) (c : List ℤ) (b : Bool) → after_step at w known s ≡ Ok (known ++ c ∷ []) → b ≡ is_absurd c → absurd_after at w known s ≡ Ok b
 absurd_made at w known s c b e h = rw (e, h, ends_behind known c) refl

@@ -1,6 +1,5 @@
 -- Steps of a sum to which a multiple of a form is added in place, entry by entry, and of a sum of terms.
-use Rattle.derivation_steps.proofs.Words.{◌≡◌, refl, ap, sym, ◌∙◌, ℕ, ◌+◌, ◌<◌, ◌≤◌, ℤ, ◌+ℤ◌, ◌*ℤ◌, pos, Bool, true, false, ◌&&◌, List, [], ◌∷◌, ◌++◌, length, take, drop, set, get_or, append_assoc, arith, Ok, Err, IsTrue, IsFalse, nat_lt, unsigned_abs, slice_index_or, Option, Some, None, IfSome, drop_more, drop_all, take_more_set, drop-set-lt, fits, is_nonneg, scale, all_fit, ◌>>=◌, ◌>>◌, Spot, CheckFault, Checks, plus_term, plus_term_listed, sum_of, holds, fit, fit_behind, fit_never}
-use Rattle.std.proofs.lemmas.List.Folds.{list_all-append}
+use Rattle.derivation_steps.proofs.Words.{◌≡◌, refl, ap, sym, ◌∙◌, ℕ, ◌+◌, ◌<◌, ◌≤◌, ℤ, ◌+ℤ◌, ◌*ℤ◌, pos, Bool, true, false, ◌&&◌, List, [], ◌∷◌, ◌++◌, length, take, drop, set, get_or, append_assoc, arith, Ok, Err, IsTrue, IsFalse, nat_lt, unsigned_abs, slice_index_or, Option, Some, None, IfSome, drop_more, drop_all, take_more_set, drop-set-lt, fits, is_nonneg, scale, all_fit, ◌>>=◌, ◌>>◌, Spot, CheckFault, Checks, plus_term, plus_term_listed, sum_of, holds, fit, fit_behind, fit_never, list_all-append}
 
 -- ---- a multiple
 
@@ -27,10 +26,8 @@ entries_listed-fit [] m (y ∷ c) e = absurd (omega arith)
 entries_listed-fit (x ∷ sum) m [] e = absurd (omega arith)
 entries_listed-fit (x ∷ sum) m (y ∷ c) e =
     let rest : all_fit (entries_listed sum m c) ≡ all_fit (scale m c ++ plus_term sum m c) = entries_listed-fit sum m c (omega arith) in
-    let b = fits (m *ℤ y) in
-    let p = fits (x +ℤ m *ℤ y) in
     rw (rest, list_all-append fits (scale m c) (plus_term sum m c), list_all-append fits (scale m c) ((x +ℤ m *ℤ y) ∷ plus_term sum m c))
-    (sym (between (all_fit (scale m c)) b p (all_fit (plus_term sum m c))))
+    (sym (between (all_fit (scale m c)) (fits (m *ℤ y)) (fits (x +ℤ m *ℤ y)) (all_fit (plus_term sum m c))))
 
 module _ (now : List ℤ) (m : ℤ) (c : List ℤ) (i : ℕ) (x : ℤ) where
   pub entries_step : i < length now → i < length c → IsTrue (all_fit (listed_at (get_or now i (pos 0)) m (get_or c i (pos 0))))
@@ -56,12 +53,9 @@ pub multiple_refused : (first now : List ℤ) (m : ℤ) (c : List ℤ) (i : ℕ)
     → IsFalse (all_fit (listed_at (get_or now i (pos 0)) m (get_or c i (pos 0)))) → IsFalse (all_fit (plus_term_listed first m c))
 multiple_refused first now m c i same h k e f = sym (entries_listed-fit first m c same) ∙ sym e ∙ entries_refused now m c i h k f
 
-pub entries_end : (now : List ℤ) (m : ℤ) (c : List ℤ) (i : ℕ) → length now ≤ i → all_fit (entries_listed (drop i now) m (drop i c)) ≡ true
-entries_end now m c i h = rw (drop_all i now h) refl
-
 pub multiple_fits : (first now : List ℤ) (m : ℤ) (c : List ℤ) (i : ℕ) → length first ≡ length c → length now ≤ i
     → all_fit (entries_listed (drop i now) m (drop i c)) ≡ all_fit (entries_listed first m c) → IsTrue (all_fit (plus_term_listed first m c))
-multiple_fits first now m c i same h e = sym (entries_listed-fit first m c same) ∙ sym e ∙ entries_end now m c i h
+multiple_fits first now m c i same h e = sym (entries_listed-fit first m c same) ∙ sym e ∙ (rw (drop_all i now h) refl)
 
 -- ---- terms
 

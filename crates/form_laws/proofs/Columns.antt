@@ -1,8 +1,9 @@
 -- What the numbers of a basis tell.
-use Rattle.form_laws.proofs.Words.{◌≡◌, ◌∙◌, refl, ap, sym, subst, ℕ, zero, suc, ◌+◌, ◌-◌, ◌*◌, ◌^◌, ◌<◌, ◌≤◌, ℤ, pos, ◌+ℤ◌, ◌*ℤ◌, unsigned_abs, arith, rules, nat_lt, true, false, List, [], ◌∷◌, ◌++◌, length, take, drop, get_or, append_assoc, append-nil, flat_map, ints, unsigned_abs-mul, mul-le, take_all, map_more, All-more, All-push, All-weaker, floor_div, entry, dot, Row, count_from, row_at, form_row, coef, place, over, norm, part, columns_of, IsScaled, IsSummable}
+use Rattle.form_laws.proofs.Words.{◌≡◌, ◌∙◌, refl, ap, sym, subst, ℕ, zero, suc, ◌+◌, ◌-◌, ◌*◌, ◌^◌, ◌<◌, ◌≤◌, ℤ, pos, ◌+ℤ◌, ◌*ℤ◌, unsigned_abs, arith, rules, nat_lt, true, false, List, [], ◌∷◌, ◌++◌, length, take, drop, get_or, append_assoc, append-nil, flat_map, ints, mul-le, take_all, map_more, All-more, All-push, All-weaker, floor_div, entry, dot, Row, count_from, row_at, form_row, coef, place, over, norm, part, columns_of, IsScaled, IsSummable}
 use Rattle.std.specs.Prelude.{All}
 use Rattle.std.proofs.lemmas.Grind.{common_steps}
-use Rattle.form_laws.proofs.Sizes.{size_sum}
+use Rattle.form_laws.proofs.Sizes.{size_sum, size_product, spread, own_within, zero_product, three, nothing_before}
+pub use Rattle.form_laws.proofs.Sizes.{entry_norm}
 
 -- ---- sums, number after number
 
@@ -31,11 +32,6 @@ norm_more (x ∷ f) (suc i) h =
     more : (x a b q : ℕ) → a ≡ b + q → x + a ≡ x + b + q
     more x a b q e = omega (arith, e)
 
-pub entry_norm : (f : List ℤ) (k : ℕ) → unsigned_abs (entry f k) ≤ norm f
-entry_norm [] k = omega arith
-entry_norm (z ∷ f) zero = omega arith
-entry_norm (z ∷ f) (suc k) = omega (arith, entry_norm f k)
-
 -- ---- a column is summable
 
 pub entry_within : (m : ℕ) (c : List ℤ) (k : ℕ) → All (λ z. unsigned_abs z ≤ m) c → unsigned_abs (entry c k) ≤ m
@@ -43,25 +39,19 @@ entry_within m [] k h = omega arith
 entry_within m (z ∷ c) zero h = h 0 (pos 0) (omega arith)
 entry_within m (z ∷ c) (suc k) h = entry_within m c k (λ j d lt. h (suc j) d (omega (arith, lt)))
 
-times_within : (m : ℕ) (x y : ℤ) → unsigned_abs y ≤ m → unsigned_abs (x *ℤ y) ≤ unsigned_abs x * m
-times_within m x y h = rw (unsigned_abs-mul x y) (mul-le (unsigned_abs x) (unsigned_abs y) (unsigned_abs x) m (omega arith) h)
-
-spread : (a b m : ℕ) → (a + b) * m ≡ a * m + b * m
-spread a b m = grind arith
-
 pub sum_within : (m : ℕ) (f c : List ℤ) (i : ℕ) → All (λ z. unsigned_abs z ≤ m) c → unsigned_abs (dot f (take i c)) ≤ norm f * m
 sum_within m [] c i h = omega arith
 sum_within m (x ∷ f) [] zero h = omega arith
 sum_within m (x ∷ f) [] (suc i) h = omega arith
 sum_within m (x ∷ f) (z ∷ c) zero h = omega arith
 sum_within m (x ∷ f) (z ∷ c) (suc i) h =
-    omega (arith, size_sum (x *ℤ z) (dot f (take i c)), times_within m x z (h 0 (pos 0) (omega arith)), sum_within m f c i (λ j d lt. h (suc j) d (omega (arith, lt))), spread (unsigned_abs x) (norm f) m)
+    omega (arith, size_sum (x *ℤ z) (dot f (take i c)), size_product x z m (h 0 (pos 0) (omega arith)), sum_within m f c i (λ j d lt. h (suc j) d (omega (arith, lt))), spread (unsigned_abs x) (norm f) m)
 
 pub summable : (m : ℕ) (f c : List ℤ) → length c ≤ length f → 1 ≤ m → All (λ z. unsigned_abs z ≤ m) c → norm f * m < 2 ^ 63 → IsSummable f c
 summable m f c long some within small = record {
   length = long;
   entries = λ i. omega (arith, entry_norm f i, mul-le (norm f) 1 (norm f) m (omega arith) some, small);
-  products = λ i. omega (arith, times_within m (entry f i) (entry c i) (entry_within m c i within), mul-le (unsigned_abs (entry f i)) m (norm f) m (entry_norm f i) (omega arith), small);
+  products = λ i. omega (arith, size_product (entry f i) (entry c i) m (entry_within m c i within), mul-le (unsigned_abs (entry f i)) m (norm f) m (entry_norm f i) (omega arith), small);
   sums = λ i. omega (arith, sum_within m f c i within, small);
 }
 
@@ -148,12 +138,7 @@ pub record DotStep (f c : List ℤ) (i : ℕ) (sum : ℤ) : Type 0 where
 pub dot_step : (f c : List ℤ) (i : ℕ) (sum : ℤ) → IsSummable f c → i < length c → sum ≡ dot f (take i c) → DotStep f c i sum
 dot_step f c i sum h lt e =
     let more : sum +ℤ entry f i *ℤ entry c i ≡ dot f (take (i + 1) c) = ap (λ (z : ℤ). z +ℤ entry f i *ℤ entry c i) e ∙ sym (dot_more f c i lt (omega (arith, lt, h.length))) in
-    record {
-      short = h.entries i;
-      product = h.products i;
-      all = rw more (h.sums (i + 1));
-      next = more;
-    }
+    record { short = h.entries i; product = h.products i; all = rw more (h.sums (i + 1)); next = more }
 
 -- ---- the first rows
 
@@ -200,32 +185,17 @@ columns_step cols new g k e f = f ∙ ap (λ (zs : List ℤ). zs ++ g k) e ∙ s
 
 -- ---- what a form has of its own
 
-own_product : (m : ℕ) (L : ℤ) (f : List ℤ) (j : ℕ) → unsigned_abs L ≤ m → unsigned_abs (L *ℤ entry f j) ≤ norm f * m
-own_product m L f j h = rw (unsigned_abs-mul L (entry f j)) (omega (arith, mul-le (unsigned_abs L) (unsigned_abs (entry f j)) m (norm f) h (entry_norm f j), turn m (norm f)))
-  where
-    turn : (a b : ℕ) → a * b ≡ b * a
-    turn a b = grind arith
-
-nothing : (L : ℤ) → unsigned_abs (pos 0 +ℤ L *ℤ pos 0) ≤ 0
-nothing L = omega (arith, ints)
-
-alone : (x : ℤ) → pos 0 +ℤ x ≡ x
-alone x = omega (arith, ints)
-
-three : (a d o : ℤ) → unsigned_abs (a +ℤ d +ℤ o) ≤ unsigned_abs a + unsigned_abs (d +ℤ o)
-three a d o = omega (arith, ints)
-
 own_sum : (m : ℕ) (L : ℤ) (f c : List ℤ) (j : ℕ) → unsigned_abs L ≤ m → All (λ z. unsigned_abs z ≤ m) c → unsigned_abs (dot f c +ℤ L *ℤ entry f (length c + j)) ≤ norm f * m
-own_sum m L [] c j small h = omega (arith, nothing L)
+own_sum m L [] c j small h = omega (arith, zero_product L)
 own_sum m L (x ∷ f) [] j small h =
     let e : 0 + j ≡ j = omega arith in
-    rw (e, alone (L *ℤ entry (x ∷ f) j)) (own_product m L (x ∷ f) j small)
+    rw (e, nothing_before (L *ℤ entry (x ∷ f) j)) (own_within m L (x ∷ f) j small)
 own_sum m L (x ∷ f) (z ∷ c) j small h =
     let e : suc (length c) + j ≡ suc (length c + j) = omega arith in
     rw e (omega (
       arith,
       three (x *ℤ z) (dot f c) (L *ℤ entry f (length c + j)),
-      times_within m x z (h 0 (pos 0) (omega arith)),
+      size_product x z m (h 0 (pos 0) (omega arith)),
       own_sum m L f c j small (λ i d lt. h (suc i) d (omega (arith, lt))),
       spread (unsigned_abs x) (norm f) m,
     ))
@@ -240,6 +210,6 @@ pub record OwnStep (f c : List ℤ) (L : ℤ) (k : ℕ) : Type 0 where
 pub own_step : (m : ℕ) (L : ℤ) (f c : List ℤ) (j : ℕ) → 1 ≤ m → unsigned_abs L ≤ m → All (λ z. unsigned_abs z ≤ m) c → norm f * m < 2 ^ 63 → OwnStep f c L (length c + j)
 own_step m L f c j some small h bound = record {
   own = omega (arith, entry_norm f (length c + j), mul-le (norm f) 1 (norm f) m (omega arith) some, bound);
-  product = omega (arith, own_product m L f (length c + j) small, bound);
+  product = omega (arith, own_within m L f (length c + j) small, bound);
   all = omega (arith, own_sum m L f c j small h, bound);
 }

@@ -12,34 +12,30 @@ use Rattle.form_laws.proofs.Turning.{entry_first, length_counted}
 pub size_sum : (x y : ℤ) → unsigned_abs (x +ℤ y) ≤ unsigned_abs x + unsigned_abs y
 size_sum x y = omega (arith, ints)
 
-size_product : (x y : ℤ) (m : ℕ) → unsigned_abs y ≤ m → unsigned_abs (x *ℤ y) ≤ unsigned_abs x * m
+pub size_product : (x y : ℤ) (m : ℕ) → unsigned_abs y ≤ m → unsigned_abs (x *ℤ y) ≤ unsigned_abs x * m
 size_product x y m h = rw (unsigned_abs-mul x y) (mul-le (unsigned_abs x) (unsigned_abs y) (unsigned_abs x) m (omega arith) h)
 
-spread : (a b m : ℕ) → (a + b) * m ≡ a * m + b * m
-spread a b m = simp_spread
-  where
-    simp_spread : (a + b) * m ≡ a * m + b * m
-    simp_spread = grind arith
+pub spread : (a b m : ℕ) → (a + b) * m ≡ a * m + b * m
+spread a b m = grind arith
 
-entry_norm : (f : List ℤ) (k : ℕ) → unsigned_abs (entry f k) ≤ norm f
-entry_norm [] k = omega arith
-entry_norm (z ∷ f) zero = omega arith
+pub entry_norm : (f : List ℤ) (k : ℕ) → unsigned_abs (entry f k) ≤ norm f
 entry_norm (z ∷ f) (suc k) = omega (arith, entry_norm f k)
+entry_norm _ _ = omega arith
 
-zero_product : (L : ℤ) → unsigned_abs (pos 0 +ℤ L *ℤ pos 0) ≤ 0
+pub zero_product : (L : ℤ) → unsigned_abs (pos 0 +ℤ L *ℤ pos 0) ≤ 0
 zero_product L = omega (arith, ints)
 
 -- one number of a combination, and what the form adds of its own
-own_within : (m : ℕ) (L : ℤ) (f : List ℤ) (j : ℕ) → unsigned_abs L ≤ m → unsigned_abs (L *ℤ entry f j) ≤ norm f * m
+pub own_within : (m : ℕ) (L : ℤ) (f : List ℤ) (j : ℕ) → unsigned_abs L ≤ m → unsigned_abs (L *ℤ entry f j) ≤ norm f * m
 own_within m L f j h = rw (unsigned_abs-mul L (entry f j)) (omega (arith, mul-le (unsigned_abs L) (unsigned_abs (entry f j)) m (norm f) h (entry_norm f j), turn m (norm f)))
   where
     turn : (a b : ℕ) → a * b ≡ b * a
     turn a b = grind arith
 
-three : (a d o : ℤ) → unsigned_abs (a +ℤ d +ℤ o) ≤ unsigned_abs a + unsigned_abs (d +ℤ o)
+pub three : (a d o : ℤ) → unsigned_abs (a +ℤ d +ℤ o) ≤ unsigned_abs a + unsigned_abs (d +ℤ o)
 three a d o = omega (arith, ints)
 
-nothing_before : (x : ℤ) → pos 0 +ℤ x ≡ x
+pub nothing_before : (x : ℤ) → pos 0 +ℤ x ≡ x
 nothing_before x = omega (arith, ints)
 
 module _ (m : ℕ) (L : ℤ) (small : unsigned_abs L ≤ m) (part : Row → ℤ) (bound : (q : ℤ) (r : Row) → RowWithin m q r → unsigned_abs (q *ℤ part r) ≤ m) where
@@ -78,9 +74,7 @@ all_short us h k d lt = rw (any_default us k d lt) (h k lt)
 
 smaller : (g : ℕ) (x y : ℤ) → 0 < g → pos g *ℤ x ≡ y → unsigned_abs x ≤ unsigned_abs y
 smaller g x y h e =
-    let size : unsigned_abs (pos g *ℤ x) ≡ g * unsigned_abs x = unsigned_abs-mul (pos g) x in
-    let size' : unsigned_abs y ≡ g * unsigned_abs x = ap unsigned_abs (sym e) ∙ size in
-    omega (arith, mul-le 1 (unsigned_abs x) g (unsigned_abs x) h (omega arith), size')
+    omega (arith, mul-le 1 (unsigned_abs x) g (unsigned_abs x) h (omega arith), (ap unsigned_abs (sym e) ∙ (unsigned_abs-mul (pos g) x)))
 
 -- the numbers of a row over n columns and w places are below 2^63, place by place
 record Places (n w : ℕ) (r : Row) : Type 0 where
@@ -91,9 +85,8 @@ record Places (n w : ℕ) (r : Row) : Type 0 where
 divided_short : (n w : ℕ) (r : Row) → pos 1 ≤ℤ r.den → length r.coefs ≡ n → length r.constant ≡ w + 1 → Places n w r → IsShortRow (divided r)
 divided_short n w r h coefs places short =
     let u = undivided r h in
-    let den_is = smaller u.by (divided r).den r.den u.positive (ap (λ (s : Row). s.den) u.is) in
     record {
-      den = omega (arith, den_is, short.den);
+      den = omega (arith, (smaller u.by (divided r).den r.den u.positive (ap (λ (s : Row). s.den) u.is)), short.den);
       coefs = all_short (divided r).coefs (λ k lt.
           omega (
             arith,
@@ -124,9 +117,8 @@ short_by_form n w m L basis f e some h =
 -- ---- the listed numbers of a pivot
 
 short_take : (n k : ℕ) (rows : List Row) → AllShort n rows → AllShort n (take k rows)
-short_take n zero rows h = tt
-short_take n (suc k) [] h = tt
 short_take n (suc k) (r ∷ rows) h = (h.0, h.1, short_take n k rows h.2)
+short_take n _ _ h = tt
 
 short_drop : (n k : ℕ) (rows : List Row) → AllShort n rows → AllShort n (drop k rows)
 short_drop n zero rows h = h

@@ -109,8 +109,7 @@ module _ (n w : ℕ) (basis : List Row) (L : ℤ) (m : ℕ) (numbers : List ℤ)
 all_forms : (n w : ℕ) (forms : List (List ℤ)) → All (λ f. length f ≡ n + w + 1) forms → AllForms n w forms
 all_forms n w [] h = tt
 all_forms n w (f ∷ forms) h =
-    let one : length f ≡ n + w + 1 = h 0 [] (omega arith) in
-    (omega (arith, one), all_forms n w forms (all_behind (λ g. length g ≡ n + w + 1) f forms h))
+    (omega (arith, (h 0 [] (omega arith))), all_forms n w forms (all_behind (λ g. length g ≡ n + w + 1) f forms h))
 
 pub start_read : (n w : ℕ) (basis : List Row) (L : ℤ) (m : ℕ) (numbers : List ℤ) (forms : List (List ℤ)) → basis ≡ start n w [] → IsBasis n w basis L m numbers
     → All (λ f. length f ≡ n + w + 1) forms → basis ++ map (by_form n w L basis) forms ≡ start n w forms

@@ -11,8 +11,7 @@ use Rattle.headline.proofs.RightTrees.{restricted_right, restrict_end, same_righ
 pub record IsLawful (w : Way) (bytes : List ℕ) : Type 1 where
   pub IsItem : w.Item → Type 0
   pub last_place : ℕ
-  pub reads : (place : ℕ) → place ≤ last_place
-      → IfOk (w.item_at bytes place) (λ r. IfSome r (IsRead last_place place IsItem))
+  pub reads : (place : ℕ) → place ≤ last_place → IfOk (w.item_at bytes place) (λ r. IfSome r (IsRead last_place place IsItem))
   pub text_right : w.MayBeAsked bytes → (x : w.Item) → IsItem x → (t : List ℕ) → w.text_of x ≡ Ok t → w.IsRightText x t
   pub end_right : w.MayBeAsked bytes → (x : w.Item) → IsItem x → (e : Ending) → w.text_of x ≡ Err e → w.IsRightEnd x e
 

@@ -1,5 +1,5 @@
 -- The value of an answer that is read can be printed as an answer over no parameters.
-use Rattle.headline.proofs.Words.{◌≡◌, subst, refl, arith, ℕ, ◌+◌, ◌≤◌, ℤ, pos, ◌*ℤ◌, ◌+ℤ◌, ◌<ℤ◌, true, Option, Some, None, List, [], ◌∷◌, ◌++◌, IfSome, int_le, nat_le, map, flat_map, if◌then◌else◌, AllByRecursion, list_all, most_components, all_fit, dot_listed, value_listed, fits, is_nonneg, floor_div, gcd, gcd_of, same_number, dot, value, Tree, Bottom, Leaf, If, NewParm, Component, reduced, component_value, Ratio, Answer, Void, Solved, tree_value, is_scoped, is_component, is_form, Row, value_tree, tree_value_listed, answer_at, answer_at_listed, IsCommentedAnswer, IsPrintableAnswer, component_fits, tree_fits, fit_head, fit_parts, fits-floor, var, num, ◌⊕◌, ring, both, three, both_true, all_three, all_passed, one_at_least, one_le, same_number_yes, component-is, leb-true, le-leb, cases_Bool, inl, inr}
+use Rattle.headline.proofs.Words.{◌≡◌, subst, refl, arith, ℕ, ◌+◌, ◌≤◌, ℤ, pos, ◌*ℤ◌, ◌+ℤ◌, ◌<ℤ◌, true, Option, Some, None, List, [], ◌∷◌, ◌++◌, IfSome, int_le, nat_le, map, flat_map, if◌then◌else◌, AllByRecursion, list_all, most_components, all_fit, dot_listed, value_listed, fits, is_nonneg, floor_div, gcd, gcd_of, same_number, dot, value, Tree, Bottom, Leaf, If, NewParm, Component, reduced, component_value, Ratio, Answer, Void, Solved, tree_value, is_scoped, is_component, is_form, value_tree, tree_value_listed, answer_at, answer_at_listed, IsCommentedAnswer, IsPrintableAnswer, component_fits, tree_fits, fit_head, fit_parts, fits-floor, var, num, ◌⊕◌, ring, both, three, both_true, all_three, all_passed, one_at_least, one_le, same_number_yes, component-is, leb-true, le-leb, cases_Bool, inl, inr}
 use Rattle.std.proofs.lemmas.List.{length-map}
 use Rattle.std.specs.Prelude.{length}
 
@@ -66,8 +66,7 @@ one f = reduced f.den (f.num ∷ [])
 
 one-scoped : (f : Ratio) → IsGood f → is_component 0 (one f) ≡ true
 one-scoped f h =
-    let R : Row = record { den = f.den; coefs = []; constant = f.num ∷ [] } in
-    let is = component-is R h.positive in
+    let is = component-is (record { den = f.den; coefs = []; constant = f.num ∷ [] }) h.positive in
     all_three (int_le (pos 1) (one f).den) (is_form 0 (one f).form) (same_number (gcd (one f).den (gcd_of (one f).form)) (pos 1)) (one_le (one f).den is.positive) refl (same_number_yes _ _ is.lowest)
 
 one-fits : (f : Ratio) → IsGood f → component_fits (one f) ≡ true

@@ -1,19 +1,14 @@
 -- From the forms of one goal of a list to those of the next.
-use Rattle.leaf_check.proofs.Words.{subst, Option, option_copied, Ok, Err, Result, OnOk, case_of, ap₂, ◌≡◌, refl, ap, sym, ◌∙◌, ℕ, zero, suc, ◌+◌, ◌-◌, ◌<◌, ℤ, pos, List, [], ◌∷◌, ◌++◌, length, take, drop, get_or, append_assoc, arith, inl, inr, slice_index_or, Some, length-append, length-take, take_at, take-take, get_or_append_left, get_or-append_right, get_or-map, constant, Problem, Component, LeafCase, Premises, leaf_premises, unknown_forms, row_premises, sign_premises, least_premises, not_above, smaller_from, KnownForms, nothing, without_last}
+use Rattle.leaf_check.proofs.Words.{subst, Option, option_copied, Ok, Err, Result, OnOk, case_of, ap₂, ◌≡◌, refl, ap, sym, ◌∙◌, ℕ, zero, suc, ◌+◌, ◌-◌, ◌<◌, ℤ, pos, List, [], ◌∷◌, ◌++◌, length, take, drop, get_or, append_assoc, arith, inl, inr, slice_index_or, Some, length-append, length-take, take_at, take-take, get_or_append_left, get_or-append_right, get_or-map, constant, Problem, Component, LeafCase, Premises, leaf_premises, unknown_forms, row_premises, sign_premises, least_premises, not_above, smaller_from, KnownForms, nothing, without_last, add-one, AreMore, own_forms, staying, take-append-drop}
 use Rattle.std.proofs.Math.Seq.{take-append-add, drop-append_seam}
-use Rattle.std.proofs.Common.{add-one}
-use Rattle.leaf_check.specs.Turned.{AreMore, own_forms, staying}
 use Rattle.leaf_check.specs.declared.leaf.Leaf.{Leaf}
 use Rattle.std.proofs.lemmas.Bool.{cases_lt}
-use Rattle.std.proofs.lemmas.List.{take-append-drop}
 use Rattle.leaf_check.proofs.Owned.{rows, signs, lasts, length-rows, length-both, own_least}
 use Rattle.leaf_check.proofs.Smaller.{length-smaller_from}
 
 -- behind these forms stands one
 pub without_one : (F xs : List (List ℤ)) → length xs ≡ 1 → without_last (F ++ xs) ≡ F
-without_one F xs h =
-    let e : length (F ++ xs) - 1 ≡ length F = omega (arith, length-append F xs, h) in
-    ap (λ (k : ℕ). take k (F ++ xs)) e ∙ take_at F xs (length F) refl
+without_one F xs h = ap (λ (k : ℕ). take k (F ++ xs)) (omega (arith, length-append F xs, h)) ∙ take_at F xs (length F) refl
 
 -- forms put behind others are what comes behind these
 pub more_if_ok : {X E : Type 0} (l : Leaf) (r : ℕ) (result : Result X E) (old new : KnownForms) (more : List (List ℤ)) → OnOk result (new ≡ record old { forms = old.forms ++ more }) → AreMore l r more
@@ -73,11 +68,10 @@ least_next F U all place cs before n long is =
     let B = smaller_from all place before in
     let S = smaller_from all place cs in
     let size : length (smaller_from all place before) ≡ n + 1 = length-smaller_from all place before ∙ ap length is ∙ simp length-take (omega (arith, long)) in
-    let last : length ((F ++ U) ++ smaller_from all place before) - 1 ≡ length (F ++ U) + n = simp length-append (omega (arith, size)) in
     let more : n + 1 ≡ suc n = omega arith in
     let same = ap (λ (ds : List Component). take n (smaller_from all place ds)) (is ∙ ap (λ (k : ℕ). take k cs) more) ∙ front_smaller all place cs n in
     ap (λ (xs : List (List ℤ)). without_last xs ++ drop n S) (sym (append_assoc F U B))
-    ∙ ap (λ (k : ℕ). take k ((F ++ U) ++ B) ++ drop n S) last
+    ∙ ap (λ (k : ℕ). take k ((F ++ U) ++ B) ++ drop n S) (simp length-append (omega (arith, size)))
     ∙ ap (λ (xs : List (List ℤ)). xs ++ drop n S) (take-append-add (F ++ U) B n ∙ ap (λ (xs : List (List ℤ)). (F ++ U) ++ xs) same)
     ∙ append_assoc (F ++ U) (take n S) (drop n S)
     ∙ ap (λ (xs : List (List ℤ)). (F ++ U) ++ xs) (take-append-drop n S)
@@ -94,9 +88,7 @@ module _ (P : Problem) (L : LeafCase) (cs front : List Component) (r i : ℕ) (i
   own_now = own_least P L cs r i before is (omega (arith, h)) refl
 
   own_next : slice_index_or (leaf_premises P L (Some cs)) (r + 1) nothing ≡ least_premises P L front
-  own_next =
-      let e : i + 2 ≡ i + 1 + 1 = omega arith in
-      own_least P L cs (r + 1) (i + 1) front (omega (arith, is)) h (split ∙ ap (λ (k : ℕ). take k cs) e)
+  own_next = own_least P L cs (r + 1) (i + 1) front (omega (arith, is)) h (split ∙ ap (λ (k : ℕ). take k cs) (omega arith))
 
   size : length front ≡ i + 2
   size = ap length split ∙ simp length-take (omega (arith, h))

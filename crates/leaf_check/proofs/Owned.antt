@@ -1,7 +1,6 @@
 -- What each refutation of a leaf starts from beside the leaf's forms.
-use Rattle.leaf_check.proofs.Words.{◌≡◌, refl, ap, sym, ◌∙◌, ℕ, zero, suc, ◌+◌, ◌-◌, ◌<◌, pos, List, [], ◌∷◌, ◌++◌, length, take, map, get_or, append_assoc, arith, eqb-true, Bool, true, false, ◌&&◌, Err, slice_index_or, Option, Some, None, ◌==◌, length-map, length-append, get_or-append_right, get_or-map, same_number, Problem, Component, ◌>>◌, LeafProofs, spot, Rejected, Checks, holds, check_leaf, Premises, LeafCase, leaf_premises, row_premises, sign_premises, least_premises, fronts_from, is_whole_list, nothing, goal_count, has_shape}
+use Rattle.leaf_check.proofs.Words.{◌≡◌, refl, ap, sym, ◌∙◌, ℕ, zero, suc, ◌+◌, ◌-◌, ◌<◌, pos, List, [], ◌∷◌, ◌++◌, length, take, map, get_or, append_assoc, arith, eqb-true, Bool, true, false, ◌&&◌, Err, slice_index_or, Option, Some, None, ◌==◌, length-map, length-append, get_or-append_right, get_or-map, same_number, Problem, Component, ◌>>◌, LeafProofs, spot, Rejected, Checks, holds, check_leaf, Premises, LeafCase, leaf_premises, row_premises, sign_premises, least_premises, fronts_from, is_whole_list, nothing, goal_count, has_shape, list_all}
 use Rattle.std.proofs.Common.{IsTrue}
-use Rattle.std.specs.List.{list_all}
 use Rattle.pip_model.proofs.Tests.{both}
 
 pub length-fronts : (front cs : List Component) → length (fronts_from front cs) ≡ length cs
@@ -69,8 +68,7 @@ own_goals P L (Some cs) = length-own P L cs
 module _ (P : Problem) (shares : Bool) (l : ℕ) (L : LeafCase) (p : LeafProofs) where
   shapeless : (b c : Bool) (rest : Checks (Unit {0})) → (b && c) ≡ false → (holds (spot l 0 0) b >> (holds (spot l 0 0) c >> rest)) ≡ Err (Rejected (spot l 0 0))
   shapeless true true rest e = cc
-  shapeless true false rest e = refl
-  shapeless false c rest e = refl
+  shapeless _ _ rest e = refl
 
   shape_same : (is_whole_list P.unknowns L.list && (length p.refutations == length (leaf_premises P L L.list))) ≡ has_shape P L.list p
   shape_same = ap (λ (n : ℕ). is_whole_list P.unknowns L.list && (length p.refutations == n)) (own_goals P L L.list)

@@ -1,5 +1,5 @@
 -- A refutation and the numbers of its starting forms.
-use Rattle.leaf_check.proofs.Words.{◌≡◌, refl, ap, ap₂, sym, ◌∙◌, ℕ, ◌+◌, ◌<◌, ℤ, List, [], ◌∷◌, ◌++◌, length, take, drop, map, get_or, arith, Ok, Err, length-append, length-map, take-take, take_at, drop_more, get_or-map, Option, Some, None, IfSome, ◌>>◌, Refutation, CheckFault, Checks, Premises, joined, check_refutation, check_refutations, nothing}
+use Rattle.leaf_check.proofs.Words.{◌≡◌, refl, ap, ap₂, ◌∙◌, ℕ, ◌+◌, ◌<◌, ℤ, List, [], ◌∷◌, length, drop, map, get_or, arith, Ok, Err, length-map, drop_more, get_or-map, Option, Some, None, IfSome, ◌>>◌, Refutation, CheckFault, Checks, Premises, joined, check_refutation, check_refutations, nothing}
 
 abbrev pub bare : List (List ℤ) → Premises
 bare known = record { known = known; listed = [] }
@@ -11,14 +11,6 @@ then_rest (Err f) rest e = cc
 then_stop : (first rest : Checks (Unit {0})) (f : CheckFault) → first ≡ Err f → (first >> rest) ≡ Err f
 then_stop (Ok x) rest f e = cc
 then_stop (Err g) rest f e = e
-
--- the first forms stay
-pub front_kept : (old own now joint : List (List ℤ)) → joint ≡ old ++ own → take (length joint) now ≡ joint → take (length old) now ≡ old
-front_kept old own now joint e h =
-    let long : length joint ≡ length old + length own = ap length e ∙ length-append old own in
-    sym (take-take (length old) (length joint) now (omega arith))
-    ∙ ap (take (length old)) (h ∙ e)
-    ∙ take_at old own (length old) refl
 
 -- ---- the refutations, one after another
 

@@ -33,8 +33,7 @@ put_end sum row cs i h = ap (put_in sum (drop i row)) (drop_all i cs h) ∙ no_c
 
 pub put_listed_end : (sum first row : List ℤ) (cs : List Component) (i : ℕ) → length cs ≤ i → all_fit (put_in_listed sum (drop i row) (drop i cs)) ≡ all_fit (put_in_listed first row cs) → IsTrue (all_fit (put_in_listed first row cs))
 put_listed_end sum first row cs i h e =
-    let none : put_in_listed sum (drop i row) (drop i cs) ≡ [] = ap (put_in_listed sum (drop i row)) (drop_all i cs h) ∙ no_numbers sum (drop i row) in
-    sym e ∙ ap all_fit none
+    sym e ∙ ap all_fit (ap (put_in_listed sum (drop i row)) (drop_all i cs h) ∙ no_numbers sum (drop i row))
 
 -- ---- a smaller point
 
@@ -42,9 +41,8 @@ turned_back : (x u : ℤ) → neg_ℤ (neg_ℤ x +ℤ u) ≡ x +ℤ neg_ℤ u
 turned_back x u = omega (arith, ints)
 
 difference : (xs us : List ℤ) → negate (add (negate xs) us) ≡ add xs (negate us)
-difference [] us = refl
-difference (x ∷ xs) [] = refl
 difference (x ∷ xs) (u ∷ us) = rw (turned_back x u, difference xs us) refl
+difference _ _ = refl
 
 pub not_above_is : (w q : ℕ) (c : Component) → lower_bound w q (record { form = c.form; den = pos 1 }) ≡ not_above w q c
 not_above_is w q c = difference (widen_to w c.form) (unit_form w q (pos 1)) ∙ ap (add (widen_to w c.form)) (negate_unit w q (pos 1))
@@ -78,9 +76,8 @@ below_listed w q c h k =
     ap (λ (z : ℤ). z ∷ []) (constant-opposite r (omega arith) ∙ ap constant (below_is w q c))
 
 pub length-smaller_from : (all place : ℕ) (cs : List Component) → length (smaller_from all place cs) ≡ length cs
-length-smaller_from all place [] = refl
-length-smaller_from all place (c ∷ []) = refl
 length-smaller_from all place (c ∷ e ∷ cs) = ap suc (length-smaller_from all (place + 1) (e ∷ cs))
+length-smaller_from all place _ = refl
 
 -- the goal's forms from one on, which is the last or not
 smaller_more : (all place : ℕ) (cs : List Component) (i : ℕ) (d : Component) → i + 1 < length cs → drop i (smaller_from all place cs) ≡ not_above all (place + i) (get_or cs i d) ∷ drop (i + 1) (smaller_from all place cs)
@@ -93,11 +90,9 @@ smaller_more all place (c ∷ e ∷ cs) (suc i) d h =
     rw (next, at) (smaller_more all (place + 1) (e ∷ cs) i d (omega arith))
 
 smaller_last : (all place : ℕ) (cs : List Component) (i : ℕ) (d : Component) → length cs ≡ i + 1 → drop i (smaller_from all place cs) ≡ plus (not_above all (place + i) (get_or cs i d)) (negsuc 0) ∷ []
-smaller_last all place [] i d h = absurd (omega arith)
 smaller_last all place (c ∷ []) zero d h = let here : place + 0 ≡ place = omega arith in rw here refl
-smaller_last all place (c ∷ []) (suc i) d h = absurd (omega arith)
-smaller_last all place (c ∷ e ∷ cs) zero d h = absurd (omega arith)
 smaller_last all place (c ∷ e ∷ cs) (suc i) d h = let at : place + suc i ≡ place + 1 + i = omega arith in rw at (smaller_last all (place + 1) (e ∷ cs) i d (omega arith))
+smaller_last all place _ _ d h = absurd (omega arith)
 
 module _ (all place : ℕ) (cs : List Component) (i : ℕ) (d : Component) where
   pub last_smaller : length cs ≡ i + 1 → (e : List ℤ) → slice_index_or (smaller_from all place cs) (length (smaller_from all place cs) - 1) e ≡ plus (not_above all (place + i) (get_or cs i d)) (negsuc 0)

@@ -1,12 +1,6 @@
 -- The last form of a refutation, the steps before it, and forms read over all places.
-use Rattle.leaf_check.proofs.Words.{replicate, length-map, get_or-map, coefficients, constant, widen_to, ◌≡◌, refl, ap, ap₂, sym, ◌∙◌, ℕ, suc, ◌+◌, ◌-◌, ◌<◌, ℤ, List, [], ◌∷◌, ◌++◌, length, Bool, Ok, Err, Option, Some, None, IfSome, All, arith, length-append, take, drop, get_or, pos, drop_more, drop_all, slice_index_or, ◌>>=◌, Step, CheckFault, Checks, spot, holds, after_step, after_steps, check_refutation, is_absurd, ends_absurd}
-use Rattle.std.proofs.lemmas.List.{take-append-drop, map-append}
-use Rattle.std.specs.List.{take-map}
-use Rattle.derivation_steps.proofs.Spreading.{spread_absurd}
+use Rattle.leaf_check.proofs.Words.{replicate, length-map, get_or-map, coefficients, constant, widen_to, ◌≡◌, refl, ap, ap₂, sym, ◌∙◌, ℕ, suc, ◌+◌, ◌-◌, ◌<◌, ℤ, List, [], ◌∷◌, ◌++◌, length, Bool, Ok, Err, Option, Some, None, IfSome, All, arith, length-append, take, drop, get_or, pos, drop_more, drop_all, slice_index_or, ◌>>=◌, Step, CheckFault, Checks, spot, holds, after_step, after_steps, check_refutation, is_absurd, ends_absurd, take-append-drop, map-append, take-map, spread_absurd, widen_same, length-coefficients, read_over, absurd_after, absurd_by}
 use Rattle.std.proofs.lemmas.List.Elements.{All-head, All-tail}
-use Rattle.pip_model.proofs.Forms.{widen_same, length-coefficients}
-use Rattle.derivation_steps.specs.Steps.{read_over, absurd_after}
-use Rattle.leaf_check.specs.Known.{absurd_by}
 
 pub last_absurd : (known : List (List ℤ)) (d : List ℤ) → 0 < length known → is_absurd (slice_index_or known (length known - 1) d) ≡ ends_absurd known
 last_absurd [] d h = absurd (omega arith)
@@ -58,8 +52,7 @@ module _ (l r w : ℕ) (s : Step) where
   steps_split : (i : ℕ) (known : List (List ℤ)) (front : List Step)
       → after_steps l r i w known (front ++ s ∷ []) ≡ (after_steps l r i w known front >>= (λ (now : List (List ℤ)). after_step (spot l r (i + length front + 1)) w now s))
   steps_split i known [] =
-      let at : i + 1 ≡ i + 0 + 1 = omega arith in
-      bound_ok (after_step (spot l r (i + 1)) w known s) ∙ ap (λ (n : ℕ). after_step (spot l r n) w known s) at
+      bound_ok (after_step (spot l r (i + 1)) w known s) ∙ ap (λ (n : ℕ). after_step (spot l r n) w known s) (omega arith)
   steps_split i known (t ∷ front) =
       let at : i + 1 + length front + 1 ≡ i + suc (length front) + 1 = omega arith in
       bound_same (after_step (spot l r (i + 1)) w known t) (λ (now : List (List ℤ)). after_steps l r (i + 1) w now (front ++ s ∷ []))
@@ -84,14 +77,11 @@ module _ (steps front : List Step) (some : 0 < length steps) (is_front : front �
       ∙ ap (λ (rest : List Step). get_or steps (length steps - 1) d ∷ rest) (drop_all (length steps - 1 + 1) steps (omega (arith, some)))
 
   pub split_last : (d : Step) → steps ≡ front ++ get_or steps (length steps - 1) d ∷ []
-  split_last d =
-      sym (take-append-drop (length steps - 1) steps)
-      ∙ ap₂ (λ (x y : List Step). x ++ y) (sym is_front) (last_one d)
+  split_last d = sym (take-append-drop (length steps - 1) steps) ∙ ap₂ (λ (x y : List Step). x ++ y) (sym is_front) (last_one d)
 
   pub split_at_last : (back : List Step) (s : Step) → back ≡ drop (length steps - 1) steps → s ≡ get_or back 0 s → steps ≡ front ++ s ∷ []
   split_at_last back s b e =
-      let last : s ≡ get_or steps (length steps - 1) s = e ∙ ap (λ (l : List Step). get_or l 0 s) (b ∙ last_one s) in
-      split_last s ∙ ap (λ (t : Step). front ++ t ∷ []) (sym last)
+      split_last s ∙ ap (λ (t : Step). front ++ t ∷ []) (sym (e ∙ ap (λ (l : List Step). get_or l 0 s) (b ∙ last_one s)))
 
 then_refused : {A B : Type 0} (o : Option CheckFault) (x : Checks A) (a : A) (f : A → Checks B) (y : Checks B) → y ≡ (x >>= f) → x ≡ Ok a → IfSome o (λ e. f a ≡ Err e) → IfSome o (λ e. y ≡ Err e)
 then_refused None x a f y is made h = tt
@@ -136,7 +126,3 @@ module _ (l r w : ℕ) (known : List (List ℤ)) (steps : List Step) where
 
   pub refuted_by : (b : Bool) → absurd_by l r w known steps ≡ Ok b → by ≡ holds (spot l r (length steps)) b
   refuted_by b h = decided (after_steps l r 0 w known steps) b h
-
-  pub not_refuted : (o : Option CheckFault) → IfSome o (λ f. absurd_by l r w known steps ≡ Err f) → IfSome o (λ f. by ≡ Err f)
-  not_refuted None h = tt
-  not_refuted (Some f) h = failed (after_steps l r 0 w known steps) f h

@@ -1,7 +1,5 @@
 -- Steps of the choice among the candidates.
-use Rattle.row_laws.proofs.Words.{◌≡◌, refl, ap, ◌∙◌, ℕ, suc, ◌+◌, ◌-◌, ◌<◌, Bool, true, false, ◌&&◌, Option, Some, None, List, ◌∷◌, length, arith, IsTrue, IsFalse, fits, is_positive, all_fit, Row, count_from, better, better_listed, choice, choice_listed, candidates_from, compared}
-use Rattle.std.proofs.lemmas.List.Folds.{list_all-append}
-use Rattle.pip_model.specs.Forms.{entry}
+use Rattle.row_laws.proofs.Words.{◌≡◌, refl, ap, ◌∙◌, ℕ, suc, ◌+◌, ◌-◌, ◌<◌, Bool, true, false, ◌&&◌, Option, Some, None, List, ◌∷◌, length, arith, IsTrue, IsFalse, fits, is_positive, all_fit, Row, count_from, better, better_listed, choice, choice_listed, candidates_from, compared, list_all-append, entry}
 
 count_more : (k n : ℕ) → k < n → count_from k (n - k) ≡ k ∷ count_from (k + 1) (n - (k + 1))
 count_more k n h = let e : n - k ≡ suc (n - (k + 1)) = omega arith in rw e refl

@@ -1,13 +1,10 @@
 -- A row with another put in, in place.
-use Rattle.row_laws.proofs.Words.{◌≡◌, refl, ap, sym, subst, ◌∙◌, ℕ, ◌+◌, ◌^◌, ◌<◌, ◌≤◌, ℤ, pos, ◌-ℤ◌, ◌*ℤ◌, ◌&&◌, Bool, true, false, List, [], ◌∷◌, ◌++◌, length, take, drop, get_or, set, append_assoc, arith, unsigned_abs, IsTrue, All, slice_set, list_all, ltb-true, lt-ltb, drop_more, take_more, set_at, get_or_at, length-take, take_all, drop_all, append-nil, length-combine, both, fits, combine, remove, all_fit, combine_listed, product_fits, short_fits, Fits, listed_at, is_short, ints, All-push}
+use Rattle.row_laws.proofs.Words.{◌≡◌, refl, ap, sym, subst, ◌∙◌, ℕ, ◌+◌, ◌^◌, ◌<◌, ◌≤◌, ℤ, pos, ◌-ℤ◌, ◌*ℤ◌, ◌&&◌, Bool, true, List, [], ◌∷◌, ◌++◌, length, take, drop, get_or, set, append_assoc, arith, unsigned_abs, IsTrue, All, slice_set, list_all, ltb-true, lt-ltb, drop_more, take_more, set_at, get_or_at, length-take, take_all, drop_all, append-nil, length-combine, both, fits, combine, remove, all_fit, combine_listed, product_fits, short_fits, Fits, listed_at, is_short, ints}
 use Rattle.row_laws.proofs.Places.{listed_but, remove_parts, set_combine}
 use Rattle.row_laws.proofs.Unchanged.{set-same}
 
 pub short_bound : (z : ℤ) → IsTrue (is_short z) → unsigned_abs z < 2 ^ 63
 short_bound z e = ltb-true (unsigned_abs z) (2 ^ 63) e
-
-difference_bound : (x y : ℤ) → unsigned_abs x < 2 ^ 126 → unsigned_abs y < 2 ^ 126 → unsigned_abs (x -ℤ y) < 2 ^ 127
-difference_bound x y h k = grind arith
 
 short_three : (a x b y : ℤ) → IsTrue (is_short a) → IsTrue (is_short x) → IsTrue (is_short b) → IsTrue (is_short y)
     → Fits (a *ℤ x) × Fits (b *ℤ y) × Fits (a *ℤ x -ℤ b *ℤ y)
@@ -16,7 +13,7 @@ short_three a x b y ha hx hb hy =
     let pb = product_fits b y (short_bound b hb) (short_bound y hy) in (
       short_fits a x (short_bound a ha) (short_bound x hx),
       short_fits b y (short_bound b hb) (short_bound y hy),
-      lt-ltb (unsigned_abs (a *ℤ x -ℤ b *ℤ y)) (2 ^ 127) (difference_bound (a *ℤ x) (b *ℤ y) pa pb),
+      lt-ltb (unsigned_abs (a *ℤ x -ℤ b *ℤ y)) (2 ^ 127) (grind arith),
     )
 
 -- short numbers make numbers that fit
@@ -38,9 +35,8 @@ combined a r b s i = combine a (take i r) b (take i s) ++ drop i r
 
 combine_append : (a b : ℤ) (r s more rest : List ℤ) → length r ≡ length s → combine a (r ++ more) b (s ++ rest) ≡ combine a r b s ++ combine a more b rest
 combine_append a b [] [] more rest e = refl
-combine_append a b [] (y ∷ s) more rest e = absurd (omega arith)
-combine_append a b (x ∷ r) [] more rest e = absurd (omega arith)
 combine_append a b (x ∷ r) (y ∷ s) more rest e = rw (combine_append a b r s more rest (omega arith)) refl
+combine_append a b _ _ more rest e = absurd (omega arith)
 
 module _ (a b : ℤ) (r s : List ℤ) (same : length r ≡ length s) (i : ℕ) (h : i < length r) where
   front_lengths : length (take i r) ≡ length (take i s)
@@ -61,23 +57,12 @@ module _ (a b : ℤ) (r s : List ℤ) (same : length r ≡ length s) (i : ℕ) (
       rw (take_more r i (pos 0) h, take_more s i (pos 0) (omega arith))
       (combine_append a b (take i r) (take i s) (get_or r i (pos 0) ∷ []) (get_or s i (pos 0) ∷ []) front_lengths)
 
-  -- one more of them
-  pub made_taken : (P : ℤ → Type 0) (z : ℤ) → z ≡ a *ℤ get_or r i (pos 0) -ℤ b *ℤ get_or s i (pos 0) → P z → All P (combine a (take i r) b (take i s))
-      → All P (combine a (take (i + 1) r) b (take (i + 1) s))
-  made_taken P z e one all = subst (All P) (sym combine_more) (All-push P _ _ all (subst P e one))
-
-  pub made_step : (old now made : List ℤ) (z : ℤ) → z ≡ a *ℤ get_or r i (pos 0) -ℤ b *ℤ get_or s i (pos 0) → now ≡ old ++ combine a (take i r) b (take i s)
-      → made ≡ now ++ z ∷ [] → made ≡ old ++ combine a (take (i + 1) r) b (take (i + 1) s)
-  made_step old now made z e f g =
-      rw (g, f, e, combine_more) (append_assoc old (combine a (take i r) b (take i s)) ((a *ℤ get_or r i (pos 0) -ℤ b *ℤ get_or s i (pos 0)) ∷ []))
-
   pub combined_step : (now : List ℤ) (z : ℤ) → now ≡ combined a r b s i → z ≡ a *ℤ get_or now i (pos 0) -ℤ b *ℤ get_or s i (pos 0)
       → set now i z ≡ combined a r b s (i + 1)
   combined_step now z e g =
       let read : get_or now i (pos 0) ≡ get_or r i (pos 0) = rw e combined_read in
       let front = combine a (take i r) b (take i s) in
-      let z_is : z ≡ a *ℤ get_or r i (pos 0) -ℤ b *ℤ get_or s i (pos 0) = g ∙ ap (λ x. a *ℤ x -ℤ b *ℤ get_or s i (pos 0)) read in
-      rw (z_is, e, combine_more)
+      rw ((g ∙ ap (λ x. a *ℤ x -ℤ b *ℤ get_or s i (pos 0)) read), e, combine_more)
       (ap (λ (xs : List ℤ). set (front ++ xs) i (a *ℤ get_or r i (pos 0) -ℤ b *ℤ get_or s i (pos 0))) (drop_more r i (pos 0) h)
       ∙ set_at front (get_or r i (pos 0)) (drop (i + 1) r) (a *ℤ get_or r i (pos 0) -ℤ b *ℤ get_or s i (pos 0)) i front_length
       ∙ sym (append_assoc front ((a *ℤ get_or r i (pos 0) -ℤ b *ℤ get_or s i (pos 0)) ∷ []) (drop (i + 1) r)))
@@ -99,9 +84,7 @@ module _ (a b : ℤ) (r s : List ℤ) (same : length r ≡ length s) (i : ℕ) (
     where
       split : (p q d t : Bool) → IsTrue (p && (q && (d && t))) → IsTrue (p && (q && (d && true))) × IsTrue t
       split true true true t e = (refl, e)
-      split true true false t e = absurd cc
-      split true false d t e = absurd cc
-      split false q d t e = absurd cc
+      split _ _ _ t e = absurd cc
 
   -- the numbers of this entry fit, and those behind it
   pub listed_now : (now : List ℤ) → now ≡ combined a r b s i → IsTrue (all_fit (combine_listed a (drop i r) b (drop i s)))
@@ -116,16 +99,6 @@ module _ (a b : ℤ) (r s : List ℤ) (same : length r ≡ length s) (i : ℕ) (
 pub combined_all : (a b : ℤ) (r s : List ℤ) (i : ℕ) → length r ≡ length s → length r ≤ i → combined a r b s i ≡ combine a r b s
 combined_all a b r s i same h = rw (take_all i r h, take_all i s (omega arith), drop_all i r h) (append-nil (combine a r b s))
 
-pub combine_taken : (a b : ℤ) (r s : List ℤ) (i : ℕ) → length r ≡ length s → length r ≤ i → combine a (take i r) b (take i s) ≡ combine a r b s
-combine_taken a b r s i same h = rw (take_all i r h, take_all i s (omega arith)) refl
-
--- a fact of all entries, whose factors x and y are a and b
-pub combine_whole : (P : List ℤ → Type 0) (a b x y : ℤ) (r s : List ℤ) (i : ℕ) → length r ≡ length s → length r ≤ i → x ≡ a → y ≡ b
-    → P (combine x (take i r) y (take i s)) → P (combine a r b s)
-combine_whole P a b x y r s i same h e f all =
-    subst P (combine_taken a b r s i same h)
-    (subst (λ z. P (combine z (take i r) b (take i s))) e (subst (λ z. P (combine x (take i r) z (take i s))) f all))
-
 -- the numbers in front of a place and behind it
 pub listed_sides : (a b : ℤ) (r s : List ℤ) (c : ℕ) → length r ≡ length s → IsTrue (all_fit (combine_listed a (remove c r) b (remove c s)))
     → IsTrue (all_fit (combine_listed a (take c r) b (take c s))) × IsTrue (all_fit (combine_listed a (drop (c + 1) r) b (drop (c + 1) s)))
@@ -137,6 +110,5 @@ listed_sides a b r s c same e =
 pub set_sides : (a b e z : ℤ) (r s : List ℤ) (c : ℕ) (front at back : List ℤ) → length r ≡ length s → c < length s → length at ≡ 1
     → front ≡ combine a (take c r) b (take c s) → back ≡ combine a (drop (c + 1) r) b (drop (c + 1) s) → e ≡ z
     → front ++ (slice_set at 0 e ++ back) ≡ slice_set (combine a r b s) c z
-set_sides a b e z r s c front [] back same h one f g k = absurd (omega arith)
 set_sides a b e z r s c front (x ∷ []) back same h one f g k = rw (f, g, k) (set_combine a b z r s c same h)
-set_sides a b e z r s c front (x ∷ y ∷ at) back same h one f g k = absurd (omega arith)
+set_sides a b e z r s c front _ back same h one f g k = absurd (omega arith)

@@ -1,8 +1,5 @@
 -- Steps of a comparison of two columns, row by row.
-use Rattle.row_laws.proofs.Words.{◌≡◌, refl, ap, ◌∙◌, ℕ, ◌+◌, ◌<◌, ◌≤◌, ℤ, Bool, true, false, ◌&&◌, List, [], ◌∷◌, length, take, drop, arith, IsTrue, IsFalse, int_lt, if◌then◌else◌, fits, same_number, all_fit, Row, row_at, form_row, cross_products, up_to_difference, is_better, product_at, compared}
-use Rattle.pip_model.proofs.Tests.{same_number_no, same_number_yes}
-use Rattle.std.proofs.lemmas.List.{drop_more, length-take, get_or-take}
-use Rattle.std.proofs.lemmas.Int.{ints}
+use Rattle.row_laws.proofs.Words.{◌≡◌, refl, ap, ◌∙◌, ℕ, ◌+◌, ◌<◌, ◌≤◌, ℤ, Bool, true, false, ◌&&◌, List, [], ◌∷◌, length, take, drop, arith, IsTrue, IsFalse, int_lt, if◌then◌else◌, fits, same_number, all_fit, Row, row_at, form_row, cross_products, up_to_difference, is_better, product_at, compared, same_number_no, same_number_yes, drop_more, length-take, get_or-take, ints}
 use Rattle.pip_model.specs.Problem.{lex_less}
 
 -- ---- two lists of numbers

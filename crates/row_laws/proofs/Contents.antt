@@ -1,6 +1,5 @@
 -- The numbers of each row of a run have no common divisor: a divided row's, a row's of denominator 1, a widened row's.
-use Rattle.row_laws.proofs.Words.{◌≡◌, ◌∙◌, refl, ap, sym, ℕ, ◌+◌, ◌*◌, ◌<◌, ℤ, pos, negsuc, ◌≤ℤ◌, unsigned_abs, arith, List, [], ◌∷◌, ◌++◌, ints, floor_div, euclid, gcd, gcd_of, floor_divided, Row, divided, gcd-divides, gcd_of-divides, all_through, through, common-IsGcd, common-scaled, times-one, size-divided, size-gcd_of, gcd_one, gcd_zero, content, Multiple, AllByRecursion, gcd-greatest, gcd_of-greatest}
-use Rattle.std.proofs.Math.Nat.{pos_of_dvd_of_pos}
+use Rattle.row_laws.proofs.Words.{◌≡◌, ◌∙◌, refl, ap, sym, ℕ, ◌+◌, ◌*◌, ◌<◌, ℤ, pos, negsuc, ◌≤ℤ◌, unsigned_abs, arith, List, [], ◌∷◌, ◌++◌, ints, floor_div, euclid, gcd, gcd_of, floor_divided, Row, divided, gcd-divides, gcd_of-divides, all_through, through, common-IsGcd, common-scaled, times-one, size-divided, size-gcd_of, gcd_one, gcd_zero, content, Multiple, AllByRecursion, gcd-greatest, gcd_of-greatest, pos_of_dvd_of_pos}
 
 -- a row of denominator 1
 pub content-one : (r : Row) → r.den ≡ pos 1 → content r ≡ pos 1
@@ -29,17 +28,14 @@ content_by : (r : Row) (g : ℕ) → content r ≡ pos g → 0 < g
     → gcd (floor_div r.den (pos g)) (gcd (gcd_of (floor_divided (pos g) r.coefs)) (gcd_of (floor_divided (pos g) r.constant))) ≡ pos 1
 content_by r g is h =
     let parts = rw is at (content-divides r) in
-    let coefs = parts.1 in
-    let entries = parts.2 in
-    let size : euclid (unsigned_abs (gcd (gcd_of r.coefs) (gcd_of r.constant)) + 1) (unsigned_abs r.den) (unsigned_abs (gcd (gcd_of r.coefs) (gcd_of r.constant))) ≡ g = ap unsigned_abs is in
     let d = unsigned_abs (floor_div r.den (pos g)) in
     let a = unsigned_abs (gcd_of (floor_divided (pos g) r.coefs)) in
     let b = unsigned_abs (gcd_of (floor_divided (pos g) r.constant)) in
     let both : unsigned_abs (gcd (gcd_of r.coefs) (gcd_of r.constant)) ≡ g * euclid (b + 1) a b
-    = ap_two (λ x y. euclid (y + 1) x y) (size-gcd_of g r.coefs h coefs) (size-gcd_of g r.constant h entries) ∙ common-scaled g a b h in
+    = ap_two (λ x y. euclid (y + 1) x y) (size-gcd_of g r.coefs h parts.1) (size-gcd_of g r.constant h parts.2) ∙ common-scaled g a b h in
     let all : g * euclid (euclid (b + 1) a b + 1) d (euclid (b + 1) a b) ≡ g
     = sym (common-scaled g d (euclid (b + 1) a b) h)
-    ∙ sym (ap_two (λ x y. euclid (y + 1) x y) (size-divided g r.den h parts.0) both) ∙ size in
+    ∙ sym (ap_two (λ x y. euclid (y + 1) x y) (size-divided g r.den h parts.0) both) ∙ (ap unsigned_abs is) in
     ap pos (times-one g (euclid (euclid (b + 1) a b + 1) d (euclid (b + 1) a b)) h all)
   where
     ap_two : (f : ℕ → ℕ → ℕ) {x y u v : ℕ} → x ≡ y → u ≡ v → f x u ≡ f y v

@@ -1,11 +1,6 @@
 -- A row after a pivot, made by factors in lowest terms: where the numbers of both rows have no common divisor, its
 -- divisor divides both denominators.
-use Rattle.row_laws.proofs.Words.{◌≡◌, ◌∙◌, refl, ap, sym, subst, ℕ, zero, suc, ◌*◌, ◌<◌, ℤ, pos, negsuc, ◌≤ℤ◌, ◌-ℤ◌, ◌*ℤ◌, unsigned_abs, arith, List, [], ◌∷◌, length, AllByRecursion, ints, floor_div, floor_divided, gcd, gcd_of, entry, combine, scale, Row, divided, eliminated, floor-unique, Multiple, gcd-divides, through, all_through, common, common-IsGcd, common-scaled, times-one, size-divided, floor-exact, content, IsReduced, IsElimination, AreLowest, substituted_by}
-use Rattle.std.proofs.lemmas.List.{map-set}
-use Rattle.std.proofs.lemmas.Nat.Gcd.{dvd_antisymm}
-use Rattle.std.proofs.Math.Nat.{eq-one_of_dvd-one}
-use Rattle.pip_model.proofs.Gcd.{gcd_between, gcd-greatest, gcd_one, multiple-dvd}
-use Rattle.pip_model.proofs.Polynomials.{var, ◌⊖◌, ◌⊗◌, ring}
+use Rattle.row_laws.proofs.Words.{◌≡◌, ◌∙◌, refl, ap, sym, subst, ℕ, suc, ◌*◌, ◌<◌, ℤ, pos, negsuc, ◌≤ℤ◌, ◌-ℤ◌, ◌*ℤ◌, unsigned_abs, arith, List, [], ◌∷◌, length, AllByRecursion, ints, floor_div, floor_divided, gcd, gcd_of, entry, combine, scale, Row, divided, eliminated, floor-unique, Multiple, gcd-divides, through, all_through, common, common-IsGcd, common-scaled, times-one, size-divided, floor-exact, content, IsReduced, IsElimination, AreLowest, substituted_by, map-set, dvd_antisymm, eq-one_of_dvd-one, gcd_between, gcd-greatest, gcd_one, multiple-dvd, var, ◌⊖◌, ◌⊗◌, ring}
 use Rattle.pip_model.proofs.RingLaws.{*ℤ_assoc, *ℤ_left_comm}
 use Rattle.std.proofs.Math.IntN.{*ℤ_comm}
 use Rattle.row_laws.proofs.Contents.{content-divides, content-greatest}
@@ -20,8 +15,7 @@ lowest_by a b n is h =
     let parts = rw is at (gcd-divides a b) in
     let x = unsigned_abs (floor_div a (pos n)) in
     let y = unsigned_abs (floor_div b (pos n)) in
-    let size : common (unsigned_abs a) (unsigned_abs b) ≡ n = ap unsigned_abs is in
-    let scaled : common (n * x) (n * y) ≡ n = rw (size-divided n a h parts.0, size-divided n b h parts.1) at size in
+    let scaled : common (n * x) (n * y) ≡ n = rw (size-divided n a h parts.0, size-divided n b h parts.1) at (ap unsigned_abs is) in
     record {
       divisor = n;
       positive = h;
@@ -50,14 +44,12 @@ floor_cancel : (x k : ℕ) (z : ℤ) → 0 < x → 0 < k → Multiple (pos k) z 
 floor_cancel x k z hx hk m =
     let all : pos x *ℤ z ≡ pos (x * k) *ℤ m.times = ap (λ t. pos x *ℤ t) m.is ∙ sym (*ℤ_assoc (pos x) (pos k) m.times) in
     let some : 0 < x * k = times_positive x k hx hk in
-    let one : floor_div (pos x *ℤ z) (pos (x * k)) ≡ m.times = floor-unique (pos x *ℤ z) m.times (x * k) some (omega (arith, ints, all)) (omega (arith, ints, all, some)) in
     let two : floor_div z (pos k) ≡ m.times = floor-unique z m.times k hk (omega (arith, ints, m.is)) (omega (arith, ints, m.is, hk)) in
-    one ∙ sym two
+    (floor-unique (pos x *ℤ z) m.times (x * k) some (omega (arith, ints, all)) (omega (arith, ints, all, some))) ∙ sym two
   where
     times_positive : (x g : ℕ) → 0 < x → 0 < g → 0 < x * g
     times_positive (suc x) (suc g) h k = omega arith
-    times_positive zero g h k = absurd (omega arith)
-    times_positive (suc x) zero h k = absurd (omega arith)
+    times_positive _ _ h k = absurd (omega arith)
 
 floors_cancel : (x k : ℕ) (zs : List ℤ) → 0 < x → 0 < k → AllByRecursion (Multiple (pos k)) zs → floor_divided (pos x *ℤ pos k) (scale (pos x) zs) ≡ floor_divided (pos k) zs
 floors_cancel x k [] hx hk all = refl
@@ -78,12 +70,11 @@ divided-multiple x r hx h =
 -- ---- by factors in lowest terms the row is the same once it is divided
 
 scale_combine : (h x y : ℤ) (r s : List ℤ) → combine (h *ℤ x) r (h *ℤ y) s ≡ scale h (combine x r y s)
-scale_combine h x y [] s = refl
-scale_combine h x y (u ∷ r) [] = refl
 scale_combine h x y (u ∷ r) (v ∷ s) = rw (apart h x y u v, scale_combine h x y r s) refl
   where
     apart : (h x y u v : ℤ) → (h *ℤ x) *ℤ u -ℤ (h *ℤ y) *ℤ v ≡ h *ℤ (x *ℤ u -ℤ y *ℤ v)
     apart h x y u v = ring (h ∷ x ∷ y ∷ u ∷ v ∷ []) ((var 0 ⊗ var 1) ⊗ var 3 ⊖ (var 0 ⊗ var 2) ⊗ var 4) (var 0 ⊗ (var 1 ⊗ var 3 ⊖ var 2 ⊗ var 4)) refl
+scale_combine h x y _ _ = refl
 
 substituted-scaled : (h x y : ℤ) (p : Row) (c : ℕ) (i : Row) → substituted_by (h *ℤ x) (h *ℤ y) p c i ≡ scaled h (substituted_by x y p c i)
 substituted-scaled h x y p c i =
@@ -97,9 +88,7 @@ substituted-scaled h x y p c i =
 
 positive_part : (h : ℕ) (a x : ℤ) → pos 1 ≤ℤ a → a ≡ pos h *ℤ x → pos 1 ≤ℤ x
 positive_part h a (pos (suc n)) k e = omega (arith, ints)
-positive_part h a (pos zero) k e = absurd (omega (arith, ints, k, e))
-positive_part zero a (negsuc n) k e = absurd (omega (arith, ints, k, e))
-positive_part (suc h) a (negsuc n) k e = absurd (omega (arith, ints, k, e))
+positive_part _ a _ k e = absurd (omega (arith, ints, k, e))
 
 pub eliminated-lowest : (p : Row) (c : ℕ) (i : Row) (x y : ℤ) → pos 1 ≤ℤ entry p.coefs c → pos 1 ≤ℤ i.den → AreLowest (entry p.coefs c) (entry i.coefs c) x y
     → eliminated p c i ≡ divided (substituted_by x y p c i)
@@ -169,8 +158,7 @@ module _ (p : Row) (c : ℕ) (i : Row) (x y h : ℤ) (column : c < length p.coef
       let below = gcd-greatest k e lists (gcd-greatest k i.den p.den dens.0 dens.1) (gcd-divides made.den lists).1 in
       let parts = gcd-divides e lists in
       let den = through (pos n) i.den made.den (through (pos n) e i.den parts.0 (gcd-divides i.den p.den).0) (record { times = x; is = refl }) in
-      let above = gcd-greatest n made.den lists den parts.1 in
-      ap pos (dvd_antisymm (multiple-dvd k (gcd e lists) below) (multiple-dvd n (content made) above))
+      ap pos (dvd_antisymm (multiple-dvd k (gcd e lists) below) (multiple-dvd n (content made) (gcd-greatest n made.den lists den parts.1)))
 
 pub divisor-lowest : (p : Row) (c : ℕ) (i : Row) (x y : ℤ) → IsElimination p c i → IsReduced p → IsReduced i → AreLowest (entry p.coefs c) (entry i.coefs c) x y
     → content (substituted_by x y p c i) ≡ gcd (gcd i.den p.den) (gcd (gcd_of (substituted_by x y p c i).coefs) (gcd_of (substituted_by x y p c i).constant))

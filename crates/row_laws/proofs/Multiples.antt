@@ -1,9 +1,5 @@
 -- Multiples of a number: what divides the numbers that two numbers without a common divisor make of others.
-use Rattle.row_laws.proofs.Words.{◌≡◌, ◌∙◌, refl, ap, subst, ℕ, zero, suc, ◌*◌, ◌<◌, ℤ, pos, ◌+ℤ◌, ◌-ℤ◌, ◌*ℤ◌, unsigned_abs, arith, List, [], ◌∷◌, length, slice_set, AllByRecursion, unsigned_abs-mul, gcd, entry, combine, Multiple, common, common-scaled, common-IsGcd}
-use Rattle.std.specs.Int.{◌∣◌}
-use Rattle.std.proofs.lemmas.Nat.Gcd.{dvd-zero}
-use Rattle.pip_model.proofs.Gcd.{multiple-dvd, dvd-multiple}
-use Rattle.pip_model.proofs.Polynomials.{var, ◌⊕◌, ◌⊖◌, ◌⊗◌, ring}
+use Rattle.row_laws.proofs.Words.{◌≡◌, ◌∙◌, refl, ap, subst, ℕ, zero, suc, ◌*◌, ◌<◌, ℤ, pos, ◌+ℤ◌, ◌-ℤ◌, ◌*ℤ◌, unsigned_abs, arith, List, [], ◌∷◌, length, slice_set, AllByRecursion, unsigned_abs-mul, gcd, entry, combine, Multiple, common, common-scaled, common-IsGcd, ◌∣◌, dvd-zero, multiple-dvd, dvd-multiple, var, ◌⊕◌, ◌⊖◌, ◌⊗◌, ring}
 
 -- ---- numbers
 
@@ -80,7 +76,6 @@ module _ (d : ℕ) (x y : ℤ) (one : gcd x y ≡ pos 1) where
   -- the number at the place
   pub at_place : (r s : List ℤ) (c : ℕ) (z : ℤ) → length r ≡ length s → c < length s
       → AllByRecursion (Multiple (pos d)) (slice_set (combine x r y s) c z) → Multiple (pos d) z
-  at_place r [] c z e h all = absurd (omega arith)
-  at_place [] (v ∷ s) c z e h all = absurd (omega arith)
   at_place (u ∷ r) (v ∷ s) zero z e h all = all.0
   at_place (u ∷ r) (v ∷ s) (suc c) z e h all = at_place r s c z (omega arith) (omega arith) all.1
+  at_place _ _ c z e h all = absurd (omega arith)

@@ -3,9 +3,8 @@ use Rattle.row_laws.proofs.Words.{◌≡◌, refl, ap, sym, ◌∙◌, ℕ, zero
 
 listed_append : (a b : ℤ) (r s more rest : List ℤ) → length r ≡ length s → combine_listed a (r ++ more) b (s ++ rest) ≡ combine_listed a r b s ++ combine_listed a more b rest
 listed_append a b [] [] more rest e = refl
-listed_append a b [] (y ∷ s) more rest e = absurd (omega arith)
-listed_append a b (x ∷ r) [] more rest e = absurd (omega arith)
 listed_append a b (x ∷ r) (y ∷ s) more rest e = rw (listed_append a b r s more rest (omega arith)) refl
+listed_append a b _ _ more rest e = absurd (omega arith)
 
 -- the numbers at the places but c
 pub listed_but : (a b : ℤ) (r s : List ℤ) (c : ℕ) → length r ≡ length s

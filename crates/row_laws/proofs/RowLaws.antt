@@ -58,9 +58,7 @@ widened_is_row n w r h =
 
 -- the constant form as its coefficients and its constant
 ends : (xs : List ℤ) (w : ℕ) → length xs ≡ w + 1 → xs ≡ take w xs ++ get_or xs w (pos 0) ∷ []
-ends xs w e =
-    let all : xs ≡ take (w + 1) xs = sym (take_all (w + 1) xs (omega arith)) in
-    all ∙ take_more xs w (pos 0) (omega arith)
+ends xs w e = (sym (take_all (w + 1) xs (omega arith))) ∙ take_more xs w (pos 0) (omega arith)
 
 pub widened_content : (n w : ℕ) (r : Row) → IsRow n w r → content (widened r) ≡ content r
 widened_content n w r h =

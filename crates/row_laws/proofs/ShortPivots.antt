@@ -7,8 +7,7 @@ pub flat_fit : {X : Type 0} (g : X → List ℤ) (xs : List X) → All (λ x. Is
 flat_fit g [] h = refl
 flat_fit {X} g (x ∷ xs) h =
     let F : X → Type 0 = λ y. IsTrue (all_fit (g y)) in
-    let first : IsTrue (all_fit (g x)) = All-head F x xs h in
-    all_fit-append (g x) (flat_map g xs) ∙ rw (first, flat_fit g xs (All-tail F x xs h)) refl
+    all_fit-append (g x) (flat_map g xs) ∙ rw ((All-head F x xs h), flat_fit g xs (All-tail F x xs h)) refl
 
 pub short_listed : (n w c : ℕ) (p : Row) (rows : List Row) → IsRow n w p → c < n → IsShortRow p → All (IsRow n w) rows → All IsShortRow rows → IsTrue (all_fit (flat_map (eliminated_listed p c) rows))
 short_listed n w c p rows hp column short formed shorts =

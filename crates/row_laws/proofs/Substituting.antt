@@ -1,5 +1,5 @@
 -- A row with another put in: its listed numbers and its parts.
-use Rattle.row_laws.proofs.Words.{length, [], ◌∷◌, ◌++◌, ◌+◌, append_assoc, length-append, numbers_of, ◌≡◌, ◌-◌, flat_map, take, drop, refl, ap, sym, ◌∙◌, ℕ, zero, suc, ℤ, pos, negsuc, ◌*ℤ◌, ◌≤ℤ◌, Bool, true, false, ◌&&◌, List, length-set, arith, subst, IsTrue, All, slice_set, flat_map-append, ints, list_all-append, length-combine, fits, entry, remove, all_fit, combine_listed, Row, substituted, eliminated, eliminated_listed, pivot_listed, row_at, Fits, IsRow, IsReduced, row_from, set-append_right}
+use Rattle.row_laws.proofs.Words.{[], ◌+◌, ◌≡◌, ◌-◌, flat_map, take, drop, refl, ap, sym, ◌∙◌, ℕ, suc, ℤ, pos, negsuc, ◌*ℤ◌, ◌≤ℤ◌, Bool, true, ◌&&◌, List, length-set, arith, subst, IsTrue, All, flat_map-append, ints, list_all-append, length-combine, fits, entry, remove, all_fit, combine_listed, Row, substituted, eliminated, eliminated_listed, pivot_listed, row_at, Fits, IsRow, IsReduced, row_from}
 use Rattle.row_laws.proofs.Contents.{content-divided}
 use Rattle.row_laws.proofs.Unchanged.{eliminated-none, all_fit-append}
 
@@ -21,16 +21,11 @@ listed_parts p c r e =
   where
     split : (p q d t : Bool) → IsTrue (p && (q && (d && t))) → IsTrue p × IsTrue q × IsTrue d × IsTrue t
     split true true true t e = (refl, refl, refl, e)
-    split true true false t e = absurd cc
-    split true false d t e = absurd cc
-    split false q d t e = absurd cc
+    split _ _ _ t e = absurd cc
 
 pub some_product : (a b : ℤ) → pos 1 ≤ℤ a → pos 1 ≤ℤ b → pos 1 ≤ℤ (a *ℤ b)
-some_product (pos zero) b h k = absurd (omega (arith, ints))
-some_product (negsuc n) b h k = absurd (omega (arith, ints))
-some_product (pos (suc n)) (pos zero) h k = absurd (omega (arith, ints))
-some_product (pos (suc n)) (negsuc m) h k = absurd (omega (arith, ints))
 some_product (pos (suc n)) (pos (suc m)) h k = omega (arith, ints)
+some_product _ _ h k = absurd (omega (arith, ints))
 
 substituted_is_row : (n w c : ℕ) (p r : Row) → IsRow n w p → IsRow n w r → pos 1 ≤ℤ entry p.coefs c
     → Fits (substituted p c r).den → All Fits (substituted p c r).coefs → All Fits (substituted p c r).constant → IsRow n w (substituted p c r)
@@ -47,23 +42,6 @@ pub substituted_row : (n w c : ℕ) (p r made : Row) → made ≡ substituted p 
     → Fits made.den → All Fits made.coefs → All Fits made.constant → IsRow n w made
 substituted_row n w c p r made e hp hr h den_fits coefs_fit constant_fit =
     subst (IsRow n w) (sym e) (substituted_is_row n w c p r hp hr h (subst (λ (x : Row). Fits x.den) e den_fits) (subst (λ (x : Row). All Fits x.coefs) e coefs_fit) (subst (λ (x : Row). All Fits x.constant) e constant_fit))
-
--- its numbers, made part by part
-pub substituted_numbers : (out one two three four coefs constant : List ℤ) (den e : ℤ) (c place : ℕ) → place ≡ length out + 1 + c
-    → one ≡ out ++ den ∷ []
-    → two ≡ one ++ coefs
-    → three ≡ slice_set two place e
-    → four ≡ three ++ constant
-    → four ≡ out ++ numbers_of (row_from den (slice_set coefs c e) constant)
-substituted_numbers out one two three four coefs constant den e c place at f g h k =
-    let front : length (out ++ den ∷ []) ≡ length out + 1 = length-append out (den ∷ []) in
-    let there : place - (length out + 1) ≡ c = omega (arith, at) in
-    let changed : slice_set ((out ++ den ∷ []) ++ coefs) place e ≡ (out ++ den ∷ []) ++ slice_set coefs c e
-    = set-append_right (out ++ den ∷ []) coefs (length out + 1) place e front (omega (arith, at)) ∙ ap (λ i. (out ++ den ∷ []) ++ slice_set coefs i e) there in
-    rw (k, h, g, f, changed) (together out (slice_set coefs c e) constant den)
-  where
-    together : (out coefs constant : List ℤ) (den : ℤ) → ((out ++ den ∷ []) ++ coefs) ++ constant ≡ out ++ den ∷ (coefs ++ constant)
-    together out coefs constant den = simp append_assoc refl
 
 -- a row that is 0 in the column stays
 pub eliminated_none : (n w : ℕ) (p : Row) (c : ℕ) (i : Row) → IsRow n w p → IsRow n w i → pos 1 ≤ℤ entry p.coefs c → entry i.coefs c ≡ pos 0 → IsReduced i → i ≡ eliminated p c i

@@ -1,6 +1,6 @@
 -- A row whose entry in the pivot's column is 0, and whose numbers have no common divisor, stays as it is in a pivot. The pivot's listed
 -- numbers of the row are its own numbers times the pivot, and zeros.
-use Rattle.row_laws.proofs.Words.{◌≡◌, ◌∙◌, refl, ap, sym, ℕ, zero, suc, ◌<◌, ℤ, pos, ◌-ℤ◌, ◌*ℤ◌, unsigned_abs, arith, List, [], ◌∷◌, ◌++◌, length, Bool, true, false, ◌&&◌, slice_set, IsTrue, All, list_all-append, list_all-from_AllPass, ints, unsigned_abs-mul, fits, floor_div, gcd, gcd_of, entry, combine, floor_divided, remove, scale, all_fit, combine_listed, Row, divided, substituted, eliminated, eliminated_listed, floor-unique, common-scaled, content, set-get_or}
+use Rattle.row_laws.proofs.Words.{◌≡◌, ◌∙◌, refl, ap, ℕ, zero, suc, ◌<◌, ℤ, pos, ◌-ℤ◌, ◌*ℤ◌, unsigned_abs, arith, List, [], ◌∷◌, ◌++◌, length, Bool, true, false, ◌&&◌, slice_set, IsTrue, All, list_all-append, list_all-from_AllPass, ints, unsigned_abs-mul, fits, floor_div, gcd, gcd_of, entry, combine, floor_divided, remove, scale, all_fit, combine_listed, Row, divided, substituted, eliminated, eliminated_listed, floor-unique, common-scaled, content, set-get_or, entry-scale, scale_one}
 
 -- ---- the divisor of multiples is the multiple of the divisor
 
@@ -56,14 +56,6 @@ set-same xs c z e = rw (← e) (set-get_or xs c (pos 0))
 pub any_zero : (a : ℤ) → a *ℤ pos 0 ≡ pos 0
 any_zero a = omega (arith, ints)
 
-entry-scale : (g : ℤ) (xs : List ℤ) (k : ℕ) → entry (scale g xs) k ≡ g *ℤ entry xs k
-entry-scale g [] k = sym (any_zero g)
-entry-scale g (x ∷ xs) zero = refl
-entry-scale g (x ∷ xs) (suc k) = entry-scale g xs k
-
-zero_entry : (a : ℤ) (xs : List ℤ) (c : ℕ) (d : ℤ) → entry xs c ≡ pos 0 → entry (scale a xs) c ≡ pos 0 *ℤ d
-zero_entry a xs c d e = entry-scale a xs c ∙ rw e (omega (arith, ints))
-
 swap : (x : ℕ) (d : ℤ) → d *ℤ pos x ≡ pos x *ℤ d
 swap x d = omega (arith, ints)
 
@@ -76,7 +68,7 @@ substituted-none p c i x a b e f =
       b,
       combine-none (pos x) i.coefs p.coefs e,
       combine-none (pos x) i.constant p.constant f,
-      set-same (scale (pos x) i.coefs) c (pos 0 *ℤ p.den) (zero_entry (pos x) i.coefs c p.den b),
+      set-same (scale (pos x) i.coefs) c (pos 0 *ℤ p.den) (entry-scale (pos x) i.coefs c ∙ rw b (omega (arith, ints))),
       swap x i.den,
     ) refl
 
@@ -113,10 +105,9 @@ times_fits a (x ∷ xs) (suc c) e = ap (λ (b : Bool). fits (a *ℤ x) && b) (ti
 
 same_length : (xs ys : List ℤ) (c : ℕ) → length xs ≡ length ys → length (remove c xs) ≡ length (remove c ys)
 same_length [] [] c e = refl
-same_length [] (y ∷ ys) c e = absurd (omega arith)
-same_length (x ∷ xs) [] c e = absurd (omega arith)
 same_length (x ∷ xs) (y ∷ ys) zero e = omega arith
 same_length (x ∷ xs) (y ∷ ys) (suc c) e = ap suc (same_length xs ys c (omega arith))
+same_length _ _ c e = absurd (omega arith)
 
 -- the listed numbers of such a row fit exactly where its numbers times the pivot do
 pub eliminated_listed-none : (p : Row) (c : ℕ) (i : Row) → entry i.coefs c ≡ pos 0
@@ -141,10 +132,6 @@ once z = omega (arith, ints)
 pub by_one : (z : ℤ) → z *ℤ pos 1 ≡ z
 by_one z = omega (arith, ints)
 
-scale-one : (xs : List ℤ) → scale (pos 1) xs ≡ xs
-scale-one [] = refl
-scale-one (x ∷ xs) = rw (once x, scale-one xs) refl
-
 each_fits : (xs : List ℤ) → All (λ z. IsTrue (fits z)) xs → all_fit xs ≡ true
 each_fits xs h = list_all-from_AllPass fits xs h
 
@@ -153,4 +140,4 @@ pub eliminated_listed_one : (p : Row) (c : ℕ) (i : Row) → entry p.coefs c �
     → IsTrue (fits i.den) → All (λ z. IsTrue (fits z)) i.coefs → All (λ z. IsTrue (fits z)) i.constant → IsTrue (all_fit (eliminated_listed p c i))
 eliminated_listed_one p c i a b e f den coefs constant =
     eliminated_listed-none p c i b e f
-    ∙ rw (a, by_one i.den, scale-one i.coefs, scale-one i.constant, den, each_fits i.coefs coefs, each_fits i.constant constant) refl
+    ∙ rw (a, by_one i.den, scale_one i.coefs, scale_one i.constant, den, each_fits i.coefs coefs, each_fits i.constant constant) refl

@@ -6,8 +6,7 @@ use Rattle.row_laws.proofs.Places.{set_parts}
 -- zeros with a 1 at place c
 pub unit_parts : (n c : ℕ) → c < n → slice_set (replicate n (pos 0)) c (pos 1) ≡ replicate c (pos 0) ++ pos 1 ∷ replicate (n - (c + 1)) (pos 0)
 unit_parts n c h =
-    let long : c < length (replicate n (pos 0)) = simp length-replicate h in
-    set_parts (replicate n (pos 0)) c (pos 1) long
+    set_parts (replicate n (pos 0)) c (pos 1) (simp length-replicate h)
     ∙ rw (take-replicate c n (pos 0) (omega arith), drop-replicate (c + 1) n (pos 0)) refl
 
 pub zeros_are : (zs : List ℤ) → IsTrue (list_all is_zero zs) → zs ≡ replicate (length zs) (pos 0)
@@ -58,11 +57,8 @@ other (z ∷ zs) h e f = rw e f
 pub not_found : (zs : List ℤ) (i : ℕ) → i < length zs → take i zs ≡ replicate i (pos 0) → is_zero (entry zs i) ≡ false
     → (same_number (entry (drop i zs) 0) (pos 1) && list_all is_zero (drop 1 (drop i zs))) ≡ false → is_unit zs ≡ false
 not_found zs i h e none f =
-    let some : 0 < length (drop i zs) = simp length-drop (omega arith) in
-    let at : i + 0 ≡ i = omega arith in
-    let first : entry (drop i zs) 0 ≡ entry zs i = get_or-drop i zs 0 (pos 0) ∙ ap (entry zs) at in
     ap is_unit (begun zs i e) ∙ unit_behind i (drop i zs)
-    ∙ other (drop i zs) some (ap is_zero first ∙ none) f
+    ∙ other (drop i zs) (simp length-drop (omega arith)) (ap is_zero (get_or-drop i zs 0 (pos 0) ∙ ap (entry zs) (omega arith)) ∙ none) f
 
 pub none_found : (zs : List ℤ) (i : ℕ) → length zs ≤ i → take i zs ≡ replicate i (pos 0) → is_unit zs ≡ false
 none_found zs i h e = ap is_unit (sym (take_all i zs h) ∙ e ∙ sym (append-nil (replicate i (pos 0)))) ∙ unit_behind i []

@@ -147,8 +147,7 @@ module _ (L : Logic) where
       by_signs AllPlus (inl h) = at_last (h.1 refl) S.integer refl (if S.integer then first_fraction S.unknowns N.rows else None) refl
       by_signs AllPlus (inr h) = absurd h
       by_signs (MinusAt j) (inr h) =
-          let r : h.0 ≡ j = omega (arith, h.1) in
-          subst (λ (k : ℕ). L.Holds T (turn_by S N (MinusAt k))) r
+          subst (λ (k : ℕ). L.Holds T (turn_by S N (MinusAt k))) (omega (arith, h.1))
           (then_do (all_fit (entering_listed N.rows h.0) ≡ true) T (listed (entering_listed N.rows h.0)) (pivot_turn S N h.0 (entering N.rows h.0)) (L.lists (entering_listed N.rows h.0)) (λ f. at_minus h.0 h.2 h.3 (entering N.rows h.0) refl))
       by_signs (UnknownBy c) (inr h) = at_unknown h.0 c h.1 h.2
       by_signs _ (inl h) = let e = h.0 in cc

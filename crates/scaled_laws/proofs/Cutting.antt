@@ -1,5 +1,5 @@
 -- The cut by a row whose numbers stand over one denominator.
-use Rattle.scaled_laws.proofs.Words.{◌≡◌, ◌∙◌, refl, ap, sym, ℕ, zero, suc, ◌+◌, ◌-◌, ◌<◌, ◌≤◌, ℤ, pos, negsuc, ◌*ℤ◌, ◌≤ℤ◌, ◌<ℤ◌, neg_ℤ, unsigned_abs, arith, rules, nat_lt, Bool, true, false, List, [], ◌∷◌, length, take, drop, map, length-drop, All, ints, get_or-take, get_or-drop, get_or_default, length-take-le, floor_mod, entry, scale, negate, residue, Row, divided, rest_of, floor_mod-law, var, num, ◌⊗◌, ring, length_map, row_by, same_row, same_entries, Undivided, undivided, divided_multiple, entry_first, length_counted, row_over, row_size}
+use Rattle.scaled_laws.proofs.Words.{◌≡◌, ◌∙◌, refl, ap, sym, ℕ, zero, suc, ◌+◌, ◌-◌, ◌<◌, ◌≤◌, ℤ, pos, negsuc, ◌*ℤ◌, ◌≤ℤ◌, ◌<ℤ◌, neg_ℤ, unsigned_abs, arith, rules, nat_lt, Bool, true, false, List, [], ◌∷◌, length, take, drop, map, length-drop, All, ints, get_or-take, get_or-drop, get_or_default, length-take-le, floor_mod, entry, scale, negate, residue, Row, divided, rest_of, floor_mod-law, var, num, ◌⊗◌, ring, length_map, row_by, same_row, same_entries, Undivided, undivided, divided-multiple, entry_first, length_counted, row_over, row_size}
 use Rattle.pip_model.specs.Cuts.{constant_cut}
 use Rattle.scaled_laws.specs.Cut.{left_of, cut_numbers}
 use Rattle.scaled_laws.proofs.Scaled.{mod_over, den_positive}
@@ -42,15 +42,14 @@ module _ (n : ℕ) (l : ℤ) (zs : List ℤ) (h : pos 1 ≤ℤ l) where
   at_least = omega (arith, ints, den_positive n l zs h)
 
   cut_over : divided (row_by l (map (λ x. floor_mod x l) (take n zs)) (negate (residue l (drop n zs)))) ≡ constant_cut D
-  cut_over = ap divided (same_row (sym den_is) parts places) ∙ divided_multiple u.by before u.positive at_least
+  cut_over = ap divided (same_row (sym den_is) parts places) ∙ divided-multiple u.by before u.positive at_least
 
 -- ---- what a quotient leaves
 
 mod_low : (z : ℤ) (d : ℕ) → 0 < d → (pos 0 ≤ℤ floor_mod z (pos d)) × (floor_mod z (pos d) <ℤ pos d)
 mod_low z d h =
     let r = rest_of z d h in
-    let law = floor_mod-law z d h in
-    let is : floor_mod z (pos d) ≡ pos r.rest = omega (arith, ints, r.is, law) in
+    let is : floor_mod z (pos d) ≡ pos r.rest = omega (arith, ints, r.is, (floor_mod-law z d h)) in
     (omega (arith, ints, is), omega (arith, ints, is, r.below))
 
 left_bound : (l : ℤ) (b : Bool) (z : ℤ) → pos 1 ≤ℤ l → unsigned_abs (left_of l b z) ≤ unsigned_abs l

@@ -15,10 +15,9 @@ lt_by f x y h = by (int_lt x y) (int_lt (f *ℤ x) (f *ℤ y)) refl refl
     opposite = ring (f ∷ x ∷ y ∷ []) (var 0 ⊗ (var 1 ⊖ var 2)) (var 0 ⊗ var 1 ⊖ var 0 ⊗ var 2) refl
 
     by : (s t : Bool) → int_lt x y ≡ s → int_lt (f *ℤ x) (f *ℤ y) ≡ t → t ≡ s
-    by true true e g = refl
-    by false false e g = refl
     by true false e g = absurd (omega (arith, ints, difference, mul_pp f (y -ℤ x) h (omega (arith, ints, e)), g))
     by false true e g = absurd (omega (arith, ints, opposite, mul_nn f (x -ℤ y) (omega (arith, ints, h)) (omega (arith, ints, e)), g))
+    by _ _ e g = refl
 
 lex_step : (f x y s t : ℤ) (us vs xs ys : List ℤ) → pos 0 <ℤ f → s ≡ f *ℤ x → t ≡ f *ℤ y → lex_less us vs ≡ lex_less xs ys → lex_less (s ∷ us) (t ∷ vs) ≡ lex_less (x ∷ xs) (y ∷ ys)
 lex_step f x y s t us vs xs ys h e g rest = rw (e, g, lt_by f x y h, lt_by f y x h, rest) refl
@@ -28,11 +27,7 @@ positive_by (suc g) (pos zero) (pos zero) h e = refl
 positive_by (suc g) (pos (suc x)) (pos (suc y)) h e = refl
 positive_by (suc g) (negsuc x) (negsuc y) h e = refl
 positive_by zero x y h e = absurd (omega arith)
-positive_by (suc g) (pos zero) (pos (suc y)) h e = absurd (omega (arith, ints))
-positive_by (suc g) (pos zero) (negsuc y) h e = absurd (omega (arith, ints))
-positive_by (suc g) (pos (suc x)) (pos zero) h e = absurd (omega (arith, ints))
-positive_by (suc g) (pos (suc x)) (negsuc y) h e = absurd (omega (arith, ints))
-positive_by (suc g) (negsuc x) (pos y) h e = absurd (omega (arith, ints))
+positive_by (suc g) _ _ h e = absurd (omega (arith, ints))
 
 filter_same : (f g : ℕ → Bool) (ks : List ℕ) → ((k : ℕ) → f k ≡ g k) → filter f ks ≡ filter g ks
 filter_same f g [] e = refl

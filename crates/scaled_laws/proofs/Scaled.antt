@@ -1,5 +1,5 @@
 -- Rows whose numbers stand over one denominator, and the rows that they are once they are divided.
-use Rattle.scaled_laws.proofs.Words.{◌≡◌, ◌∙◌, refl, ap, sym, subst, ℕ, zero, suc, ◌+◌, ◌*◌, ◌<◌, ℤ, pos, negsuc, ◌+ℤ◌, ◌-ℤ◌, ◌*ℤ◌, ◌≤ℤ◌, ◌<ℤ◌, arith, List, [], ◌∷◌, length, take, drop, length-drop, ints, get_or-take, length-take-le, take-map, drop-map, drop-set-lt, take-set-lt, slice_set, floor_div, floor_mod, divides, is_nonneg, is_zero, entry, combine, scale, Row, divided, substituted, eliminated, floor-unique, floor_div-law, floor_mod-law, mul_nn, mul_pp, factor_p, var, ◌⊕◌, ◌⊖◌, ◌⊗◌, ring, ring_by, entry-scale, length_floors, divisor, coef, place, IsScaled, row_over, same_row, Undivided, undivided, divided_multiple, eliminated_divided, set_scaled}
+use Rattle.scaled_laws.proofs.Words.{◌≡◌, ◌∙◌, refl, ap, sym, subst, ℕ, zero, suc, ◌+◌, ◌*◌, ◌<◌, ℤ, pos, negsuc, ◌+ℤ◌, ◌-ℤ◌, ◌*ℤ◌, ◌≤ℤ◌, ◌<ℤ◌, arith, List, [], ◌∷◌, length, take, drop, length-drop, ints, get_or-take, length-take-le, take-map, drop-map, drop-set-lt, take-set-lt, slice_set, floor_div, floor_mod, divides, is_nonneg, is_zero, entry, combine, scale, Row, divided, substituted, eliminated, floor-unique, floor_div-law, floor_mod-law, mul_nn, mul_pp, factor_p, var, ◌⊕◌, ◌⊖◌, ◌⊗◌, ring, ring_by, entry-scale, length_floors, divisor, coef, place, IsScaled, row_over, same_row, Undivided, undivided, divided-multiple, eliminated_divided, set_scaled}
 use Rattle.std.specs.List.{list_all}
 use Rattle.form_laws.proofs.Unchanged.{scaled}
 
@@ -33,8 +33,7 @@ mod_positive g x d hg hd =
   where
     mul_some : (a b : ℕ) → 0 < a → 0 < b → 0 < a * b
     mul_some (suc a) (suc b) h k = omega arith
-    mul_some zero b h k = absurd (omega arith)
-    mul_some (suc a) zero h k = absurd (omega arith)
+    mul_some _ _ h k = absurd (omega arith)
 
     left_is : (x m p q : ℤ) → p +ℤ m ≡ x → p ≡ q → m ≡ x -ℤ q
     left_is x m p q e f = omega (arith, ints, e, f)
@@ -48,11 +47,7 @@ zero_by (suc g) (pos zero) (pos zero) h e = refl
 zero_by (suc g) (pos (suc z)) (pos (suc y)) h e = refl
 zero_by (suc g) (negsuc z) (negsuc y) h e = refl
 zero_by zero z y h e = absurd (omega arith)
-zero_by (suc g) (pos zero) (pos (suc y)) h e = absurd (omega (arith, ints))
-zero_by (suc g) (pos zero) (negsuc y) h e = absurd (omega (arith, ints))
-zero_by (suc g) (pos (suc z)) (pos zero) h e = absurd (omega (arith, ints))
-zero_by (suc g) (pos (suc z)) (negsuc y) h e = absurd (omega (arith, ints))
-zero_by (suc g) (negsuc z) (pos y) h e = absurd (omega (arith, ints))
+zero_by (suc g) _ _ h e = absurd (omega (arith, ints))
 
 divides_over : (g : ℕ) (d x : ℤ) → 0 < g → pos 0 <ℤ d → divides (pos g *ℤ d) (pos g *ℤ x) ≡ divides d x
 divides_over g d x hg hd = zero_by g (floor_mod x d) (floor_mod (pos g *ℤ x) (pos g *ℤ d)) hg (sym (mod_over g x d hg hd))
@@ -100,10 +95,9 @@ module _ (n : ℕ) (l : ℤ) (zs : List ℤ) (h : pos 1 ≤ℤ l) where
   -- ---- signs and divisors of the constant form
 
   sign_by : (g : ℕ) (x y : ℤ) → 0 < g → pos g *ℤ x ≡ y → is_nonneg y ≡ is_nonneg x
-  sign_by g (pos x) (pos y) some e = refl
   sign_by g (pos x) (negsuc y) some e = absurd (omega (arith, ints))
   sign_by g (negsuc x) (pos y) some e = absurd (omega (arith, ints))
-  sign_by g (negsuc x) (negsuc y) some e = refl
+  sign_by g _ _ some e = refl
 
   signs : (g : ℕ) (xs : List ℤ) → 0 < g → list_all is_nonneg (scale (pos g) xs) ≡ list_all is_nonneg xs
   signs g [] some = refl
@@ -118,17 +112,14 @@ module _ (n : ℕ) (l : ℤ) (zs : List ℤ) (h : pos 1 ≤ℤ l) where
 -- ---- a row put into another
 
 take_combine : (n : ℕ) (a : ℤ) (xs : List ℤ) (b : ℤ) (ys : List ℤ) → take n (combine a xs b ys) ≡ combine a (take n xs) b (take n ys)
-take_combine zero a xs b ys = refl
-take_combine (suc n) a [] b ys = refl
-take_combine (suc n) a (x ∷ xs) b [] = refl
 take_combine (suc n) a (x ∷ xs) b (y ∷ ys) = ap (λ (zs : List ℤ). (a *ℤ x -ℤ b *ℤ y) ∷ zs) (take_combine n a xs b ys)
+take_combine _ a _ b _ = refl
 
 drop_combine : (n : ℕ) (a : ℤ) (xs : List ℤ) (b : ℤ) (ys : List ℤ) → length xs ≡ length ys → drop n (combine a xs b ys) ≡ combine a (drop n xs) b (drop n ys)
-drop_combine zero a xs b ys e = refl
-drop_combine (suc n) a [] b [] e = refl
 drop_combine (suc n) a [] b (y ∷ ys) e = absurd (omega arith)
 drop_combine (suc n) a (x ∷ xs) b [] e = absurd (omega arith)
 drop_combine (suc n) a (x ∷ xs) b (y ∷ ys) e = drop_combine n a xs b ys (omega arith)
+drop_combine _ a _ b _ e = refl
 
 module _ (n : ℕ) (l : ℤ) (p : List ℤ) (c : ℕ) (xs ys : List ℤ) (h : pos 1 ≤ℤ l) (inside : c < n) (above : pos 1 ≤ℤ entry p c) (same : length xs ≡ length p)
     (made : scale l ys ≡ slice_set (combine (entry p c) xs (entry xs c) p) c (entry xs c *ℤ l)) where
@@ -177,7 +168,7 @@ module _ (n : ℕ) (l : ℤ) (p : List ℤ) (c : ℕ) (xs ys : List ℤ) (h : po
       (sym (drop-map (λ z. l *ℤ z) n ys) ∙ ap (drop n) made ∙ drop-set-lt n (combine a xs (entry xs c) p) c (entry xs c *ℤ l) inside ∙ drop_combine n a xs (entry xs c) p same))
 
   multiple_of : (g : ℤ) (r : Row) → pos 1 ≤ℤ g → pos 1 ≤ℤ r.den → divided (scaled g r) ≡ divided r
-  multiple_of (pos g) r hg hr = divided_multiple g r (omega (arith, ints, hg)) hr
+  multiple_of (pos g) r hg hr = divided-multiple g r (omega (arith, ints, hg)) hr
   multiple_of (negsuc g) r hg hr = absurd (omega (arith, ints, hg))
 
   -- the law: over one denominator a pivot makes these numbers
@@ -185,5 +176,5 @@ module _ (n : ℕ) (l : ℤ) (p : List ℤ) (c : ℕ) (xs ys : List ℤ) (h : po
   scaled_made =
       sym (multiple_of l (row_over n a ys) h above)
       ∙ ap divided (made_scaled ∙ substituted_by)
-      ∙ divided_multiple by.by (substituted (divided P) c X) by.positive (omega (arith, ints, mul_pp l (entry (divided P).coefs c) (omega (arith, ints, h)) pivot_above))
+      ∙ divided-multiple by.by (substituted (divided P) c X) by.positive (omega (arith, ints, mul_pp l (entry (divided P).coefs c) (omega (arith, ints, h)) pivot_above))
       ∙ sym (eliminated_divided (divided P) c X h pivot_above)

@@ -1,5 +1,5 @@
 -- A row with another put in, solved for a column.
-use Rattle.scaled_laws.proofs.Words.{◌≡◌, ◌∙◌, refl, ap, sym, ℕ, zero, suc, ℤ, pos, ◌-ℤ◌, ◌*ℤ◌, arith, List, [], ◌∷◌, length, ints, slice_set, entry, combine, scale, set_scaled}
+use Rattle.scaled_laws.proofs.Words.{◌≡◌, ◌∙◌, refl, ap, sym, ℕ, zero, suc, ℤ, pos, ◌-ℤ◌, ◌*ℤ◌, arith, List, [], ◌∷◌, length, ints, slice_set, entry, combine, scale, set_scaled, scale_one}
 use Rattle.scaled_laws.specs.Turned.{turned}
 
 swap : (x y : ℤ) → x *ℤ y ≡ y *ℤ x
@@ -34,12 +34,5 @@ turned_none l p c old e none is =
     set_same l (x ∷ xs) zero e = rw (zero_product l x e) refl
     set_same l (x ∷ xs) (suc c) e = ap (λ (zs : List ℤ). (l *ℤ x) ∷ zs) (set_same l xs c e)
 
-once : (zs : List ℤ) → scale (pos 1) zs ≡ zs
-once [] = refl
-once (z ∷ zs) = rw (one z, once zs) refl
-  where
-    one : (z : ℤ) → pos 1 *ℤ z ≡ z
-    one z = omega (arith, ints)
-
 pub scaled_one : (l : ℤ) (new made : List ℤ) → l ≡ pos 1 → new ≡ made → scale l new ≡ made
-scaled_one l new made e f = ap (λ (z : ℤ). scale z new) e ∙ once new ∙ f
+scaled_one l new made e f = ap (λ (z : ℤ). scale z new) e ∙ scale_one new ∙ f

@@ -76,8 +76,7 @@ scaled_back n w L m k rows h = record { each = All-drop (IsScaled n w L) k rows 
 all_forms : (n w : ℕ) (forms : List (List ℤ)) → All (λ f. length f ≡ n + w + 1) forms → AllForms n w forms
 all_forms n w [] h = tt
 all_forms n w (f ∷ forms) h =
-    let one : length f ≡ n + w + 1 = h 0 [] (omega arith) in
-    (omega (arith, one), all_forms n w forms (all_behind (λ g. length g ≡ n + w + 1) f forms h))
+    (omega (arith, (h 0 [] (omega arith))), all_forms n w forms (all_behind (λ g. length g ≡ n + w + 1) f forms h))
 
 pub start_read : (n w : ℕ) (basis : List Row) (L : ℤ) (m : ℕ) (forms : List (List ℤ)) → length basis ≡ n → basis ≡ start n w [] → AreScaled n w L m basis
     → All (λ f. length f ≡ n + w + 1) forms → basis ++ (map (by_form n w L basis) forms ++ []) ≡ start n w forms

@@ -13,11 +13,11 @@ pub use Rattle.pip_model.proofs.Division.{rest_of, floor-unique}
 pub use Rattle.pip_model.proofs.Laws.{floor_mod-law, floor_div-law}
 pub use Rattle.pip_model.proofs.Polynomials.{var, num, ◌⊗◌, ring, ◌⊕◌, ◌⊖◌, ring_by}
 pub use Rattle.run_laws.proofs.Lengths.{length_map, length_floors}
-pub use Rattle.form_laws.proofs.Divided.{row_by, same_row, same_entries, Undivided, undivided, divided_multiple}
+pub use Rattle.form_laws.proofs.Divided.{row_by, same_row, same_entries, Undivided, undivided, divided-multiple}
 pub use Rattle.form_laws.proofs.Turning.{entry_first, length_counted, eliminated_divided, set_scaled}
 pub use Rattle.scaled_laws.specs.Units.{row_size, unit_numbers}
 pub use Rattle.std.proofs.Math.Seq.{take-set-lt}
 pub use Rattle.std.specs.Prelude.{slice_set, filter, int_lt, Option, Some, None, IfSome, if◌then◌else◌}
 pub use Rattle.pip_model.proofs.Order.{mul_nn, mul_pp, factor_p}
-pub use Rattle.pip_model.proofs.Forms.{entry-scale}
+pub use Rattle.pip_model.proofs.Forms.{entry-scale, scale_one}
 pub use Rattle.run_laws.proofs.RowsAt.{divisor}

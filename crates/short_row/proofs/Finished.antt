@@ -1,7 +1,6 @@
 -- A row that is made in two steps, and what shows that it is not short.
-use Rattle.short_row.proofs.Words.{rules, ◌≡◌, refl, ap, sym, ◌∙◌, ℕ, zero, suc, ◌+◌, ◌<◌, ◌≤◌, ℤ, pos, negsuc, ◌≤ℤ◌, ◌*ℤ◌, ◌-ℤ◌, Bool, true, false, ◌&&◌, List, [], ◌∷◌, ◌++◌, length, take, drop, get_or, set, arith, append-nil, append_assoc, length-append, length-drop, length-set, ints, and-false, lt-ltb, take_at, drop_at, take_all, drop_all, take-append-drop, length-take, length-map, drop_more, take_more, set_at, get_or_at, map-set, map-append, get_or-map, get_or-set_same, list_all-append, list_all_at, slice_set, None, list_all, length-combine, entry-combine, gcd, gcd_of, floor_div, combine, floor_divided, Row, divided, gcd_assoc, gcd_zero, gcd_exchanged, gcd_step, combined, is_short, row_from, finished, begun_coefs, begun_constant, begun_row, begun_divisor, IsBegun, is_short_row, IsDenominatorOf, take_combine, drop_combine, divided_row}
+use Rattle.short_row.proofs.Words.{rules, ◌≡◌, refl, ap, sym, ◌∙◌, ℕ, zero, suc, ◌+◌, ◌<◌, ◌≤◌, ℤ, pos, negsuc, ◌≤ℤ◌, ◌*ℤ◌, ◌-ℤ◌, Bool, true, false, ◌&&◌, List, [], ◌∷◌, ◌++◌, length, take, drop, get_or, set, arith, append-nil, append_assoc, length-append, length-drop, length-set, ints, and-false, lt-ltb, take_at, drop_at, take_all, drop_all, take-append-drop, length-take, length-map, drop_more, take_more, set_at, get_or_at, map-set, map-append, get_or-map, get_or-set_same, list_all-append, list_all_at, slice_set, None, list_all, length-combine, entry-combine, gcd, gcd_of, floor_div, combine, floor_divided, Row, divided, gcd_assoc, gcd_zero, gcd_exchanged, gcd_step, combined, is_short, row_from, finished, begun_coefs, begun_constant, begun_row, begun_divisor, IsBegun, is_short_row, IsDenominatorOf, take_combine, drop_combine, divided_row, Begun}
 use Rattle.short_numbers.proofs.Quotients.{quotient_short}
-use Rattle.short_row.specs.declared.begun.Begun.{Begun}
 
 -- ---- the entries in front of a place are made
 
@@ -19,8 +18,7 @@ module _ (a b : ℤ) (r s : List ℤ) (k : ℕ) where
 
   pub finished_length : length r ≡ length s → k ≤ length r → length (finished a r b s k) ≡ length r
   finished_length same h =
-      let lengths : length (drop k r) ≡ length (drop k s) = simp length-drop (omega arith) in
-      let made = length-combine a (drop k r) b (drop k s) lengths in
+      let made = length-combine a (drop k r) b (drop k s) (simp length-drop (omega arith)) in
       simp (length-append, length-take, made, length-drop) (omega arith)
 
 pub gcd_of_append : (xs ys : List ℤ) → gcd_of (xs ++ ys) ≡ gcd (gcd_of xs) (gcd_of ys)
@@ -113,8 +111,7 @@ module _ (a b : ℤ) (r s : List ℤ) (same : length r ≡ length s) where
   pub gcd_next : (i : ℕ) (found z now whole : ℤ) → i < length r → z ≡ a *ℤ get_or r i (pos 0) -ℤ b *ℤ get_or s i (pos 0) → now ≡ gcd found z
       → gcd found (gcd_of (drop i (combine a r b s))) ≡ whole → gcd now (gcd_of (drop (i + 1) (combine a r b s))) ≡ whole
   gcd_next i found z now whole h e f g =
-      let entry_is : z ≡ get_or (combine a r b s) i (pos 0) = e ∙ sym (entry-combine a r b s i same) in
-      ap (λ x. gcd x (gcd_of (drop (i + 1) (combine a r b s)))) (f ∙ ap (gcd found) entry_is)
+      ap (λ x. gcd x (gcd_of (drop (i + 1) (combine a r b s)))) (f ∙ ap (gcd found) (e ∙ sym (entry-combine a r b s i same)))
       ∙ gcd_step found (combine a r b s) i (omega (arith, h, same, length-combine a r b s same)) ∙ g
 
   pub gcd_end : (i : ℕ) (found whole : ℤ) → pos 1 ≤ℤ found → length r ≤ i → gcd found (gcd_of (drop i (combine a r b s))) ≡ whole → found ≡ whole

@@ -1,25 +1,17 @@
 -- A row that the pivot's row is put into, number after number.
-use Rattle.short_row.proofs.Words.{rules, All-cons, get_or-take, All-same, take-append-drop, length-map, length-set, take_at, drop_at, set, true, false, content-divided, IsShortRow, is_short_row, IsDenominatorOf, Some, None, begun_coefs, begun_constant, begun_row, IsBegun, floor_div, floor_divided, gcd_assoc, ◌≡◌, refl, ap, sym, ◌∙◌, subst, ℕ, zero, suc, ◌+◌, ◌-◌, ◌<◌, ◌≤◌, ℤ, pos, ◌≤ℤ◌, ◌*ℤ◌, ◌-ℤ◌, Bool, List, [], ◌∷◌, ◌++◌, length, take, drop, get_or, arith, ints, All, All-drop, All-take, All-append, length-append, length-take, length-drop, slice_set, gcd, gcd_of, combine, entry, Row, divided, eliminated, entry-combine, row_of_numbers, row_from, IsRow, IsShort, places_of, IsShortReduced, IsTurned, IsShortDivisor, finished, combined, combined_step, set-get_or, content, IsOwnRow, AreLowest, substituted_by, eliminated-lowest, divisor-lowest, take_combine, drop_combine, take-map, drop-map, divided_row, divided_one}
-use Rattle.pip_model.proofs.RingLaws.{*ℤ_left_comm}
+use Rattle.short_row.proofs.Words.{rules, All-cons, get_or-take, All-same, take-append-drop, length-map, length-set, take_at, drop_at, set, true, false, content-divided, IsShortRow, is_short_row, IsDenominatorOf, Some, None, begun_coefs, begun_constant, begun_row, IsBegun, floor_div, floor_divided, gcd_assoc, ◌≡◌, refl, ap, sym, ◌∙◌, subst, ℕ, zero, suc, ◌+◌, ◌-◌, ◌<◌, ◌≤◌, ℤ, pos, ◌≤ℤ◌, ◌*ℤ◌, ◌-ℤ◌, Bool, List, [], ◌∷◌, ◌++◌, length, take, drop, get_or, arith, ints, All, All-drop, All-take, All-append, length-append, length-take, length-drop, slice_set, gcd, gcd_of, combine, entry, Row, divided, eliminated, entry-combine, row_of_numbers, row_from, IsRow, IsShort, places_of, IsShortReduced, IsTurned, IsShortDivisor, finished, combined, combined_step, set-get_or, content, IsOwnRow, AreLowest, substituted_by, eliminated-lowest, divisor-lowest, take_combine, drop_combine, take-map, drop-map, divided_row, divided_one, *ℤ_left_comm, AreTerms, Begun, some_product}
 use Rattle.std.proofs.Math.IntN.{*ℤ_comm}
 use Rattle.affine_forms.specs.Checks.{Fits}
 use Rattle.row_laws.specs.Steps.{IsElimination}
 use Rattle.short_row.specs.Put.{IsPut, IsTurning, put_numbers, put_row}
-use Rattle.short_row.specs.Terms.{AreTerms}
 use Rattle.short_row.specs.declared.put.Put.{Put}
-use Rattle.short_row.specs.declared.begun.Begun.{Begun}
-use Rattle.row_laws.proofs.Substituting.{some_product}
 use Rattle.short_row.proofs.Finished.{finished_length, finished_all, gcd_of_append}
 use Rattle.short_row.proofs.ShortParts.{divided_positive, short_row, row_join}
 
 -- ---- the entry in the column
 
 none_there : (h x y a b : ℤ) → a ≡ h *ℤ x → b ≡ h *ℤ y → x *ℤ b -ℤ y *ℤ a ≡ pos 0
-none_there h x y a b e f =
-    let g = *ℤ_left_comm x h y in
-    let k = *ℤ_left_comm y h x in
-    let l = ap (λ z. h *ℤ z) (*ℤ_comm x y) in
-    rw (e, f) (omega (arith, ints, g, k, l))
+none_there h x y a b e f = rw (e, f) (omega (arith, ints, (*ℤ_left_comm x h y), (*ℤ_left_comm y h x), (ap (λ z. h *ℤ z) (*ℤ_comm x y))))
 
 -- ---- a row that is begun
 
@@ -208,8 +200,7 @@ put_split x y (suc n) (suc k) (suc i) j (z ∷ now) (u ∷ p) same e h f =
 pub combined_kept : (b : ℤ) (r s : List ℤ) → length r ≡ length s → (i : ℕ) → i < length r → (now : List ℤ) → now ≡ combined (pos 1) r b s i → get_or s i (pos 0) ≡ pos 0
     → now ≡ combined (pos 1) r b s (i + 1)
 combined_kept b r s same i h now e none =
-    let kept : get_or now i (pos 0) ≡ pos 1 *ℤ get_or now i (pos 0) -ℤ b *ℤ get_or s i (pos 0) = rw none (omega (arith, ints)) in
-    sym (set-get_or now i (pos 0)) ∙ combined_step (pos 1) b r s same i h now (get_or now i (pos 0)) e kept
+    sym (set-get_or now i (pos 0)) ∙ combined_step (pos 1) b r s same i h now (get_or now i (pos 0)) e (rw none (omega (arith, ints)))
 
 -- ---- the row that is made
 
@@ -252,9 +243,8 @@ module _ (n : ℕ) (w : Put) (p now : List ℤ) (h : IsPut n w p now) where
 
       drop_set : (zs : List ℤ) (n c : ℕ) (z : ℤ) → c < n → drop n (set zs c z) ≡ drop n zs
       drop_set zs zero c z lt = absurd (omega arith)
-      drop_set [] (suc n) c z lt = refl
-      drop_set (y ∷ zs) (suc n) zero z lt = refl
       drop_set (y ∷ zs) (suc n) (suc c) z lt = drop_set zs n c z (omega arith)
+      drop_set _ (suc n) _ z lt = refl
 
       closed : (now : List ℤ) → 1 ≤ length now → w.column < n → put_numbers w p now ≡ drop 1 now
           → row_of_numbers n (slice_set (slice_set now 0 d) (w.column + 1) e) ≡ row_from d (slice_set (take n (put_numbers w p now)) w.column e) (drop n (put_numbers w p now))
@@ -269,9 +259,6 @@ numbers_short n zs h all = record {
   coefs = All-take IsShort n (drop 1 zs) (All-drop IsShort 1 zs all);
   constant = All-drop IsShort n (drop 1 zs) (All-drop IsShort 1 zs all);
 }
-
-pub gcd_numbers : (n : ℕ) (zs : List ℤ) → gcd_of zs ≡ gcd (gcd_of (take n zs)) (gcd_of (drop n zs))
-gcd_numbers n zs = ap gcd_of (sym (take-append-drop n zs)) ∙ gcd_of_append (take n zs) (drop n zs)
 
 content_parts : (r : Row) → content r ≡ gcd (gcd r.den (gcd_of r.coefs)) (gcd_of r.constant)
 content_parts r = sym (gcd_assoc r.den (gcd_of r.coefs) (gcd_of r.constant))
@@ -294,7 +281,7 @@ pub closed_content : (n : ℕ) (w : Put) (p now zs : List ℤ) (start : ℤ) →
     → content (row_of_numbers n zs) ≡ gcd start (gcd_of (drop 1 zs))
 closed_content n w p now zs start h e f =
     subst (λ (r : Row). content r ≡ gcd (gcd (entry now 0) (entry p 0)) (gcd (gcd_of r.coefs) (gcd_of r.constant))) (sym e) h.content
-    ∙ rw (f, gcd_numbers n (drop 1 zs)) refl
+    ∙ rw (f, (ap gcd_of (sym (take-append-drop n (drop 1 zs))) ∙ gcd_of_append (take n (drop 1 zs)) (drop n (drop 1 zs)))) refl
 
 -- ---- the rest by 128 bits
 
@@ -318,9 +305,6 @@ module _ (n : ℕ) (w : Put) (p now coefs constant : List ℤ) (d : ℤ) (h : Is
 
   q_coefs : length q.coefs ≡ n
   q_coefs = ap (λ (r : Row). length r.coefs) qe ∙ simp (length-take, length-drop) (omega (arith, h.size, h.some))
-
-  q_constant : length q.constant ≡ length now - 1 - n
-  q_constant = ap (λ (r : Row). length r.constant) qe ∙ simp length-drop (omega (arith, h.size))
 
   whole : begun_coefs begun q coefs ++ begun_constant begun q constant ≡ put_numbers w p now
   whole = rw (qe, coefs_is, constant_is) (put_split w.by.of_row w.by.of_pivot n w.made i j (drop 1 now) (drop 1 p) h.terms.lengths sum within none)
@@ -350,7 +334,7 @@ module _ (n : ℕ) (w : Put) (p now coefs constant : List ℤ) (d : ℤ) (h : Is
       pivot = All-same IsShort _ _ (ap (λ (r : Row). r.coefs) qe) (All-take IsShort n (drop 1 p) h.terms.pivot);
     };
     constant_terms = record {
-      lengths = constant_size ∙ sym q_constant;
+      lengths = constant_size ∙ sym (ap (λ (r : Row). length r.constant) qe ∙ simp length-drop (omega (arith, h.size)));
       row_factor = h.terms.row_factor;
       row = All-same IsShort _ _ constant_is (All-drop IsShort n (drop 1 now) h.terms.row);
       pivot_factor = h.terms.pivot_factor;
@@ -395,9 +379,6 @@ rest_terms n w p now rest others h e f = record {
     behind_one (z ∷ zs) = rw (one_more w.made) refl
 
 pub behind_short : (m : ℕ) (front rest now : List ℤ) → front ≡ take (m + 1) now → All IsShort (drop 1 now) → All IsShort rest → All IsShort (drop 1 (front ++ rest))
-behind_short m front rest [] e all more =
-    let front_is : front ≡ [] = rw (one_more m) at e in
-    rw front_is (All-drop IsShort 1 rest more)
+behind_short m front rest [] e all more = rw (rw (one_more m) at e) (All-drop IsShort 1 rest more)
 behind_short m front rest (z ∷ now) e all more =
-    let front_is : front ≡ z ∷ take m now = rw (one_more m) at e in
-    rw front_is (All-append IsShort (take m now) rest (All-take IsShort m now all) more)
+    rw (rw (one_more m) at e) (All-append IsShort (take m now) rest (All-take IsShort m now all) more)

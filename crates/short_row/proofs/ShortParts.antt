@@ -1,6 +1,5 @@
 -- A short row with another put in.
-use Rattle.short_row.proofs.Words.{◌≡◌, refl, ℕ, ◌+◌, ◌<◌, ℤ, pos, ◌≤ℤ◌, List, [], ◌∷◌, ◌++◌, length, arith, slice_set, slice_index_or, take_at, drop_at, gcd, gcd_of, gcd_between, quotient_positive, Row, divided, unit_row, row_of_numbers, IsShortRow, IsRow, row_from, fits_short, content-one, IsShortReduced}
-use Rattle.row_laws.proofs.ShortRows.{short_fit}
+use Rattle.short_row.proofs.Words.{◌≡◌, refl, ℕ, ◌+◌, ◌<◌, ℤ, pos, ◌≤ℤ◌, List, [], ◌∷◌, ◌++◌, length, arith, slice_set, slice_index_or, take_at, drop_at, gcd, gcd_of, gcd_between, quotient_positive, Row, divided, unit_row, row_of_numbers, IsShortRow, IsRow, row_from, fits_short, content-one, IsShortReduced, short_fit}
 use Rattle.row_laws.proofs.Solved.{unit_short}
 use Rattle.row_laws.proofs.UnitFits.{unit_fits}
 
@@ -18,14 +17,12 @@ short_row n w r h coefs constant short = record {
 -- a row's numbers as its parts
 pub row_split : (n : ℕ) (zs front rest coefs constant : List ℤ) → zs ≡ front ++ rest → rest ≡ coefs ++ constant → length front ≡ 1 → length coefs ≡ n
     → row_of_numbers n zs ≡ row_from (slice_index_or front 0 (pos 0)) coefs constant
-row_split n zs [] rest coefs constant e f one long = absurd (omega arith)
 row_split n zs (x ∷ []) rest coefs constant e f one long = rw (e, f, take_at coefs constant n long, drop_at coefs constant n long) refl
-row_split n zs (x ∷ y ∷ front) rest coefs constant e f one long = absurd (omega arith)
+row_split n zs _ rest coefs constant e f one long = absurd (omega arith)
 
 pub row_join : (n : ℕ) (front coefs constant : List ℤ) (z : ℤ) → length front ≡ 1 → length coefs ≡ n → row_of_numbers n (slice_set front 0 z ++ (coefs ++ constant)) ≡ row_from z coefs constant
-row_join n [] coefs constant z one long = absurd (omega arith)
 row_join n (x ∷ []) coefs constant z one long = rw (take_at coefs constant n long, drop_at coefs constant n long) refl
-row_join n (x ∷ y ∷ front) coefs constant z one long = absurd (omega arith)
+row_join n _ coefs constant z one long = absurd (omega arith)
 
 -- ---- what a short row is after a pivot
 
@@ -37,8 +34,4 @@ divided_positive r h =
 -- ---- the row of a column
 
 pub unit_reduced : (n m c : ℕ) → c < n → IsShortReduced n m (unit_row n m c)
-unit_reduced n m c h = record {
-  row = unit_fits n m c h;
-  reduced = content-one (unit_row n m c) refl;
-  short = unit_short n m c;
-}
+unit_reduced n m c h = record { row = unit_fits n m c h; reduced = content-one (unit_row n m c) refl; short = unit_short n m c }

@@ -34,15 +34,12 @@ module _ (n : ℕ) (c : List ℤ) (some : 1 ≤ length c) (narrow : length c ≤
   zeros = replicate (n - width c) (pos 0)
 
   pub form_numbers : numbers_of (form_row n (widen_to n c)) ≡ pos 1 ∷ ((front ++ zeros) ++ last)
-  form_numbers =
-      ap (λ (zs : List ℤ). pos 1 ∷ zs) (take-append-drop n (widen_to n c))
-      ∙ rw (is_front, is_last, last_part c some) refl
+  form_numbers = ap (λ (zs : List ℤ). pos 1 ∷ zs) (take-append-drop n (widen_to n c)) ∙ rw (is_front, is_last, last_part c some) refl
 
   pub form_short : All IsShort front → All IsShort last → IsShortRow (form_row n (widen_to n c))
   form_short a b =
       let whole : All IsShort ((front ++ zeros) ++ last) = All-append IsShort (front ++ zeros) last (All-append IsShort front zeros a (All-replicate IsShort (n - width c) (pos 0) (omega arith))) b in
-      let same : widen_to n c ≡ (front ++ zeros) ++ last = rw (is_front, is_last, last_part c some) refl in
-      let all = subst (All IsShort) (sym same) whole in
+      let all = subst (All IsShort) (sym (rw (is_front, is_last, last_part c some) refl)) whole in
       record { den = omega arith; coefs = All-take IsShort n (widen_to n c) all; constant = All-drop IsShort n (widen_to n c) all }
 
 module _ (n : ℕ) (c : List ℤ) (some : 1 ≤ length c) (narrow : length c ≤ n + 1) where
@@ -66,9 +63,8 @@ pub written_step : (xs old now : List ℤ) (i : ℕ) (y : ℤ) → i < length xs
     → slice_set now i y ≡ take (i + 1) xs ++ drop (i + 1) old
 written_step xs old now i y h e is g =
     let front = take i xs in
-    let long : length (take i xs) ≡ i = length-take-le i xs (omega (arith, h)) in
     ap (λ (zs : List ℤ). slice_set zs i y) (is ∙ ap (λ (zs : List ℤ). front ++ zs) (drop_more old i (pos 0) (omega (arith, h, e))))
-    ∙ set_at front (get_or old i (pos 0)) (drop (i + 1) old) y i long
+    ∙ set_at front (get_or old i (pos 0)) (drop (i + 1) old) y i (length-take-le i xs (omega (arith, h)))
     ∙ sym (append_assoc front (y ∷ []) (drop (i + 1) old))
     ∙ ap (λ (zs : List ℤ). zs ++ drop (i + 1) old) (sym (take_more xs i (pos 0) h ∙ ap (λ (z : ℤ). front ++ z ∷ []) (sym g)))
 
@@ -78,9 +74,8 @@ rest_zeros n k row rest front back e f g h =
     h ∙ ap (drop k) (g ∙ ap (take n) (f ∙ ap (drop 1) (e ∙ ap (λ (m : ℕ). replicate m (pos 0)) more)) ∙ take-replicate n (n + 1) (pos 0) (omega arith)) ∙ drop-replicate k n (pos 0)
 
 one_set : (xs : List ℤ) (y : ℤ) → length xs ≡ 1 → slice_set xs 0 y ≡ y ∷ []
-one_set [] y e = absurd (omega arith)
 one_set (x ∷ []) y e = refl
-one_set (x ∷ z ∷ xs) y e = absurd (omega arith)
+one_set _ y e = absurd (omega arith)
 
 pub form_written : (n : ℕ) (c : List ℤ) (some : 1 ≤ length c) (narrow : length c ≤ n + 1) (front last : List ℤ) → front ≡ take (length c - 1) c → last ≡ drop (length c - 1) c
     → (row den rest middle back made_front made_last : List ℤ) → row ≡ replicate (n + 2) (pos 0) → length den ≡ 1 → rest ≡ drop 1 row → middle ≡ take n rest → back ≡ drop (length front) middle

@@ -1,15 +1,8 @@
 -- Numbers that are divided by their greatest common divisor.
-use Rattle.short_row.proofs.Words.{◌≡◌, refl, ap, sym, ◌∙◌, subst, ℕ, zero, suc, ◌+◌, ◌<◌, ◌≤◌, ℤ, pos, negsuc, ◌≤ℤ◌, ◌*ℤ◌, List, [], ◌∷◌, ◌++◌, length, take, drop, get_or, set, arith, ints, All, All-take, All-same, take_at, take-append-drop, get_or-map, length-map, gcd, gcd_of, gcd_assoc, floor_div, Row, divided, row_of_numbers, IsShort, mapped, add-one, unsigned_abs, unsigned_abs-mul, take-map, drop-map, scale, content}
-use Rattle.std.specs.List.{AllByRecursion}
-use Rattle.std.proofs.lemmas.List.Elements.{All-from_recursion, recursion_from_All}
-use Rattle.std.proofs.lemmas.Nat.Gcd.{dvd_antisymm, dvd_refl, IsGcd-swap}
-use Rattle.affine_forms.proofs.Mapped.{mapped_read}
-use Rattle.pip_model.proofs.RingLaws.{*ℤ_assoc}
+use Rattle.short_row.proofs.Words.{◌≡◌, refl, ap, sym, ◌∙◌, subst, ℕ, zero, suc, ◌+◌, ◌<◌, ◌≤◌, ℤ, pos, negsuc, ◌≤ℤ◌, ◌*ℤ◌, List, [], ◌∷◌, ◌++◌, length, take, drop, get_or, set, arith, ints, All, All-take, All-same, take_at, take-append-drop, get_or-map, length-map, gcd, gcd_of, gcd_assoc, floor_div, Row, divided, row_of_numbers, IsShort, mapped, add-one, unsigned_abs, unsigned_abs-mul, take-map, drop-map, scale, content, AllByRecursion, All-from_recursion, recursion_from_All, dvd_antisymm, dvd_refl, IsGcd-swap, mapped_read, *ℤ_assoc, common-IsGcd, multiple-dvd, gcd_of-greatest, times-one, content-divides, scaled_front}
 use Rattle.pip_model.proofs.Division.{Multiple, floor-exact, gcd-divides, gcd_of-divides}
-use Rattle.pip_model.proofs.Gcd.{common-IsGcd, euclid_only, multiple-dvd, gcd_of-greatest, times-one}
-use Rattle.row_laws.proofs.Contents.{content-divides}
+use Rattle.pip_model.proofs.Gcd.{euclid_only}
 use Rattle.row_laws.proofs.Unchanged.{scaled, content-scaled, divided-scaled}
-use Rattle.short_row.specs.Whole.{scaled_front}
 
 -- ---- number after number
 
@@ -35,17 +28,15 @@ scaled_zero d old now i h e f = rw (add-one i) (zero_scaled d now i h f ∙ e)
 
 pub scaled_all : (d : ℤ) (zs : List ℤ) (k : ℕ) → k ≡ length zs → scaled_front d zs k ≡ scale d zs
 scaled_all d [] zero h = refl
-scaled_all d [] (suc k) h = absurd (omega arith)
-scaled_all d (z ∷ zs) zero h = absurd (omega arith)
 scaled_all d (z ∷ zs) (suc k) h = ap (λ xs. (d *ℤ z) ∷ xs) (scaled_all d zs k (omega arith))
+scaled_all d _ _ h = absurd (omega arith)
 
 -- ---- some are multiplied again
 
 pub scaled_short : (d : ℤ) (old now : List ℤ) (i : ℕ) → i < length old → now ≡ mapped (λ x. d *ℤ x) i old → All IsShort (scale d old) → IsShort (d *ℤ get_or now i (pos 0))
 scaled_short d old now i h e all =
     let read : get_or now i (pos 0) ≡ get_or old i (pos 0) = rw e (mapped_read (λ x. d *ℤ x) old i (pos 0) h) in
-    let here : get_or (scale d old) i (pos 0) ≡ d *ℤ get_or now i (pos 0) = get_or-map (λ x. d *ℤ x) old i (pos 0) (pos 0) h ∙ ap (λ z. d *ℤ z) (sym read) in
-    subst IsShort here (all i (pos 0) (simp length-map h))
+    subst IsShort (get_or-map (λ x. d *ℤ x) old i (pos 0) (pos 0) h ∙ ap (λ z. d *ℤ z) (sym read)) (all i (pos 0) (simp length-map h))
 
 twice : (d f e z : ℤ) → d ≡ e *ℤ f → e *ℤ (f *ℤ z) ≡ d *ℤ z
 twice d f e z g = sym (*ℤ_assoc e f z) ∙ ap (λ x. x *ℤ z) (sym g)
@@ -62,9 +53,8 @@ pub scaled_less : (d f e q : ℤ) (zs front rest : List ℤ) (i : ℕ) → d ≡
 scaled_less d f e q zs front rest i g a b h k = rw (a, b, add-one i) (less_there d f e q zs i g h k)
 
 smaller_short : (e x : ℤ) → pos 1 ≤ℤ e → IsShort (e *ℤ x) → IsShort x
-smaller_short (pos zero) x h short = absurd (omega (arith, ints))
-smaller_short (negsuc n) x h short = absurd (omega (arith, ints))
 smaller_short (pos (suc n)) x h short = let size = unsigned_abs-mul (pos (suc n)) x in omega (arith, size, short)
+smaller_short _ x h short = absurd (omega (arith, ints))
 
 -- by a factor of d they are short where they are by d
 pub factor_short : (d f e : ℤ) (zs front : List ℤ) (i : ℕ) → d ≡ e *ℤ f → pos 1 ≤ℤ e → front ≡ take i zs → All IsShort (scaled_front d zs i) → All IsShort (scale f front)
@@ -163,5 +153,4 @@ row_divided n (pos m) start (z ∷ zs) now size some found alone e =
     let whole : scaled (pos m) row ≡ old = sym (row_scaled n (pos m) now filled) ∙ ap (row_of_numbers n) e in
     let divisor : content old ≡ pos m = sym (with_den old start (gcd_of zs) alone) ∙ sym found in
     let times : pos m *ℤ content row ≡ pos m = sym (content-scaled m row more) ∙ ap content whole ∙ divisor in
-    let one : content row ≡ pos 1 = ap pos (times-one m _ more (ap unsigned_abs times)) in
-    sym (divided-scaled m row more one) ∙ ap divided whole
+    sym (divided-scaled m row more (ap pos (times-one m _ more (ap unsigned_abs times)))) ∙ ap divided whole

@@ -1,16 +1,7 @@
 -- A row after a pivot, by the step's factors and from the step's divisor.
-use Rattle.tableau_row.proofs.Words.{fits, Fits, length-combine, ◌≡◌, ◌∙◌, refl, ap, sym, subst, ℕ, suc, ◌+◌, ◌<◌, ℤ, pos, ◌≤ℤ◌, ◌*ℤ◌, arith, List, [], ◌∷◌, ◌++◌, length, length-map, length-set, map-append, take, drop, take_at, drop_at, take-append-drop, slice_set, All, All-cons, All-append, All-take, All-drop, All-set, IsTrue, floor_div, floor_divided, gcd, gcd_of, gcd_assoc, gcd_zero, entry, combine, Row, divided, eliminated, content, IsRow, IsOwnRow, IsReduced, IsShort, IsShortRow, IsElimination, IsMadeReduced, MakesRow, true, AreLowest, substituted_by, numbers_of, row_of_numbers, get_or-take, content-divided, divided_one, short_fit, fits_short, AreReduced}
-use Rattle.pip_model.proofs.Gcd.{gcd_between, quotient_positive}
-use Rattle.row_laws.proofs.Lowest.{eliminated-lowest, divisor-lowest, reduced-lowest}
-use Rattle.row_laws.proofs.Numbers.{row_again}
-use Rattle.row_laws.proofs.Stepping.{made_further}
-use Rattle.row_laws.proofs.Substituting.{some_product}
+use Rattle.tableau_row.proofs.Words.{fits, Fits, length-combine, ◌≡◌, ◌∙◌, refl, ap, sym, subst, ℕ, suc, ◌+◌, ◌<◌, ℤ, pos, ◌≤ℤ◌, ◌*ℤ◌, arith, List, [], ◌∷◌, ◌++◌, length, length-map, length-set, map-append, take, drop, take_at, drop_at, take-append-drop, slice_set, All, All-cons, All-append, All-take, All-drop, All-set, IsTrue, floor_div, floor_divided, gcd, gcd_of, gcd_assoc, gcd_zero, entry, combine, Row, divided, eliminated, content, IsRow, IsOwnRow, IsReduced, IsShort, IsShortRow, IsElimination, IsMadeReduced, MakesRow, true, AreLowest, substituted_by, numbers_of, row_of_numbers, get_or-take, content-divided, divided_one, short_fit, fits_short, AreReduced, gcd_between, quotient_positive, eliminated-lowest, divisor-lowest, reduced-lowest, row_again, made_further, some_product}
 use Rattle.tableau_row.specs.Stepped.{IsStep}
 use Rattle.tableau_row.specs.declared.step.Step.{Step}
-
--- a fact of two numbers that are the same as others
-pub by_same : (P : ℤ → ℤ → Type 0) {x y u v : ℤ} → x ≡ u → y ≡ v → P x y → P u v
-by_same P {x} {y} {u} {v} e f h = subst (λ z. P z v) e (subst (P x) f h)
 
 -- ---- the numbers of a row
 

@@ -1,8 +1,7 @@
 -- The numbers of a row that stand last, lent and written.
-use Rattle.tableau_row.proofs.Words.{◌≡◌, refl, ap, sym, ◌∙◌, ℕ, ◌<◌, ◌≤◌, ℤ, List, ◌++◌, length, take, drop, length-append, append-nil, arith, vec_len, vec_capacity, Vec, take_at, drop_at, take_all, drop_all, Row, numbers_of, row_of_numbers, Appends}
+use Rattle.tableau_row.proofs.Words.{◌≡◌, refl, ap, sym, ◌∙◌, ℕ, ◌<◌, ◌≤◌, ℤ, List, ◌++◌, length, take, drop, length-append, append-nil, arith, vec_len, vec_capacity, Vec, take_at, drop_at, take_all, drop_all, Row, numbers_of, row_of_numbers, Appends, row_again}
 use Rattle.std.specs.Vec.{with_items}
 use Rattle.std.specs.declared.alloc.Global.{Global}
-use Rattle.row_laws.proofs.Numbers.{row_again}
 
 -- ---- numbers with others behind them
 

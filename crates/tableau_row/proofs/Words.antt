@@ -16,7 +16,7 @@ pub use Rattle.affine_forms.proofs.Divisors.{gcd_assoc, floor_divided_one, gcd_s
 pub use Rattle.affine_forms.proofs.Combined.{listed_step, listed_refused, listed_end}
 pub use Rattle.pip_model.specs.Cuts.{residue_of, rounding, rounded_listed, rounded}
 pub use Rattle.affine_forms.specs.Forms.{raised}
-pub use Rattle.pip_model.proofs.Gcd.{quotient_positive, gcd_one, gcd_zero}
+pub use Rattle.pip_model.proofs.Gcd.{quotient_positive, gcd_one, gcd_zero, gcd_between}
 pub use Rattle.affine_forms.proofs.Mapped.{mapped, mapped_step}
 pub use Rattle.row_laws.specs.Lowest.{AreLowest, substituted_by, AreReduced}
 pub use Rattle.row_laws.specs.Rows.{IsRow, IsOwnRow, IsReduced, row_from, content}
@@ -30,3 +30,10 @@ pub use Rattle.row_laws.proofs.RowLaws.{divided_one, divided_row, divided_whole}
 pub use Rattle.row_laws.proofs.ShortRows.{short_fit, fits_short}
 pub use Rattle.row_laws.proofs.ShortHeld.{short_held, short_entry_held}
 pub use Rattle.row_laws.proofs.Places.{drop_two, eliminated_parts}
+pub use Rattle.row_laws.proofs.Lowest.{eliminated-lowest, divisor-lowest, reduced-lowest, lowest-divided}
+pub use Rattle.row_laws.proofs.Numbers.{row_again, row_over}
+pub use Rattle.row_laws.proofs.Stepping.{made_further, made_reduced, reduced_by, own_row, pivot_over}
+pub use Rattle.row_laws.proofs.Substituting.{some_product, row_parts, listed_parts, substituted_row}
+pub use Rattle.row_laws.proofs.Combining.{short_bound, combined_step, combined_all, kept_at, kept_step, listed_sides, set_sides, listed_now, listed_behind}
+pub use Rattle.row_laws.proofs.UnitRows.{unit_row_is, found, not_found, none_found}
+pub use Rattle.row_laws.proofs.Solved.{solved, eliminated_unit, solved_row, solved_reduced, solved_short, solved_listed, solved_numbers, negated_step}

@@ -1,6 +1,6 @@
 -- The words of other modules that the proofs of this crate cite, passed on from one place. Declares nothing.
 pub use Rattle.std.proofs.Common.{◌≡◌, ◌∙◌, ap, ap₂, sym, refl, ℕ, List, [], ◌∷◌, ◌++◌, append_assoc, append-nil, ◌+◌, ◌-◌, true, ◌==◌, inr, length, ℤ, pos, take, zero, suc, arith, Bool, false, ◌&&◌, Option, Some, None, negsuc, ◌+ℤ◌, ◌-ℤ◌, ◌*ℤ◌, neg_ℤ, ◌≤ℤ◌, ◌<ℤ◌, eqb-true, subst, eq-eqb, ◌≤◌, inl, length-append, ◌^◌, ◌<◌, ◌⊎◌}
-pub use Rattle.std.proofs.lemmas.List.{map-append, take-append-drop, length-take-le}
+pub use Rattle.std.proofs.lemmas.List.{map-append, take-append-drop, length-take-le, take-take}
 pub use Rattle.std.specs.Prelude.{map, flat_map, codes, drop, replicate, int_le, nat_le, if◌then◌else◌, IsTrue, int_lt, nat_lt, filter, not}
 pub use Rattle.std.specs.List.{list_all}
 pub use Rattle.std.proofs.lemmas.Int.{ints}

@@ -1,6 +1,4 @@
-use Rattle.derivation_steps.proofs.Words.{rules, spot_of}
-use Rattle.derivation_steps.specs.Steps.{read_over}
-use Rattle.derivation_steps.specs.Sums.{total}
+use Rattle.derivation_steps.proofs.Words.{rules, spot_of, read_over, total}
 use Rattle.derivation_steps.proofs.Steps.{by_one}
 use Rattle.derivation_steps.proofs.step.derive_in.Goals as goal
 

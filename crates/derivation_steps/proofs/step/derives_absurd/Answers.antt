@@ -1,6 +1,4 @@
-use Rattle.derivation_steps.proofs.Words.{rules, spot_of}
-use Rattle.derivation_steps.specs.Steps.{read_over}
-use Rattle.derivation_steps.specs.Sums.{total}
+use Rattle.derivation_steps.proofs.Words.{rules, spot_of, read_over, total}
 use Rattle.derivation_steps.proofs.Steps.{absurd_made}
 use Rattle.derivation_steps.proofs.step.derives_absurd.Goals as goal
 

@@ -1,7 +1,4 @@
-use Rattle.derivation_steps.proofs.Words.{◌≡◌, refl, sym, subst, ℤ, List, rules, to_z-of_z, w128, take, drop, length, All, Fits, IsFalse, all_fit, plus_term_listed}
-use Rattle.std.proofs.lemmas.List.Elements.{All-append, All-take, All-drop}
-use Rattle.affine_forms.proofs.Combined.{refused}
-use Rattle.affine_forms.specs.Checks.{is_overflow}
+use Rattle.derivation_steps.proofs.Words.{◌≡◌, refl, sym, subst, ℤ, List, rules, to_z-of_z, w128, take, drop, length, All, Fits, IsFalse, all_fit, plus_term_listed, All-append, All-take, All-drop, refused, is_overflow}
 use Rattle.derivation_steps.proofs.sum.add_front.Goals as goal
 
 pub returns-in_err-add_multiple-clause-listed : goal.returns-in_err-add_multiple-clause-listed

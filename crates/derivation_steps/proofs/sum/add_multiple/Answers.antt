@@ -1,5 +1,4 @@
-use Rattle.derivation_steps.proofs.Words.{arith, rules, sym, ◌∙◌, to_z-of_z, common_steps, Fits}
-use Rattle.std.proofs.lemmas.List.Elements.{All-set}
+use Rattle.derivation_steps.proofs.Words.{arith, rules, sym, ◌∙◌, to_z-of_z, common_steps, Fits, All-set}
 use Rattle.derivation_steps.proofs.Sums.{entries_step, multiple_step, multiple_refused, multiple_fits}
 use Rattle.derivation_steps.proofs.sum.add_multiple.Goals as goal
 

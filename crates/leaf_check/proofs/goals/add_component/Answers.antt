@@ -1,5 +1,4 @@
-use Rattle.leaf_check.proofs.Words.{◌≡◌, ◌∙◌, sym, rules, pos, w128, to_z-of_z}
-use Rattle.derivation_steps.proofs.Spreading.{no_multiple, no_multiple_listed}
+use Rattle.leaf_check.proofs.Words.{◌≡◌, ◌∙◌, sym, rules, pos, w128, to_z-of_z, no_multiple, no_multiple_listed}
 use Rattle.quast.proofs.Conditions.{all_fit_from}
 use Rattle.leaf_check.proofs.goals.add_component.Goals as goal
 
@@ -15,10 +14,7 @@ returns-then-a-eq0-clause-ok c =
 
 pub returns-clause-listed : goal.returns-clause-listed
 returns-clause-listed c =
-    let same : c.as_slice.result.now ≡ c.args.component.now.form = c.as_slice.ensures.value ∙ c.form.ensures in
-    rw (to_z-of_z w128 c.args.a (search rules), same) at c.add_multiple.ensures.listed
+    rw (to_z-of_z w128 c.args.a (search rules), (c.as_slice.ensures.value ∙ c.form.ensures)) at c.add_multiple.ensures.listed
 
 pub returns-clause-ok : goal.returns-clause-ok
-returns-clause-ok c =
-    let same : c.as_slice.result.now ≡ c.args.component.now.form = c.as_slice.ensures.value ∙ c.form.ensures in
-    rw (to_z-of_z w128 c.args.a (search rules), same) at c.add_multiple.ensures.ok
+returns-clause-ok c = rw (to_z-of_z w128 c.args.a (search rules), (c.as_slice.ensures.value ∙ c.form.ensures)) at c.add_multiple.ensures.ok

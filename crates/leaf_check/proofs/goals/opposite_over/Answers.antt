@@ -1,4 +1,4 @@
-use Rattle.leaf_check.proofs.Words.{◌≡◌, ◌∙◌, ap, length, arith, rules, opposite, widen_to, length-opposite, length-widened}
+use Rattle.leaf_check.proofs.Words.{◌≡◌, ◌∙◌, ap, length, arith, rules, opposite, length-opposite, length-widened}
 use Rattle.leaf_check.proofs.goals.opposite_over.Goals as goal
 
 pub overflow_sub-more : goal.overflow_sub-more
@@ -10,5 +10,4 @@ overflow_sub-more c =
 pub returns-clause-long : goal.returns-clause-long
 returns-clause-long c =
     let e : length (opposite c.args.form) ≡ length c.args.form = length-opposite c.args.form (search rules) in
-    let same : c.widen.new.self ≡ widen_to c.args.width (opposite c.args.form) = search rules in
-    ap length same ∙ length-widened c.args.width (opposite c.args.form) (omega (arith, e, c.requires))
+    ap length (search rules) ∙ length-widened c.args.width (opposite c.args.form) (omega (arith, e, c.requires))

@@ -33,10 +33,6 @@ returns c = record {
       let constant : c.divide_finished-2.new.r ≡ floor_divided c.divisor-divisor.result (begun_constant c.args.begun.now (row_of c.args.p.now) c.args.constant.now) = search rules in
       begun_divided c.args.begun.now (row_of c.args.p.now) c.args.coefs.now c.args.constant.now c.requires c.divisor-divisor.result c.divisor-divisor.ensures.value
       (to_z w64 (of_z w64 c.in_ok-den.den)) (to_z w64 (of_z w64 c.in_ok-entry.entry)) c.divide_finished.new.r c.divide_finished-2.new.r den entry coefs constant;
-  short = record {
-    den = search rules;
-    coefs = All-set IsShort _ _ _ (search rules) (search rules);
-    constant = search rules;
-  };
+  short = record { den = search rules; coefs = All-set IsShort _ _ _ (search rules) (search rules); constant = search rules };
   long = search rules;
 }

@@ -1,4 +1,4 @@
-use Rattle.std.proofs.lemmas.Nat.Gcd.{IsGcd-from_zero, IsGcd-from_mod, IsGcd-swap}
+use Rattle.short_row.proofs.Words.{IsGcd-from_zero, IsGcd-from_mod, IsGcd-swap}
 use Rattle.affine_forms.proofs.Gcd.{euclid_only}
 use Rattle.short_row.proofs.divisors.gcd_half.Goals as goal
 

@@ -1,5 +1,4 @@
-use Rattle.std.proofs.Common.{ℕ}
-use Rattle.std.specs.Int.{IsGcd}
+use Rattle.short_row.proofs.Words.{ℕ, IsGcd}
 use Rattle.short_row.proofs.divisors.gcd_half.Given as goal
 
 abbrev pub invariant-loop-y : goal.invariant-loop-y

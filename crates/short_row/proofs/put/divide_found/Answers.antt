@@ -1,4 +1,4 @@
-use Rattle.short_row.proofs.Words.{rules, ◌≡◌, ap, ◌∙◌, pos, row_of_numbers, floor_divided, content}
+use Rattle.short_row.proofs.Words.{rules, ◌≡◌, ap, ◌∙◌, row_of_numbers, floor_divided, content}
 use Rattle.short_row.proofs.Puts.{numbers_divided, divided_already}
 use Rattle.short_row.proofs.put.divide_found.Goals as goal
 
@@ -9,6 +9,4 @@ returns-then-divisor-ne1-clause-value c =
     ap (row_of_numbers c.args.unknowns) made ∙ numbers_divided c.args.unknowns c.args.row.now c.gcd_with-divisor.result c.requires.some divisor
 
 pub returns-else-divisor-ne1-clause-value : goal.returns-else-divisor-ne1-clause-value
-returns-else-divisor-ne1-clause-value c =
-    let one : content (row_of_numbers c.args.unknowns c.args.row.now) ≡ pos 1 = search rules in
-    divided_already (row_of_numbers c.args.unknowns c.args.row.now) one
+returns-else-divisor-ne1-clause-value c = divided_already (row_of_numbers c.args.unknowns c.args.row.now) (search rules)

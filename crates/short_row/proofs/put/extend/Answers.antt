@@ -12,10 +12,8 @@ returns-clause-row c =
     let w = c.args.put.now in
     let value : finished c.args.put.now.by.of_row c.combine.new.r c.args.put.now.by.of_pivot c.split_at.result.1.now c.combine.result
     ≡ combine c.args.put.now.by.of_row c.split_at_mut-rest.result.1.now c.args.put.now.by.of_pivot c.split_at.result.1.now = search rules in
-    let within : c.args.put.now.made + 1 ≤ length c.args.row.now = c.requires.made in
-    let same = sym c.requires.size in
     let more = further w.by.of_row w.by.of_pivot w.made c.combine.result c.args.row.now c.args.p.now c.split_at_mut-rest.result.0.now c.split_at_mut-rest.result.1.now c.combine.new.r c.split_at.result.1.now
-    (search rules) (search rules) (search rules) within same c.combine.auto.r value in
+    (search rules) (search rules) (search rules) c.requires.made (sym c.requires.size) c.combine.auto.r value in
     same_put c.args.unknowns w _ c.args.p.now c.args.row.now (c.split_at_mut-rest.result.0.now ++ c.combine.new.r) refl refl refl
     more.0 more.1
 

@@ -1,5 +1,4 @@
-use Rattle.short_row.proofs.Words.{rules, arith, ◌≡◌, ap, subst, ◌+◌, ◌*ℤ◌, pos, to_z, of_z, w64, sym, ◌∙◌, get_or, gcd, gcd_of, gcd_one, All-set, IsShort}
-use Rattle.short_row.specs.Whole.{IsHalfDivisor, scaled_front}
+use Rattle.short_row.proofs.Words.{rules, arith, ◌≡◌, ap, subst, ◌+◌, ◌*ℤ◌, pos, to_z, of_z, w64, sym, ◌∙◌, get_or, gcd, gcd_of, gcd_one, All-set, IsShort, IsHalfDivisor, scaled_front}
 use Rattle.short_row.proofs.Wholes.{scaled_step, scaled_zero, scaled_all, scaled_one, common_less, common_whole}
 use Rattle.short_row.proofs.whole.divide_common.Goals as goal
 use Rattle.short_row.proofs.whole.divide_common.Goals.{then-entries-i-ne0+in-Some, then-entries-i-ne0+in_default+else-divisor-eq1, else-entries-i-ne0}
@@ -9,8 +8,7 @@ returns-then-divisor-eq1-clause-value c =
     let one : c.divide_less-divisor.result ≡ pos 1 = search rules in
     let common = common_less (to_z w64 c.loop-i.divisor-bits) c.divide_less-divisor.result (to_z w64 (of_z w64 c.args.d)) c.args.entries.now c.loop-i.entries c.loop-i.i (omega arith)
     c.loop-i.invariant.value c.divide_less-divisor.ensures.value c.loop-i.invariant.common in
-    let found : pos 1 ≡ gcd (to_z w64 (of_z w64 c.args.d)) (gcd_of c.args.entries.now) = sym (gcd_one (gcd_of c.args.entries.now)) ∙ ap (λ z. gcd z (gcd_of c.args.entries.now)) (sym one) ∙ common in
-    search (rules, found)
+    search (rules, (sym (gcd_one (gcd_of c.args.entries.now)) ∙ ap (λ z. gcd z (gcd_of c.args.entries.now)) (sym one) ∙ common))
 
 pub returns-then-divisor-eq1-clause-whole : goal.returns-then-divisor-eq1-clause-whole
 returns-then-divisor-eq1-clause-whole c =

@@ -1,5 +1,4 @@
-use Rattle.short_row.proofs.Words.{◌≡◌, All, gcd, gcd_of, IsShort}
-use Rattle.short_row.specs.Whole.{IsHalfDivisor, scaled_front}
+use Rattle.short_row.proofs.Words.{◌≡◌, All, gcd, gcd_of, IsShort, IsHalfDivisor, scaled_front}
 use Rattle.short_row.proofs.whole.divide_common.Given as goal
 
 abbrev pub invariant-loop-i : goal.invariant-loop-i

@@ -5,19 +5,16 @@ use Rattle.short_row.proofs.wide.divide_entries.Goals as goal
 pub loop-i-preserved : goal.loop-i-preserved
 loop-i-preserved c = record {
   value =
-      let z : c.wide_entry-number.result ≡ c.args.by.of_row *ℤ get_or c.loop-i.r c.loop-i.i (pos 0) -ℤ c.args.by.of_pivot *ℤ get_or c.args.s.now c.loop-i.i (pos 0) = search rules in
-      let q : to_z w64 (of_z w64 c.in-Some.quotient) ≡ floor_div c.wide_entry-number.result (to_z w128 (of_z w128 c.args.d)) = search rules in
       quotient_next c.args.by.of_row c.args.by.of_pivot c.args.r.now c.args.s.now c.requires.terms.lengths (to_z w128 (of_z w128 c.args.d)) c.loop-i.i (omega arith) c.loop-i.r c.loop-i.invariant.value
-      c.wide_entry-number.result (to_z w64 (of_z w64 c.in-Some.quotient)) z q;
+      c.wide_entry-number.result (to_z w64 (of_z w64 c.in-Some.quotient)) (search rules) (search rules);
   short = All-set IsShort _ _ _ (search rules) c.loop-i.invariant.short;
 }
 
 pub returns : goal.returns
 returns c = record {
   value = λ all.
-      let same : to_z w128 (of_z w128 c.args.d) ≡ c.args.d = search rules in
       quotient_end c.args.by.of_row c.args.by.of_pivot c.args.r.now c.args.s.now c.requires.terms.lengths (to_z w128 (of_z w128 c.args.d)) c.loop-i.i (omega arith) c.loop-i.r c.loop-i.invariant.value
-      ∙ ap (λ d. floor_divided d (combine c.args.by.of_row c.args.r.now c.args.by.of_pivot c.args.s.now)) same;
+      ∙ ap (λ d. floor_divided d (combine c.args.by.of_row c.args.r.now c.args.by.of_pivot c.args.s.now)) (search rules);
   short = λ all. c.loop-i.invariant.short;
   long = λ none. cc;
 }

@@ -1,14 +1,12 @@
-use Rattle.short_row.proofs.Words.{arith, rules, ◌≡◌, ◌∙◌, ap, get_or, pos, ◌-ℤ◌, ◌*ℤ◌, to_z, of_z, w128, to_z-of_z, common_steps, gcd, gcd_of, combine, gcd_one}
+use Rattle.short_row.proofs.Words.{arith, rules, ◌≡◌, ◌∙◌, ap, to_z, of_z, w128, to_z-of_z, common_steps, gcd, gcd_of, combine, gcd_one}
 use Rattle.short_row.proofs.Finished.{gcd_next, gcd_end}
 use Rattle.short_row.proofs.wide.gcd_with_entries.Goals as goal
 
 pub loop-i-preserved : goal.loop-i-preserved
 loop-i-preserved c = record {
   value =
-      let z : c.wide_entry.result ≡ c.args.by.of_row *ℤ get_or c.args.r.now c.loop-i.i (pos 0) -ℤ c.args.by.of_pivot *ℤ get_or c.args.s.now c.loop-i.i (pos 0) = search rules in
-      let now : to_z w128 (of_z w128 c.gcd-found.result) ≡ gcd (to_z w128 c.loop-i.found-bits) c.wide_entry.result = search rules in
       gcd_next c.args.by.of_row c.args.by.of_pivot c.args.r.now c.args.s.now c.requires.terms.lengths c.loop-i.i (to_z w128 c.loop-i.found-bits) c.wide_entry.result (to_z w128 (of_z w128 c.gcd-found.result)) _
-      (omega arith) z now c.loop-i.invariant.value;
+      (omega arith) (search rules) (search rules) c.loop-i.invariant.value;
   divisor = search rules;
 }
 

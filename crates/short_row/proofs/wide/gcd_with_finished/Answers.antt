@@ -4,8 +4,7 @@ use Rattle.short_row.proofs.wide.gcd_with_finished.Goals as goal
 
 pub returns-clause-value : goal.returns-clause-value
 returns-clause-value c =
-    let found : c.gcd_with_made.result ≡ gcd c.args.start (gcd_of (take c.args.made c.args.r.now)) = search rules in
     let whole : to_z w128 (of_z w128 c.gcd_with_entries.result)
     ≡ gcd c.gcd_with_made.result (gcd_of (combine c.args.by.of_row (drop c.args.made c.args.r.now) c.args.by.of_pivot (drop c.args.made c.args.s.now))) = search rules in
     gcd_finished c.args.start c.gcd_with_made.result (to_z w128 (of_z w128 c.gcd_with_entries.result)) (take c.args.made c.args.r.now)
-    (combine c.args.by.of_row (drop c.args.made c.args.r.now) c.args.by.of_pivot (drop c.args.made c.args.s.now)) found whole
+    (combine c.args.by.of_row (drop c.args.made c.args.r.now) c.args.by.of_pivot (drop c.args.made c.args.s.now)) (search rules) whole

@@ -1,6 +1,5 @@
-use Rattle.tableau_row.proofs.Words.{rules, pos, arith, common_steps, negate}
+use Rattle.tableau_row.proofs.Words.{rules, pos, arith, common_steps, negate, negated_step}
 use Rattle.tableau_row.proofs.Lent.{appends}
-use Rattle.row_laws.proofs.Solved.{negated_step}
 use Rattle.tableau_row.proofs.append.append_negated.Goals as goal
 
 pub loop-entry-preserved : goal.loop-entry-preserved

@@ -1,7 +1,6 @@
-use Rattle.tableau_row.proofs.Words.{rules, arith, sym, subst, refl, Row, numbers_of, Appends, IsMadeReduced, row_of, drop_two}
+use Rattle.tableau_row.proofs.Words.{rules, arith, sym, subst, refl, Row, numbers_of, Appends, IsMadeReduced, row_of, drop_two, solved, eliminated_unit, solved_row, solved_reduced, solved_short, solved_listed, solved_numbers}
 use Rattle.std.specs.Prelude.{true}
 use Rattle.tableau_row.proofs.Lent.{appends}
-use Rattle.row_laws.proofs.Solved.{solved, eliminated_unit, solved_row, solved_reduced, solved_short, solved_listed, solved_numbers}
 use Rattle.tableau_row.proofs.append.append_solved.Goals as goal
 
 pub returns : goal.returns

@@ -1,5 +1,4 @@
-use Rattle.tableau_row.proofs.Words.{arith, rules, All-set, Fits}
-use Rattle.row_laws.proofs.Combining.{combined_step, listed_now, listed_behind, combined_all}
+use Rattle.tableau_row.proofs.Words.{arith, rules, All-set, Fits, combined_step, listed_now, listed_behind, combined_all}
 use Rattle.tableau_row.proofs.elimination.combine_all.Goals as goal
 
 pub exact_difference-requires : goal.exact_difference-requires

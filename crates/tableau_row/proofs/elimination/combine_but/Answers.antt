@@ -1,5 +1,4 @@
-use Rattle.tableau_row.proofs.Words.{arith, rules, All-append, All-set, Fits, drop_two}
-use Rattle.row_laws.proofs.Combining.{listed_sides, set_sides}
+use Rattle.tableau_row.proofs.Words.{arith, rules, All-append, All-set, Fits, drop_two, listed_sides, set_sides}
 use Rattle.tableau_row.proofs.elimination.combine_but.Goals as goal
 
 pub combine_all-requires-clause-listed : goal.combine_all-requires-clause-listed

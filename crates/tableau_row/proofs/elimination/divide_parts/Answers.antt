@@ -1,5 +1,4 @@
-use Rattle.tableau_row.proofs.Words.{rules, refl, ◌≡◌, divided, row_from, divided_whole}
-use Rattle.row_laws.proofs.Substituting.{row_parts}
+use Rattle.tableau_row.proofs.Words.{rules, refl, ◌≡◌, divided, row_from, divided_whole, row_parts}
 use Rattle.tableau_row.proofs.elimination.divide_parts.Goals as goal
 
 pub returns-then-den-eq1 : goal.returns-then-den-eq1

@@ -1,5 +1,4 @@
-use Rattle.tableau_row.proofs.Words.{rules, refl, ◌≡◌, divided, row_from, divided_row, divided_one}
-use Rattle.row_laws.proofs.Substituting.{row_parts}
+use Rattle.tableau_row.proofs.Words.{rules, refl, ◌≡◌, divided, row_from, divided_row, divided_one, row_parts}
 use Rattle.tableau_row.proofs.elimination.divide_short_parts.Goals as goal
 
 pub returns : goal.returns

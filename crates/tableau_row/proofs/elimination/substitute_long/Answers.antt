@@ -1,6 +1,4 @@
-use Rattle.tableau_row.proofs.Words.{rules, row_from, row_of}
-use Rattle.row_laws.proofs.Stepping.{pivot_over}
-use Rattle.row_laws.proofs.Substituting.{listed_parts, substituted_row}
+use Rattle.tableau_row.proofs.Words.{rules, row_from, row_of, pivot_over, listed_parts, substituted_row}
 use Rattle.tableau_row.proofs.elimination.substitute_long.Goals as goal
 
 pub exact_product-requires : goal.exact_product-requires

@@ -1,5 +1,4 @@
-use Rattle.tableau_row.proofs.Words.{rules, divided, row_of_numbers, content-divided}
-use Rattle.row_laws.proofs.Stepping.{made_reduced}
+use Rattle.tableau_row.proofs.Words.{rules, divided, row_of_numbers, content-divided, made_reduced}
 use Rattle.tableau_row.proofs.row.divide.Goals as goal
 
 pub returns-clause-made : goal.returns-clause-made

@@ -1,5 +1,4 @@
-use Rattle.tableau_row.proofs.Words.{rules, length, eliminated, row_of_numbers, row_of}
-use Rattle.row_laws.proofs.Stepping.{made_reduced, reduced_by}
+use Rattle.tableau_row.proofs.Words.{rules, length, eliminated, row_of_numbers, row_of, made_reduced, reduced_by}
 use Rattle.tableau_row.proofs.row.eliminate_long.Goals as goal
 
 pub returns-clause-made : goal.returns-clause-made

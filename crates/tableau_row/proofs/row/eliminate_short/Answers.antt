@@ -1,5 +1,4 @@
-use Rattle.tableau_row.proofs.Words.{rules, arith, subst, length-append, substituted_by, IsOwnRow, IsShortRow, ◌≡◌, ◌∙◌, ◌+◌, sym, ap, to_z, of_z, w64, w128, get_or, pos, length, numbers_of, row_of, row_of_numbers, short_entry_held}
-use Rattle.row_laws.proofs.Stepping.{own_row}
+use Rattle.tableau_row.proofs.Words.{rules, arith, subst, length-append, substituted_by, IsOwnRow, IsShortRow, ◌≡◌, ◌∙◌, ◌+◌, sym, ap, to_z, of_z, w64, w128, get_or, pos, length, numbers_of, row_of, row_of_numbers, short_entry_held, own_row}
 use Rattle.tableau_row.proofs.Found.{stepped, again, short_of_numbers, eliminated_whole, whole_made, found_again, divided_again, reduced_again}
 use Rattle.tableau_row.proofs.row.eliminate_short.Goals as goal
 

@@ -1,5 +1,4 @@
-use Rattle.tableau_row.proofs.Words.{rules, refl, ◌≡◌, add, negate, width, rounded, rounding, residue_of, row_of_numbers, row_from, content-divided}
-use Rattle.row_laws.proofs.Numbers.{row_over}
+use Rattle.tableau_row.proofs.Words.{rules, refl, ◌≡◌, add, negate, width, rounded, rounding, residue_of, row_of_numbers, row_from, content-divided, row_over}
 use Rattle.tableau_row.proofs.row.round.Goals as goal
 
 pub returns-in_err-made-clause-listed : goal.returns-in_err-made-clause-listed

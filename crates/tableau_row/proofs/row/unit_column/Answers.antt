@@ -1,5 +1,4 @@
-use Rattle.tableau_row.proofs.Words.{rules, ◌≡◌, pos, ℕ}
-use Rattle.row_laws.proofs.UnitRows.{unit_row_is}
+use Rattle.tableau_row.proofs.Words.{rules, ◌≡◌, pos, ℕ, unit_row_is}
 use Rattle.tableau_row.proofs.row.unit_column.Goals as goal
 
 pub returns-then-all_zero-clause-value : goal.returns-then-all_zero-clause-value

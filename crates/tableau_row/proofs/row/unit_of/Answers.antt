@@ -1,5 +1,4 @@
-use Rattle.tableau_row.proofs.Words.{rules, ◌≡◌, false, is_zero, entry}
-use Rattle.row_laws.proofs.UnitRows.{found, not_found, none_found}
+use Rattle.tableau_row.proofs.Words.{rules, ◌≡◌, false, is_zero, entry, found, not_found, none_found}
 use Rattle.tableau_row.proofs.row.unit_of.Goals as goal
 
 pub returns-then-is_one-clause-value : goal.returns-then-is_one-clause-value

@@ -1,5 +1,4 @@
-use Rattle.tableau_row.proofs.Words.{arith, rules, subst, IsTrue, All-set, Fits, IsShort}
-use Rattle.row_laws.proofs.Combining.{combined_step, combined_all, kept_at, kept_step}
+use Rattle.tableau_row.proofs.Words.{arith, rules, subst, IsTrue, All-set, Fits, IsShort, combined_step, combined_all, kept_at, kept_step}
 use Rattle.tableau_row.proofs.short.combine_by.Goals as goal
 use Rattle.tableau_row.proofs.short.combine_by.Goals.{then-changes, else-changes}
 

@@ -1,5 +1,4 @@
-use Rattle.tableau_row.proofs.Words.{ap, sym, ◌∙◌, w128, to_z-of_z, is_short}
-use Rattle.row_laws.proofs.Combining.{short_bound}
+use Rattle.tableau_row.proofs.Words.{ap, sym, ◌∙◌, w128, to_z-of_z, is_short, short_bound}
 use Rattle.tableau_row.proofs.short.with_entry.Goals as goal
 
 pub returns-then-short-clause-so_far : goal.returns-then-short-clause-so_far

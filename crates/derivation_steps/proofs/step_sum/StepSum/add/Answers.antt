@@ -1,7 +1,4 @@
-use Rattle.derivation_steps.proofs.Words.{◌≡◌, ◌≤◌, ◌∙◌, ◌-◌, get_or, w128, refl, sym, arith, rules, common_steps, to_z-of_z, pos, length, take, entry, plus_term_listed, width, widen_to, length-widened, is_form_overflow}
-use Rattle.std.proofs.Common.{to_z, of_z}
-use Rattle.affine_forms.proofs.Combined.{refused}
-use Rattle.derivation_steps.specs.Sums.{total, IsPartSum}
+use Rattle.derivation_steps.proofs.Words.{◌≡◌, ◌≤◌, ◌∙◌, ◌-◌, get_or, w128, refl, sym, arith, rules, common_steps, to_z-of_z, pos, length, take, entry, plus_term_listed, width, widen_to, length-widened, is_form_overflow, to_z, of_z, refused, total, IsPartSum}
 use Rattle.derivation_steps.proofs.Spreading.{no_multiple, no_multiple_listed, total_fits, length-total, narrow_added, narrow_listed}
 use Rattle.derivation_steps.proofs.step_sum.StepSum.add.Goals as goal
 

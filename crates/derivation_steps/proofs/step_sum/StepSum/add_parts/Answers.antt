@@ -1,9 +1,4 @@
-use Rattle.derivation_steps.proofs.Words.{◌≡◌, refl, ap, subst, [], ◌∷◌, ◌++◌, ◌+ℤ◌, ◌*ℤ◌, ℤ, List, to_z-of_z, w128, fit_never, take, length, IsFalse, all_fit, plus_term_listed}
-use Rattle.derivation_steps.proofs.Words.{rules}
-use Rattle.std.proofs.Common.{to_z, of_z}
-use Rattle.affine_forms.proofs.Combined.{refused}
-use Rattle.affine_forms.specs.Checks.{is_overflow}
-use Rattle.derivation_steps.specs.Sums.{PartSum}
+use Rattle.derivation_steps.proofs.Words.{◌≡◌, refl, ap, subst, [], ◌∷◌, ◌++◌, ◌+ℤ◌, ◌*ℤ◌, ℤ, List, to_z-of_z, w128, fit_never, take, length, IsFalse, all_fit, plus_term_listed, rules, to_z, of_z, refused, is_overflow, PartSum}
 use Rattle.derivation_steps.proofs.step_sum.StepSum.add_parts.Goals as goal
 
 pub returns-in_err-add_front-clause-listed : goal.returns-in_err-add_front-clause-listed

@@ -1,7 +1,5 @@
-use Rattle.derivation_steps.proofs.Words.{◌≡◌, ◌∷◌, [], arith, pos, ℕ, subst, err_from_is_err_and, fault_of, spot_of, get_or, sum_of, Err, IfSome}
+use Rattle.derivation_steps.proofs.Words.{◌≡◌, ◌∷◌, [], arith, pos, ℕ, subst, err_from_is_err_and, fault_of, spot_of, get_or, sum_of, Err, IfSome, read_over, total}
 use Rattle.derivation_steps.proofs.Sums.{terms_refused}
-use Rattle.derivation_steps.specs.Steps.{read_over}
-use Rattle.derivation_steps.specs.Sums.{total}
 use Rattle.derivation_steps.proofs.step_sum.StepSum.add_terms.Goals as goal
 
 pub returns-in_err-add_term-clause-gives : goal.returns-in_err-add_term-clause-gives

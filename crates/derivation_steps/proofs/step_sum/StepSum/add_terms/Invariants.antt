@@ -1,6 +1,4 @@
-use Rattle.derivation_steps.proofs.Words.{◌≡◌, drop, sum_of, spot_of}
-use Rattle.derivation_steps.specs.Steps.{read_over}
-use Rattle.derivation_steps.specs.Sums.{total}
+use Rattle.derivation_steps.proofs.Words.{◌≡◌, drop, sum_of, spot_of, read_over, total}
 use Rattle.derivation_steps.proofs.step_sum.StepSum.add_terms.Given as goal
 
 abbrev pub invariant-loop-term : goal.invariant-loop-term

@@ -1,6 +1,4 @@
-use Rattle.derivation_steps.proofs.Words.{◌≡◌, ◌∙◌, ◌++◌, arith, rules, length, take, drop, w128, length-map}
-use Rattle.std.proofs.Common.{ap, to_z, of_z}
-use Rattle.std.proofs.lemmas.List.{take_at}
+use Rattle.derivation_steps.proofs.Words.{◌≡◌, ◌∙◌, ◌++◌, arith, rules, length, take, drop, w128, length-map, ap, to_z, of_z, take_at}
 use Rattle.derivation_steps.proofs.step_sum.StepSum.divide.Goals as goal
 
 pub invariant_of-self : goal.invariant_of-self

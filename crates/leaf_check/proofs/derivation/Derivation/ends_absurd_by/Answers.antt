@@ -1,6 +1,5 @@
-use Rattle.leaf_check.proofs.Words.{◌≡◌, ◌<◌, ◌++◌, ◌∷◌, [], rules, arith, common_steps, Ok, Step, length, err_from_is_err_and, spot, after_steps, fault_of}
+use Rattle.leaf_check.proofs.Words.{◌≡◌, ◌<◌, ◌++◌, ◌∷◌, [], rules, arith, common_steps, Ok, Step, length, err_from_is_err_and, spot, after_steps, fault_of, read_over}
 use Rattle.leaf_check.proofs.Steps.{split_at_last, front_refused, last_refused, last_made}
-use Rattle.derivation_steps.specs.Steps.{read_over}
 use Rattle.leaf_check.proofs.derivation.Derivation.ends_absurd_by.Goals as goal
 
 pub returns-in_err-add_steps-clause-gives : goal.returns-in_err-add_steps-clause-gives

@@ -1,5 +1,4 @@
-use Rattle.leaf_check.proofs.Words.{◌≡◌, ◌∙◌, refl, sym, rules, arith, ◌+◌, get_or, option_copied, err_from_is_err_and, leaf_premises, fault_of, case_of}
-use Rattle.std.proofs.lemmas.List.{append-nil}
+use Rattle.leaf_check.proofs.Words.{◌≡◌, ◌∙◌, refl, sym, rules, arith, ◌+◌, get_or, option_copied, err_from_is_err_and, leaf_premises, fault_of, case_of, append-nil}
 use Rattle.leaf_check.proofs.Refuted.{bare, refutations_next, refutations_stop}
 use Rattle.leaf_check.proofs.goal_forms.GoalForms.refute_all.Goals as goal
 

@@ -1,6 +1,5 @@
-use Rattle.leaf_check.proofs.Words.{◌≡◌, ◌+◌, drop, map, [], option_copied, joined, leaf_premises, check_refutations, case_of}
+use Rattle.leaf_check.proofs.Words.{◌≡◌, ◌+◌, drop, map, [], option_copied, joined, leaf_premises, check_refutations, case_of, AreBehind}
 use Rattle.leaf_check.specs.GoalForms.{AreOf}
-use Rattle.leaf_check.specs.Turned.{AreBehind}
 use Rattle.leaf_check.proofs.goal_forms.GoalForms.refute_all.Given as goal
 
 abbrev pub invariant-loop-r : goal.invariant-loop-r

@@ -1,6 +1,5 @@
-use Rattle.leaf_check.proofs.Words.{arith, ◌≡◌, ◌∙◌, ap, sym, subst, refl, ◌+◌, ◌-◌, ◌++◌, ℕ, List, ℤ, [], ◌∷◌, length, drop, Option, OnOk, slice_index_or, option_copied, constant, Component, IsChecked, leaf_premises, smaller_from, is_form_overflow, case_of, nothing}
+use Rattle.leaf_check.proofs.Words.{arith, ◌≡◌, ◌∙◌, ap, sym, subst, refl, ◌+◌, ◌-◌, ◌++◌, ℕ, List, ℤ, [], ◌∷◌, length, drop, Option, OnOk, slice_index_or, option_copied, constant, Component, IsChecked, leaf_premises, smaller_from, is_form_overflow, case_of, nothing, own_forms}
 use Rattle.std.proofs.Common.{Some}
-use Rattle.leaf_check.specs.Turned.{own_forms}
 use Rattle.leaf_check.proofs.Owned.{own_place}
 use Rattle.leaf_check.proofs.NextGoal.{one_of_own, more_of_one, more_by_list, more_if_ok, next_forms, next_listed}
 use Rattle.leaf_check.proofs.leaf.Leaf.push_next_list_goal.Goals as goal
@@ -25,15 +24,13 @@ returns-then-r-single-clause-pushed c =
 
 pub overflow_add-r-2 : goal.overflow_add-r-2
 overflow_add-r-2 c =
-    let same : length c.rows.result.now ≡ length c.args.self.now.problem.now.rows = ap length c.rows.ensures.value in
     let place = own_place c.args.self.now.problem.now (case_of c.args.self.now) (option_copied c.args.self.now.list) c.args.components.now (c.args.r + 1) c.requires.list c.requires.place in
-    omega (arith, same, place, c.ranges.r.fits, c.if-r-single.false)
+    omega (arith, (ap length c.rows.ensures.value), place, c.ranges.r.fits, c.if-r-single.false)
 
 pub split_at-requires : goal.split_at-requires
 split_at-requires c =
-    let same : length c.rows.result.now ≡ length c.args.self.now.problem.now.rows = ap length c.rows.ensures.value in
     let place = own_place c.args.self.now.problem.now (case_of c.args.self.now) (option_copied c.args.self.now.list) c.args.components.now (c.args.r + 1) c.requires.list c.requires.place in
-    omega (arith, same, place, c.if-r-single.false)
+    omega (arith, (ap length c.rows.ensures.value), place, c.if-r-single.false)
 
 pub returns-clause-listed : goal.returns-clause-listed
 returns-clause-listed c =

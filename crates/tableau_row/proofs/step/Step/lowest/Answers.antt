@@ -1,6 +1,4 @@
-use Rattle.tableau_row.proofs.Words.{rules, ◌≡◌, sym, subst, pos, ◌≤ℤ◌, to_z, of_z, w64, floor_div, AreLowest}
-use Rattle.pip_model.proofs.Gcd.{quotient_positive}
-use Rattle.row_laws.proofs.Lowest.{lowest-divided}
+use Rattle.tableau_row.proofs.Words.{rules, ◌≡◌, sym, subst, pos, ◌≤ℤ◌, to_z, of_z, w64, floor_div, AreLowest, quotient_positive, lowest-divided}
 use Rattle.tableau_row.proofs.step.Step.lowest.Goals as goal
 
 pub invariant_of-result-2 : goal.invariant_of-result-2
