@@ -16,7 +16,7 @@ use text_reading::{Reads, expect, same_bracket, spells};
 use text_tokens::{Kind, token};
 
 // Which tree begins behind a `(`.
-#[derive(Clone, Copy, Debug, PartialEq, Eq)]
+#[derive(Clone, Copy)]
 pub(crate) enum TreeHead {
     Ends,
     Lists,
