@@ -1,5 +1,6 @@
 mod Words
 pub mod EndingBehind
+mod OneFurther
 pub mod GoingFurther
 pub mod Longer
 pub mod OneFormMore

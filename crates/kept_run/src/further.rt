@@ -1,14 +1,13 @@
 ghost use Rattle.std.specs.Prelude.{◌≡◌, ℕ, ◌+◌, ◌≤◌, ℤ, List, [], ◌∷◌, ◌++◌, length, OnOk, IsTrue};
 ghost use Rattle.pip_model.specs.Contexts.{IsContext, IsNarrow};
 ghost use Rattle.pip_model.specs.Forms.{widen_to};
-ghost use Rattle.pip_model.specs.Rows.{Row, form_row};
+ghost use Rattle.pip_model.specs.Rows.{Row, form_row, row_at};
 ghost use Rattle.kept_run.specs.Remembered.{IsFormed, IsReplay, IsStopped, IsRemembered, IsTurned};
 ghost use Rattle.short_run.specs.Points.{first_rows};
 
 use crate::remembered::{Remembered, Replay, run_to_end};
 use affine_forms::Form;
 use short_run::{ShortTableau, Stop, push_short};
-use std::slice::from_ref;
 
 // Turns the rows by the pivots in order; whether all numbers of the rows that are made are short. Nothing is counted.
 fn turn_by_all(m: &Replay, rows: &mut ShortTableau) -> bool
@@ -26,12 +25,14 @@ fn turn_by_all(m: &Replay, rows: &mut ShortTableau) -> bool
     true
 }
 
-// Puts the row of a further form behind the last rows, turned by the pivots. The tableau is room for it.
+// Puts the row of a further form behind the last rows, turned by the pivots. The tableau is room for it, and keeps it.
 fn push_further(m: &mut Replay, form: &Form, room: &mut ShortTableau) -> Result<(), Stop>
     requires formed { IsFormed m.old }
     requires narrow { length form.now ≤ m.old.end.unknowns + 1 }
     ensures formed { OnOk result (IsFormed m.new) }
     ensures unknowns { OnOk result (m.new.end.unknowns ≡ m.old.end.unknowns) }
+    ensures rows { OnOk result (m.new.end.rows ≡ m.old.end.rows ++ row_at room.new.rows 0 ∷ []) }
+    ensures single { OnOk result (length room.new.rows ≡ 1) }
     ensures replay { OnOk result ((first : List Row) → IsReplay first m.old → IsReplay
         (first ++ form_row m.old.end.unknowns (widen_to m.old.end.unknowns form.now) ∷ []) m.new) }
 {
@@ -72,6 +73,21 @@ pub fn go_further(m: &mut Remembered, forms: &[Form], room: &mut ShortTableau) -
     Ok(())
 }
 
+// The same with one form more. Where the run shows a point and the form's row is from 0 on there, it still does.
+fn go_one_further(m: &mut Remembered, form: &Form, room: &mut ShortTableau) -> Result<(), Stop>
+    requires stopped { IsStopped m.old }
+    requires narrow { IsNarrow m.old.run.end.unknowns form.now }
+    ensures { OnOk result ((n : ℕ) (K : List (List ℤ)) → IsRemembered n K m.old
+        → IsRemembered n (K ++ form.now ∷ []) m.new) }
+{
+    push_further(&mut m.run, form, room)?;
+    if m.at_end && !room.is_below(0) {
+        return Ok(());
+    }
+    run_to_end(m)?;
+    Ok(())
+}
+
 /// Goes on from a run that is known; whether that of one form more is.
 pub fn goes_further(
     is_known: bool,
@@ -87,5 +103,5 @@ pub fn goes_further(
     if !is_known {
         return false;
     }
-    go_further(m, from_ref(form), room).is_ok()
+    go_one_further(m, form, room).is_ok()
 }
