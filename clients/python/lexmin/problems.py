@@ -77,7 +77,7 @@ class Problem:
 
     def least(self, name: str, *, low: FormLike = 0) -> Form:
         """An unknown from `low` on, the least of which is asked for. `low` may be a form over the parameters and the
-        unknowns named before."""
+        unknowns that were named before and are asked for."""
         return self._unknown(_Unknown(name, as_form(low), None, False))
 
     def unknowns(self, *names: str) -> List[Form]:
@@ -86,7 +86,7 @@ class Problem:
 
     def greatest(self, name: str, *, high: FormLike, low: FormLike = 0) -> Form:
         """An unknown from `low` to `high`, the greatest of which is asked for. The bounds may be forms over the
-        parameters and the unknowns named before."""
+        parameters and the unknowns that were named before and are asked for."""
         return self._unknown(_Unknown(name, as_form(low), as_form(high), False))
 
     def further(self, name: str, *, low: Optional[FormLike] = 0) -> Form:
@@ -169,6 +169,10 @@ class Problem:
         for bound in (unknown.low, unknown.high):
             if bound is not None:
                 self._known(bound, [*self._parameters, *self._unknowns])
+                # What is sent is the distance from the bound. A further unknown is chosen behind it, and would move the bound.
+                behind = [name for name in bound.names() if name in self._unknowns and self._unknowns[name].further]
+                if behind and not unknown.further:
+                    raise ValueError(f"a bound of {unknown.name} has {', '.join(behind)}, which is not asked for: say it with `where`")
                 if self.integer and bound.whole()[1] != 1:
                     raise ValueError("a bound of a whole unknown is a form of whole numbers; use // for a floor")
         self._unknowns[unknown.name] = unknown
