@@ -12,7 +12,7 @@ from .prepare import prepared
 from .refutations import NotCertified, Obligations, steps_of
 from .shorten import QUESTIONS, SECONDS, Shortener
 from .texts import native
-from .trees import Bottom, Point, Void, answer_text, parse_answer
+from .trees import Bottom, Point, Void, answer_text, is_one_group, parse_answer
 
 
 MOST_BATCH_BYTES = 4_000_000  # of the texts that one `same` reads
@@ -247,6 +247,9 @@ class Solver:
         """What `check` says of each problem, answer and certificate: none where it accepts them, else its refusal. One
         process reads as many triples as it can."""
         waiting = deque(triples)
+        for triple in waiting:
+            if not all(map(is_one_group, triple)):  # its verdicts would be taken for those of the next
+                raise ValueError("a problem, an answer and a certificate are wanted, each one group of balanced brackets")
         verdicts: List[Optional[Refused]] = []
         while waiting:
             batch: List[Tuple[str, str, str]] = []
