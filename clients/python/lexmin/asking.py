@@ -82,8 +82,14 @@ def isl(words: Sequence[str]) -> int:
     parser.add_argument("--shorten", action="store_true", help="with fewer pieces")
     parser.add_argument("set", metavar="SET")
     chosen = parser.parse_args(words)
+    low: Dict[str, int] = {}
+    for word in chosen.low:
+        name, _, number = word.partition("=")
+        try:
+            low[name.strip()] = int(number)
+        except ValueError:
+            parser.error(f"--low {word}: NAME=NUMBER is wanted")
     try:
-        low: Dict[str, int] = {name.strip(): int(number) for name, _, number in (word.partition("=") for word in chosen.low)}
         with Solver(chosen.program) as solver:
             answer = notation.solved(solver, chosen.set, greatest=chosen.greatest, low=low, context=chosen.context)
             print(notation.written(answer.shorten() if chosen.shorten else answer))
