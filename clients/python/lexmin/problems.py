@@ -96,19 +96,20 @@ class Problem:
     # What is said.
 
     def where(self, *relations: Relation) -> Problem:
-        """Adds relations between unknowns and parameters."""
+        """Adds relations between unknowns and parameters: all of them, or none where one can't be said."""
         for relation in map(checked_relation, relations):
             self._known(relation.form, [*self._parameters, *self._unknowns])
             if not self.integer and relation.kind != ">=" and relation.kind != "==":
                 raise ValueError("in the rational mode a strict relation or a congruence can't be said")
-            self._rows.append(relation)
+        self._rows += relations
         return self
 
     def context(self, *relations: Relation) -> Problem:
         """Adds relations between parameters alone, that are known to hold. An answer says nothing where they don't."""
         for relation in map(checked_relation, relations):
             self._known(relation.form, list(self._parameters))
-            self._context.append(checked_context(relation))
+            checked_context(relation)
+        self._context += relations
         return self
 
     def everywhere(self, form: Mapping[str, FormLike], *domain: Relation) -> Problem:
@@ -124,6 +125,8 @@ class Problem:
         for relation in domain:
             if relation.kind == "multiple" or any(isinstance(atom, Floor) for atom in relation.form.terms):
                 raise ValueError("a domain has neither floors nor congruences")
+        for coefficient in form.values():
+            self._known(as_form(coefficient), [*self._parameters, *self._unknowns])
         self._multipliers += 1
         total: Dict[str, Form] = {name: Form() for name in names}
         constant = self.further(f"multiplier{self._multipliers}.0")

@@ -4,7 +4,7 @@ from __future__ import annotations
 import functools
 import os
 from collections import deque
-from typing import Deque, Iterable, Iterator, List, Optional, Sequence, Tuple, TypeVar, Union
+from typing import Any, Deque, Dict, Iterable, Iterator, List, Optional, Sequence, Tuple, TypeVar, Union
 
 from .answers import Answer, AnswerBySigns
 from .problems import Posed, Problem, numbers_over
@@ -57,7 +57,7 @@ class Solver:
         return f"Solver({self.program!r})"
 
     def __reduce__(self) -> Tuple[object, ...]:
-        words = {"simplify": self.simplify, "timeout": self.timeout, "prepare": self.prepare, **self.budgets}
+        words: Dict[str, Any] = {"simplify": self.simplify, "timeout": self.timeout, "prepare": self.prepare, **self.budgets}
         return functools.partial(Solver, self.program, **words), ()
 
     def close(self) -> None:
