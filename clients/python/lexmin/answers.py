@@ -161,6 +161,8 @@ class Answer:
         given = {checked_name(name): as_form(form) for name, form in {**forms, **named}.items()}
         if not given:
             raise ValueError("no form is given")
+        if taken := [name for name in given if name in self.posed.parameters]:
+            raise ValueError(f"the name {taken[0]} is taken, by a parameter")
         for form in given.values():
             unknown = [name for name in form.names() if name not in self.posed.points and name not in self.posed.parameters]
             if unknown:
