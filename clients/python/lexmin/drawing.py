@@ -136,7 +136,7 @@ def names_of(text: Optional[str]) -> Optional[List[str]]:
 
 
 def told_apart(names: Sequence[str]) -> None:
-    """ValueError where a name stands for two places: a form would add up their numbers."""
+    """ValueError where a name stands for two: a form would add up their numbers."""
     for place, name in enumerate(names):
         if name in names[:place]:
             raise ValueError(f"the name {name} stands for two")
@@ -151,7 +151,8 @@ def draw(text: str, parameters: Optional[Sequence[str]] = None, unknowns: Option
         parameters = [f"p{place}" for place in range(count or 0)]
     if count is not None and len(parameters) != count:
         raise ValueError(f"{len(parameters)} names of parameters for an answer over {count}")
-    told_apart([*parameters, *(unknowns or ())])
+    told_apart(parameters)
+    told_apart(unknowns or ())
     drawing = Drawing(tree, parameters, unknowns, merge)
     return "\n".join(mermaid(drawing, across) if as_mermaid else graphviz(drawing, comment, across))
 
