@@ -1,5 +1,5 @@
 """Runs the program many times over short texts: its three files are in memory, and it is forked before its main (fork.c), so
-that it is not loaded anew for each run. Without a C compiler it is started anew."""
+that it is not loaded anew for each run. Without a C compiler, or where the program has the C library in it, it is started anew."""
 import collections
 import os
 import pathlib
@@ -27,11 +27,21 @@ def built(folder):
     return str(library)
 
 
+def is_loaded(program):
+    """Whether a loader begins the program, and libraries with it: none where the C library is in it, as `./pip` installs it."""
+    head = pathlib.Path(program).read_bytes()[:4096]
+    if head[:5] != b"\x7fELF\2":
+        return False
+    first, = struct.unpack_from("<Q", head, 32)
+    size, count = struct.unpack_from("<HH", head, 54)
+    return any(struct.unpack_from("<I", head, first + place * size)[0] == 3 for place in range(count))
+
+
 class Runner:
     """The program, with three files that are used again for each run: its input, its output, its errors. One process uses it."""
 
     def __init__(self, program, seconds, library=None):
-        self.program, self.seconds, self.library = program, seconds, library
+        self.program, self.seconds, self.library = program, seconds, library if library and is_loaded(program) else None
         self.made = [tempfile.TemporaryFile(buffering=0, dir=MEMORY) for _ in range(3)]
         self.actions = [(os.POSIX_SPAWN_DUP2, file.fileno(), to) for to, file in enumerate(self.made)]
         self.standing = collections.OrderedDict()

@@ -1,6 +1,10 @@
 # Completes in bash the words of pip, parametric integer programming: `. tools/pip.bash`, or where ./install puts it.
 _pip_words() {
     local words="" word
+    # Behind a redirection stands a file.
+    case ${COMP_WORDS[COMP_CWORD]}:${COMP_WORDS[COMP_CWORD-1]} in
+        *[\<\>] | [\<\>]*) compopt -o default; COMPREPLY=(); return ;;
+    esac
     if [ "$COMP_CWORD" -eq 1 ]; then
         words="solve eval simplify check share restrict same least pieces trial"
     else

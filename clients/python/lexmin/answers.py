@@ -8,8 +8,8 @@ from .forms import Atom, Column, Floor, Form, FormLike, Number, Relation, as_for
 from .problems import Space, numbers_over
 from .shorten import QUESTIONS, SECONDS
 from .trees import (
-    Bottom, Choice, NewParameter, Point, Row, Tree, Void, answer_text, form_of, leaves, new_parameter_names, parse_answer,
-    parse_pieces, value_at)
+    Bottom, Choice, NewParameter, Point, Row, Tree, Void, answer_text, form_of, leaves, new_parameter_names,
+    parameter_count, parse_answer, parse_pieces, value_at)
 
 if TYPE_CHECKING:
     from .solver import Solver
@@ -49,6 +49,9 @@ class Answer:
                  checked: Optional[bool] = None) -> None:
         self.posed, self.text, self.solver, self.checked = posed, text, solver, checked
         self.tree: Tree = parse_answer(text)[1] if tree is None else tree
+        count = parameter_count(self.tree)
+        if count not in (None, len(posed.parameters)):
+            raise ValueError(f"an answer over {count} parameters to a problem with {len(posed.parameters)}")
 
     def __eq__(self, other: object) -> bool:
         return isinstance(other, Answer) and (self.posed, self.tree) == (other.posed, other.tree)
@@ -130,7 +133,8 @@ class Answer:
     def difference(self, other: Answer, *relations: Relation) -> Optional[Dict[str, int]]:
         """Parameters at which the values differ; none where there are none."""
         posed = self._with(other).under(relations)
-        texts = [self.text, other.text] if self.posed.points_key() == other.posed.points_key() else [self._turned(1), other._turned(1)]
+        as_written = self.posed.points_key() == other.posed.points_key() and self._is_all_asked() and other._is_all_asked()
+        texts = [self.text, other.text] if as_written else [self._turned(1), other._turned(1)]
         found = self._run("same", ["pivots", "cuts", "splits"], posed.context_text() + "".join(texts)).strip()
         if found == "same":
             return None
@@ -157,6 +161,8 @@ class Answer:
         given = {checked_name(name): as_form(form) for name, form in {**forms, **named}.items()}
         if not given:
             raise ValueError("no form is given")
+        if taken := [name for name in given if name in self.posed.parameters]:
+            raise ValueError(f"the name {taken[0]} is taken, by a parameter")
         for form in given.values():
             unknown = [name for name in form.names() if name not in self.posed.points and name not in self.posed.parameters]
             if unknown:
@@ -166,9 +172,14 @@ class Answer:
         posed = _values(self.posed, list(given), 1)
         return self._made(posed, answer_text(self.posed.comment, _Turned(self.posed, list(points.values()), 1).tree(self.tree)))
 
+    def _is_all_asked(self) -> bool:
+        """Whether the tree's points hold nothing but what is asked for. Further unknowns, floors too, make no difference of values."""
+        return all(len(leaf.components) == len(self.posed.points) for leaf in leaves(self.tree) if isinstance(leaf, Point))
+
     def _turned(self, sign: int) -> str:
-        """The text of the answer with the unknowns' values, times the sign, as its points."""
-        turned = _Turned(self.posed, list(self.posed.points.values()), sign)
+        """The text of the answer with the unknowns' values, times the sign, as its points; with a 0 where none is asked for, since
+        the program wants a component."""
+        turned = _Turned(self.posed, list(self.posed.points.values()) or [Form()], sign)
         return answer_text(self.posed.comment, turned.tree(self.tree))
 
     def _with(self, other: Answer) -> Space:

@@ -8,6 +8,7 @@ from typing import Dict, List, Sequence
 
 from . import notation
 from .answers import Answer
+from .explain import position
 from .forms import Column, Form, Relation
 from .problems import Range, Space
 from .processes import Refused
@@ -51,7 +52,7 @@ def shorten(words: Sequence[str]) -> int:
     parser.add_argument("--seconds", type=float, default=SECONDS)
     parser.add_argument("file", nargs="?", type=pathlib.Path, help="the problems; standard input where none is named")
     chosen = parser.parse_args(words)
-    status = 0
+    status, data = 0, b""
     try:
         data = chosen.file.read_bytes() if chosen.file else sys.stdin.buffer.read()
         problems = list(native(data))
@@ -65,9 +66,12 @@ def shorten(words: Sequence[str]) -> int:
                     status = 1
             for answer in solver.shorten_all(answers, questions=chosen.questions, seconds=chosen.seconds):
                 print(answer.text, end="")
+    except Fault as fault:
+        print(f"lexmin shorten: {position(data, fault.place)}: {fault.words}", file=sys.stderr)
+        return 1
     except BrokenPipeError:
         raise
-    except (OSError, ValueError, Fault) as error:
+    except (OSError, ValueError) as error:
         print(f"lexmin shorten: {error}", file=sys.stderr)
         return 1
     return status
@@ -82,8 +86,14 @@ def isl(words: Sequence[str]) -> int:
     parser.add_argument("--shorten", action="store_true", help="with fewer pieces")
     parser.add_argument("set", metavar="SET")
     chosen = parser.parse_args(words)
+    low: Dict[str, int] = {}
+    for word in chosen.low:
+        name, _, number = word.partition("=")
+        try:
+            low[name.strip()] = int(number)
+        except ValueError:
+            parser.error(f"--low {word}: NAME=NUMBER is wanted")
     try:
-        low: Dict[str, int] = {name.strip(): int(number) for name, _, number in (word.partition("=") for word in chosen.low)}
         with Solver(chosen.program) as solver:
             answer = notation.solved(solver, chosen.set, greatest=chosen.greatest, low=low, context=chosen.context)
             print(notation.written(answer.shorten() if chosen.shorten else answer))

@@ -32,7 +32,7 @@ class Drawing:
     def __init__(self, tree: Tree, parameters: Sequence[str], unknowns: Optional[Sequence[str]], merge: bool = False) -> None:
         self.unknowns, self.merge = unknowns, merge
         self.first_new = len(parameters)
-        self.new = new_parameter_names(tree, parameters)
+        self.new = new_parameter_names(tree, [*parameters, *(unknowns or ())])
         self.nodes: List[Node] = []
         self.arrows: List[Arrow] = []
         self.drawn: Dict[Tuple[object, ...], str] = {}  # the node of each part, by what it says and the nodes below it
@@ -135,6 +135,13 @@ def names_of(text: Optional[str]) -> Optional[List[str]]:
     return None if text is None else [name.strip() for name in text.split(",") if name.strip()]
 
 
+def told_apart(names: Sequence[str]) -> None:
+    """ValueError where a name stands for two: a form would add up their numbers."""
+    for place, name in enumerate(names):
+        if name in names[:place]:
+            raise ValueError(f"the name {name} stands for two")
+
+
 def draw(text: str, parameters: Optional[Sequence[str]] = None, unknowns: Optional[Sequence[str]] = None, *,
          as_mermaid: bool = False, merge: bool = False, across: bool = False) -> str:
     """One answer as a graph."""
@@ -144,6 +151,8 @@ def draw(text: str, parameters: Optional[Sequence[str]] = None, unknowns: Option
         parameters = [f"p{place}" for place in range(count or 0)]
     if count is not None and len(parameters) != count:
         raise ValueError(f"{len(parameters)} names of parameters for an answer over {count}")
+    told_apart(parameters)
+    told_apart(unknowns or ())
     drawing = Drawing(tree, parameters, unknowns, merge)
     return "\n".join(mermaid(drawing, across) if as_mermaid else graphviz(drawing, comment, across))
 

@@ -23,6 +23,7 @@ import pathlib
 import sys
 from typing import Iterator, List, Optional, Sequence
 
+from .drawing import told_apart
 from .forms import Form
 from .texts import Fault, ReadProblem, likely_matrices, native, polylib
 from .trees import form_of
@@ -75,6 +76,7 @@ def explained(problem: ReadProblem, parameters: Optional[Sequence[str]] = None, 
     """What a problem asks, line by line."""
     own = names_for(unknowns, problem.unknowns, "x", "unknowns")
     given = names_for(parameters, problem.parameters, "p", "parameters")
+    told_apart([*given, *own])
     if problem.comment:
         yield problem.comment
     kind = "whole " if problem.integer else "fractional "

@@ -48,7 +48,7 @@ class Form:
     __rmul__ = __mul__
 
     def __truediv__(self, number: Number) -> Form:
-        return self * (1 / Fraction(number))
+        return self * (1 / Fraction(plain(number)))
 
     def __floordiv__(self, divisor: int) -> Form:
         """The floor of the form over a whole number from 1 on."""

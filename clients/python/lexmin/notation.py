@@ -37,6 +37,9 @@ def problems(text: str, *, greatest: bool = False, low: Mapping[str, int] = {}, 
     if len({(tuple(it.domain), len(it.unknowns)) for it in tuples}) > 1:
         raise Fault("the parts of the set have tuples of different lengths, or of a map other names in the first one")
     names = [*parameters, *(tuples[0].domain if tuples else [])]
+    asked = tuples[0].unknowns if tuples else []
+    if tuples and (other := [name for name in low if name not in (*names, *asked)]):
+        raise Fault(f"{', '.join(other)}: low is for a parameter or an unknown of the first tuple")
     known: List[Relation] = []
     if context:
         reader = Reader(context)
@@ -44,7 +47,6 @@ def problems(text: str, *, greatest: bool = False, low: Mapping[str, int] = {}, 
         if len(chosen) != 1 or chosen[0].further or reader.peek():
             raise Fault("a context is one conjunction, without `exists`")
         known = list(chosen[0].relations)
-    asked = tuples[0].unknowns if tuples else []
     return [_problem(text, names, asked, it.unknowns, part, greatest, low, known) for it in tuples for part in it.parts]
 
 
@@ -78,6 +80,8 @@ def _bound(relations: Sequence[Relation], name: str, before: Sequence[str], sign
     """A bound of an unknown, rounded inwards: from below for the sign 1, from above for -1. One without a floor before others."""
     found: List[Form] = []
     for relation in relations:
+        if relation.kind == "multiple":  # (says nothing of a size)
+            continue
         form = relation.form.whole()[0] - (1 if relation.kind == ">" else 0)
         own = form.terms.get(name, 0)
         if relation.kind == "==" and own * sign < 0:

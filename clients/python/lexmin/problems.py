@@ -77,7 +77,7 @@ class Problem:
 
     def least(self, name: str, *, low: FormLike = 0) -> Form:
         """An unknown from `low` on, the least of which is asked for. `low` may be a form over the parameters and the
-        unknowns named before."""
+        unknowns that were named before and are asked for."""
         return self._unknown(_Unknown(name, as_form(low), None, False))
 
     def unknowns(self, *names: str) -> List[Form]:
@@ -86,7 +86,7 @@ class Problem:
 
     def greatest(self, name: str, *, high: FormLike, low: FormLike = 0) -> Form:
         """An unknown from `low` to `high`, the greatest of which is asked for. The bounds may be forms over the
-        parameters and the unknowns named before."""
+        parameters and the unknowns that were named before and are asked for."""
         return self._unknown(_Unknown(name, as_form(low), as_form(high), False))
 
     def further(self, name: str, *, low: Optional[FormLike] = 0) -> Form:
@@ -96,19 +96,20 @@ class Problem:
     # What is said.
 
     def where(self, *relations: Relation) -> Problem:
-        """Adds relations between unknowns and parameters."""
+        """Adds relations between unknowns and parameters: all of them, or none where one can't be said."""
         for relation in map(checked_relation, relations):
             self._known(relation.form, [*self._parameters, *self._unknowns])
             if not self.integer and relation.kind != ">=" and relation.kind != "==":
                 raise ValueError("in the rational mode a strict relation or a congruence can't be said")
-            self._rows.append(relation)
+        self._rows += relations
         return self
 
     def context(self, *relations: Relation) -> Problem:
         """Adds relations between parameters alone, that are known to hold. An answer says nothing where they don't."""
         for relation in map(checked_relation, relations):
             self._known(relation.form, list(self._parameters))
-            self._context.append(checked_context(relation))
+            checked_context(relation)
+        self._context += relations
         return self
 
     def everywhere(self, form: Mapping[str, FormLike], *domain: Relation) -> Problem:
@@ -124,6 +125,8 @@ class Problem:
         for relation in domain:
             if relation.kind == "multiple" or any(isinstance(atom, Floor) for atom in relation.form.terms):
                 raise ValueError("a domain has neither floors nor congruences")
+        for coefficient in form.values():
+            self._known(as_form(coefficient), [*self._parameters, *self._unknowns])
         self._multipliers += 1
         total: Dict[str, Form] = {name: Form() for name in names}
         constant = self.further(f"multiplier{self._multipliers}.0")
@@ -169,6 +172,10 @@ class Problem:
         for bound in (unknown.low, unknown.high):
             if bound is not None:
                 self._known(bound, [*self._parameters, *self._unknowns])
+                # What is sent is the distance from the bound. A further unknown is chosen behind it, and would move the bound.
+                behind = [name for name in bound.names() if name in self._unknowns and self._unknowns[name].further]
+                if behind and not unknown.further:
+                    raise ValueError(f"a bound of {unknown.name} has {', '.join(behind)}, which is not asked for: say it with `where`")
                 if self.integer and bound.whole()[1] != 1:
                     raise ValueError("a bound of a whole unknown is a form of whole numbers; use // for a floor")
         self._unknowns[unknown.name] = unknown

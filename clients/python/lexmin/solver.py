@@ -1,9 +1,10 @@
 """The program, asked from Python."""
 from __future__ import annotations
 
+import functools
 import os
 from collections import deque
-from typing import Deque, Iterable, Iterator, List, Optional, Sequence, Tuple, TypeVar, Union
+from typing import Any, Deque, Dict, Iterable, Iterator, List, Optional, Sequence, Tuple, TypeVar, Union
 
 from .answers import Answer, AnswerBySigns
 from .problems import Posed, Problem, numbers_over
@@ -12,7 +13,7 @@ from .prepare import prepared
 from .refutations import NotCertified, Obligations, steps_of
 from .shorten import QUESTIONS, SECONDS, Shortener
 from .texts import native
-from .trees import Bottom, Point, Void, answer_text, parse_answer
+from .trees import Bottom, Point, Void, answer_text, is_one_group, parse_answer
 
 
 MOST_BATCH_BYTES = 4_000_000  # of the texts that one `same` reads
@@ -25,7 +26,8 @@ class Solver:
 
     `simplify` asks for simplified answers. `pivots`, `cuts`, `splits`, `nesting` are the budgets of a problem, the
     program's own where none is given; a stranger's problems should have some. `timeout` is the seconds that a problem
-    may take. A Solver ends its processes by `close`, or at the end of a `with`; a call that is under way then fails.
+    may take. A Solver ends its processes by `close`, or at the end of a `with`; a call that is under way then fails. What comes
+    of a pickled Solver, or of that of a pickled answer, has processes of its own.
 
     `prepare=True` takes equalities out of each problem before it is solved, `prepare="when refused"` out of those that were
     refused or late. The answer is put back here, in Python, and then `check` is asked whether it is right: its `checked` says
@@ -36,7 +38,7 @@ class Solver:
                  timeout: Optional[float] = None, prepare: Union[bool, str] = False) -> None:
         if prepare not in (False, True, "when refused"):
             raise ValueError(f"prepare is True, False or 'when refused', not {prepare!r}")
-        self.program, self.prepare = os.fspath(program), prepare
+        self.program, self.prepare, self.simplify = os.fspath(program), prepare, simplify
         self.timeout = timeout
         self.budgets = {"pivots": pivots, "cuts": cuts, "splits": splits, "nesting": nesting}
         words = self.budget_words(list(self.budgets))
@@ -53,6 +55,10 @@ class Solver:
 
     def __repr__(self) -> str:
         return f"Solver({self.program!r})"
+
+    def __reduce__(self) -> Tuple[object, ...]:
+        words: Dict[str, Any] = {"simplify": self.simplify, "timeout": self.timeout, "prepare": self.prepare, **self.budgets}
+        return functools.partial(Solver, self.program, **words), ()
 
     def close(self) -> None:
         self._plain.stop()
@@ -247,6 +253,9 @@ class Solver:
         """What `check` says of each problem, answer and certificate: none where it accepts them, else its refusal. One
         process reads as many triples as it can."""
         waiting = deque(triples)
+        for triple in waiting:
+            if not all(map(is_one_group, triple)):  # its verdicts would be taken for those of the next
+                raise ValueError("a problem, an answer and a certificate are wanted, each one group of balanced brackets")
         verdicts: List[Optional[Refused]] = []
         while waiting:
             batch: List[Tuple[str, str, str]] = []

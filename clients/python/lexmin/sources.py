@@ -20,15 +20,16 @@ import sys
 from typing import Dict, Iterator, List, Optional, Sequence
 
 from .answers import Answer
-from .drawing import answer_texts, names_of
+from .drawing import answer_texts, names_of, told_apart
 from .forms import Column, Floor, Form
 from .problems import Range, Space
 from .trees import Choice, NewParameter, Point, Tree, form_of, leaves, parameter_count, parse_answer
 
 _PLAIN = re.compile(r"[A-Za-z_][A-Za-z0-9_]*")
-_TAKEN = frozenset("""and as assert async await auto break case char class const continue def default del do double elif else enum except extern
-finally float for from global goto if import in inline int is lambda long None nonlocal not or pass raise register restrict return short signed
-sizeof static struct switch True False try typedef union unsigned void volatile while with yield floor_of point lexmin""".split())
+_TAKEN = frozenset("""alignas alignof and as asm assert async await auto bool break case char class const constexpr continue def default del do
+double elif else enum except extern false finally float for from global goto if import in inline int is lambda long None nonlocal not nullptr or
+pass raise register restrict return short signed sizeof static static_assert struct switch thread_local True False true try typedef typeof
+typeof_unqual union unsigned void volatile while with yield __debug__ floor_of point lexmin""".split())
 
 
 def python_source(answer: Answer, name: str = "lexmin") -> str:
@@ -130,6 +131,8 @@ def read_answer(text: str, parameters: Optional[Sequence[str]] = None, unknowns:
     own = [f"x{place}" for place in range(components)] if unknowns is None else unknowns
     if len(own) > components:
         raise ValueError(f"{len(own)} names of unknowns for points of {components}")
+    for chosen in (names, own):
+        told_apart(chosen)
     points = {name: Form({Column(False, place): 1}) for place, name in enumerate(own)}
     return Answer(Space(comment, {name: Range(0) for name in names}, [], points), text, tree)
 

@@ -124,6 +124,19 @@ class _Reader:
     def __init__(self, text: str) -> None:
         self.text = text
         self.place = 0
+        self.parameters: Optional[int] = None  # over how many the answer is, as its first form or new parameter says
+
+    def scoped(self, row: Row, new: int) -> Row:
+        """A row behind so many new parameters of its path, whose numbers are as many as are in scope, and the constant."""
+        self.counted(len(row) - 1, new)
+        return row
+
+    def counted(self, count: int, new: int) -> None:
+        if self.parameters is None:
+            self.parameters = count - new
+        if self.parameters < 0 or count != self.parameters + new:
+            raise ValueError(f"no answer: {count} parameters and new parameters before character {self.place}, where "
+                             f"{max(self.parameters, 0) + new} are in scope")
 
     def answer(self) -> Tuple[str, Tree]:
         self.expect("(")
@@ -158,14 +171,15 @@ class _Reader:
         while True:
             self.expect("(")
             word = self.token()
+            new = sum(isinstance(it, NewParameter) for it in path)
             if word == "where":
-                path.append(self.row())
+                path.append(self.scoped(self.row(), new))
                 self.expect(")")
             elif word == "newparm":
-                number, form, divisor = self.quotient()
+                number, form, divisor = self.quotient(new)
                 path.append(NewParameter(number, form, divisor, Bottom()))
             else:
-                leaf: Union[Bottom, Point] = Bottom() if word == ")" else self.point()
+                leaf: Union[Bottom, Point] = Bottom() if word == ")" else self.point(new)
                 self.expect(")")
                 return PieceOf(tuple(path), leaf)
 
@@ -200,11 +214,16 @@ class _Reader:
         numbers: List[Number] = []
         token = self.token()
         while token != "]":
-            numbers.append(plain(Fraction(token)))
+            try:
+                numbers.append(plain(Fraction(token)))
+            except ZeroDivisionError:
+                raise ValueError(f"no answer: a denominator 0 before character {self.place}") from None
             token = self.token()
+        if not numbers:
+            raise ValueError(f"no answer: a form without a constant before character {self.place}")
         return tuple(numbers)
 
-    def tree(self) -> Tree:
+    def tree(self, new: int = 0) -> Tree:
         token = self.token()
         if token == "void":
             return Void()
@@ -214,33 +233,36 @@ class _Reader:
         if word == ")":
             return Bottom()
         if word == "list":
-            return self.point()
+            return self.point(new)
         if word == "if":
-            form, yes, no = self.row(), self.tree(), self.tree()
+            form, yes, no = self.scoped(self.row(), new), self.tree(new), self.tree(new)
             self.expect(")")
             return Choice(form, yes, no)
         if word != "newparm":
             raise ValueError(f"no answer: unknown word {word}")
-        number, form, divisor = self.quotient()
-        return NewParameter(number, form, divisor, self.tree())
+        number, form, divisor = self.quotient(new)
+        return NewParameter(number, form, divisor, self.tree(new + 1))
 
-    def quotient(self) -> Tuple[int, Row, int]:
+    def quotient(self, new: int) -> Tuple[int, Row, int]:
         """What stands behind `newparm`: its number, form and divisor."""
         number = int(self.token())
+        self.counted(number, new)
         self.expect("(")
         self.expect("div")
-        form, divisor = self.row(), int(self.token())
+        form, divisor = self.scoped(self.row(), new), int(self.token())
+        if divisor < 1:
+            raise ValueError(f"no answer: a divisor below 1 before character {self.place}")
         self.expect(")")
         self.expect(")")
         return number, form, divisor
 
-    def point(self) -> Point:
+    def point(self, new: int) -> Point:
         components: List[Row] = []
         token = self.token()
         while token != ")":
             if token != "#[":
                 raise ValueError(f"no answer: `#[` is missing at character {self.place - len(token)}")
-            components.append(self.numbers())
+            components.append(self.scoped(self.numbers(), new))
             token = self.token()
         return Point(tuple(components))
 
@@ -257,6 +279,8 @@ def parameter_count(tree: Tree) -> Optional[int]:
 def value_at(tree: Tree, parameters: Sequence[int]) -> Union[Bottom, Void, Tuple[Number, ...]]:
     """A tree's value at parameters, in the program's order."""
     scope = list(parameters)
+    if parameter_count(tree) not in (None, len(scope)):
+        raise ValueError(f"{len(scope)} parameters for a tree over {parameter_count(tree)}")
 
     def value(row: Row) -> Number:
         return sum(number * own for number, own in zip(row, scope)) + row[-1]
