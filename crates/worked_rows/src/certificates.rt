@@ -66,6 +66,7 @@ fn checked_and_shared(rt: HostRuntime) -> Result<(), Fail> {
 const MADE: &[&str] = &[
     "a cut of a refutation with numbers past 64 bits || pip solve --certificate || ((v) 1 0 2 0 -1 1 (#[18446744073709551617 -3] #[-18446744073709551617 4]) ()) || ((v)\n()\n)\n(certificate 1 #[]\n(\n((18446744073709551617 1 1)(1 2 1 3 18446744073709551617))\n)\n)\n",
     "an equation of even numbers past 64 bits and 1 || pip solve --certificate || ((v) 2 0 2 0 -1 1 (#[2 -18446744073709551616 -1] #[-2 18446744073709551616 1]) ()) || ((v)\n()\n)\n(certificate 1 #[]\n(\n((2 2 1)(1 3 1 4 2))\n)\n)\n",
+    "the certificate of a list over a context past 64 bits || pip solve --certificate || ((a) 1 1 1 1 -1 1 (#[1 -1 0]) (#[1 -1180591620717411303424])) || ((a)\n(list\n#[ 0 1]\n)\n)\n(certificate 1 #[ 1180591620717411303424]\n(\n((1 2 1))\n((1 2 1))\n((1 4 1 3 1))\n)\n)\n",
     "the certificate of a list || pip solve --certificate || ((a) 1 0 1 0 -1 1 (#[1 -3]) ()) || ((a)\n(list\n#[ 3]\n)\n)\n(certificate 1 #[]\n(\n((1 0 1))\n((1 0 1))\n((1 2 1 1 1))\n)\n)\n",
     "the certificate behind a cut || pip solve --certificate || ((h) 1 0 1 0 -1 1 (#[2 -3]) ()) || ((h)\n(list\n#[ 2]\n)\n)\n(certificate 1 #[]\n(\n((1 0 1))\n((1 0 1))\n((1 2 2 1 1))\n)\n)\n",
     "no rational point || pip solve --certificate || ((n) 1 0 2 0 -1 1 (#[1 -3] #[-1 2]) ()) || ((n)\n()\n)\n(certificate 1 #[]\n(\n((1 2 1 1 1))\n)\n)\n",
