@@ -9,4 +9,4 @@ pub use Rattle.row_laws.specs.Tableaus.{TableauRows}
 pub use Rattle.form_laws.proofs.Turning.{entry_first, length_counted}
 pub use Rattle.form_basis.specs.declared.basis.Basis.{Basis}
 pub use Rattle.form_basis.specs.ReadRows.{IsRead, summed, valued, combined, read}
-pub use Rattle.form_laws.proofs.Columns.{summable, column_at, columns_long, column_inside, part_coef, part_place, length_over, sum_within, own_step, OwnStep, norm_more, dot_none, dot_step}
+pub use Rattle.form_laws.proofs.Columns.{summable, column_at, columns_long, column_inside, part_coef, part_place, length_over, sum_within, own_step, OwnStep, norm_more, dot_none, dot_step, basis_inside, basis_column, form_summable, place_step, combination_short}

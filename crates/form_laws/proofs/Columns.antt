@@ -1,8 +1,8 @@
 -- What the numbers of a basis tell.
-use Rattle.form_laws.proofs.Words.{◌≡◌, ◌∙◌, refl, ap, sym, subst, ℕ, zero, suc, ◌+◌, ◌-◌, ◌*◌, ◌^◌, ◌<◌, ◌≤◌, ℤ, pos, ◌+ℤ◌, ◌*ℤ◌, unsigned_abs, arith, rules, nat_lt, true, false, List, [], ◌∷◌, ◌++◌, length, take, drop, get_or, append_assoc, append-nil, flat_map, ints, mul-le, take_all, map_more, All-more, All-push, All-weaker, floor_div, entry, dot, Row, count_from, row_at, form_row, coef, place, over, norm, part, columns_of, IsScaled, IsSummable}
-use Rattle.std.specs.Prelude.{All}
+use Rattle.form_laws.proofs.Words.{◌≡◌, ◌∙◌, refl, ap, sym, subst, ℕ, zero, suc, ◌+◌, ◌-◌, ◌*◌, ◌^◌, ◌<◌, ◌≤◌, ℤ, pos, ◌+ℤ◌, ◌*ℤ◌, unsigned_abs, arith, rules, nat_lt, true, false, List, [], ◌∷◌, ◌++◌, length, take, drop, get_or, append_assoc, append-nil, flat_map, ints, mul-le, take_all, map_more, All-more, All-push, All-weaker, floor_div, entry, dot, Row, count_from, row_at, form_row, coef, place, over, norm, part, columns_of, IsScaled, IsSummable, All, IsBasis, All-take, All-drop, IsShortRow, IsShort, combination, map, length-map}
 use Rattle.std.proofs.lemmas.Grind.{common_steps}
-use Rattle.form_laws.proofs.Sizes.{size_sum, size_product, spread, own_within, zero_product, three, nothing_before}
+use Rattle.form_laws.proofs.Turning.{entry_first, length_counted}
+use Rattle.form_laws.proofs.Sizes.{all_short, size_sum, size_product, spread, own_within, zero_product, three, nothing_before}
 pub use Rattle.form_laws.proofs.Sizes.{entry_norm}
 
 -- ---- sums, number after number
@@ -93,8 +93,7 @@ flat_long g n each i (suc m) = more (g i) (flat_map g (count_from (i + 1) m)) n 
     more xs ys n m e f = grind (arith, common_steps)
 
 pub length_over : (L : ℤ) (part : Row → ℤ) (basis : List Row) → length (over L part basis) ≡ length basis
-length_over L part [] = refl
-length_over L part (r ∷ basis) = ap suc (length_over L part basis)
+length_over L part basis = length-map basis (λ (r : Row). floor_div L r.den *ℤ part r)
 
 pub column_at : (n w : ℕ) (L : ℤ) (basis : List Row) (k : ℕ) → length basis ≡ n → k < n + w + 1 → take n (drop (k * n) (columns_of n w L basis)) ≡ over L (part n k) basis
 column_at n w L basis k e h = flat_at (λ j. over L (part n j) basis) n (λ j. length_over L (part n j) basis ∙ e) 0 (n + w + 1) k h ∙ ap (λ (j : ℕ). over L (part n j) basis) (none k)
@@ -213,3 +212,47 @@ own_step m L f c j some small h bound = record {
   product = omega (arith, own_within m L f (length c + j) small, bound);
   all = omega (arith, own_sum m L f c j small h, bound);
 }
+
+-- ---- what a form makes of the numbers of a basis
+
+module _ {n w : ℕ} {rows : List Row} {L : ℤ} {m : ℕ} {numbers : List ℤ} (h : IsBasis n w rows L m numbers) where
+  -- column k stands in the numbers
+  pub basis_inside : (k : ℕ) → k < n + w + 1 → k * n + n ≤ length numbers
+  basis_inside k lt = omega (arith, ap length h.columns, columns_long n w L rows h.size, column_inside n w k lt)
+
+  pub basis_column : (k : ℕ) → k < n + w + 1 → take n (drop (k * n) numbers) ≡ over L (part n k) rows
+  basis_column k lt = rw h.columns (column_at n w L rows k h.size lt)
+
+  some_most : 1 ≤ m
+  some_most = omega (arith, ints, h.positive, h.common)
+
+  column_within : (k : ℕ) → k < n + w + 1 → All (λ z. unsigned_abs z ≤ m) (over L (part n k) rows)
+  column_within k lt = subst (All (λ z. unsigned_abs z ≤ m)) (basis_column k lt)
+      (All-take (λ z. unsigned_abs z ≤ m) n (drop (k * n) numbers) (All-drop (λ z. unsigned_abs z ≤ m) (k * n) numbers h.within))
+
+  module _ (f : List ℤ) (bound : norm f * m < 2 ^ 63) where
+    pub form_summable : (k : ℕ) → length f ≡ n + (w + 1) → k < n + w + 1 → IsSummable f (over L (part n k) rows)
+    form_summable k wide lt = summable m f (over L (part n k) rows) (omega (arith, length_over L (part n k) rows, h.size, wide)) some_most (column_within k lt) bound
+
+    pub place_step : (j : ℕ) → j < w + 1 → OwnStep f (over L (place j) rows) L (n + j)
+    place_step j lt =
+        subst (λ (k : ℕ). OwnStep f (over L (place j) rows) L (k + j)) (length_over L (place j) rows ∙ h.size)
+        (own_step m L f (over L (place j) rows) j some_most h.common (subst (All (λ z. unsigned_abs z ≤ m)) (part_place n j L rows) (column_within (n + j) (omega (arith, lt)))) bound)
+
+    coefficient_short : (k : ℕ) → k < n → unsigned_abs (dot f (over L (coef k) rows)) < 2 ^ 63
+    coefficient_short k lt =
+        let within : All (λ z. unsigned_abs z ≤ m) (over L (coef k) rows) = subst (All (λ z. unsigned_abs z ≤ m)) (part_coef n k L rows lt) (column_within k (omega (arith, lt))) in
+        let sum = subst (λ (c : List ℤ). unsigned_abs (dot f c) ≤ norm f * m) (take_all n (over L (coef k) rows) (omega (arith, length_over L (coef k) rows, h.size))) (sum_within m f (over L (coef k) rows) n within) in
+        omega (arith, sum, bound)
+
+    all_counted : (g : ℕ → ℤ) (i : ℕ) → ((k : ℕ) → k < i → unsigned_abs (g k) < 2 ^ 63) → All IsShort (map g (count_from 0 i))
+    all_counted g i short = all_short (map g (count_from 0 i)) (λ k lt.
+        let inside : k < i = omega (arith, lt, length_counted g i) in
+        rw (entry_first g i k inside) (short k inside))
+
+    pub combination_short : IsShortRow (combination n w L rows f)
+    combination_short = record {
+      den = omega (arith, h.common, h.small);
+      coefs = all_counted (λ k. dot f (over L (coef k) rows)) n coefficient_short;
+      constant = all_counted (λ j. dot f (over L (place j) rows) +ℤ L *ℤ entry f (n + j)) (w + 1) (λ j lt. (place_step j lt).all);
+    }

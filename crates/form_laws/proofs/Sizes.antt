@@ -1,7 +1,6 @@
 -- Where a form's norm times the greatest number of the basis is below 2^63, the row that the form makes is short, and each listed number of
 -- its pivots and comparisons fits.
-use Rattle.form_laws.proofs.Words.{◌≡◌, ◌∙◌, refl, ap, sym, ℕ, zero, suc, ◌+◌, ◌*◌, ◌^◌, ◌<◌, ◌≤◌, ℤ, pos, ◌+ℤ◌, ◌*ℤ◌, ◌≤ℤ◌, ◌<ℤ◌, unsigned_abs, arith, Bool, true, false, ◌&&◌, List, [], ◌∷◌, ◌++◌, length, take, drop, get_or, ints, unsigned_abs-mul, mul-le, flat_map, if◌then◌else◌, floor_div, fits, same_number, entry, dot, all_fit, Row, divided, row_at, other_rows, eliminated_listed, pivot_listed, cross_products, up_to_difference, is_better, best_listed, entering_of_listed, entering_listed, candidates, entry-scale, length_floors, divisor, IsShort, IsShortRow, short_eliminated, coef, place, over, combination, by_form, Kept, Form, Whole, made, rows_by, norm, RowWithin, AllWithin, IsBounded, AllShort, KeptShort}
-use Rattle.std.specs.Prelude.{map, All}
+use Rattle.form_laws.proofs.Words.{◌≡◌, ◌∙◌, refl, ap, sym, ℕ, zero, suc, ◌+◌, ◌*◌, ◌^◌, ◌<◌, ◌≤◌, ℤ, pos, ◌+ℤ◌, ◌*ℤ◌, ◌≤ℤ◌, ◌<ℤ◌, unsigned_abs, arith, Bool, true, false, ◌&&◌, List, [], ◌∷◌, ◌++◌, length, take, drop, ints, unsigned_abs-mul, mul-le, flat_map, if◌then◌else◌, floor_div, fits, same_number, entry, dot, all_fit, Row, divided, row_at, other_rows, eliminated_listed, pivot_listed, cross_products, up_to_difference, is_better, best_listed, entering_of_listed, entering_listed, candidates, entry-scale, length_floors, divisor, IsShort, IsShortRow, short_eliminated, coef, place, over, combination, by_form, Kept, Form, Whole, made, rows_by, norm, RowWithin, AllWithin, IsBounded, AllShort, KeptShort, map, All, get_or_default}
 use Rattle.pip_model.proofs.Fitting.{fit_join}
 use Rattle.row_laws.proofs.Short.{short_fits}
 use Rattle.form_laws.proofs.Divided.{undivided}
@@ -64,13 +63,8 @@ module _ (m : ℕ) (L : ℤ) (small : unsigned_abs L ≤ m) (part : Row → ℤ)
 
 -- ---- the combination, and the row
 
-any_default : (us : List ℤ) (k : ℕ) (d : ℤ) → k < length us → get_or us k d ≡ entry us k
-any_default [] k d h = absurd (omega arith)
-any_default (u ∷ us) zero d h = refl
-any_default (u ∷ us) (suc k) d h = any_default us k d (omega arith)
-
 pub all_short : (us : List ℤ) → ((k : ℕ) → k < length us → IsShort (entry us k)) → All IsShort us
-all_short us h k d lt = rw (any_default us k d lt) (h k lt)
+all_short us h k d lt = rw (get_or_default us k d (pos 0) lt) (h k lt)
 
 smaller : (g : ℕ) (x y : ℤ) → 0 < g → pos g *ℤ x ≡ y → unsigned_abs x ≤ unsigned_abs y
 smaller g x y h e =
@@ -125,7 +119,7 @@ short_drop n zero rows h = h
 short_drop n (suc k) [] h = tt
 short_drop n (suc k) (r ∷ rows) h = short_drop n k rows h.2
 
-short_join : (n : ℕ) (rows more : List Row) → AllShort n rows → AllShort n more → AllShort n (rows ++ more)
+pub short_join : (n : ℕ) (rows more : List Row) → AllShort n rows → AllShort n more → AllShort n (rows ++ more)
 short_join n [] more h k = k
 short_join n (r ∷ rows) more h k = (h.0, h.1, short_join n rows more h.2 k)
 

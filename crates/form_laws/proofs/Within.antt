@@ -1,12 +1,12 @@
 -- The rows of a basis are wide, over its multiple, and within its bound.
 use Rattle.std.proofs.Common.{map, All}
-use Rattle.form_laws.proofs.Words.{◌≡◌, ◌∙◌, refl, ap, sym, subst, ℕ, zero, suc, ◌+◌, ◌*◌, ◌^◌, ◌<◌, ◌≤◌, ℤ, pos, ◌*ℤ◌, ◌<ℤ◌, unsigned_abs, arith, ◌⊎◌, inl, inr, true, List, [], ◌∷◌, ◌++◌, length, take, drop, append-nil, ints, unsigned_abs-mul, floor_div, entry, all_fit, Row, pivot_listed, start, unit_row, count_from, IsShortRow, coef, place, over, by_form, Form, made, IsWide, AllWide, KeptWide, IsOver, MadeBy, AllForms, norm, AllWithin, IsBounded, AllShort, KeptShort, part, IsScaled, IsBasis, All-take, All-drop}
+use Rattle.form_laws.proofs.Words.{◌≡◌, ◌∙◌, refl, ap, sym, subst, ℕ, zero, suc, ◌+◌, ◌*◌, ◌^◌, ◌<◌, ◌≤◌, ℤ, pos, ◌*ℤ◌, ◌<ℤ◌, unsigned_abs, arith, ◌⊎◌, inl, inr, true, List, [], ◌∷◌, ◌++◌, length, take, drop, append-nil, ints, unsigned_abs-mul, floor_div, entry, all_fit, Row, pivot_listed, start, unit_row, count_from, IsShortRow, coef, place, over, by_form, Form, made, IsWide, AllWide, KeptWide, IsOver, MadeBy, AllForms, norm, AllWithin, IsBounded, AllShort, KeptShort, part, IsScaled, IsBasis, All-take, All-drop, row_at, pivot, eliminated, turned, rows_by, ◌≤ℤ◌}
 use Rattle.form_laws.proofs.Columns.{column_at, part_coef, part_place}
 use Rattle.form_laws.proofs.Listed.{basis_short, pivot_refuses_none}
 use Rattle.form_laws.proofs.Sizes.{short_by_form}
-use Rattle.form_laws.proofs.Invariant.{rows_any, start_made}
+use Rattle.form_laws.proofs.Invariant.{rows_any, start_made, pivot_made}
 
-all_behind : {X : Type 0} (P : X → Type 0) (x : X) (xs : List X) → All P (x ∷ xs) → All P xs
+pub all_behind : {X : Type 0} (P : X → Type 0) (x : X) (xs : List X) → All P (x ∷ xs) → All P xs
 all_behind P x xs h k d lt = h (suc k) d (omega (arith, lt))
 
 pub all_wide : (n w : ℕ) (L : ℤ) (rows : List Row) → All (IsScaled n w L) rows → AllWide n w rows
@@ -104,9 +104,28 @@ module _ (n w : ℕ) (basis : List Row) (L : ℤ) (m : ℕ) (numbers : List ℤ)
       pivot_refuses_none n w m L basis (map Form forms) (basis ++ map (by_form n w L basis) forms) (are_made forms wide) above (all_over n w L basis h.rows) h.common h.small basis_within
       (kept_are_short forms bound) r c lt inside
 
+  turned_forms : (p : Row) (c : ℕ) (forms : List (List ℤ)) → map (turned p c) (map Form forms) ≡ map Form forms
+  turned_forms p c [] = refl
+  turned_forms p c (f ∷ forms) = rw (turned_forms p c forms) refl
+
+  -- a pivot of all rows is that of the unknowns' rows: the forms stay
+  module _ (forms : List (List ℤ)) (wide : All (λ f. length f ≡ n + (w + 1)) forms) (r c : ℕ) where
+    abbrev pub all_of : List Row
+    all_of = basis ++ map (by_form n w L basis) forms
+
+    abbrev pub turned_of : List Row
+    turned_of = map (eliminated (row_at all_of r) c) basis
+
+    pub forms_pivot : (M : ℤ) → r < length all_of → c < n → pos 1 ≤ℤ entry (row_at all_of r).coefs c → pos 1 ≤ℤ M → All (IsScaled n w M) turned_of
+        → turned_of ++ map (by_form n w M turned_of) forms ≡ pivot all_of r c
+    forms_pivot M lt inside positive some scaled =
+        let after = pivot_made n w basis (map Form forms) all_of r c (are_made forms wide) lt inside (omega (arith, ints, positive)) in
+        sym (after.is M (omega (arith, ints, some)) (all_over n w M turned_of scaled)
+        ∙ ap (rows_by n w M turned_of) (turned_forms (row_at all_of r) c forms) ∙ ap (λ (rows : List Row). turned_of ++ rows) (made_forms M turned_of forms))
+
 -- ---- the first rows
 
-all_forms : (n w : ℕ) (forms : List (List ℤ)) → All (λ f. length f ≡ n + w + 1) forms → AllForms n w forms
+pub all_forms : (n w : ℕ) (forms : List (List ℤ)) → All (λ f. length f ≡ n + w + 1) forms → AllForms n w forms
 all_forms n w [] h = tt
 all_forms n w (f ∷ forms) h =
     (omega (arith, (h 0 [] (omega arith))), all_forms n w forms (all_behind (λ g. length g ≡ n + w + 1) f forms h))

@@ -10,7 +10,7 @@ pub use Rattle.form_laws.specs.ByForm.{coef, place, over, by_form, Form, made, I
 pub use Rattle.form_laws.specs.Bounds.{norm, AllWithin, IsBounded, AllShort, KeptShort, RowWithin}
 pub use Rattle.form_laws.specs.Columns.{part, IsScaled, IsBasis, columns_of, IsSummable}
 pub use Rattle.std.proofs.lemmas.List.Elements.{All-take, All-drop, All-more, All-push, All-weaker}
-pub use Rattle.std.specs.Prelude.{slice_set, flat_map, if◌then◌else◌, slice_index_or}
+pub use Rattle.std.specs.Prelude.{slice_set, flat_map, if◌then◌else◌, slice_index_or, map, All}
 pub use Rattle.pip_model.proofs.Polynomials.{var, num, ◌⊕◌, ◌⊖◌, ◌⊗◌, ring, ring_by, ring_by_2}
 pub use Rattle.pip_model.proofs.RingLaws.{*ℤ_assoc}
 pub use Rattle.pip_model.proofs.Order.{mul_pp, factor_p}
@@ -21,7 +21,7 @@ pub use Rattle.row_laws.proofs.Unchanged.{scaled, divided-scaled}
 pub use Rattle.std.proofs.lemmas.Nat.{mul-le}
 pub use Rattle.run_laws.proofs.RowsAt.{divisor, Divisor, divisor_is, scale-floors}
 pub use Rattle.row_laws.proofs.ShortRows.{short_eliminated}
-pub use Rattle.std.proofs.lemmas.List.{map-append, take_all, map_more}
+pub use Rattle.std.proofs.lemmas.List.{map-append, take_all, map_more, length-take-le, get_or-take, get_or-drop, get_or-append-add, get_or-map, get_or_default, length-map}
 pub use Rattle.row_laws.specs.Rows.{content}
 pub use Rattle.row_laws.proofs.Contents.{content-one, content-divided}
 pub use Rattle.pip_model.proofs.Division.{floor-exact}

@@ -1,35 +1,23 @@
 -- Pivots of rows that are read off their forms.
-use Rattle.std.proofs.Common.{append-nil}
-use Rattle.node_rows.proofs.Words.{◌≡◌, ◌∙◌, refl, ap, sym, subst, ℕ, zero, suc, ◌+◌, ◌-◌, ◌*◌, ◌^◌, ◌<◌, ◌≤◌, ℤ, pos, ◌≤ℤ◌, ◌<ℤ◌, arith, true, List, [], ◌∷◌, ◌++◌, length, map, take, get_or, All, ints, map-append, take-append-le, take_all, length-map, entry, length-count, Row, row_at, form_row, eliminated, pivot, pivot_listed, entering, entering_of, entering_listed, entering_of_listed, candidates, start, unit_row, count_from, IsShortRow, TableauRows, by_form, Kept, Form, turned, IsWide, rows_by, norm, AllShort, IsScaled, IsBasis, pivot_fits, Basis, IsRead, read, all_rows}
+use Rattle.node_rows.proofs.Words.{◌≡◌, ◌∙◌, refl, ap, sym, subst, ℕ, ◌+◌, ◌-◌, ◌*◌, ◌^◌, ◌<◌, ◌≤◌, ℤ, pos, ◌≤ℤ◌, ◌<ℤ◌, arith, true, List, [], ◌∷◌, ◌++◌, length, map, take, get_or, All, ints, map-append, take-append-le, take_all, length-map, entry, length-count, Row, row_at, form_row, eliminated, pivot, pivot_listed, entering, entering_of, entering_listed, entering_of_listed, candidates, start, unit_row, count_from, TableauRows, IsWide, norm, IsBasis, pivot_fits, Basis, IsRead, read, all_rows, append-nil, get_or_append_left, get_or_push, get_or-append_right, get_or-map, length_push, length-append, short_join}
 use Rattle.std.proofs.lemmas.Nat.{mul-le}
 use Rattle.pip_model.specs.Listed.{all_fit}
 use Rattle.form_laws.proofs.Pivots.{pivot_is_map}
-use Rattle.form_laws.proofs.Invariant.{pivot_made, wide_by_form}
-use Rattle.form_laws.proofs.Within.{start_read, rows_are_short, form_is_short, are_made, made_forms, none_refused, all_over}
+use Rattle.form_laws.proofs.Invariant.{wide_by_form}
+use Rattle.form_laws.proofs.Within.{start_read, rows_are_short, form_is_short, none_refused, forms_pivot}
 
 -- ---- rows by their places
 
 pub row_front : (rows more : List Row) (r : ℕ) → r < length rows → row_at (rows ++ more) r ≡ row_at rows r
-row_front [] more r lt = absurd (omega arith)
-row_front (x ∷ rows) more zero lt = refl
-row_front (x ∷ rows) more (suc r) lt = row_front rows more r (omega arith)
+row_front rows more r lt = get_or_append_left rows more (form_row 0 []) r lt
 
 pub row_last : (rows : List Row) (p : Row) (n : ℕ) → length rows ≡ n → row_at (rows ++ p ∷ []) n ≡ p
-row_last [] p zero e = refl
-row_last [] p (suc n) e = absurd (omega arith)
-row_last (x ∷ rows) p zero e = absurd (omega arith)
-row_last (x ∷ rows) p (suc n) e = row_last rows p n (omega arith)
-
-row_counted : (g : List ℤ → Row) (forms : List (List ℤ)) (i : ℕ) (d : List ℤ) → i < length forms → row_at (map g forms) i ≡ g (get_or forms i d)
-row_counted g [] i d lt = absurd (omega arith)
-row_counted g (f ∷ forms) zero d lt = refl
-row_counted g (f ∷ forms) (suc i) d lt = row_counted g forms i d (omega arith)
+row_last rows p n e = get_or_push rows p (form_row 0 []) n e
 
 pub row_behind : (rows : List Row) (g : List ℤ → Row) (forms : List (List ℤ)) (r : ℕ) (d : List ℤ) → length rows ≤ r → r < length rows + length forms
     → row_at (rows ++ map g forms) r ≡ g (get_or forms (r - length rows) d)
-row_behind [] g forms r d le lt = let e : r - 0 ≡ r = omega arith in rw e (row_counted g forms r d (omega arith))
-row_behind (x ∷ rows) g forms zero d le lt = absurd (omega arith)
-row_behind (x ∷ rows) g forms (suc r) d le lt = let e : suc r - suc (length rows) ≡ r - length rows = omega arith in rw e (row_behind rows g forms r d (omega arith) (omega arith))
+row_behind rows g forms r d le lt =
+    get_or-append_right rows (map g forms) (length rows) r (form_row 0 []) refl le ∙ get_or-map g forms (r - length rows) d (form_row 0 []) (omega (arith, le, lt))
 
 -- ---- the entering column asks the unknowns' rows and the row alone
 
@@ -39,20 +27,14 @@ entering_same xs ys r s p e g h = rw (e, g) (ap (λ (u : List Row). entering_of 
 pub listed_same : (xs ys : List Row) (r s : ℕ) (p : Row) → row_at xs r ≡ p → row_at ys s ≡ p → take (length p.coefs) xs ≡ take (length p.coefs) ys → entering_listed xs r ≡ entering_listed ys s
 listed_same xs ys r s p e g h = rw (e, g) (ap (λ (u : List Row). entering_of_listed u p (candidates p)) h)
 
-pub front_same : (rows more : List Row) (k : ℕ) → k ≤ length rows → take k (rows ++ more) ≡ take k rows
-front_same rows more k le = take-append-le k rows more le
-
 -- ---- a pivot of the unknowns' rows
-
-at_wide : (n w : ℕ) (L : ℤ) (rows : List Row) (r : ℕ) → r < length rows → All (IsScaled n w L) rows → IsWide n w (row_at rows r)
-at_wide n w L rows r lt h = (h r (form_row 0 []) lt).wide
 
 module _ (t : TableauRows) (b : Basis) (f : List ℤ) (h : IsRead t b f) where
   pub front_fits : (r c : ℕ) → r < length t.rows → c < t.unknowns → all_fit (pivot_listed t.rows r c) ≡ true
   front_fits r c lt inside = pivot_fits t.unknowns t.rows r c lt inside (rows_are_short t.unknowns t.width t.rows b.scale b.most b.columns.items h.basis)
 
   pub front_pivot : (r c : ℕ) → r < length t.rows → pos 1 ≤ℤ entry (row_at t.rows r).coefs c → pivot t.rows r c ≡ map (eliminated (row_at t.rows r) c) t.rows
-  front_pivot r c lt above = pivot_is_map t.unknowns t.width t.rows r c lt (at_wide t.unknowns t.width b.scale t.rows r lt h.basis.rows) (omega (arith, ints, above))
+  front_pivot r c lt above = pivot_is_map t.unknowns t.width t.rows r c lt ((h.basis.rows r (form_row 0 []) lt).wide) (omega (arith, ints, above))
 
   some : pos 0 <ℤ b.scale
   some = omega (arith, ints, h.basis.positive)
@@ -60,22 +42,13 @@ module _ (t : TableauRows) (b : Basis) (f : List ℤ) (h : IsRead t b f) where
   pub read_wide : IsWide t.unknowns t.width (read t b f)
   read_wide = wide_by_form t.unknowns t.width b.scale t.rows f some
 
-  short_join : (n : ℕ) (rows : List Row) (p : Row) → AllShort n rows → IsShortRow p → length p.coefs ≡ n → AllShort n (rows ++ p ∷ [])
-  short_join n [] p all short e = (short, e, tt)
-  short_join n (r ∷ rows) p all short e = (all.0, all.1, short_join n rows p all.2 short e)
-
   pub with_long : length (t.rows ++ read t b f ∷ []) ≡ t.unknowns + 1
-  with_long = long t.rows (read t b f) t.unknowns h.basis.size
-    where
-      long : (rows : List Row) (p : Row) (n : ℕ) → length rows ≡ n → length (rows ++ p ∷ []) ≡ n + 1
-      long [] p n e = omega (arith, e)
-      long (x ∷ rows) p zero e = absurd (omega arith)
-      long (x ∷ rows) p (suc n) e = omega (arith, long rows p n (omega arith))
+  with_long = length_push t.rows (read t b f) ∙ ap (λ (n : ℕ). n + 1) h.basis.size
 
   pub with_fits : (c : ℕ) → c < t.unknowns → all_fit (pivot_listed (t.rows ++ read t b f ∷ []) t.unknowns c) ≡ true
   with_fits c inside = pivot_fits t.unknowns (t.rows ++ read t b f ∷ []) t.unknowns c (omega (arith, with_long)) inside
-      (short_join t.unknowns t.rows (read t b f) (rows_are_short t.unknowns t.width t.rows b.scale b.most b.columns.items h.basis)
-      (form_is_short t.unknowns t.width t.rows b.scale b.most b.columns.items h.basis f h.bound) read_wide.coefs)
+      (short_join t.unknowns t.rows (read t b f ∷ []) (rows_are_short t.unknowns t.width t.rows b.scale b.most b.columns.items h.basis)
+      (form_is_short t.unknowns t.width t.rows b.scale b.most b.columns.items h.basis f h.bound, read_wide.coefs, tt))
 
   pub with_pivot : (c : ℕ) → pos 1 ≤ℤ entry (read t b f).coefs c
       → take t.unknowns (pivot (t.rows ++ read t b f ∷ []) t.unknowns c) ≡ map (eliminated (read t b f) c) t.rows
@@ -95,10 +68,6 @@ module _ (t : TableauRows) (b : Basis) (f : List ℤ) (h : IsRead t b f) where
 
 -- ---- a pivot of all rows
 
-turned_forms : (p : Row) (c : ℕ) (forms : List (List ℤ)) → map (turned p c) (map Form forms) ≡ map Form forms
-turned_forms p c [] = refl
-turned_forms p c (f ∷ forms) = rw (turned_forms p c forms) refl
-
 module _ (t : TableauRows) (b : Basis) (forms : List (List ℤ)) (h : All (IsRead t b) forms) (some : 0 < length forms) where
   first : IsBasis t.unknowns t.width t.rows b.scale b.most b.columns.items
   first = (h 0 [] some).basis
@@ -116,16 +85,7 @@ module _ (t : TableauRows) (b : Basis) (forms : List (List ℤ)) (h : All (IsRea
       → IsBasis t.unknowns t.width (map (eliminated (row_at (all_rows t b forms).rows r) c) t.rows) a.scale a.most a.columns.items
       → all_rows (record t { rows = map (eliminated (row_at (all_rows t b forms).rows r) c) t.rows }) a forms ≡ record (all_rows t b forms) { rows = pivot (all_rows t b forms).rows r c }
   all_pivot r c a lt inside above now =
-      let p = row_at (all_rows t b forms).rows r in
-      let basis = map (eliminated p c) t.rows in
-      let after = pivot_made t.unknowns t.width t.rows (map Form forms) (all_rows t b forms).rows r c
-      (are_made t.unknowns t.width t.rows b.scale b.most b.columns.items first forms wide) lt inside (omega (arith, ints, above)) in
-      let is : pivot (all_rows t b forms).rows r c ≡ rows_by t.unknowns t.width a.scale basis (map (turned p c) (map Form forms)) =
-      after.is a.scale (omega (arith, ints, now.positive)) (all_over t.unknowns t.width a.scale basis now.rows) in
-      let same : rows_by t.unknowns t.width a.scale basis (map (turned p c) (map Form forms)) ≡ basis ++ map (by_form t.unknowns t.width a.scale basis) forms =
-      ap (λ (kept : List Kept). rows_by t.unknowns t.width a.scale basis kept) (turned_forms p c forms)
-      ∙ ap (λ (rows : List Row). basis ++ rows) (made_forms t.unknowns t.width basis a.scale a.most a.columns.items now a.scale basis forms) in
-      ap (λ (rows : List Row). record t { rows = rows }) (sym (is ∙ same))
+      ap (λ (rows : List Row). record t { rows = rows }) (forms_pivot t.unknowns t.width t.rows b.scale b.most b.columns.items first forms wide r c a.scale lt inside above now.positive now.rows)
 
   pub read_after : (now : TableauRows) (a : Basis) (most : ℕ) → now.unknowns ≡ t.unknowns → now.width ≡ t.width → IsBasis now.unknowns now.width now.rows a.scale a.most a.columns.items
       → All (λ f. norm f ≤ most) forms → most * a.most < 2 ^ 63 → All (IsRead now a) forms
@@ -146,17 +106,17 @@ least t b (f ∷ forms) h le = omega (arith, (h 0 [] (omega arith)).basis.size)
 
 pub entering_front : (t : TableauRows) (b : Basis) (forms : List (List ℤ)) (r : ℕ) → r < length t.rows → length (row_at t.rows r).coefs ≤ length t.rows → entering t.rows r ≡ entering (all_rows t b forms).rows r
 entering_front t b forms r lt narrow =
-    sym (entering_same (all_rows t b forms).rows t.rows r r (row_at t.rows r) (row_front t.rows (map (read t b) forms) r lt) refl (front_same t.rows (map (read t b) forms) (length (row_at t.rows r).coefs) narrow))
+    sym (entering_same (all_rows t b forms).rows t.rows r r (row_at t.rows r) (row_front t.rows (map (read t b) forms) r lt) refl (take-append-le (length (row_at t.rows r).coefs) t.rows (map (read t b) forms) narrow))
 
 pub listed_front : (t : TableauRows) (b : Basis) (forms : List (List ℤ)) (r : ℕ) → r < length t.rows → length (row_at t.rows r).coefs ≤ length t.rows → entering_listed t.rows r ≡ entering_listed (all_rows t b forms).rows r
 listed_front t b forms r lt narrow =
-    sym (listed_same (all_rows t b forms).rows t.rows r r (row_at t.rows r) (row_front t.rows (map (read t b) forms) r lt) refl (front_same t.rows (map (read t b) forms) (length (row_at t.rows r).coefs) narrow))
+    sym (listed_same (all_rows t b forms).rows t.rows r r (row_at t.rows r) (row_front t.rows (map (read t b) forms) r lt) refl (take-append-le (length (row_at t.rows r).coefs) t.rows (map (read t b) forms) narrow))
 
 module _ (t : TableauRows) (b : Basis) (f : List ℤ) (h : IsRead t b f) (more : List Row) (r : ℕ) (is : row_at (t.rows ++ more) r ≡ read t b f) where
   columns : take (length (read t b f).coefs) (t.rows ++ read t b f ∷ []) ≡ take (length (read t b f).coefs) (t.rows ++ more)
   columns =
       let narrow : length (read t b f).coefs ≤ length t.rows = omega (arith, (read_wide t b f h).coefs, h.basis.size) in
-      front_same t.rows (read t b f ∷ []) (length (read t b f).coefs) narrow ∙ sym (front_same t.rows more (length (read t b f).coefs) narrow)
+      take-append-le (length (read t b f).coefs) t.rows (read t b f ∷ []) narrow ∙ sym (take-append-le (length (read t b f).coefs) t.rows more narrow)
 
   pub entering_with : entering (t.rows ++ read t b f ∷ []) t.unknowns ≡ entering (t.rows ++ more) r
   entering_with = entering_same (t.rows ++ read t b f ∷ []) (t.rows ++ more) t.unknowns r (read t b f) (row_last t.rows (read t b f) t.unknowns h.basis.size) is columns
@@ -165,12 +125,7 @@ module _ (t : TableauRows) (b : Basis) (f : List ℤ) (h : IsRead t b f) (more :
   listed_with = listed_same (t.rows ++ read t b f ∷ []) (t.rows ++ more) t.unknowns r (read t b f) (row_last t.rows (read t b f) t.unknowns h.basis.size) is columns
 
 pub all_long : (t : TableauRows) (b : Basis) (forms : List (List ℤ)) → length (all_rows t b forms).rows ≡ length t.rows + length forms
-all_long t b forms = both t.rows (read t b) forms
-  where
-    both : (rows : List Row) (g : List ℤ → Row) (forms : List (List ℤ)) → length (rows ++ map g forms) ≡ length rows + length forms
-    both [] g [] = omega arith
-    both [] g (f ∷ forms) = omega (arith, both [] g forms)
-    both (x ∷ rows) g forms = omega (arith, both rows g forms)
+all_long t b forms = length-append t.rows (map (read t b) forms) ∙ ap (λ (k : ℕ). length t.rows + k) (length-map forms (read t b))
 
 -- ---- the first rows
 

@@ -1,14 +1,11 @@
 -- The cut by a row whose numbers stand over one denominator.
-use Rattle.scaled_laws.proofs.Words.{◌≡◌, ◌∙◌, refl, ap, sym, ℕ, zero, suc, ◌+◌, ◌-◌, ◌<◌, ◌≤◌, ℤ, pos, negsuc, ◌*ℤ◌, ◌≤ℤ◌, ◌<ℤ◌, neg_ℤ, unsigned_abs, arith, rules, nat_lt, Bool, true, false, List, [], ◌∷◌, length, take, drop, map, length-drop, All, ints, get_or-take, get_or-drop, get_or_default, length-take-le, floor_mod, entry, scale, negate, residue, Row, divided, rest_of, floor_mod-law, var, num, ◌⊗◌, ring, length_map, row_by, same_row, same_entries, Undivided, undivided, divided-multiple, entry_first, length_counted, row_over, row_size}
+use Rattle.scaled_laws.proofs.Words.{◌≡◌, ◌∙◌, refl, ap, sym, ℕ, zero, suc, ◌+◌, ◌-◌, ◌<◌, ◌≤◌, ℤ, pos, negsuc, ◌*ℤ◌, ◌≤ℤ◌, ◌<ℤ◌, neg_ℤ, unsigned_abs, arith, nat_lt, Bool, true, false, List, [], ◌∷◌, length, take, drop, map, length-drop, All, ints, get_or-take, get_or-drop, get_or_default, length-take-le, floor_mod, entry, scale, negate, residue, Row, divided, rest_of, floor_mod-law, var, num, ◌⊗◌, ring, length_map, row_by, same_row, same_entries, Undivided, undivided, divided-multiple, entry_first, length_counted, row_over, row_size, above, minus_one, get_or-map}
 use Rattle.pip_model.specs.Cuts.{constant_cut}
 use Rattle.scaled_laws.specs.Cut.{left_of, cut_numbers}
 use Rattle.scaled_laws.proofs.Scaled.{mod_over, den_positive}
 
 opposite : (g x : ℤ) → neg_ℤ (g *ℤ x) ≡ g *ℤ neg_ℤ x
-opposite g x = negated (g *ℤ x) ∙ ring (g ∷ x ∷ []) (num (negsuc 0) ⊗ (var 0 ⊗ var 1)) (var 0 ⊗ (num (negsuc 0) ⊗ var 1)) refl ∙ ap (λ (z : ℤ). g *ℤ z) (sym (negated x))
-  where
-    negated : (z : ℤ) → neg_ℤ z ≡ negsuc 0 *ℤ z
-    negated z = omega (arith, ints)
+opposite g x = sym (minus_one (g *ℤ x)) ∙ ring (g ∷ x ∷ []) (num (negsuc 0) ⊗ (var 0 ⊗ var 1)) (var 0 ⊗ (num (negsuc 0) ⊗ var 1)) refl ∙ ap (λ (z : ℤ). g *ℤ z) (minus_one x)
 
 module _ (g : ℕ) (d : ℤ) (some : 0 < g) (above : pos 0 <ℤ d) where
   parts_over : (xs : List ℤ) → map (λ x. floor_mod x (pos g *ℤ d)) (scale (pos g) xs) ≡ scale (pos g) (map (λ x. floor_mod x d) xs)
@@ -68,14 +65,6 @@ cut_long n l xs = length_counted (λ k. left_of l (nat_lt k n) (entry xs k)) (le
 
 -- ---- the row of these numbers
 
-entry_map : (f : ℤ → ℤ) (xs : List ℤ) (k : ℕ) → k < length xs → entry (map f xs) k ≡ f (entry xs k)
-entry_map f [] k lt = absurd (omega arith)
-entry_map f (x ∷ xs) zero lt = refl
-entry_map f (x ∷ xs) (suc k) lt = entry_map f xs k (omega arith)
-
-below : (n k : ℕ) → k < n → nat_lt k n ≡ true
-below n k lt = search (rules, lt)
-
 behind : (n k : ℕ) → nat_lt (n + k) n ≡ false
 behind n k = grind arith
 
@@ -92,9 +81,9 @@ module _ (n w : ℕ) (l : ℤ) (xs : List ℤ) (h : pos 1 ≤ℤ l) (long : leng
       (λ k lt.
       let small : k < n = omega (arith, lt, length-take-le n (cut_numbers n l xs) (omega (arith, whole))) in
       get_or-take n (cut_numbers n l xs) k (pos 0) small ∙ number k (omega (arith, small))
-      ∙ ap (λ b. left_of l b (entry xs k)) (below n k small)
+      ∙ ap (λ b. left_of l b (entry xs k)) (above k n small)
       ∙ ap (λ z. floor_mod z l) (sym (get_or-take n xs k (pos 0) small))
-      ∙ sym (entry_map (λ x. floor_mod x l) (take n xs) k (omega (arith, small, length-take-le n xs (omega (arith, long))))))
+      ∙ sym (get_or-map (λ x. floor_mod x l) (take n xs) k (pos 0) (pos 0) (omega (arith, small, length-take-le n xs (omega (arith, long))))))
 
   residue_entry : (ys : List ℤ) (k : ℕ) → k < length ys → entry (negate (residue l ys)) k ≡ neg_ℤ (floor_mod (neg_ℤ (entry ys k)) l)
   residue_entry [] k lt = absurd (omega arith)

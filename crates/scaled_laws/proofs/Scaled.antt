@@ -1,5 +1,5 @@
 -- Rows whose numbers stand over one denominator, and the rows that they are once they are divided.
-use Rattle.scaled_laws.proofs.Words.{◌≡◌, ◌∙◌, refl, ap, sym, subst, ℕ, zero, suc, ◌+◌, ◌*◌, ◌<◌, ℤ, pos, negsuc, ◌+ℤ◌, ◌-ℤ◌, ◌*ℤ◌, ◌≤ℤ◌, ◌<ℤ◌, arith, List, [], ◌∷◌, length, take, drop, length-drop, ints, get_or-take, length-take-le, take-map, drop-map, drop-set-lt, take-set-lt, slice_set, floor_div, floor_mod, divides, is_nonneg, is_zero, entry, combine, scale, Row, divided, substituted, eliminated, floor-unique, floor_div-law, floor_mod-law, mul_nn, mul_pp, factor_p, var, ◌⊕◌, ◌⊖◌, ◌⊗◌, ring, ring_by, entry-scale, length_floors, divisor, coef, place, IsScaled, row_over, same_row, Undivided, undivided, divided-multiple, eliminated_divided, set_scaled}
+use Rattle.scaled_laws.proofs.Words.{◌≡◌, ◌∙◌, refl, ap, sym, subst, ℕ, zero, suc, ◌+◌, ◌*◌, ◌<◌, ℤ, pos, negsuc, ◌+ℤ◌, ◌-ℤ◌, ◌*ℤ◌, ◌≤ℤ◌, ◌<ℤ◌, arith, List, [], ◌∷◌, length, take, drop, length-drop, ints, get_or-take, length-take-le, take-map, drop-map, drop-set-lt, take-set-lt, slice_set, floor_div, floor_mod, divides, is_nonneg, is_zero, entry, combine, scale, Row, divided, substituted, eliminated, floor-unique, floor_div-law, floor_mod-law, mul_nn, mul_pp, factor_p, var, ◌⊕◌, ◌⊖◌, ◌⊗◌, ring, ring_by, entry-scale, length_floors, divisor, coef, place, IsScaled, row_over, same_row, Undivided, undivided, divided-multiple, eliminated_divided, set_scaled, take_combine, drop_combine}
 use Rattle.std.specs.List.{list_all}
 use Rattle.form_laws.proofs.Unchanged.{scaled}
 
@@ -26,17 +26,13 @@ mod_positive g x d hg hd =
     let second : pos g *ℤ (pos d *ℤ q +ℤ pos d -ℤ x) ≡ pos (g * d) *ℤ q +ℤ pos (g * d) -ℤ pos g *ℤ x
     = ring (pos g ∷ pos d ∷ x ∷ q ∷ []) (var 0 ⊗ (var 1 ⊗ var 3 ⊕ var 1 ⊖ var 2)) (var 0 ⊗ var 1 ⊗ var 3 ⊕ var 0 ⊗ var 1 ⊖ var 0 ⊗ var 2) refl in
     let same : floor_div (pos g *ℤ x) (pos (g * d)) ≡ q = floor-unique (pos g *ℤ x) q (g * d) some (omega (arith, ints, low, first)) (omega (arith, ints, high, second)) in
-    let all = floor_mod-law (pos g *ℤ x) (g * d) some in
     let one = floor_mod-law x d hd in
-    left_is (pos g *ℤ x) (floor_mod (pos g *ℤ x) (pos (g * d))) (pos (g * d) *ℤ floor_div (pos g *ℤ x) (pos (g * d))) (pos (g * d) *ℤ q) all (ap (λ (z : ℤ). pos (g * d) *ℤ z) same)
+    omega (arith, ints, (floor_mod-law (pos g *ℤ x) (g * d) some), (ap (λ (z : ℤ). pos (g * d) *ℤ z) same))
     ∙ ring_by (pos g ∷ pos d ∷ x ∷ q ∷ m ∷ []) (var 0 ⊗ var 2 ⊖ var 0 ⊗ var 1 ⊗ var 3) (var 0 ⊗ var 4) (var 0) (var 2) (var 1 ⊗ var 3 ⊕ var 4) (sym one) refl
   where
     mul_some : (a b : ℕ) → 0 < a → 0 < b → 0 < a * b
     mul_some (suc a) (suc b) h k = omega arith
     mul_some _ _ h k = absurd (omega arith)
-
-    left_is : (x m p q : ℤ) → p +ℤ m ≡ x → p ≡ q → m ≡ x -ℤ q
-    left_is x m p q e f = omega (arith, ints, e, f)
 
 pub mod_over : (g : ℕ) (x d : ℤ) → 0 < g → pos 0 <ℤ d → floor_mod (pos g *ℤ x) (pos g *ℤ d) ≡ pos g *ℤ floor_mod x d
 mod_over g x (pos d) hg hd = mod_positive g x d hg (omega (arith, ints, hd))
@@ -111,16 +107,6 @@ module _ (n : ℕ) (l : ℤ) (zs : List ℤ) (h : pos 1 ≤ℤ l) where
 
 -- ---- a row put into another
 
-take_combine : (n : ℕ) (a : ℤ) (xs : List ℤ) (b : ℤ) (ys : List ℤ) → take n (combine a xs b ys) ≡ combine a (take n xs) b (take n ys)
-take_combine (suc n) a (x ∷ xs) b (y ∷ ys) = ap (λ (zs : List ℤ). (a *ℤ x -ℤ b *ℤ y) ∷ zs) (take_combine n a xs b ys)
-take_combine _ a _ b _ = refl
-
-drop_combine : (n : ℕ) (a : ℤ) (xs : List ℤ) (b : ℤ) (ys : List ℤ) → length xs ≡ length ys → drop n (combine a xs b ys) ≡ combine a (drop n xs) b (drop n ys)
-drop_combine (suc n) a [] b (y ∷ ys) e = absurd (omega arith)
-drop_combine (suc n) a (x ∷ xs) b [] e = absurd (omega arith)
-drop_combine (suc n) a (x ∷ xs) b (y ∷ ys) e = drop_combine n a xs b ys (omega arith)
-drop_combine _ a _ b _ e = refl
-
 module _ (n : ℕ) (l : ℤ) (p : List ℤ) (c : ℕ) (xs ys : List ℤ) (h : pos 1 ≤ℤ l) (inside : c < n) (above : pos 1 ≤ℤ entry p c) (same : length xs ≡ length p)
     (made : scale l ys ≡ slice_set (combine (entry p c) xs (entry xs c) p) c (entry xs c *ℤ l)) where
   abbrev a : ℤ
@@ -164,8 +150,8 @@ module _ (n : ℕ) (l : ℤ) (p : List ℤ) (c : ℕ) (xs ys : List ℤ) (h : po
       rw (get_or-take n p c (pos 0) inside, get_or-take n xs c (pos 0) inside)
       (same_row refl
       (sym (take-map (λ z. l *ℤ z) n ys) ∙ ap (take n) made ∙ take-set-lt n (combine a xs (entry xs c) p) c (entry xs c *ℤ l) inside
-      ∙ ap (λ (zs : List ℤ). slice_set zs c (entry xs c *ℤ l)) (take_combine n a xs (entry xs c) p))
-      (sym (drop-map (λ z. l *ℤ z) n ys) ∙ ap (drop n) made ∙ drop-set-lt n (combine a xs (entry xs c) p) c (entry xs c *ℤ l) inside ∙ drop_combine n a xs (entry xs c) p same))
+      ∙ ap (λ (zs : List ℤ). slice_set zs c (entry xs c *ℤ l)) (sym (take_combine a (entry xs c) xs p n)))
+      (sym (drop-map (λ z. l *ℤ z) n ys) ∙ ap (drop n) made ∙ drop-set-lt n (combine a xs (entry xs c) p) c (entry xs c *ℤ l) inside ∙ sym (drop_combine a (entry xs c) xs p n)))
 
   multiple_of : (g : ℤ) (r : Row) → pos 1 ≤ℤ g → pos 1 ≤ℤ r.den → divided (scaled g r) ≡ divided r
   multiple_of (pos g) r hg hr = divided-multiple g r (omega (arith, ints, hg)) hr

@@ -1,15 +1,12 @@
 -- Rows whose numbers over one denominator are within a bound are short, and so are those that forms make of them.
-use Rattle.scaled_laws.proofs.Words.{◌≡◌, refl, ◌∙◌, ap, sym, subst, ℕ, zero, suc, ◌+◌, ◌*◌, ◌^◌, ◌<◌, ℤ, pos, ◌<ℤ◌, arith, true, List, [], ◌∷◌, ◌++◌, length, map, take, drop, append-nil, All, ints, All-take, All-drop, Row, pivot_listed, entering_listed, start, unit_row, count_from, by_form, Form, made, AllWide, KeptWide, IsOver, MadeBy, AllForms, IsScaled, AreScaled}
+use Rattle.scaled_laws.proofs.Words.{◌≡◌, refl, ◌∙◌, ap, sym, subst, ℕ, zero, suc, ◌+◌, ◌*◌, ◌^◌, ◌<◌, ℤ, pos, ◌<ℤ◌, arith, true, List, [], ◌∷◌, ◌++◌, length, map, take, drop, append-nil, All, ints, All-take, All-drop, Row, pivot_listed, entering_listed, start, unit_row, count_from, by_form, Form, made, AllWide, KeptWide, IsOver, MadeBy, IsScaled, AreScaled}
 use Rattle.pip_model.specs.Listed.{all_fit}
 use Rattle.form_laws.specs.Bounds.{norm, AllWithin, AllShort, KeptShort}
 use Rattle.form_laws.proofs.Listed.{basis_short, made_short}
 use Rattle.form_laws.proofs.Sizes.{pivot_fits, entering_fits}
 use Rattle.form_laws.proofs.Invariant.{rows_any, start_made}
-use Rattle.form_laws.proofs.Within.{all_wide, all_over}
+use Rattle.form_laws.proofs.Within.{all_wide, all_over, all_forms, all_behind}
 use Rattle.scaled_laws.specs.Kept.{kept_of}
-
-all_behind : {X : Type 0} (P : X → Type 0) (x : X) (xs : List X) → All P (x ∷ xs) → All P xs
-all_behind P x xs h k d lt = h (suc k) d (omega (arith, lt))
 
 pub rows_are_short : (n w : ℕ) (L : ℤ) (m : ℕ) (rows : List Row) → AreScaled n w L m rows → AllShort n rows
 rows_are_short n w L m rows h = basis_short n w m L rows (omega (arith, ints, h.positive)) h.common h.small (all_wide n w L rows h.each) (all_over n w L rows h.each) h.within
@@ -72,11 +69,6 @@ scaled_back n w L m k rows h = record { each = All-drop (IsScaled n w L) k rows 
     back (suc k) (r ∷ rows) all = back k rows all.1
 
 -- ---- the first rows
-
-all_forms : (n w : ℕ) (forms : List (List ℤ)) → All (λ f. length f ≡ n + w + 1) forms → AllForms n w forms
-all_forms n w [] h = tt
-all_forms n w (f ∷ forms) h =
-    (omega (arith, (h 0 [] (omega arith))), all_forms n w forms (all_behind (λ g. length g ≡ n + w + 1) f forms h))
 
 pub start_read : (n w : ℕ) (basis : List Row) (L : ℤ) (m : ℕ) (forms : List (List ℤ)) → length basis ≡ n → basis ≡ start n w [] → AreScaled n w L m basis
     → All (λ f. length f ≡ n + w + 1) forms → basis ++ (map (by_form n w L basis) forms ++ []) ≡ start n w forms

@@ -6,7 +6,7 @@ pub use Rattle.pip_model.specs.Rows.{Row, pivot_listed, entering_listed, start, 
 pub use Rattle.form_laws.specs.ByForm.{by_form, Form, made, AllWide, KeptWide, IsOver, MadeBy, AllForms, coef, place}
 pub use Rattle.form_laws.specs.Columns.{IsScaled}
 pub use Rattle.scaled_laws.specs.Scaled.{AreScaled, row_over}
-pub use Rattle.std.proofs.lemmas.List.{get_or-take, get_or-drop, get_or_default, length-take-le, take-map, drop-map, drop-set-lt, drop-replicate, take-replicate}
+pub use Rattle.std.proofs.lemmas.List.{get_or-take, get_or-drop, get_or_default, length-take-le, take-map, drop-map, drop-set-lt, drop-replicate, take-replicate, get_or-map}
 pub use Rattle.pip_model.specs.Numbers.{floor_mod, floor_div, divides, is_nonneg, is_zero, is_positive}
 pub use Rattle.pip_model.specs.Forms.{entry, scale, negate, residue, combine}
 pub use Rattle.pip_model.proofs.Division.{rest_of, floor-unique}
@@ -21,3 +21,6 @@ pub use Rattle.std.specs.Prelude.{slice_set, filter, int_lt, Option, Some, None,
 pub use Rattle.pip_model.proofs.Order.{mul_nn, mul_pp, factor_p}
 pub use Rattle.pip_model.proofs.Forms.{entry-scale, scale_one}
 pub use Rattle.run_laws.proofs.RowsAt.{divisor}
+pub use Rattle.pip_model.proofs.Tests.{above}
+pub use Rattle.pip_model.proofs.RingLaws.{minus_one}
+pub use Rattle.form_laws.proofs.Places.{take_combine, drop_combine}

@@ -23,8 +23,7 @@ returns-else-r-n-clause-listed c =
     let is = row_behind t.rows (read t b) c.t.inside.forms c.args.r f (search rules) (omega (arith, bound, all_long t b c.t.inside.forms)) in
     let at : f ≡ get_or c.t.inside.forms (c.args.r - c.rows-n.result) f = search rules in
     let read_it : IsRead t b f = subst (IsRead t b) (sym at) (c.t.invariant.0 _ _ (omega (arith, bound, all_long t b c.t.inside.forms, c.rows-n.ensures, c.if-r-n.false))) in
-    let here : row_at (all_rows t b c.t.inside.forms).rows c.args.r ≡ read t b f = search (rules, is) in
-    search (rules, listed_with t b f read_it (map (read t b) c.t.inside.forms) c.args.r here)
+    search (rules, listed_with t b f read_it (map (read t b) c.t.inside.forms) c.args.r (search (rules, is)))
 
 pub returns-else-r-n-clause-value : goal.returns-else-r-n-clause-value
 returns-else-r-n-clause-value c =
@@ -35,5 +34,4 @@ returns-else-r-n-clause-value c =
     let is = row_behind t.rows (read t b) c.t.inside.forms c.args.r f (search rules) (omega (arith, bound, all_long t b c.t.inside.forms)) in
     let at : f ≡ get_or c.t.inside.forms (c.args.r - c.rows-n.result) f = search rules in
     let read_it : IsRead t b f = subst (IsRead t b) (sym at) (c.t.invariant.0 _ _ (omega (arith, bound, all_long t b c.t.inside.forms, c.rows-n.ensures, c.if-r-n.false))) in
-    let here : row_at (all_rows t b c.t.inside.forms).rows c.args.r ≡ read t b f = search (rules, is) in
-    search (rules, entering_with t b f read_it (map (read t b) c.t.inside.forms) c.args.r here)
+    search (rules, entering_with t b f read_it (map (read t b) c.t.inside.forms) c.args.r (search (rules, is)))

@@ -17,13 +17,11 @@ invariant_of-self c =
 pub returns-then-is_empty-clause-ok : goal.returns-then-is_empty-clause-ok
 returns-then-is_empty-clause-ok c =
     let none = none_left c.self.inside.made c.self.inside.basis c.self.inside.forms (ap (λ (s : TableauRows). s.rows) (c.self.view_is ∙ c.reshape.ensures)) in
-    let alone = made_alone c.copy_from.new.self c.self.inside.basis c.self.inside.forms none in
     let there = made_alone c.t.inside.made c.t.inside.basis c.t.inside.forms (search rules) in
-    search (rules, alone, there)
+    search (rules, (made_alone c.copy_from.new.self c.self.inside.basis c.self.inside.forms none), there)
 
 pub returns-then-is_empty-clause-err : goal.returns-then-is_empty-clause-err
 returns-then-is_empty-clause-err c =
     let none = none_left c.self.inside.made c.self.inside.basis c.self.inside.forms (ap (λ (s : TableauRows). s.rows) (c.self.view_is ∙ c.reshape.ensures)) in
-    let alone = made_alone c.copy_from.new.self c.self.inside.basis c.self.inside.forms none in
     let there = made_alone c.t.inside.made c.t.inside.basis c.t.inside.forms (search rules) in
-    search (rules, alone, there)
+    search (rules, (made_alone c.copy_from.new.self c.self.inside.basis c.self.inside.forms none), there)

@@ -31,9 +31,8 @@ returns-in-Some-clause-ok c =
     let forms = c.self.inside.forms in
     let a = c.in-Some.basis in
     let some : 0 < length forms = omega (arith, c.if-count-lt1.false, c.len-count.ensures.value) in
-    let view : all_rows t b forms ≡ c.args.self.now = search rules in
     let e = subst (λ (fs : List (List ℤ)). c.in_ok-rows.rows ≡ record t { rows = map (eliminated (row_at (all_rows t b fs).rows c.args.r) c.args.c) t.rows }) c.as_slice.ensures c.in_ok-rows.ensures in
     let now = subst (λ (s : TableauRows). IsBasis s.unknowns s.width s.rows a.scale a.most a.columns.items) e c.in-Some.ensures.basis in
     same_rows c.in_ok-rows.rows _ a a forms forms e refl refl
     ∙ all_pivot t b forms c.self.invariant.0 some c.args.r c.args.c a (search rules) (search rules) (search rules) now
-    ∙ ap (λ (s : TableauRows). record s { rows = pivot s.rows c.args.r c.args.c }) view
+    ∙ ap (λ (s : TableauRows). record s { rows = pivot s.rows c.args.r c.args.c }) (search rules)
