@@ -1,5 +1,5 @@
 -- Where a run shows a point, the first row behind its own that is below 0 ends it where no column enters there.
-use Rattle.kept_run.proofs.Words.{◌≡◌, ◌∙◌, refl, ap, sym, ℕ, suc, ◌+◌, ◌-◌, arith, Bool, true, false, Option, Some, None, is_none, List, [], ◌∷◌, ◌++◌, length, if◌then◌else◌, get_or-append_right, is_nonneg, constant, Row, row_at, form_row, candidates, first_fraction, Work, Done, both, negative_from, is_end, EndsWith, IsClosing, go_on, replayed, finds_point, asked, IsStopped, Remembered, none_of, no_candidates, finds_none}
+use Rattle.kept_run.proofs.Words.{◌≡◌, ◌∙◌, refl, ap, sym, ℕ, ◌+◌, ◌-◌, arith, Bool, true, false, Option, Some, None, is_none, List, [], ◌∷◌, ◌++◌, length, if◌then◌else◌, get_or-append_right, is_nonneg, constant, Row, row_at, form_row, candidates, first_fraction, Work, Done, both, negative_from, is_end, EndsWith, IsClosing, go_on, replayed, finds_point, asked, IsStopped, Remembered, none_of, no_candidates, finds_none, below_behind}
 
 -- so many places later
 abbrev later : ℕ → Option ℕ → Option ℕ
@@ -20,25 +20,16 @@ negative-later (x ∷ S) j = by (is_nonneg (constant x.constant)) (negative-late
     by false a b = let e : j ≡ j + 0 = omega arith in ap Some e
 
 pub negative-behind : (E S : List Row) (i r : ℕ) → negative_from i E ≡ None → negative_from 0 S ≡ Some r → negative_from i (E ++ S) ≡ Some (i + (length E + r))
-negative-behind [] S i r e f = negative-later S i ∙ ap (later i) f ∙ (let g : i + r ≡ i + (0 + r) = omega arith in ap Some g)
-negative-behind (x ∷ E) S i r e f = by (is_nonneg (constant x.constant)) e (λ h. negative-behind E S (i + 1) r h f)
-  where
-    by : (t : Bool) → (if t then negative_from (i + 1) E else Some i) ≡ None → (negative_from (i + 1) E ≡ None → negative_from (i + 1) (E ++ S) ≡ Some (i + 1 + (length E + r)))
-        → (if t then negative_from (i + 1) (E ++ S) else Some i) ≡ Some (i + (suc (length E) + r))
-    by true e more = let g : i + 1 + (length E + r) ≡ i + (suc (length E) + r) = omega arith in more e ∙ ap Some g
-    by false e more = absurd cc
+negative-behind E S i r e f = below_behind E S i e ∙ negative-later S (i + length E) ∙ ap (later (i + length E)) f ∙ ap Some (omega arith)
 
 module _ (n : ℕ) (E S : List Row) (r : ℕ) (is : IsClosing S r) (end : is_end n E ≡ true) where
   pub row_here : row_at (E ++ S) (length E + r) ≡ row_at S r
-  row_here =
-      let back : length E + r - length E ≡ r = omega arith in
-      get_or-append_right E S (length E) (length E + r) (form_row 0 []) refl (omega arith) ∙ ap (λ (i : ℕ). row_at S i) back
+  row_here = get_or-append_right E S (length E) (length E + r) (form_row 0 []) refl (omega arith) ∙ ap (λ (i : ℕ). row_at S i) (omega arith)
 
   pub below_here : negative_from 0 (E ++ S) ≡ Some (length E + r)
   below_here =
       let none = none_of (negative_from 0 E) (both (is_none (negative_from 0 E)) (is_none (first_fraction n E)) end).0 in
-      let e : 0 + (length E + r) ≡ length E + r = omega arith in
-      negative-behind E S 0 r none is.below ∙ ap Some e
+      negative-behind E S 0 r none is.below ∙ ap Some (omega arith)
 
   pub free_here : candidates (row_at (E ++ S) (length E + r)) ≡ []
   free_here = ap candidates row_here ∙ no_candidates (row_at S r) is.none

@@ -27,10 +27,9 @@ turned-front p c R F w fit =
     checked : (a b : Bool) (v : Work) → a ≡ b
         → go_on (if a then counted_on v else Refused Overflow v) (λ done. give (G ++ H))
         ≡ go_on (go_on (if b then counted_on v else Refused Overflow v) (λ done. give H)) (λ more. give (G ++ more))
-    checked true true v e = refl
-    checked false false v e = refl
     checked true false v e = absurd cc
     checked false true v e = absurd cc
+    checked _ _ v e = refl
 
     counted : (o : Outcome (Unit {0})) → go_on o (λ done. listed (A ++ B) >> give (G ++ H)) ≡ go_on (go_on o (λ done. listed B >> give H)) (λ more. give (G ++ more))
     counted (Done x v) = checked (all_fit (A ++ B)) (all_fit B) v (all_fit-append A B ∙ ap (λ (t : Bool). t && all_fit B) fit)

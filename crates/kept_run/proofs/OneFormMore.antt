@@ -1,5 +1,6 @@
 -- What a run with further rows behind its first ones tells of a context with further forms.
-use Rattle.kept_run.proofs.Words.{◌≡◌, ◌∙◌, refl, ap, sym, ℕ, zero, suc, ℤ, List, [], ◌∷◌, ◌++◌, is_some, arith, Bool, Option, Some, None, IfSome, Result, run_fault, IsCountedRun, map-append, append_assoc, Tree, Row, Work, Outcome, Done, Refused, go_on, give, run_from, numbers_of, point, point_run, point_setting, node_of, has_point, finds_point, replayed, asked, first_trace, pos, form_rows, first_rows, IsReplay, IsRemembered, Remembered, finds_here}
+use Rattle.kept_run.proofs.Words.{◌≡◌, ◌∙◌, refl, ap, sym, ℕ, zero, suc, ℤ, List, [], ◌∷◌, ◌++◌, is_some, Bool, Option, Some, None, IfSome, Result, run_fault, IsCountedRun, map-append, append_assoc, Row, Work, Outcome, Done, Refused, go_on, give, run_from, numbers_of, point, point_run, point_setting, node_of, has_point, finds_point, replayed, asked, first_trace, pos, form_rows, first_rows, IsReplay, IsRemembered, Remembered}
+pub use Rattle.short_run.proofs.Ending.{alone_is}
 use Rattle.short_run.proofs.Leaving.{run_same}
 use Rattle.pip_problem.specs.declared.refusal.Refusal as code
 
@@ -23,21 +24,6 @@ point_some zero [] c = refl
 point_some zero (d ∷ K) c = refl
 point_some (suc n) K c = refl
 
-by_run : (n : ℕ) (K : List (List ℤ)) (w : Work) → point n K ≡ point_run n K → has_point n K w ≡ finds_point n (first_rows n K) w
-by_run n K w is =
-    ap (λ part. go_on (part w) (λ p. give (is_some p))) is
-    ∙ each (run_from (point_setting n) (node_of (first_rows n K)) w)
-  where
-    each : (o : Outcome Tree) → go_on (go_on o (λ t. give (numbers_of t))) (λ p. give (is_some p)) ≡ go_on o (λ t. give (is_some (numbers_of t)))
-    each (Done x v) = refl
-    each (Refused f v) = refl
-
--- the run of the context's own forms
-pub alone_is : (n : ℕ) (K : List (List ℤ)) (w : Work) → has_point n K w ≡ finds_point n (first_rows n K) w
-alone_is zero [] w = sym (finds_here 0 [] [] w (omega arith) refl refl refl)
-alone_is zero (c ∷ K) w = by_run zero (c ∷ K) w refl
-alone_is (suc n) K w = by_run (suc n) K w refl
-
 pub has_point_is : (n : ℕ) (K M : List (List ℤ)) (w : Work) → has_point n (K ++ M) w ≡ finds_point n (first_rows n K ++ form_rows n M) w
 has_point_is n K M w = alone_is n (K ++ M) w ∙ ap (λ (rows : List Row). finds_point n rows w) (rows-more n K M)
 
@@ -51,5 +37,4 @@ asked_has_point n K M m w is =
 pub known_tells : (n : ℕ) (K M : List (List ℤ)) (m : Remembered) (before now : Work) → IsRemembered n K m → (o : Option (Result Bool code.Refusal))
     → IfSome o (λ r. IsCountedRun (λ b. b) run_fault r before now (asked m (form_rows m.run.end.unknowns M))) → IfSome o (λ r. IsCountedRun (λ b. b) run_fault r before now (has_point n (K ++ M)))
 known_tells n K M m before now is None told = told
-known_tells n K M m before now is (Some r) told =
-    run_same told (sym (asked_has_point n K M m before is))
+known_tells n K M m before now is (Some r) told = run_same told (sym (asked_has_point n K M m before is))

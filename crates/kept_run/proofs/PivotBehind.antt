@@ -1,5 +1,5 @@
 -- Where a run shows a point, the first pivot with a row behind its own.
-use Rattle.kept_run.proofs.Words.{◌≡◌, ◌∙◌, refl, ap, sym, ℕ, ◌+◌, ◌≤◌, arith, Bool, true, Option, Some, None, is_none, is_some, IsTrue, IfSome, List, [], ◌∷◌, ◌++◌, length, drop, flat_map, append-nil, length-append, length-map, drop_all, all_fit, Row, row_at, form_row, unit_row, other_rows, entering, entering_listed, pivot, eliminated_listed, first_fraction, Work, Done, Refused, Refusal, turn, go_on, give, count_pivot, numbers_of, point_setting, again_run, refused_run_from, falls-constant_class, both, negative_from, node_of, is_end, finds_point, take_at, get_or_at, IsPivotBehind, none_of, IsStep}
+use Rattle.kept_run.proofs.Words.{◌≡◌, ◌∙◌, refl, ap, sym, ℕ, ◌+◌, ◌≤◌, arith, Bool, true, Option, Some, None, is_none, is_some, IsTrue, IfSome, List, [], ◌∷◌, ◌++◌, length, flat_map, append-nil, length-append, length-map, drop_all, all_fit, Row, row_at, form_row, unit_row, other_rows, entering, entering_listed, pivot, eliminated_listed, first_fraction, Work, Done, Refused, Refusal, turn, go_on, give, count_pivot, numbers_of, point_setting, again_run, refused_run_from, falls-constant_class, both, negative_from, node_of, is_end, finds_point, take_at, get_or_at, IsPivotBehind, none_of, IsStep}
 use Rattle.short_run.specs.Ended.{IsEndedBy, turned_by}
 use Rattle.short_run.proofs.Places.{pivot_sides}
 use Rattle.kept_run.proofs.EndingBehind.{negative-behind}
@@ -14,9 +14,7 @@ module _ (n : ℕ) (E : List Row) (R : Row) (c : ℕ) (long : n ≤ length E) (e
   whole = length-append E (R ∷ [])
 
   others : other_rows (E ++ R ∷ []) (length E) ≡ E
-  others =
-      let behind : drop (length E + 1) (E ++ R ∷ []) ≡ [] = drop_all (length E + 1) (E ++ R ∷ []) (omega (arith, whole)) in
-      rw (take_at E (R ∷ []) (length E) refl, behind) (append-nil E)
+  others = rw (take_at E (R ∷ []) (length E) refl, (drop_all (length E + 1) (E ++ R ∷ []) (omega (arith, whole)))) (append-nil E)
 
   same_place : length E + 0 ≡ length E
   same_place = omega arith
@@ -30,9 +28,7 @@ module _ (n : ℕ) (E : List Row) (R : Row) (c : ℕ) (long : n ≤ length E) (e
   first : negative_from 0 (E ++ R ∷ []) ≡ Some (length E)
   first =
       let none = none_of (negative_from 0 E) (both (is_none (negative_from 0 E)) (is_none (first_fraction n E)) end).0 in
-      let one : negative_from 0 (R ∷ []) ≡ Some 0 = rw is.below refl in
-      let e : 0 + (length E + 0) ≡ length E = omega arith in
-      negative-behind E (R ∷ []) 0 0 none one ∙ ap Some e
+      negative-behind E (R ∷ []) 0 0 none (rw is.below refl) ∙ ap Some (omega arith)
 
   refused_at : (w v : Work) (o : Option Refusal) → IfSome o (λ f. turn (point_setting n) (node_of (E ++ R ∷ [])) w ≡ Refused f v) → IfSome o (λ f. finds_point n (E ++ R ∷ []) w ≡ Refused f v)
   refused_at w v None e = e
@@ -45,11 +41,10 @@ module _ (n : ℕ) (E : List Row) (R : Row) (c : ℕ) (long : n ≤ length E) (e
   module _ (fits : all_fit (flat_map (eliminated_listed R c) E) ≡ true) (w v : Work) (counted : count_pivot w ≡ Done tt v) where
     step : IsStep (E ++ R ∷ []) (length E) c
     step =
-        let width : length (row_at (E ++ R ∷ []) (length E)).coefs ≡ n = ap (λ (r : Row). length r.coefs) here ∙ is.row.coefs in
         record {
           below = first;
           within = omega (arith, whole);
-          columns = omega (arith, whole, width, long);
+          columns = omega (arith, whole, (ap (λ (r : Row). length r.coefs) here ∙ is.row.coefs), long);
           enters = enters;
           compared = compared;
           fits = ap (λ (r : Row). all_fit (flat_map (eliminated_listed r c) (other_rows (E ++ R ∷ []) (length E)))) here
@@ -72,18 +67,15 @@ module _ (n : ℕ) (E : List Row) (R : Row) (c : ℕ) (long : n ≤ length E) (e
 
 pub behind_refused : (n : ℕ) (E S : List Row) (c : ℕ) (w v : Work) (o : Option Refusal) → n ≤ length E → is_end n E ≡ true → IsPivotBehind n E S c
     → IfSome o (λ f. count_pivot w ≡ Refused f v) → IfSome o (λ f. finds_point n (E ++ S) w ≡ Refused f v)
-behind_refused n E [] c w v o long end is e = let one = is.one in absurd (omega (arith, one))
-behind_refused n E (R ∷ x ∷ S) c w v o long end is e = let one = is.one in absurd (omega (arith, one))
 behind_refused n E (R ∷ []) c w v o long end is e = one_refused n E R c long end is w v o e
+behind_refused n E _ c w v o long end is e = let one = is.one in absurd (omega (arith, one))
 
 pub behind_goes_on : (n : ℕ) (E S : List Row) (c : ℕ) (w v : Work) → n ≤ length E → is_end n E ≡ true → IsPivotBehind n E S c → IsTrue (all_fit (flat_map (eliminated_listed (row_at S 0) c) E))
     → count_pivot w ≡ Done tt v → finds_point n (E ++ S) w ≡ finds_point n (pivot (E ++ S) (length E) c) v
-behind_goes_on n E [] c w v long end is fits e = let one = is.one in absurd (omega (arith, one))
-behind_goes_on n E (R ∷ x ∷ S) c w v long end is fits e = let one = is.one in absurd (omega (arith, one))
 behind_goes_on n E (R ∷ []) c w v long end is fits e = one_goes_on n E R c long end is fits w v e
+behind_goes_on n E _ c w v long end is fits e = let one = is.one in absurd (omega (arith, one))
 
 pub behind_ends : (n : ℕ) (E S : List Row) (c : ℕ) (w v : Work) (found : Bool) → n ≤ length E → is_end n E ≡ true → IsPivotBehind n E S c → IsTrue (all_fit (flat_map (eliminated_listed (row_at S 0) c) E))
     → count_pivot w ≡ Done tt v → IsEndedBy n (turned_by (row_at S 0) c E) found → finds_point n (E ++ S) w ≡ Done found v
-behind_ends n E [] c w v found long end is fits e ended = let one = is.one in absurd (omega (arith, one))
-behind_ends n E (R ∷ x ∷ S) c w v found long end is fits e ended = let one = is.one in absurd (omega (arith, one))
 behind_ends n E (R ∷ []) c w v found long end is fits e ended = one_ends n E R c long end is fits w v e found ended
+behind_ends n E _ c w v found long end is fits e ended = let one = is.one in absurd (omega (arith, one))

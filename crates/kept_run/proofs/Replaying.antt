@@ -5,14 +5,13 @@ use Rattle.kept_run.proofs.Words.{◌≡◌, ◌∙◌, refl, ap, sym, ℕ, ◌+
 pub replayed-append : (ps qs : List Row) (cs ds : List ℕ) (F : List Row) (w : Work) → length ps ≡ length cs
     → replayed (ps ++ qs) (cs ++ ds) F w ≡ go_on (replayed ps cs F w) (λ now. replayed qs ds now)
 replayed-append [] qs [] ds F w e = refl
-replayed-append [] qs (c ∷ cs) ds F w e = absurd (omega arith)
-replayed-append (p ∷ ps) qs [] ds F w e = absurd (omega arith)
 replayed-append (p ∷ ps) qs (c ∷ cs) ds F w e = each (turned p c F w) (λ x v. replayed-append ps qs cs ds x v (omega (arith, e)))
   where
     each : (o : Outcome (List Row)) → ((x : List Row) (v : Work) → replayed (ps ++ qs) (cs ++ ds) x v ≡ go_on (replayed ps cs x v) (λ now. replayed qs ds now))
         → go_on o (λ now. replayed (ps ++ qs) (cs ++ ds) now) ≡ go_on (go_on o (λ now. replayed ps cs now)) (λ now. replayed qs ds now)
     each (Done x v) later = later x v
     each (Refused f v) later = refl
+replayed-append _ qs _ ds F w e = absurd (omega arith)
 
 pub given : {B : Type 0} (o : Outcome (List Row)) (k : List Row → Counted B) → go_on (go_on o (λ now. give now)) k ≡ go_on o k
 given (Done x v) k = refl

@@ -15,10 +15,7 @@ points n = record {
 }
 
 pub refutes : (n : ℕ) → IsTurnwise n (refute_from n)
-refutes n = record {
-  again = λ T N M w v e. refute-again n T N M w v e;
-  refused = λ T N f w v e. refute-refused n T N f w v e;
-}
+refutes n = record { again = λ T N M w v e. refute-again n T N M w v e; refused = λ T N f w v e. refute-refused n T N f w v e }
 
 -- with further rows behind, a pivot turns them, and the run goes on with the next trace
 step-traced : {Y : Type 0} (n : ℕ) (run : Trace → Node → Counted Y) → IsTurnwise n run → (R F : List Row) (r c : ℕ) (T : Trace) (w : Work) → IsStep R r c
@@ -52,9 +49,8 @@ step-traced n run on R F r c T w is = counted (count_pivot w) (turn-behind n R F
 -- the two parts of exchanges
 exchanges-append : (rs ss cs ds : List ℕ) (T : Trace) → length rs ≡ length cs → exchanges (rs ++ ss) (cs ++ ds) T ≡ exchanges ss ds (exchanges rs cs T)
 exchanges-append [] ss [] ds T e = refl
-exchanges-append [] ss (c ∷ cs) ds T e = absurd (omega arith)
-exchanges-append (r ∷ rs) ss [] ds T e = absurd (omega arith)
 exchanges-append (r ∷ rs) ss (c ∷ cs) ds T e = exchanges-append rs ss cs ds (exchanged T r c) (omega (arith, e))
+exchanges-append _ ss _ ds T e = absurd (omega arith)
 
 pub retraces-more : {Y : Type 0} (n : ℕ) (run : Trace → Node → Counted Y) → IsTurnwise n run → (first : List Row) (ps : List Row) (rs cs : List ℕ) (E : List Row) (r c : ℕ)
     → length ps ≡ length cs → length rs ≡ length cs
@@ -76,11 +72,9 @@ retraces-more n run on first ps rs cs E r c e f before is T rows w =
 pub within-more : (k : ℕ) (rs : List ℕ) (r : ℕ) (cs : List ℕ) (c : ℕ) → length rs ≡ length cs → ((i : ℕ) → i < length cs → get_or rs i 0 < k) → r < k
     → (i : ℕ) → i < length (cs ++ c ∷ []) → get_or (rs ++ r ∷ []) i 0 < k
 within-more k [] r [] c e all h zero l = h
-within-more k [] r [] c e all h (suc i) l = absurd (omega arith)
-within-more k [] r (d ∷ cs) c e all h i l = absurd (omega arith)
-within-more k (q ∷ rs) r [] c e all h i l = absurd (omega arith)
 within-more k (q ∷ rs) r (d ∷ cs) c e all h zero l = all 0 (omega arith)
 within-more k (q ∷ rs) r (d ∷ cs) c e all h (suc i) l = within-more k rs r cs c (omega (arith, e)) (λ j m. all (suc j) (omega (arith, m))) h i (omega (arith, l))
+within-more k _ r _ c e all h _ l = absurd (omega arith)
 
 pub places-more : (rs cs : List ℕ) (r c : ℕ) → length rs ≡ length cs → length (rs ++ r ∷ []) ≡ length (cs ++ c ∷ [])
 places-more rs cs r c e = length-append rs (r ∷ []) ∙ ap (λ k. k + 1) e ∙ sym (length-append cs (c ∷ []))

@@ -4,7 +4,6 @@ pub use Rattle.std.specs.Prelude.{IfSome, Result, flat_map, if◌then◌else◌,
 pub use Rattle.std.proofs.lemmas.List.{length-map, get_or-append_right, drop_more, map-append, drop_all, take_more, take_at, get_or_at}
 pub use Rattle.std.proofs.lemmas.Grind.{flat_map-append, get_or_default_zero, common_steps}
 pub use Rattle.pip_model.specs.Forms.{constant, widen_to}
-pub use Rattle.pip_model.specs.Tree.{Tree}
 pub use Rattle.pip_model.specs.Rows.{Row, row_at, pivot, eliminated, eliminated_listed, form_row, candidates, first_fraction, unit_row, other_rows, entering, entering_listed}
 pub use Rattle.pip_model.specs.Run.{Work, Outcome, Done, Refused, Refusal, Again, go_on, give, turn, run_from, numbers_of, point, point_run, point_setting, listed, count_pivot, Node, Overflow, ◌>>◌, Counted}
 pub use Rattle.pip_model.specs.Agreement.{AgreesCounted}
@@ -27,4 +26,4 @@ pub use Rattle.trace_laws.specs.Traces.{exchanged, exchanges, IsClosing}
 pub use Rattle.kept_run.specs.declared.remembered.Remembered.{Remembered}
 pub use Rattle.short_run.specs.Stops.{stop_fault}
 pub use Rattle.short_run.proofs.FurtherRows.{IsStep, negative-front, entering-front, turn-behind, all_fit-append}
-pub use Rattle.short_run.proofs.Ending.{none_of, no_candidates, finds_none, finds_here, only, ends_above}
+pub use Rattle.short_run.proofs.Ending.{none_of, no_candidates, finds_none, only, ends_above, below_behind}

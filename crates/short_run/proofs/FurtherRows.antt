@@ -1,21 +1,8 @@
 -- Rows behind all others: while another is below 0 they are not chosen, so the pivots are the same with them and without them.
-use Rattle.short_run.proofs.Words.{◌≡◌, ◌∙◌, refl, ap, sym, ℕ, zero, suc, ◌+◌, ◌<◌, ◌≤◌, ℤ, arith, List, [], ◌∷◌, ◌++◌, length, map, take, drop, Bool, true, false, ◌&&◌, Some, flat_map, if◌then◌else◌, map-append, append_assoc, take-append-le, drop-append-le, append-nil, flat_map-append, fits, is_nonneg, constant, all_fit, Row, row_at, other_rows, pivot, pivot_listed, entering, entering_listed, eliminated, eliminated_listed, Setting, Node, Again, MinusAt, Work, go_on, give, listed, turn, turn_by, count_pivot, point_setting, negative_from, node_of}
-use Rattle.std.specs.Prelude.{slice_set}
-use Rattle.point_turns.proofs.Turning.{signs_of, turn_is}
+use Rattle.short_run.proofs.Words.{◌≡◌, ◌∙◌, refl, ap, sym, ℕ, ◌+◌, ◌<◌, ◌≤◌, ℤ, arith, List, [], ◌∷◌, ◌++◌, length, map, take, drop, Bool, true, false, ◌&&◌, Some, flat_map, if◌then◌else◌, map-append, append_assoc, take-append-le, drop-append-le, append-nil, flat_map-append, fits, is_nonneg, constant, all_fit, Row, row_at, other_rows, pivot, pivot_listed, entering, entering_listed, eliminated, eliminated_listed, Setting, Node, Again, MinusAt, Work, go_on, give, listed, turn, turn_by, count_pivot, point_setting, negative_from, node_of, get_or_append_left, form_row, length-map, signs_of, turn_is, set-append_left, list_all-append}
 
 pub row_at-front : (R S : List Row) (r : ℕ) → r < length R → row_at (R ++ S) r ≡ row_at R r
-row_at-front [] S r h = absurd (omega arith)
-row_at-front (x ∷ R) S zero h = refl
-row_at-front (x ∷ R) S (suc r) h = row_at-front R S r (omega arith)
-
-set-front : (R S : List Row) (r : ℕ) (x : Row) → r < length R → slice_set (R ++ S) r x ≡ slice_set R r x ++ S
-set-front [] S r x h = absurd (omega arith)
-set-front (y ∷ R) S zero x h = refl
-set-front (y ∷ R) S (suc r) x h = ap (λ l. y ∷ l) (set-front R S r x (omega arith))
-
-length-mapped : (g : Row → Row) (R : List Row) → length (map g R) ≡ length R
-length-mapped g [] = refl
-length-mapped g (x ∷ R) = ap suc (length-mapped g R)
+row_at-front R S r h = get_or_append_left R S (form_row 0 []) r h
 
 module _ (R S : List Row) (r : ℕ) (h : r < length R) where
   -- the same column enters, and by the same comparisons
@@ -29,7 +16,7 @@ module _ (R S : List Row) (r : ℕ) (h : r < length R) where
   pivot-front : (c : ℕ) → pivot (R ++ S) r c ≡ pivot R r c ++ map (eliminated (row_at R r) c) S
   pivot-front c =
       rw (row_at-front R S r h, map-append (eliminated (row_at R r) c) R S)
-      (set-front (map (eliminated (row_at R r) c) R) (map (eliminated (row_at R r) c) S) r _ (omega (arith, h, length-mapped (eliminated (row_at R r) c) R)))
+      (set-append_left (map (eliminated (row_at R r) c) R) (map (eliminated (row_at R r) c) S) r _ (omega (arith, h, length-map R (eliminated (row_at R r) c))))
 
   others : other_rows (R ++ S) r ≡ other_rows R r ++ S
   others =
@@ -39,12 +26,7 @@ module _ (R S : List Row) (r : ℕ) (h : r < length R) where
   pivot_listed-front c = rw (row_at-front R S r h, others) (flat_map-append (eliminated_listed (row_at R r) c) (other_rows R r) S)
 
 pub all_fit-append : (xs ys : List ℤ) → all_fit (xs ++ ys) ≡ (all_fit xs && all_fit ys)
-all_fit-append [] ys = refl
-all_fit-append (x ∷ xs) ys = ap (λ (b : Bool). fits x && b) (all_fit-append xs ys) ∙ regroup (fits x) (all_fit xs) (all_fit ys)
-  where
-    regroup : (a b c : Bool) → (a && (b && c)) ≡ ((a && b) && c)
-    regroup true b c = refl
-    regroup false b c = refl
+all_fit-append xs ys = list_all-append fits xs ys
 
 -- a turn at a row in front, whose own numbers are known to fit: it counts a pivot, checks the further rows' numbers, and turns them
 turn-front : (S : Setting) (N : Node) (R F : List Row) (r c : ℕ) (w : Work)

@@ -1,8 +1,7 @@
 -- A turn of a question's run: it goes on, or the run ends.
-use Rattle.short_run.proofs.Words.{◌≡◌, false, ◌∙◌, refl, ap, sym, ℕ, ◌≤◌, true, Option, Some, None, IfSome, IsTrue, List, [], ◌∷◌, length, append-nil, all_fit, Row, row_at, first_fraction, entering, entering_listed, pivot, pivot_listed, Work, Done, Refused, Refusal, Again, turn, turn_by, last_turn, go_on, give, count_pivot, point_setting, negative_from, node_of, counted_cut, finds_point, entering_of, candidates, take, MinusAt, listed, ◌>>◌}
+use Rattle.short_run.proofs.Words.{◌≡◌, false, ◌∙◌, refl, ap, sym, ℕ, ◌≤◌, true, Option, Some, None, IfSome, IsTrue, List, [], ◌∷◌, length, append-nil, all_fit, Row, row_at, first_fraction, entering, entering_listed, pivot, pivot_listed, Work, Done, Refused, Refusal, Again, turn, turn_by, last_turn, go_on, give, count_pivot, point_setting, negative_from, node_of, counted_cut, finds_point, entering_of, candidates, take, listed, ◌>>◌, signs_of, turn_is, cut_again, cut_refused}
 use Rattle.short_run.proofs.Ending.{finds_here, finds_none}
 use Rattle.short_run.proofs.FurtherRows.{IsStep, turn-alone}
-use Rattle.point_turns.proofs.Turning.{signs_of, turn_is, cut_again, cut_refused}
 
 module _ (n : ℕ) (rows : List Row) (r c : ℕ) (is : IsStep rows r c) where
   pub pivot_goes_on : (w v : Work) → count_pivot w ≡ Done tt v → turn (point_setting n) (node_of rows) w ≡ Done (Again (node_of (pivot rows r c))) v
@@ -24,10 +23,9 @@ module _ (n : ℕ) (rows : List Row) (r : ℕ) (below : negative_from 0 rows ≡
       → IfSome o (λ f. turn (point_setting n) (node_of rows) w ≡ Refused f v)
   pivot_refused c w v None compared enters e = e
   pivot_refused c w v (Some f) compared enters e =
-      let counted : turn_by (point_setting n) (node_of rows) (MinusAt r) w ≡ go_on (count_pivot w) (λ done. listed (pivot_listed rows r c) >> give (Again (node_of (pivot rows r c)))) = rw (compared, enters) refl in
       turn_is n rows w
       ∙ ap (λ o. turn_by (point_setting n) (node_of rows) (signs_of o) w) below
-      ∙ counted
+      ∙ (rw (compared, enters) refl)
       ∙ ap (λ o. go_on o (λ done. listed (pivot_listed rows r c) >> give (Again (node_of (pivot rows r c))))) e
 
 -- where no row is below 0

@@ -1,5 +1,4 @@
-use Rattle.short_run.proofs.Words.{rules, ◌≡◌, ◌∙◌, refl, arith, length, common_steps, row_at, Done, stop_fault, counted_cut}
-use Rattle.point_turns.proofs.Turning.{cut_again, cut_refused}
+use Rattle.short_run.proofs.Words.{rules, ◌≡◌, ◌∙◌, refl, arith, length, common_steps, row_at, Done, stop_fault, counted_cut, cut_again, cut_refused}
 use Rattle.short_run.proofs.short_run.last_turn.Goals as goal
 
 pub returns-in_err-count_and_cut-clause-gives : goal.returns-in_err-count_and_cut-clause-gives

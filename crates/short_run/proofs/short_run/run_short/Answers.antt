@@ -1,6 +1,4 @@
-use Rattle.short_run.proofs.Words.{rules, ◌≡◌, ap, true, false, is_some, Bottom, Again, Closed, Done, turn, leaf, point_setting, go_on, give, numbers_of, stop_fault, node_of}
-use Rattle.point_turns.specs.Turns.{HasSameScope}
-use Rattle.point_turns.proofs.Pointing.{starts_run, run_goes_on, run_less, run_closed}
+use Rattle.short_run.proofs.Words.{rules, ◌≡◌, ap, true, false, is_some, Bottom, Again, Closed, Done, turn, leaf, point_setting, go_on, give, numbers_of, stop_fault, node_of, HasSameScope, starts_run, run_goes_on, run_less, run_closed}
 use Rattle.short_run.proofs.short_run.run_short.Goals as goal
 
 pub loop-rows-init : goal.loop-rows-init

@@ -1,5 +1,4 @@
-use Rattle.short_run.proofs.Words.{true, left}
-use Rattle.point_turns.proofs.Pointing.{IsOneRun}
+use Rattle.short_run.proofs.Words.{true, left, IsOneRun}
 use Rattle.short_run.proofs.short_run.run_short.Given as goal
 
 abbrev pub invariant-loop-rows : goal.invariant-loop-rows
