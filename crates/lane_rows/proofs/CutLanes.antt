@@ -1,5 +1,5 @@
 -- The rows of cuts.
-use Rattle.lane_rows.proofs.Words.{get_or, ◌≡◌, ◌∙◌, refl, ap, sym, subst, ℕ, zero, suc, ◌+◌, ◌<◌, ◌≤◌, ℤ, pos, negsuc, ◌≤ℤ◌, neg_ℤ, unsigned_abs, arith, nat_lt, Bool, true, false, ◌⊎◌, inl, inr, List, [], ◌∷◌, ◌++◌, length, length-append, All, ints, cases_lt, get_or_past, All-append, All-cons, All-nil, entry, Row, divided, mod_multiple, count_map, ScaledTable, with_row, same_made, constant_cut, row_over, entry_first, length_counted, cut_numbers, left_of, AreLanes, numbers_of, numbers_at, rows_in, table_of, AreLaned, IsLaned}
+use Rattle.lane_rows.proofs.Words.{get_or, ◌≡◌, ◌∙◌, refl, ap, sym, subst, ℕ, ◌+◌, ◌<◌, ◌≤◌, ℤ, pos, negsuc, ◌≤ℤ◌, neg_ℤ, unsigned_abs, arith, nat_lt, Bool, true, false, ◌⊎◌, inl, inr, List, [], ◌∷◌, ◌++◌, length, length-append, All, ints, cases_lt, get_or_past, All-append, All-cons, All-nil, entry, Row, divided, mod_multiple, count_map, ScaledTable, with_row, same_made, constant_cut, row_over, entry_first, length_counted, cut_numbers, left_of, AreLanes, numbers_of, numbers_at, rows_in, table_of, AreLaned, IsLaned, above, get_or_push, get_or_append_left}
 use Rattle.scaled_laws.proofs.Cutting.{cut_made, cut_within}
 use Rattle.lane_rows.proofs.Numbers.{coefficient, constant_entry, numbers_long, same_numbers}
 
@@ -9,9 +9,6 @@ left_within l false z m h le = cut_within 0 l m (z ∷ []) h le 0 (pos 0) (omega
 
 after : (n : ℕ) → nat_lt n n ≡ false
 after n = grind arith
-
-before : (k n : ℕ) → k < n → nat_lt k n ≡ true
-before k n lt = grind arith
 
 some : (k : ℕ) → nat_lt 0 (k + 1) ≡ true
 some k = grind arith
@@ -32,7 +29,7 @@ module _ (n : ℕ) (l : ℤ) (x y : List ℤ) (m : ℕ) (h : pos 1 ≤ℤ l) (fe
   numbers_left = same_numbers n y (cut_numbers n l (numbers_of n x)) (omega (arith, lanes.long, few))
       (length_counted (λ k. left_of l (nat_lt k n) (entry (numbers_of n x) k)) (length (numbers_of n x)) ∙ numbers_long n x long)
       (λ k lt.
-      number k (omega (arith, lt)) ∙ ap (λ (b : Bool). left_of l b (entry (numbers_of n x) k)) (before k n lt) ∙ ap (left_of l true) (coefficient n x k long lt)
+      number k (omega (arith, lt)) ∙ ap (λ (b : Bool). left_of l b (entry (numbers_of n x) k)) (above k n lt) ∙ ap (left_of l true) (coefficient n x k long lt)
       ∙ sym (each (k + 1) (omega (arith, lt, few)) ∙ ap (λ (b : Bool). left_of l b (entry x (k + 1))) (some k)))
       (number n (omega arith) ∙ ap (λ (b : Bool). left_of l b (entry (numbers_of n x) n)) (after n) ∙ ap (left_of l false) (constant_entry n x long) ∙ sym (each 0 (omega arith)))
 
@@ -63,24 +60,15 @@ module _ (n : ℕ) (l : ℤ) (x y : List ℤ) (m : ℕ) (h : pos 1 ≤ℤ l) (fe
 
 -- ---- a row more
 
-pub get_front : (xs ys : List (List ℤ)) (j : ℕ) → j < length xs → get_or (xs ++ ys) j [] ≡ get_or xs j []
-get_front [] ys j lt = absurd (omega arith)
-get_front (x ∷ xs) ys zero lt = refl
-get_front (x ∷ xs) ys (suc j) lt = get_front xs ys j (omega arith)
-
-pub get_last : (xs : List (List ℤ)) (y : List ℤ) → get_or (xs ++ y ∷ []) (length xs) [] ≡ y
-get_last [] y = refl
-get_last (x ∷ xs) y = get_last xs y
-
 module _ (n : ℕ) (rows : List (List ℤ)) (at : List ℤ) (l : ℤ) (m : ℕ) (h : AreLaned n rows at l m) (new : List (List ℤ)) (y : List ℤ) (e : new ≡ rows ++ y ∷ []) where
   more_long : length new ≡ length rows + 1
   more_long = ap length e ∙ length-append rows (y ∷ [])
 
   there : (j : ℕ) → j < length rows → get_or new j [] ≡ get_or rows j []
-  there j lt = ap (λ (xs : List (List ℤ)). get_or xs j []) e ∙ get_front rows (y ∷ []) j lt
+  there j lt = ap (λ (xs : List (List ℤ)). get_or xs j []) e ∙ (get_or_append_left rows (y ∷ []) [] j lt)
 
   last : get_or new (length rows) [] ≡ y
-  last = ap (λ (xs : List (List ℤ)). get_or xs (length rows) []) e ∙ get_last rows y
+  last = ap (λ (xs : List (List ℤ)). get_or xs (length rows) []) e ∙ get_or_push rows y [] (length rows) refl
 
   pub laned_more : IsLaned n m y → AreLaned n new at l m
   laned_more one = record {

@@ -1,6 +1,5 @@
 -- The first constant that the denominator does not divide.
-use Rattle.std.proofs.Common.{Option}
-use Rattle.lane_rows.proofs.Words.{get_or, ◌≡◌, ◌∙◌, refl, ap, sym, ℕ, zero, suc, ◌+◌, ◌<◌, ℤ, pos, arith, Bool, true, false, Some, None, List, [], ◌∷◌, length, take, ◌&&◌, if◌then◌else◌, IfSome, IfNone, list_all, ints, get_or-take, length-take-le, divides, is_zero, entry, Row, row_at, form_row, is_whole, fraction_from, first_fraction, mod_multiple, whole_over, ScaledTable, numbers_at, table_of, AreLaned, IsLaned, IsFirstLeft}
+use Rattle.lane_rows.proofs.Words.{get_or, ◌≡◌, ◌∙◌, refl, ap, sym, ℕ, zero, suc, ◌+◌, ◌<◌, ℤ, pos, arith, Bool, true, false, Some, None, List, [], ◌∷◌, length, take, ◌&&◌, if◌then◌else◌, IfSome, IfNone, list_all, ints, get_or-take, length-take-le, divides, is_zero, entry, Row, row_at, form_row, is_whole, fraction_from, first_fraction, mod_multiple, whole_over, ScaledTable, numbers_at, table_of, AreLaned, IsLaned, IsFirstLeft, Option}
 use Rattle.lane_rows.proofs.Numbers.{constants_are}
 use Rattle.lane_rows.proofs.Views.{count_is, columns_are, row_here}
 
@@ -11,9 +10,8 @@ fraction_found : (rs : List Row) (k i : ℕ) → i < length rs → ((j : ℕ) �
 fraction_found [] k i lt before e = absurd (omega arith)
 fraction_found (r ∷ rs) k zero lt before e = let s : k ≡ k + 0 = omega arith in ap (λ (b : Bool). if b then fraction_from (k + 1) rs else Some k) e ∙ ap (λ (j : ℕ). Some j) s
 fraction_found (r ∷ rs) k (suc i) lt before e =
-    let s : (k + 1) + i ≡ k + suc i = omega arith in
     ap (λ (b : Bool). if b then fraction_from (k + 1) rs else Some k) (before 0 (omega arith))
-    ∙ fraction_found rs (k + 1) i (omega arith) (λ j less. before (suc j) (omega (arith, less))) e ∙ ap (λ (j : ℕ). Some j) s
+    ∙ fraction_found rs (k + 1) i (omega arith) (λ j less. before (suc j) (omega (arith, less))) e ∙ ap (λ (j : ℕ). Some j) (omega arith)
 
 fraction_none : (rs : List Row) (k : ℕ) → ((j : ℕ) → j < length rs → is_whole (row_at rs j).den (row_at rs j).constant ≡ true) → fraction_from k rs ≡ None
 fraction_none [] k all = refl

@@ -1,25 +1,17 @@
 -- The numbers of a row of lanes: the coefficients of n columns, and then the constant.
-use Rattle.lane_rows.proofs.Words.{◌≡◌, ◌∙◌, refl, ap, sym, ℕ, zero, suc, ◌+◌, ◌<◌, ◌≤◌, ℤ, pos, ◌≤ℤ◌, ◌-ℤ◌, ◌*ℤ◌, arith, subst, ◌⊎◌, inl, inr, length-set, List, [], ◌∷◌, ◌++◌, length, take, drop, length-append, length-drop, get_or-drop, length-take-le, take_at, drop_at, cases_eq, slice_set, entry, combine, scale, divided, eliminated, row_over, same_entries, scaled_made, entry-combine, entry-scale, length-combine, entry-set_same, entry-set_other, length-scale, numbers_of}
-use Rattle.scaled_laws.specs.Turned.{turned}
+use Rattle.lane_rows.proofs.Words.{◌≡◌, ◌∙◌, ap, sym, ℕ, ◌+◌, ◌<◌, ◌≤◌, ℤ, pos, ◌≤ℤ◌, ◌-ℤ◌, ◌*ℤ◌, arith, subst, ◌⊎◌, inl, inr, length-set, List, [], ◌∷◌, ◌++◌, length, take, drop, length-append, length-drop, get_or-drop, length-take-le, take_at, drop_at, cases_eq, slice_set, entry, combine, scale, divided, eliminated, row_over, same_entries, scaled_made, entry-combine, entry-scale, length-combine, entry-set_same, entry-set_other, length-scale, numbers_of, turned, get_or_append_left, get_or-take, get_or_push}
 
 pub front_entry : (n : ℕ) (xs : List ℤ) (y : ℕ) (z : ℤ) → y < n → n ≤ length xs → entry (take n xs ++ z ∷ []) y ≡ entry xs y
-front_entry zero xs y z h e = absurd (omega arith)
-front_entry (suc n) [] y z h e = absurd (omega arith)
-front_entry (suc n) (x ∷ xs) zero z h e = refl
-front_entry (suc n) (x ∷ xs) (suc y) z h e = front_entry n xs y z (omega arith) (omega arith)
+front_entry n xs y z h e = get_or_append_left (take n xs) (z ∷ []) (pos 0) y (omega (arith, h, length-take-le n xs e)) ∙ get_or-take n xs y (pos 0) h
 
 pub last_entry : (n : ℕ) (xs : List ℤ) (z : ℤ) → n ≤ length xs → entry (take n xs ++ z ∷ []) n ≡ z
-last_entry zero xs z e = refl
-last_entry (suc n) [] z e = absurd (omega arith)
-last_entry (suc n) (x ∷ xs) z e = last_entry n xs z (omega arith)
+last_entry n xs z e = get_or_push (take n xs) z (pos 0) n (length-take-le n xs e)
 
 behind : (n : ℕ) (x : List ℤ) → n < length x → n ≤ length (drop 1 x)
 behind n x h = let e = length-drop 1 x in omega (arith, e, h)
 
 pub coefficient : (n : ℕ) (x : List ℤ) (k : ℕ) → n < length x → k < n → entry (numbers_of n x) k ≡ entry x (k + 1)
-coefficient n x k h lt =
-    let at : 1 + k ≡ k + 1 = omega arith in
-    front_entry n (drop 1 x) k (entry x 0) lt (behind n x h) ∙ get_or-drop 1 x k (pos 0) ∙ ap (entry x) at
+coefficient n x k h lt = front_entry n (drop 1 x) k (entry x 0) lt (behind n x h) ∙ get_or-drop 1 x k (pos 0) ∙ ap (entry x) (omega arith)
 
 pub constant_entry : (n : ℕ) (x : List ℤ) → n < length x → entry (numbers_of n x) n ≡ entry x 0
 constant_entry n x h = last_entry n (drop 1 x) (entry x 0) (behind n x h)

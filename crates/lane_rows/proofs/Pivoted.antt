@@ -1,13 +1,11 @@
 -- The rows that a pivot makes.
-use Rattle.lane_rows.proofs.Words.{get_or, ◌≡◌, ◌∙◌, ap, sym, subst, ℕ, ◌+◌, ◌*◌, ◌<◌, ◌≤◌, ◌^◌, ℤ, pos, ◌≤ℤ◌, ◌-ℤ◌, ◌*ℤ◌, unsigned_abs, arith, List, [], ◌++◌, length, map, take, drop, ints, unsigned_abs-mul, mul-le, take_at, get_or_default, entry, combine, scale, divided, eliminated, entry-combine, entry-scale, entry-set_other, row_over, same_made, map_made, AreLanes, numbers_of, numbers_at, rows_in, AreUnused, AreLaned, IsLaned, IsVertex, AreTurned, CanTurn}
-use Rattle.scaled_laws.specs.Turned.{turned}
+use Rattle.lane_rows.proofs.Words.{get_or, ◌≡◌, ◌∙◌, ap, sym, subst, ℕ, ◌+◌, ◌*◌, ◌<◌, ◌≤◌, ◌^◌, ℤ, pos, ◌≤ℤ◌, ◌-ℤ◌, ◌*ℤ◌, unsigned_abs, arith, List, [], ◌++◌, length, map, take, drop, ints, unsigned_abs-mul, mul-le, take_at, get_or_default, entry, combine, scale, divided, eliminated, entry-combine, entry-scale, entry-set_other, row_over, same_made, map_made, AreLanes, numbers_of, numbers_at, rows_in, AreUnused, AreLaned, IsLaned, IsVertex, AreTurned, CanTurn, turned}
 use Rattle.lane_rows.proofs.Numbers.{row_turned}
 
 no_factor : (l z : ℤ) → pos 1 ≤ℤ l → l *ℤ z ≡ pos 0 → z ≡ pos 0
 no_factor l z h e =
-    let size : unsigned_abs l * unsigned_abs z ≡ 0 = sym (unsigned_abs-mul l z) ∙ ap unsigned_abs e in
     let more : 1 * unsigned_abs z ≤ unsigned_abs l * unsigned_abs z = mul-le 1 (unsigned_abs z) (unsigned_abs l) (unsigned_abs z) (positive l h) (omega arith) in
-    nothing z (omega (arith, size, more))
+    nothing z (omega (arith, (sym (unsigned_abs-mul l z) ∙ ap unsigned_abs e), more))
   where
     positive : (l : ℤ) → pos 1 ≤ℤ l → 1 ≤ unsigned_abs l
     positive l h = omega (arith, ints, h)

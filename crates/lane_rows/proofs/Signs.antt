@@ -1,5 +1,5 @@
 -- The signs of the constants.
-use Rattle.lane_rows.proofs.Words.{get_or, ◌≡◌, ◌∙◌, refl, ap, sym, ℕ, ◌+◌, ◌-◌, ◌<◌, ◌≤◌, ℤ, pos, negsuc, ◌≤ℤ◌, ◌<ℤ◌, arith, ◌⊎◌, inl, inr, zero, suc, Bool, true, false, List, [], length, ◌&&◌, list_all, ints, cases_lt, is_nonneg, entry, Row, row_at, nonneg_over, ScaledTable, IsFirstBelow, numbers_at, table_of, AreLaned, IsLaned}
+use Rattle.lane_rows.proofs.Words.{get_or, ◌≡◌, ◌∙◌, refl, ap, sym, ℕ, ◌+◌, ◌-◌, ◌<◌, ◌≤◌, ℤ, pos, negsuc, ◌≤ℤ◌, ◌<ℤ◌, arith, ◌⊎◌, inl, inr, zero, suc, Bool, true, false, List, [], length, ◌&&◌, list_all, ints, cases_lt, is_nonneg, entry, Row, row_at, nonneg_over, ScaledTable, IsFirstBelow, numbers_at, table_of, AreLaned, IsLaned, is_nonneg_is, nonneg_is}
 use Rattle.std.proofs.lemmas.List.Folds.{list_all_at}
 use Rattle.lane_rows.proofs.Numbers.{constants_are}
 use Rattle.lane_rows.proofs.Views.{count_is, columns_are, row_here}
@@ -7,10 +7,6 @@ use Rattle.lane_rows.proofs.Views.{count_is, columns_are, row_here}
 below_zero : (z : ℤ) → z <ℤ pos 0 → is_nonneg z ≡ false
 below_zero (pos n) h = absurd (omega (arith, ints, h))
 below_zero (negsuc n) h = refl
-
-not_below : (z : ℤ) → pos 0 ≤ℤ z → is_nonneg z ≡ true
-not_below (pos n) h = refl
-not_below (negsuc n) h = absurd (omega (arith, ints, h))
 
 module _ (n : ℕ) (rows : List (List ℤ)) (l : ℤ) (m : ℕ) (t : ScaledTable) (is : table_of n rows l m ≡ t) (at : List ℤ) (h : AreLaned n rows at l m) where
   sign : (j : ℕ) → j < n → list_all is_nonneg (row_at t.rows j).constant ≡ (is_nonneg (entry at (j + 1)) && true)
@@ -24,7 +20,7 @@ module _ (n : ℕ) (rows : List (List ℤ)) (l : ℤ) (m : ℕ) (t : ScaledTable
       ∙ ap (λ (z : ℤ). is_nonneg z && true) (sym (h.vertex.constants j lt))
 
   nonneg_at : (j : ℕ) → j < n → pos 0 ≤ℤ entry at (j + 1) → list_all is_nonneg (row_at t.rows j).constant ≡ true
-  nonneg_at j lt le = sign j lt ∙ ap (λ (b : Bool). b && true) (not_below (entry at (j + 1)) le)
+  nonneg_at j lt le = sign j lt ∙ ap (λ (b : Bool). b && true) (is_nonneg_is (entry at (j + 1)) le)
 
   module _ (lane : ℕ) (first : IsFirstBelow at lane) where
     some : 1 ≤ lane
@@ -51,18 +47,13 @@ module _ (n : ℕ) (rows : List (List ℤ)) (l : ℤ) (m : ℕ) (t : ScaledTable
 
   pub none_below : list_all is_nonneg at ≡ true → (j : ℕ) → j < t.unknowns → list_all is_nonneg (row_at t.rows j).constant ≡ true
   none_below all j lt =
-      let e = columns_are n rows l m t is in
-      nonneg_at j (omega (arith, lt, e)) (by (is_nonneg (entry at (j + 1))) refl)
+      nonneg_at j (omega (arith, lt, (columns_are n rows l m t is))) (by (is_nonneg (entry at (j + 1))) refl)
     where
       small : j < n
       small = let e = columns_are n rows l m t is in omega (arith, lt, e)
 
-      from : (z : ℤ) → is_nonneg z ≡ true → pos 0 ≤ℤ z
-      from (pos k) e = omega (arith, ints)
-      from (negsuc k) e = absurd cc
-
       by : (b : Bool) → is_nonneg (entry at (j + 1)) ≡ b → pos 0 ≤ℤ entry at (j + 1)
-      by true e = from (entry at (j + 1)) e
+      by true e = nonneg_is (entry at (j + 1)) e
       by false e = let f = list_all_at is_nonneg at (j + 1) (pos 0) (omega (arith, small, h.few, h.vertex.lanes.long)) e in absurd (differ (sym all ∙ f))
         where
           differ : true ≡ false → ⊥

@@ -1,6 +1,5 @@
 -- Rows of lanes that are turned one after the other.
-use Rattle.lane_rows.proofs.Words.{get_or, ◌≡◌, ◌∙◌, ap, sym, subst, ℕ, ◌+◌, ◌*◌, ◌^◌, ◌<◌, ◌≤◌, ℤ, ◌*ℤ◌, unsigned_abs, arith, ◌⊎◌, inl, inr, List, [], length, length-set, All, cases_eq, unsigned_abs-mul, mul-le, get_or-set_same, get_or-set_other, get_or_default, All-set, slice_set, entry, scale, entry_within, AreLanes, AreTurnable, AreTurned, CanTurn}
-use Rattle.scaled_laws.specs.Turned.{turned}
+use Rattle.lane_rows.proofs.Words.{get_or, ◌≡◌, ◌∙◌, ap, sym, subst, ℕ, ◌+◌, ◌*◌, ◌^◌, ◌<◌, ◌≤◌, ℤ, ◌*ℤ◌, unsigned_abs, arith, ◌⊎◌, inl, inr, List, [], length, length-set, All, cases_eq, unsigned_abs-mul, mul-le, get_or-set_same, get_or-set_other, get_or_default, All-set, slice_set, entry, scale, entry_within, AreLanes, AreTurnable, AreTurned, CanTurn, turned}
 
 -- the first k rows are turned, their numbers not greater than m, and the others are as they were
 pub record TurnedTo (l : ℤ) (p : List ℤ) (lane : ℕ) (old now : List (List ℤ)) (k m : ℕ) : Type 0 where

@@ -1,17 +1,13 @@
 -- The constants of rows that forms make, by the vertex.
-use Rattle.lane_rows.proofs.Words.{get_or, ◌≡◌, ◌∙◌, refl, ap, sym, subst, ℕ, zero, suc, ◌+◌, ◌*◌, ◌<◌, ◌≤◌, ◌^◌, ℤ, pos, ◌+ℤ◌, ◌*ℤ◌, unsigned_abs, arith, eqb, Bool, true, false, ◌⊎◌, inl, inr, List, [], ◌∷◌, length, take, map, All, ints, unsigned_abs-mul, cases_lt, mul-le, get_or-take, get_or_past, length-take-le, take_all, get_or_default, All-cons, if◌then◌else◌, entry, dot, count_from, norm, combination, place, entry_norm, sum_within, same_entries, entry_first, ScaledTable, all_made, length_made, AreLanes, IsSummable, numbers_of, table_of, AreLaned, IsLaned, line}
+use Rattle.lane_rows.proofs.Words.{get_or, ◌≡◌, ◌∙◌, refl, ap, sym, subst, ℕ, zero, suc, ◌+◌, ◌*◌, ◌<◌, ◌≤◌, ◌^◌, ℤ, pos, ◌+ℤ◌, ◌*ℤ◌, unsigned_abs, arith, eqb, Bool, true, false, ◌⊎◌, inl, inr, List, [], ◌∷◌, length, take, map, All, ints, unsigned_abs-mul, cases_lt, mul-le, get_or-take, get_or_past, length-take-le, take_all, get_or_default, All-cons, if◌then◌else◌, entry, dot, count_from, norm, combination, place, entry_norm, sum_within, same_entries, entry_first, ScaledTable, all_made, length_made, AreLanes, IsSummable, numbers_of, table_of, AreLaned, IsLaned, line, dot-none}
 use Rattle.lane_rows.proofs.Views.{constant_made}
 
 dot_front : (f u : List ℤ) (k : ℕ) → ((j : ℕ) → k ≤ j → entry u j ≡ pos 0) → dot f (take k u) ≡ dot f u
 dot_front [] u k h = refl
 dot_front (x ∷ f) [] zero h = refl
 dot_front (x ∷ f) [] (suc k) h = refl
-dot_front (x ∷ f) (y ∷ u) zero h = none x y (dot f u) (h 0 (omega arith)) (sym (nothing f) ∙ dot_front f u 0 (λ j le. h (suc j) (omega (arith, le))))
+dot_front (x ∷ f) (y ∷ u) zero h = none x y (dot f u) (h 0 (omega arith)) (sym (dot-none f) ∙ dot_front f u 0 (λ j le. h (suc j) (omega (arith, le))))
   where
-    nothing : (f : List ℤ) → dot f [] ≡ pos 0
-    nothing [] = refl
-    nothing (x ∷ f) = refl
-
     none : (x y s : ℤ) → y ≡ pos 0 → pos 0 ≡ s → pos 0 ≡ x *ℤ y +ℤ s
     none x y s e f = rw e (omega (arith, ints, f))
 dot_front (x ∷ f) (y ∷ u) (suc k) h = ap (λ (s : ℤ). x *ℤ y +ℤ s) (dot_front f u k (λ j le. h (suc j) (omega (arith, le))))
@@ -52,8 +48,7 @@ module _ (n : ℕ) (rows : List (List ℤ)) (l : ℤ) (m : ℕ) (at : List ℤ) 
       by : (k : ℕ) → k < n + 1 → entry (take (n + 1) at) k ≡ entry (line n rows l 0) k
       by zero lt = get_or-take (n + 1) at 0 (pos 0) lt ∙ h.vertex.scale
       by (suc j) lt =
-          let one : j + 1 ≡ suc j = omega arith in
-          get_or-take (n + 1) at (suc j) (pos 0) lt ∙ sym (ap (entry at) one) ∙ h.vertex.constants j (omega (arith, lt))
+          get_or-take (n + 1) at (suc j) (pos 0) lt ∙ sym (ap (entry at) (omega arith)) ∙ h.vertex.constants j (omega (arith, lt))
           ∙ sym (entry_first (λ i. entry (get_or rows i []) 0) n j (omega (arith, lt)))
 
   value_line : dot form at ≡ dot form (line n rows l 0)
@@ -99,10 +94,6 @@ module _ (n : ℕ) (rows : List (List ℤ)) (l : ℤ) (m : ℕ) (at : List ℤ) 
             there (inl lt) = entry_first (λ i. entry (get_or rows i []) k) n j lt ∙ (h.each j [] (omega (arith, lt, h.enough))).unused k more
             there (inr le) = get_or_past (map (λ i. entry (get_or rows i []) k) (count_from 0 n)) j (pos 0) (let e = length_made (λ i. entry (get_or rows i []) k) 0 n in omega (arith, e, le))
 
-        none : (f : List ℤ) → dot f [] ≡ pos 0
-        none [] = refl
-        none (x ∷ f) = refl
-
         by : (k < 8) ⊎ (8 ≤ k) → entry made k ≡ pos 0
-        by (inl lt) = each k lt ∙ sym (dot_front form (line n rows l k) 0 (λ j le. zeros j)) ∙ none form
+        by (inl lt) = each k lt ∙ sym (dot_front form (line n rows l k) 0 (λ j le. zeros j)) ∙ dot-none form
         by (inr past) = get_or_past made k (pos 0) (omega (arith, past, g.long))

@@ -1,8 +1,8 @@
 -- The words of other modules that the proofs of this crate cite, passed on from one place. Declares nothing.
-pub use Rattle.std.proofs.Common.{get_or, ◌≡◌, ◌∙◌, refl, ap, sym, subst, ℕ, zero, suc, ◌+◌, ◌<◌, ◌≤◌, ℤ, pos, negsuc, ◌≤ℤ◌, neg_ℤ, unsigned_abs, arith, nat_lt, Bool, true, false, ◌⊎◌, inl, inr, List, [], ◌∷◌, ◌++◌, length, length-append, All, ◌-ℤ◌, ◌*ℤ◌, length-set, take, drop, length-drop, ◌*◌, ◌^◌, ◌+ℤ◌, eqb, map, replicate, append-nil, Some, None, ◌-◌, ◌<ℤ◌, rules, to_z, of_z}
+pub use Rattle.std.proofs.Common.{get_or, ◌≡◌, ◌∙◌, refl, ap, sym, subst, ℕ, zero, suc, ◌+◌, ◌<◌, ◌≤◌, ℤ, pos, negsuc, ◌≤ℤ◌, neg_ℤ, unsigned_abs, arith, nat_lt, Bool, true, false, ◌⊎◌, inl, inr, List, [], ◌∷◌, ◌++◌, length, length-append, All, ◌-ℤ◌, ◌*ℤ◌, length-set, take, drop, length-drop, ◌*◌, ◌^◌, ◌+ℤ◌, eqb, map, replicate, append-nil, Some, None, ◌-◌, ◌<ℤ◌, rules, to_z, of_z, Option}
 pub use Rattle.std.proofs.lemmas.Int.{ints, unsigned_abs-mul, to_z-of_z}
 pub use Rattle.std.proofs.lemmas.Bool.{cases_lt, cases_eq}
-pub use Rattle.std.proofs.lemmas.List.{get_or_past, get_or-drop, length-take-le, take_at, drop_at, get_or-set_same, get_or-set_other, get_or_default, get_or-take, length-replicate, take_all, drop_all}
+pub use Rattle.std.proofs.lemmas.List.{get_or_past, get_or-drop, length-take-le, take_at, drop_at, get_or-set_same, get_or-set_other, get_or_default, get_or-take, length-replicate, take_all, drop_all, get_or_push, get_or_append_left}
 pub use Rattle.std.proofs.lemmas.List.Elements.{All-append, All-cons, All-nil, All-set, All-take, All-drop}
 pub use Rattle.pip_model.specs.Forms.{entry, combine, scale, dot, add}
 pub use Rattle.pip_model.specs.Rows.{Row, divided, eliminated, row_at, count_from, candidates, entering_of, unit_row, form_row, is_whole, fraction_from, first_fraction, is_better}
@@ -33,3 +33,6 @@ pub use Rattle.lanes.proofs.Writing.{set_lanes, zeros_lanes, entry-add}
 pub use Rattle.std.specs.List.{list_all}
 pub use Rattle.std.specs.Int.{w32}
 pub use Rattle.scaled_laws.proofs.Turned.{turned_none, turned_made, scaled_one}
+pub use Rattle.pip_model.proofs.Tests.{is_nonneg_is, nonneg_is, above}
+pub use Rattle.pip_model.proofs.Vectors.{dot-none}
+pub use Rattle.scaled_laws.specs.Turned.{turned}

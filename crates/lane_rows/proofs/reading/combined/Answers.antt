@@ -4,9 +4,8 @@ use Rattle.lane_rows.proofs.reading.combined.Goals as goal
 
 pub product-requires : goal.product-requires
 product-requires c =
-    let a : to_z w32 (of_z w32 c.get.result) ≡ entry c.args.form 0 = search rules in
     let b : to_z w32 (of_z w32 c.args.l) ≡ c.args.l = search rules in
-    subst (λ (z : ℤ). unsigned_abs (z *ℤ to_z w32 (of_z w32 c.args.l)) < 2 ^ 31) (sym a)
+    subst (λ (z : ℤ). unsigned_abs (z *ℤ to_z w32 (of_z w32 c.args.l)) < 2 ^ 31) (sym (search rules))
     (subst (λ (z : ℤ). unsigned_abs (entry c.args.form 0 *ℤ z) < 2 ^ 31) (sym b) (constant_small c.args.n c.args.rows.now c.args.l c.args.form c.requires))
 
 pub unit-sum-requires-clause-narrow : goal.unit-sum-requires-clause-narrow

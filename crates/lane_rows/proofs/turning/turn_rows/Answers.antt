@@ -1,5 +1,4 @@
-use Rattle.lane_rows.proofs.Words.{get_or, rules, arith, refl, ap, ◌≡◌, ◌∙◌, [], get_or_default, to_z-of_z, scale}
-use Rattle.scaled_laws.specs.Turned.{turned}
+use Rattle.lane_rows.proofs.Words.{get_or, rules, arith, refl, ap, ◌≡◌, ◌∙◌, [], get_or_default, to_z-of_z, scale, turned}
 use Rattle.lane_rows.proofs.Turns.{row_turnable, turned_end, turned_step}
 use Rattle.lane_rows.proofs.turning.turn_rows.Goals as goal
 

@@ -1,27 +1,23 @@
-use Rattle.lane_rows.proofs.Words.{rules, arith, ◌≡◌, ◌∙◌, ◌+◌, ◌*◌, ◌^◌, ◌<◌, ◌≤◌, ◌++◌, All, ap, sym, subst, unsigned_abs, ℕ, ℤ, List, length, map, take, drop, to_z, of_z, w32, entry, divided, eliminated, row_over, ScaledTable, numbers_of, rows_in, AreLaned, AreUnused, IsVertex, entry_within, AreLanes, AreTurned, CanTurn}
+use Rattle.lane_rows.proofs.Words.{rules, arith, ◌≡◌, ◌∙◌, ◌+◌, ◌<◌, ◌≤◌, ◌++◌, All, ap, sym, subst, unsigned_abs, ℕ, ℤ, List, length, map, take, drop, to_z, of_z, w32, entry, divided, eliminated, row_over, ScaledTable, numbers_of, rows_in, AreLaned, AreUnused, IsVertex, entry_within, AreLanes, AreTurned, CanTurn}
 use Rattle.lane_rows.proofs.Pivoted.{can_turn, pivoted, put_back, rows_pivoted}
 use Rattle.lane_rows.proofs.Views.{columns_are}
 use Rattle.lane_rows.proofs.lane_rows.LaneRows.pivot.Goals as goal
 
 pub turn_rows-requires-clause-products : goal.turn_rows-requires-clause-products
 turn_rows-requires-clause-products c =
-    let items : c.deref_mut.result.now ≡ c.self.inside.rows.items = search rules in
-    let small : c.self.inside.most * c.size.result < 2 ^ 30 = c.can_turn.ensures c.if-not-can_turn.false in
-    subst (CanTurn c.args.p) (sym items)
+    subst (CanTurn c.args.p) (sym (search rules))
     (can_turn c.self.inside.unknowns c.self.inside.rows.items c.self.inside.at c.self.inside.scale c.self.inside.most c.size.result c.args.p c.self.invariant c.requires.lanes
-    (λ k. entry_within c.size.result c.args.p k c.size.ensures.within) small)
+    (λ k. entry_within c.size.result c.args.p k c.size.ensures.within) (c.can_turn.ensures c.if-not-can_turn.false))
 
 pub vertex-self-inside-requires-clause-enough : goal.vertex-self-inside-requires-clause-enough
 vertex-self-inside-requires-clause-enough c =
-    let items : c.deref_mut.result.now ≡ c.self.inside.rows.items = search rules in
-    let long : length c.turn_rows.new.rows ≡ length c.self.inside.rows.items = c.in-Some.ensures.made.long ∙ ap length items in
+    let long : length c.turn_rows.new.rows ≡ length c.self.inside.rows.items = c.in-Some.ensures.made.long ∙ ap length (search rules) in
     let back = put_back c.self.inside.rows.len c.turn_rows.new.rows c.self.inside.rows.items long (search rules) in
     omega (arith, ap length (c.deref.ensures.value ∙ back), long, c.self.invariant.enough)
 
 pub vertex-self-inside-requires-clause-rows : goal.vertex-self-inside-requires-clause-rows
 vertex-self-inside-requires-clause-rows c =
-    let items : c.deref_mut.result.now ≡ c.self.inside.rows.items = search rules in
-    let long : length c.turn_rows.new.rows ≡ length c.self.inside.rows.items = c.in-Some.ensures.made.long ∙ ap length items in
+    let long : length c.turn_rows.new.rows ≡ length c.self.inside.rows.items = c.in-Some.ensures.made.long ∙ ap length (search rules) in
     let back = put_back c.self.inside.rows.len c.turn_rows.new.rows c.self.inside.rows.items long (search rules) in
     subst (All AreLanes) (sym (c.deref.ensures.value ∙ back)) c.in-Some.ensures.made.lanes
 

@@ -1,4 +1,4 @@
-use Rattle.lane_rows.proofs.Words.{rules, ◌≡◌, ◌∙◌, ◌*◌, ◌<◌, ◌^◌, sym, subst, ℕ, to_z, of_z, w32, norm}
+use Rattle.lane_rows.proofs.Words.{rules, ◌∙◌, ◌*◌, ◌<◌, ◌^◌, sym, subst, ℕ, norm}
 use Rattle.lane_rows.proofs.Values.{vertex_summable, value_row}
 use Rattle.lane_rows.proofs.Views.{most_is}
 use Rattle.lane_rows.proofs.lane_rows.LaneRows.value.Goals as goal
@@ -10,7 +10,6 @@ dot-requires c =
 
 pub returns : goal.returns
 returns c =
-    let whole : to_z w32 (of_z w32 c.dot.result) ≡ c.dot.result = search rules in
-    whole ∙ c.dot.ensures
+    (search rules) ∙ c.dot.ensures
     ∙ value_row c.self.inside.unknowns c.self.inside.rows.items c.self.inside.scale c.self.inside.most c.self.inside.at c.self.invariant c.args.form c.requires.lanes
     (subst (λ (m : ℕ). norm c.args.form * m < 2 ^ 31) (sym (most_is c.self.inside.unknowns c.self.inside.rows.items c.self.inside.scale c.self.inside.most _ c.self.view_is)) c.requires.bound) _ c.self.view_is
