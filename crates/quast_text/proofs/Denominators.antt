@@ -1,5 +1,5 @@
 -- The common denominator, fraction by fraction, and the numerators over it.
-use Rattle.quast_text.proofs.Words.{◌≡◌, ◌∙◌, refl, ap, sym, ℕ, ◌+◌, ◌<◌, ◌≤◌, ℤ, pos, Bool, false, ◌&&◌, IsTrue, IsFalse, List, [], ◌∷◌, ◌++◌, length, take, drop, get_or, map, drop_more, take_more, take_all, map-append, All, Fits, fits, lcm, all_fit, common_denominators, last_of, component_of, Wide, numerator_of}
+use Rattle.quast_text.proofs.Words.{◌≡◌, ◌∙◌, refl, ap, sym, ℕ, ◌+◌, ◌<◌, ◌≤◌, ℤ, pos, Bool, ◌&&◌, IsTrue, IsFalse, List, [], ◌∷◌, ◌++◌, length, take, drop, get_or, map, drop_more, take_more, take_all, map-append, All, Fits, fits, lcm, all_fit, common_denominators, last_of, component_of, Wide, numerator_of}
 use Rattle.std.specs.Prelude.{Err}
 use Rattle.std.proofs.Math.Bool.{and-false}
 use Rattle.quast.proofs.Conditions.{all_fit_from}
@@ -18,9 +18,7 @@ fit_step d e fs i f whole so_far h is made fit =
     rw fit at seen
 
 pub last_step : (d e : ℤ) (fs : List (ℤ × ℤ)) (i : ℕ) (f : ℤ × ℤ) (whole : ℤ) → last_of d (common_denominators d (drop i fs)) ≡ whole → i < length fs → f ≡ get_or fs i f → e ≡ lcm d f.1 → last_of e (common_denominators e (drop (i + 1) fs)) ≡ whole
-last_step d e fs i f whole so_far h is made =
-    let next : last_of (lcm d f.1) (common_denominators (lcm d f.1) (drop (i + 1) fs)) ≡ whole = sym (ap (last_of d) (common_step d fs i f h is)) ∙ so_far in
-    rw made next
+last_step d e fs i f whole so_far h is made = rw made (sym (ap (last_of d) (common_step d fs i f h is)) ∙ so_far)
 
 -- ---- numerators
 
@@ -43,6 +41,4 @@ numerators_fit d fs i found h so_far all = rw (← numerators_end d fs i found h
 
 -- a numerator that does not fit
 pub component_wide : (start : ℕ) (fs : List (ℤ × ℤ)) (d : ℤ) → d ≡ last_of (pos 1) (common_denominators (pos 1) fs) → IsFalse (all_fit (map (numerator_of d) fs)) → component_of start fs ≡ Err (Wide start)
-component_wide start fs d is wide =
-    let c : all_fit (map (numerator_of (last_of (pos 1) (common_denominators (pos 1) fs))) fs) ≡ false = rw is at wide in
-    rw (c, and-false (all_fit (common_denominators (pos 1) fs))) refl
+component_wide start fs d is wide = rw ((rw is at wide), and-false (all_fit (common_denominators (pos 1) fs))) refl

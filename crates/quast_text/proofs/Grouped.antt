@@ -1,11 +1,6 @@
 -- Readers in a row, of which some are read as one.
-use Rattle.std.proofs.Common.{◌≡◌, refl, sym, ℕ, ◌+◌, List}
+use Rattle.quast_text.proofs.Words.{◌≡◌, refl, sym, ℕ, ◌+◌, List, LeftRow, RightRow, token, Fault, Reads, ◌>>=◌, expect, fractions, component, component_of, bracketed_fractions}
 use Rattle.std.specs.Prelude.{Result, Ok, Err}
-use Rattle.pip_model.specs.declared.Kind.TheVariants.{LeftRow, RightRow}
-use Rattle.pip_model.specs.Tokens.{token}
-use Rattle.pip_model.specs.Reading.{Fault, Reads, ◌>>=◌, expect}
-use Rattle.pip_model.specs.TreeText.{fractions, component, component_of}
-use Rattle.quast_text.specs.Fractions.{bracketed_fractions}
 
 module _ {A C : Type 0} (g : ℕ → Result ℕ Fault) (h : A × ℕ → Result C Fault) where
   abbrev with_place : A → ℕ → Reads A

@@ -1,7 +1,6 @@
 -- What the rest of a list is read as, by its next component.
-use Rattle.quast_text.proofs.Words.{◌≡◌, ℕ, zero, suc, ◌+◌, ◌-◌, arith, sub-one, false, ◌==◌, pos, List, RightParen, LeftRow, most_components, Components, ◌>>=◌, same_bracket, expect, component, components, behind, list_by, full_by, next_component}
+use Rattle.quast_text.proofs.Words.{◌≡◌, ℕ, zero, suc, ◌+◌, ◌-◌, arith, sub-one, false, ◌==◌, pos, List, RightParen, LeftRow, most_components, Components, ◌>>=◌, same_bracket, expect, component, components, behind, list_by, full_by, next_component, token}
 use Rattle.std.proofs.lemmas.Bool.Decides.{nat_tests}
-use Rattle.pip_model.specs.Tokens.{token}
 
 some_left : (n : ℕ) → (suc n == 0) ≡ false
 some_left n = grind (arith, nat_tests)

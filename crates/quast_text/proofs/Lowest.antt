@@ -1,16 +1,14 @@
 -- Lowest terms: their divisor, and components that are in them.
-use Rattle.quast_text.proofs.Words.{◌≡◌, ◌∙◌, refl, ap, sym, length, ℕ, zero, suc, ◌<◌, ◌≤◌, ℤ, pos, negsuc, ◌≤ℤ◌, ◌*ℤ◌, unsigned_abs, arith, List, ints, le_of_dvd, floor_div, gcd, gcd_of, lcm, same_number, int_le, Component, reduced, is_form, component, Read, ok_value, common-IsGcd, quotient_positive, floor_divided_one, div_one}
+use Rattle.quast_text.proofs.Words.{◌≡◌, ◌∙◌, refl, ap, sym, length, ℕ, zero, suc, ◌≤◌, ℤ, pos, negsuc, ◌≤ℤ◌, ◌*ℤ◌, unsigned_abs, arith, List, ints, le_of_dvd, floor_div, gcd, gcd_of, lcm, same_number, int_le, Component, reduced, is_form, component, Read, ok_value, common-IsGcd, quotient_positive, floor_divided_one, div_one, three, same_number_is}
 use Rattle.pip_model.proofs.Order.{mul_pp}
 use Rattle.quast_text.proofs.Spellings.{gcd_positive}
 use Rattle.std.specs.Prelude.{Ok}
-use Rattle.pip_model.proofs.Tests.{three, same_number_is}
 use Rattle.text_laws.proofs.ReadComponents.{IsRead, component-reads}
 
 pub gcd_below : (c d : ℤ) → pos 1 ≤ℤ d → gcd c d ≤ℤ d
 gcd_below c (negsuc n) h = absurd (omega (arith, ints))
 gcd_below c (pos n) h =
-    let some : 0 < n = omega (arith, ints) in
-    let p = le_of_dvd some (common-IsGcd (unsigned_abs c) n).1 in
+    let p = le_of_dvd (omega (arith, ints)) (common-IsGcd (unsigned_abs c) n).1 in
     omega (arith, ints)
 
 pub from_one : (x : ℤ) → pos 0 ≤ℤ x → ¬ (x ≡ pos 0) → pos 1 ≤ℤ x
@@ -37,9 +35,7 @@ lowest_positive x n d is h = rw is (quotient_positive d (gcd n d) (gcd_positive 
 -- ---- a component that is read is in lowest terms already
 
 same_reduced : (c : Component) (g : ℤ) → gcd c.den (gcd_of c.form) ≡ g → g ≡ pos 1 → reduced c.den c.form ≡ c
-same_reduced c g is one =
-    let e : gcd c.den (gcd_of c.form) ≡ pos 1 = is ∙ one in
-    rw (e, div_one c.den, floor_divided_one c.form) refl
+same_reduced c g is one = rw ((is ∙ one), div_one c.den, floor_divided_one c.form) refl
 
 pub read_reduced : (bytes : List ℕ) (w place : ℕ) (c : Component) (after : ℕ) → place ≤ length bytes → component bytes w place ≡ Ok (c, after) → component bytes w place ≡ Ok (reduced c.den c.form, after)
 read_reduced bytes w place c after h e =

@@ -1,9 +1,7 @@
 -- Texts of lists, and numbers over a denominator.
-use Rattle.quast_text.proofs.Words.{◌≡◌, ◌∙◌, refl, ap, sym, append_assoc, codes, if◌then◌else◌, ℕ, ℤ, pos, negsuc, ◌≤ℤ◌, ◌<◌, unsigned_abs, Bool, true, false, arith, List, [], ◌∷◌, ◌++◌, flat_map, ints, append-nil, signed_decimal, pos_of_dvd_of_pos, OnOk, is_err, floor_div, gcd, same_number, Component, spell_fraction, spell_fractions, spell_components, spell_denominator, spell_term, spell_component, common-IsGcd}
+use Rattle.quast_text.proofs.Words.{◌≡◌, ◌∙◌, refl, ap, sym, append_assoc, codes, if◌then◌else◌, ℕ, ℤ, pos, negsuc, ◌≤ℤ◌, unsigned_abs, Bool, true, false, arith, List, [], ◌∷◌, ◌++◌, flat_map, ints, append-nil, signed_decimal, pos_of_dvd_of_pos, OnOk, is_err, floor_div, gcd, same_number, Component, spell_fraction, spell_fractions, spell_components, spell_denominator, spell_term, spell_component, common-IsGcd, Tree, spell_tree}
 use Rattle.std.specs.Prelude.{Result, Ok, Err}
 use Rattle.text_printing.specs.Printing.{Begins}
-use Rattle.pip_model.specs.Tree.{Tree}
-use Rattle.pip_model.specs.TreeText.{spell_tree}
 
 pub fractions_flat : (d : ℤ) (cs : List ℤ) → flat_map (spell_term d) cs ≡ spell_fractions d cs
 fractions_flat d [] = refl
@@ -28,8 +26,7 @@ fraction_parts c d =
 pub gcd_positive : (c d : ℤ) → pos 1 ≤ℤ d → pos 1 ≤ℤ gcd c d
 gcd_positive c (negsuc n) h = absurd (omega (arith, ints))
 gcd_positive c (pos n) h =
-    let some : 0 < n = omega (arith, ints) in
-    let p = pos_of_dvd_of_pos (common-IsGcd (unsigned_abs c) n).1 some in
+    let p = pos_of_dvd_of_pos (common-IsGcd (unsigned_abs c) n).1 (omega (arith, ints)) in
     omega (arith, ints)
 
 -- ---- what is written goes on from what was

@@ -1,10 +1,7 @@
 -- What a tree is read as, by its `(` and the word behind it.
-use Rattle.quast_text.proofs.Words.{◌≡◌, ◌∙◌, refl, sym, ap, ℕ, zero, ◌+◌, suc, ◌-◌, ◌<◌, arith, sub-one, Ok, Err, List, [], ◌∷◌, Option, Some, None, IfSome, LeftParen, Tree, Bottom, Leaf, Component, most_components, Fault, TooNested, Reads, ◌>>=◌, expect, Head, Ends, Lists, Chooses, Defines, head, room_for, behind_head, tree_by, tree, component, components, with_front, opening, components_behind, list_at, choice_at, define_at}
+use Rattle.quast_text.proofs.Words.{◌≡◌, ◌∙◌, refl, sym, ap, ℕ, zero, ◌+◌, suc, ◌-◌, ◌<◌, arith, sub-one, Ok, Err, List, [], ◌∷◌, Option, Some, None, IfSome, LeftParen, Tree, Bottom, Leaf, Component, most_components, Fault, TooNested, Reads, ◌>>=◌, expect, Head, Ends, Lists, Chooses, Defines, head, room_for, behind_head, tree_by, tree, component, components, with_front, opening, components_behind, list_at, choice_at, define_at, NewParm, bind_assoc, IsRead}
 use Rattle.std.specs.Prelude.{Result, ℤ}
-use Rattle.text_reading.specs.Steps.{IsRead}
-use Rattle.pip_model.specs.Tree.{NewParm}
 use Rattle.quast_text.proofs.Definitions.{definition_by}
-use Rattle.text_reading.proofs.Binds.{bind_assoc}
 
 -- the tree by its opening
 abbrev behind : List ℕ → ℕ → (ℕ → ℕ → Reads Tree) → ℕ → Head × ℕ → Reads Tree

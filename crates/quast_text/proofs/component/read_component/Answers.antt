@@ -1,7 +1,4 @@
-use Rattle.quast_text.proofs.Words.{◌≡◌, ◌+◌, ◌∙◌, Ok, refl, rules, reduced, component, component_of, err_from_is_err_and, text_fault}
-use Rattle.pip_model.specs.Tokens.{token}
-use Rattle.text_reading.proofs.Binds.{refused_by}
-use Rattle.quast_text.specs.Fractions.{bracketed_fractions}
+use Rattle.quast_text.proofs.Words.{◌≡◌, ◌+◌, ◌∙◌, Ok, refl, rules, reduced, component, component_of, err_from_is_err_and, text_fault, token, refused_by, bracketed_fractions}
 use Rattle.quast_text.proofs.Grouped.{component_by}
 use Rattle.quast_text.proofs.Lowest.{read_reduced}
 use Rattle.quast_text.proofs.component.read_component.Goals as goal

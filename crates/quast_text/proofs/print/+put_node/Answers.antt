@@ -1,7 +1,4 @@
-use Rattle.std.proofs.Common.{◌∙◌, ap, ap₂, sym}
-use Rattle.quast.specs.Trees.{tree_of}
-use Rattle.pip_model.specs.Tree.{If}
-use Rattle.pip_model.specs.TreeText.{spell_tree}
+use Rattle.quast_text.proofs.Words.{◌∙◌, ap, ap₂, sym, tree_of, If, spell_tree}
 use Rattle.quast_text.proofs.Spellings.{begins_through, choice_written}
 use Rattle.quast_text.proofs.print.+put_node.Goals as goal
 

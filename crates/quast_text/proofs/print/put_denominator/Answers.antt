@@ -1,5 +1,4 @@
-use Rattle.quast_text.proofs.Words.{◌≡◌, ◌++◌, rules, false, codes, OnOk, signed_decimal, floor_div, same_number}
-use Rattle.pip_model.proofs.Tests.{same_number_no}
+use Rattle.quast_text.proofs.Words.{◌≡◌, ◌++◌, rules, false, codes, OnOk, signed_decimal, floor_div, same_number, same_number_no}
 use Rattle.quast_text.proofs.Spellings.{begins_through, put_behind}
 use Rattle.quast_text.proofs.print.put_denominator.Goals as goal
 

@@ -1,5 +1,4 @@
-use Rattle.quast_text.proofs.Words.{◌≡◌, ◌++◌, ◌∙◌, ap, sym, append-nil, rules, get_or, pos, to_z, of_z, w128, append_assoc, arith, flat_map, take, spell_fractions, spell_term, written}
-use Rattle.text_printing.proofs.Spellings.{spelt_more}
+use Rattle.quast_text.proofs.Words.{◌≡◌, ◌++◌, ◌∙◌, ap, sym, append-nil, rules, get_or, pos, to_z, of_z, w128, append_assoc, arith, flat_map, take, spell_fractions, spell_term, written, spelt_more}
 use Rattle.quast_text.proofs.Spellings.{fractions_flat}
 use Rattle.quast_text.proofs.print.put_fractions.Goals as goal
 

@@ -1,8 +1,4 @@
-use Rattle.quast_text.proofs.Words.{refl, arith, RightParen, LeftParen, expect, err_from_is_err_and, text_fault}
-use Rattle.pip_model.specs.Reading.{group}
-use Rattle.pip_model.specs.TreeText.{tree_or_void, commented_at}
-use Rattle.text_reading.specs.Steps.{fault_of}
-use Rattle.text_reading.proofs.Binds.{refused_by}
+use Rattle.quast_text.proofs.Words.{refl, arith, RightParen, LeftParen, expect, err_from_is_err_and, text_fault, group, tree_or_void, commented_at, fault_of, refused_by}
 use Rattle.quast_text.proofs.read.spoken_at.Goals as goal
 
 pub returns-in_err-first-clause-reads : goal.returns-in_err-first-clause-reads

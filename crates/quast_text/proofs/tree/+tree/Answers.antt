@@ -1,8 +1,4 @@
-use Rattle.quast_text.proofs.Words.{◌≡◌, ◌+◌, ap, refl, rules, arith, Ok, err_from_is_err_and, Bottom, Ends, Lists, Chooses, Defines, RightParen, expect, tree, ScopedTree, text_fault, opening, choice_at, definition_at, define_at}
-use Rattle.pip_model.specs.Tree.{If, NewParm}
-use Rattle.pip_model.specs.TreeText.{read_form}
-use Rattle.text_reading.specs.Steps.{fault_of}
-use Rattle.text_reading.proofs.Binds.{refused_by}
+use Rattle.quast_text.proofs.Words.{◌≡◌, ◌+◌, ap, refl, rules, arith, Ok, err_from_is_err_and, Bottom, Ends, Chooses, Defines, RightParen, expect, tree, ScopedTree, text_fault, opening, choice_at, definition_at, define_at, If, NewParm, read_form, fault_of, refused_by}
 use Rattle.quast_text.proofs.TreeSteps.{tree_refused, tree_bottom, tree_list, tree_choice, tree_define, read_later}
 use Rattle.quast_text.proofs.tree.+tree.Goals as goal
 
@@ -19,9 +15,8 @@ read_tree-returns-in-Ends-clause-reads t c =
 
 pub read_tree-returns-in-Lists-clause-reads : goal.read_tree-returns-in-Lists-clause-reads
 read_tree-returns-in-Lists-clause-reads t c =
-    let opened : opening c.args.bytes.now c.args.place ≡ Ok (Lists, c.in_ok-head.at) = search rules in
     read_later _ text_fault c.args.bytes.now c.args.place c.in_ok-head.at c.read_list.result _ _ (search rules)
-    (tree_list c.args.bytes.now c.args.room c.args.width c.args.place c.in_ok-head.at opened) c.read_list.ensures.reads
+    (tree_list c.args.bytes.now c.args.room c.args.width c.args.place c.in_ok-head.at (search rules)) c.read_list.ensures.reads
 
 pub read_tree-returns-else-room-eq0-clause-reads : goal.read_tree-returns-else-room-eq0-clause-reads
 read_tree-returns-else-room-eq0-clause-reads t c =
