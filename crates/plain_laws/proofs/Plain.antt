@@ -1,8 +1,8 @@
 -- The run of a problem without parameters, in integer mode, is that of a point of its rows: no form of a context is
 -- looked at.
-use Rattle.std.proofs.Common.{◌≡◌, ◌∙◌, ap, subst, refl, ℕ, zero, suc, ◌+◌, ◌<◌, ◌≤◌, arith, Bool, true, false, List, [], ◌∷◌, ◌++◌, length, ℤ, pos, negsuc, Option, Some, None}
+use Rattle.std.proofs.Common.{◌≡◌, ◌∙◌, ap, subst, refl, ℕ, suc, ◌+◌, ◌<◌, arith, Bool, true, false, List, [], ◌∷◌, ◌++◌, length, ℤ, pos, negsuc, Option, Some, None}
 use Rattle.std.specs.Prelude.{take, neg_ℤ, if◌then◌else◌}
-use Rattle.std.proofs.lemmas.List.{length-map}
+use Rattle.std.proofs.lemmas.List.{length-map, length-take}
 use Rattle.pip_model.specs.Numbers.{is_nonneg, floor_mod}
 use Rattle.pip_model.specs.Forms.{constant}
 use Rattle.pip_model.specs.Rows.{Row, row_at, pivot, pivot_listed, entering, entering_listed, first_fraction, fraction_from, is_whole}
@@ -15,10 +15,9 @@ use Rattle.run_laws.proofs.Lengths.{length_floors}
 
 -- a form without coefficients is classed by its constant
 pub plain_class : (K : List (List ℤ)) (w : ℕ) (t : List ℤ) → length t ≡ 1 → (v : Work) → class K w t v ≡ constant_class K w t v
-plain_class K w [] e v = absurd (omega arith)
 plain_class K w (pos n ∷ []) e v = refl
 plain_class K w (negsuc n ∷ []) e v = refl
-plain_class K w (x ∷ y ∷ t) e v = absurd (omega arith)
+plain_class K w _ e v = absurd (omega arith)
 
 -- ---- the scan
 
@@ -72,17 +71,12 @@ found i (r ∷ rs) = by (is_whole r.den r.constant) (found (i + 1) rs)
     by true h = subst (λ (k : ℕ). FoundWithin k (fraction_from (i + 1) rs)) (omega arith) h
     by false h = omega arith
 
-take_shorter : (n : ℕ) (rows : List Row) → length (take n rows) ≤ length rows
-take_shorter zero rows = omega arith
-take_shorter (suc n) [] = omega arith
-take_shorter (suc n) (r ∷ rows) = let h = take_shorter n rows in omega (arith, h)
-
 fraction_within : (n : ℕ) (rows : List Row) → FoundWithin (length rows) (first_fraction n rows)
 fraction_within n rows = by (first_fraction n rows) (subst (λ (k : ℕ). FoundWithin k (first_fraction n rows)) (omega arith) (found 0 (take n rows)))
   where
     by : (o : Option ℕ) → FoundWithin (length (take n rows)) o → FoundWithin (length rows) o
     by None h = tt
-    by (Some i) h = let s = take_shorter n rows in omega (arith, h, s)
+    by (Some i) h = omega (arith, h, length-take n rows)
 
 -- a turn that ends, or goes on with rows alone
 abbrev pub IsPlain : Turn → Type 0
@@ -142,16 +136,14 @@ module _ (n : ℕ) (b : Bool) (K : List (List ℤ)) (rows : List Row) (wide : Fo
 goes_on : (n : ℕ) (b : Bool) (K : List (List ℤ)) (fuel : ℕ) → ((T : Turn) → IsPlain T → (w : Work) → run (problem_setting n b) fuel (turn_over K T) w ≡ run (plain_setting n b) fuel T w)
     → (o p : Outcome Turn) → Matches K o p → go_on o (λ next. run (problem_setting n b) fuel next) ≡ go_on p (λ next. run (plain_setting n b) fuel next)
 goes_on n b K fuel same (Done T v) (Done U u) m = rw (m.0, m.1) (same U m.2 u)
-goes_on n b K fuel same (Done T v) (Refused f u) m = absurd m
-goes_on n b K fuel same (Refused e v) (Done U u) m = absurd m
 goes_on n b K fuel same (Refused e v) (Refused f u) m = rw (m.0, m.1) refl
+goes_on n b K fuel same _ _ m = absurd m
 
 run_plain : (n : ℕ) (b : Bool) (K : List (List ℤ)) (fuel : ℕ) (T : Turn) → IsPlain T → (w : Work) → run (problem_setting n b) fuel (turn_over K T) w ≡ run (plain_setting n b) fuel T w
-run_plain n b K fuel (Closed t) h w = refl
-run_plain n b K zero (Again N) h w = refl
 run_plain n b K (suc fuel) (Again N) h w = rw (h.1) (goes_on n b K fuel (run_plain n b K fuel) _ _ (turn_matches n b K h.0 h.2 w))
 run_plain n b K fuel (Below k N) h w = absurd h
 run_plain n b K fuel (Split c N M) h w = absurd h
+run_plain n b K _ _ h w = refl
 
 -- from its first node
 pub plain_run : (n : ℕ) (b : Bool) (K : List (List ℤ)) (rows : List Row) → FormsWide 1 rows → (w : Work) → run_from (problem_setting n b) (node_over K rows) w ≡ run_from (plain_setting n b) (node_over [] rows) w
