@@ -1,8 +1,5 @@
 -- Rows that are kept by their numbers, with one row more.
-use Rattle.tableau.proofs.Words.{◌≡◌, refl, ap, sym, ◌∙◌, subst, ℕ, ◌+◌, ◌-◌, ◌*◌, ◌<◌, ◌≤◌, ℤ, true, false, not, List, [], ◌∷◌, ◌++◌, length, take, drop, arith, length-append, append-nil, IsTrue, All, filter, flat_map, take_at, drop_at, take_all, take-append-le, drop-append-le, take-append-drop, length-drop, map-append, length_push, length-take-le, All-head, All-tail, All-push, All-weaker, All-same, filter-append, flat_map-append, add-mul, Row, unit_row, IsRow, IsReduced, numbers_of, row_of_numbers, is_unit_row, flat_numbers, IsShortRow, IsPlace, IsKnown, IsPlain, IsFlat, IsPlainRow, IsUnsealed, row_length, row_kept, rows_kept, Kept, RowPlace, content-one, row_again, unit_is}
-use Rattle.row_laws.proofs.Numbers.{numbers_again}
-use Rattle.row_laws.proofs.Solved.{unit_short}
-use Rattle.row_laws.proofs.UnitFits.{unit_fits}
+use Rattle.tableau.proofs.Words.{◌≡◌, refl, ap, sym, ◌∙◌, subst, ℕ, ◌+◌, ◌-◌, ◌*◌, ◌<◌, ◌≤◌, ℤ, true, false, not, List, [], ◌∷◌, ◌++◌, length, take, drop, arith, length-append, append-nil, IsTrue, All, filter, flat_map, take_at, drop_at, take_all, take-append-le, drop-append-le, take-append-drop, length-drop, map-append, length_push, length-take-le, All-head, All-tail, All-push, All-weaker, All-same, filter-append, flat_map-append, add-mul, Row, unit_row, IsRow, IsReduced, numbers_of, row_of_numbers, is_unit_row, flat_numbers, IsShortRow, IsPlace, IsKnown, IsPlain, IsFlat, IsPlainRow, IsUnsealed, row_length, row_kept, rows_kept, Kept, RowPlace, content-one, row_again, unit_is, numbers_again, unit_short, unit_fits}
 use Rattle.tableau.specs.declared.kept.Kept.TheVariants as kept
 
 -- ---- numbers behind the others
@@ -10,16 +7,14 @@ use Rattle.tableau.specs.declared.kept.Kept.TheVariants as kept
 kept_append : (n w : ℕ) (zs more : List ℤ) (k : Kept) → IsPlace n w (length zs) k → row_kept n w (zs ++ more) k ≡ row_kept n w zs k
 kept_append n w zs more (kept.Unit c) h = refl
 kept_append n w zs more (kept.At p) h =
-    let long : row_length n w ≤ length (drop p.first zs) = simp length-drop (omega (arith, h)) in
     ap (λ (xs : List ℤ). row_of_numbers n (take (row_length n w) xs)) (drop-append-le p.first zs more (omega (arith, h)))
-    ∙ ap (row_of_numbers n) (take-append-le (row_length n w) (drop p.first zs) more long)
+    ∙ ap (row_of_numbers n) (take-append-le (row_length n w) (drop p.first zs) more (simp length-drop (omega (arith, h))))
 
 pub rows_append : (n w : ℕ) (zs more : List ℤ) (ks : List Kept) → All (IsPlace n w (length zs)) ks → rows_kept n w (zs ++ more) ks ≡ rows_kept n w zs ks
 rows_append n w zs more [] h = refl
 rows_append n w zs more (k ∷ ks) h =
-    let first = kept_append n w zs more k (All-head (IsPlace n w (length zs)) k ks h) in
     let rest = rows_append n w zs more ks (All-tail (IsPlace n w (length zs)) k ks h) in
-    rw (first, rest) refl
+    rw ((kept_append n w zs more k (All-head (IsPlace n w (length zs)) k ks h)), rest) refl
 
 place_more : (n w l m : ℕ) → l ≤ m → (k : Kept) → IsPlace n w l k → IsPlace n w m k
 place_more n w l m e (kept.Unit c) h = h
@@ -32,9 +27,6 @@ plain_one : (n w : ℕ) (zs more : List ℤ) (k : Kept) → IsPlace n w (length 
 plain_one n w zs more (kept.Unit c) h e = e
 plain_one n w zs more (kept.At p) h e = ap is_unit_row (kept_append n w zs more (kept.At p) h) ∙ e
 
-plain_append : (n w : ℕ) (zs more : List ℤ) (ks : List Kept) → All (IsPlace n w (length zs)) ks → All (IsPlain n w zs) ks → All (IsPlain n w (zs ++ more)) ks
-plain_append n w zs more ks places h = λ i d lt. plain_one n w zs more _ (places i d lt) (h i d lt)
-
 last_row : (n w : ℕ) (zs more : List ℤ) (last : RowPlace) → last.first ≡ length zs → length more ≡ row_length n w → row_kept n w (zs ++ more) (kept.At last) ≡ row_of_numbers n more
 last_row n w zs more last f e =
     ap (λ (xs : List ℤ). row_of_numbers n (take (row_length n w) xs)) (drop_at zs more last.first (sym f))
@@ -46,9 +38,6 @@ rows_more n w zs more ks last h f e =
     map-append (row_kept n w (zs ++ more)) ks (kept.At last ∷ [])
     ∙ ap (λ (rs : List Row). rs ++ row_kept n w (zs ++ more) (kept.At last) ∷ []) (rows_append n w zs more ks h)
     ∙ ap (λ (r : Row). rows_kept n w zs ks ++ r ∷ []) (last_row n w zs more last f e)
-
-pub rows_unit : (n w c : ℕ) (zs : List ℤ) (ks : List Kept) → rows_kept n w zs (ks ++ kept.Unit c ∷ []) ≡ rows_kept n w zs ks ++ unit_row n w c ∷ []
-rows_unit n w c zs ks = map-append (row_kept n w zs) ks (kept.Unit c ∷ [])
 
 -- ---- the numbers of the rows that are not those of columns
 
@@ -81,7 +70,7 @@ with_plain n w zs more ks last h f p =
       reduced = All-same IsReduced _ _ rows (All-push IsReduced _ _ h.reduced p.reduced);
       short = All-push (IsKnown n w (zs ++ more)) ks (kept.At last) (known_append n w zs more ks h.places h.short)
           (λ s. subst IsShortRow (sym (last_row n w zs more last f e)) (p.short s));
-      plain = All-push (IsPlain n w (zs ++ more)) ks (kept.At last) (plain_append n w zs more ks h.places h.plain)
+      plain = All-push (IsPlain n w (zs ++ more)) ks (kept.At last) (λ i d lt. plain_one n w zs more _ (h.places i d lt) (h.plain i d lt))
           (ap is_unit_row (last_row n w zs more last f e) ∙ p.plain);
       flat = sym (ap flat_numbers rows ∙ flat_plain (rows_kept n w zs ks) (row_of_numbers n more) p.plain ∙ ap (λ (xs : List ℤ). xs ++ numbers_of (row_of_numbers n more)) (sym h.flat) ∙ ap (λ (xs : List ℤ). zs ++ xs) (numbers_again n more (omega arith)));
       few = rw (length_push ks (kept.At last), long, room_more (length ks) (row_length n w)) (omega (arith, h.few));
@@ -95,7 +84,7 @@ unit_over n w c p h =
 
 pub with_unit : (n w c : ℕ) (zs : List ℤ) (ks : List Kept) → IsFlat n w zs ks → c < n → IsFlat n w zs (ks ++ kept.Unit c ∷ [])
 with_unit n w c zs ks h lt =
-    let rows = rows_unit n w c zs ks in
+    let rows = map-append (row_kept n w zs) ks (kept.Unit c ∷ []) in
     record {
       places = All-push (IsPlace n w (length zs)) ks (kept.Unit c) h.places lt;
       rows = All-same (IsRow n w) _ _ rows (All-push (IsRow n w) _ _ h.rows (unit_fits n w c lt));
@@ -130,11 +119,10 @@ sealed_rows n w last zs ks h =
 pub unsealed : (n w : ℕ) (last : RowPlace) (zs all : List ℤ) (ks : List Kept) (r : Row) → all ≡ zs ++ numbers_of r → last.first ≡ length zs → IsFlat n w zs ks → IsRow n w r → IsReduced r
     → (IsTrue last.short → IsShortRow r) → IsUnsealed n w last all ks
 unsealed n w last zs all ks r e f h row reduced short =
-    let front : take last.first all ≡ zs = ap (take last.first) e ∙ take_at zs (numbers_of r) last.first (sym f) in
     let behind : row_of_numbers n (drop last.first all) ≡ r = ap (row_of_numbers n) (ap (drop last.first) e ∙ drop_at zs (numbers_of r) last.first (sym f)) ∙ row_again n r row.coefs in
     let long : length (r.coefs ++ r.constant) ≡ n + (w + 1) = length-append r.coefs r.constant ∙ omega (arith, row.coefs, row.constant) in
     record {
-      flat = subst (λ (xs : List ℤ). IsFlat n w xs ks) (sym front) h;
+      flat = subst (λ (xs : List ℤ). IsFlat n w xs ks) (sym (ap (take last.first) e ∙ take_at zs (numbers_of r) last.first (sym f))) h;
       row = subst (IsRow n w) (sym behind) row;
       reduced = subst IsReduced (sym behind) reduced;
       short = λ s. subst IsShortRow (sym behind) (short s);
@@ -144,9 +132,8 @@ unsealed n w last zs all ks r e f h row reduced short =
 pub more_rows : (n w start : ℕ) (zs all made : List ℤ) (ks more : List Kept) (r : Row) → all ≡ zs ++ numbers_of r → start ≡ length zs → length r.coefs ≡ n
     → rows_kept n w made more ≡ rows_kept n w (take start all) ks ++ row_of_numbers n (drop start all) ∷ [] → rows_kept n w made more ≡ rows_kept n w zs ks ++ r ∷ []
 more_rows n w start zs all made ks more r e f row h =
-    let front : take start all ≡ zs = ap (take start) e ∙ take_at zs (numbers_of r) start (sym f) in
     let last : row_of_numbers n (drop start all) ≡ r = ap (row_of_numbers n) (ap (drop start) e ∙ drop_at zs (numbers_of r) start (sym f)) ∙ row_again n r row in
-    h ∙ rw (front, last) refl
+    h ∙ rw ((ap (take start) e ∙ take_at zs (numbers_of r) start (sym f)), last) refl
 
 pub flat_same : (n m w v : ℕ) (xs ys : List ℤ) (ks ls : List Kept) → n ≡ m → w ≡ v → xs ≡ ys → ks ≡ ls → IsFlat m v ys ls → IsFlat n w xs ks
 flat_same n m w v xs ys ks ls e f g h flat = rw (e, f, g, h) flat

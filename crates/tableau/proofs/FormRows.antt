@@ -15,8 +15,4 @@ form_fits n w f e h = record {
 }
 
 pub form_short : (n : ℕ) (f : List ℤ) → All IsShort f → IsShortRow (form_row n f)
-form_short n f h = record {
-  den = omega arith;
-  coefs = All-take IsShort n f h;
-  constant = All-drop IsShort n f h;
-}
+form_short n f h = record { den = omega arith; coefs = All-take IsShort n f h; constant = All-drop IsShort n f h }

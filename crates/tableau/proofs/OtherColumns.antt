@@ -1,7 +1,5 @@
 -- The row of another column in a pivot.
-use Rattle.tableau.proofs.Words.{◌≡◌, refl, ap, sym, ◌∙◌, ℕ, zero, suc, ◌+◌, ◌-◌, ◌<◌, ◌≢◌, ℤ, pos, ◌≤ℤ◌, ◌*ℤ◌, true, List, ◌∷◌, replicate, arith, get_or-set_other, IsTrue, slice_set, map-append, get_or-replicate, fits, entry, scale, all_fit, Row, unit_row, eliminated, eliminated_listed, IsRow, content-one, eliminated_none, eliminated_listed-none, all_fit-append, any_zero, by_one, unit_parts}
-use Rattle.row_laws.proofs.UnitFits.{unit_fits}
-use Rattle.row_laws.proofs.Unchanged.{once}
+use Rattle.tableau.proofs.Words.{◌≡◌, refl, ap, sym, ◌∙◌, ℕ, zero, suc, ◌+◌, ◌-◌, ◌<◌, ◌≢◌, ℤ, pos, ◌≤ℤ◌, ◌*ℤ◌, true, List, ◌∷◌, replicate, arith, get_or-set_other, IsTrue, slice_set, map-append, get_or-replicate, fits, entry, scale, all_fit, Row, unit_row, eliminated, eliminated_listed, IsRow, content-one, eliminated_none, eliminated_listed-none, all_fit-append, any_zero, by_one, unit_parts, unit_fits, once}
 
 zeros_fit : (a : ℤ) (n : ℕ) → all_fit (scale a (replicate n (pos 0))) ≡ true
 zeros_fit a zero = refl

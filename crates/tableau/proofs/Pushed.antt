@@ -1,7 +1,5 @@
 -- A table with one row more, and the room for it.
-use Rattle.tableau.proofs.Words.{◌≡◌, ap, sym, ◌∙◌, ℕ, suc, ◌+◌, ◌<◌, ◌≤◌, ℤ, List, [], ◌∷◌, ◌++◌, length, take, drop, arith, length-append, length-map, Row, numbers_of, row_of_numbers, IsRow, KeptRows, IsFlat, row_length, row_kept, rows_kept, with_more, Kept}
-use Rattle.tableau.specs.KeptRows.{HasRoom}
-use Rattle.std.proofs.Math.Nat.{add-mul, mul-le-mul_right}
+use Rattle.tableau.proofs.Words.{◌≡◌, ap, sym, ◌∙◌, ℕ, suc, ◌+◌, ◌<◌, ◌≤◌, ℤ, List, [], ◌∷◌, ◌++◌, length, take, drop, arith, length-append, length-map, Row, numbers_of, row_of_numbers, IsRow, KeptRows, IsFlat, row_length, row_kept, rows_kept, with_more, Kept, HasRoom, add-mul, mul-le-mul_right}
 use Rattle.tableau.proofs.Flat.{more_rows}
 
 -- a table's rows by its parts

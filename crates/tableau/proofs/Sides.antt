@@ -1,8 +1,7 @@
 -- The rows on both sides of one in a pivot.
-use Rattle.tableau.proofs.Words.{◌≡◌, refl, ap, sym, ◌∙◌, ℕ, ◌+◌, ◌<◌, ◌&&◌, List, [], ◌∷◌, ◌++◌, length, map, take, drop, arith, get_or, slice_set, length-map, take-map, drop-map, get_or-map, width, all_fit, Row, row_at, form_row, unit_row, eliminated, eliminated_listed, pivot, pivot_listed, IsRow, checked_sides}
+use Rattle.tableau.proofs.Words.{◌≡◌, refl, ap, sym, ◌∙◌, ℕ, ◌+◌, ◌<◌, ◌&&◌, List, [], ◌∷◌, ◌++◌, length, map, take, drop, arith, get_or, slice_set, length-map, take-map, drop-map, get_or-map, width, all_fit, Row, row_at, form_row, unit_row, eliminated, eliminated_listed, pivot, pivot_listed, IsRow, checked_sides, map-map}
 use Rattle.std.proofs.Common.{flat_map}
 use Rattle.std.proofs.lemmas.List.Folds.{flat_map-map}
-use Rattle.std.proofs.lemmas.Simd.{map-map}
 use Rattle.row_laws.proofs.Places.{set_parts}
 
 -- ---- the rows in front and behind
@@ -19,10 +18,9 @@ turned_pivot f rows front back p r c n w h e g same hp =
     let q = row_at rows r in
     let unit : unit_row n w c ≡ unit_row (length q.coefs) (width q.constant) c
     = ap_two (λ i j. unit_row i j c) (sym hp.coefs) (omega (arith, hp.constant)) ∙ ap (λ (s : Row). unit_row (length s.coefs) (width s.constant) c) same in
-    let k : r < length (map (eliminated q c) rows) = simp length-map h in
     ap (λ (s : Row). map (λ x. eliminated s c (f x)) front ++ unit_row n w c ∷ map (λ x. eliminated s c (f x)) back) same
     ∙ rw (unit, ← map-map (eliminated q c) f front, ← map-map (eliminated q c) f back, e, g, ← take-map (eliminated q c) r rows, ← drop-map (eliminated q c) (r + 1) rows)
-    (sym (set_parts (map (eliminated q c) rows) r (unit_row (length q.coefs) (width q.constant) c) k))
+    (sym (set_parts (map (eliminated q c) rows) r (unit_row (length q.coefs) (width q.constant) c) (simp length-map h)))
   where
     ap_two : (f : ℕ → ℕ → Row) {x y u v : ℕ} → x ≡ y → u ≡ v → f x u ≡ f y v
     ap_two f {x} {y} {u} {v} e k = ap (λ t. f t u) e ∙ ap (λ t. f y t) k

@@ -58,9 +58,6 @@ listed_refused g (x ∷ xs) (suc i) d h refused = all_fit-append (g x) (flat_map
 pub shape_same : (t : KeptRows) → SameShape t t
 shape_same t = record { unknowns = refl; width = refl; most = refl }
 
-pub shape_more : (s t u : KeptRows) → SameShape s t → SameShape t u → SameShape s u
-shape_more s t u h g = record { unknowns = h.unknowns ∙ g.unknowns; width = h.width ∙ g.width; most = h.most ∙ g.most }
-
 pub shape_with : (s t : KeptRows) (rows : List Row) → s ≡ record t { rows = rows } → SameShape s t
 shape_with s t rows e = record {
   unknowns = ap (λ (u : KeptRows). u.unknowns) e;

@@ -10,13 +10,11 @@ lent_coefs n w c h =
     let left : n - (n - c) ≡ c = omega arith in
     let begun : drop (n - c) (unit_run n w) ≡ replicate c (pos 0) ++ pos 1 ∷ zs
     = drop-append-le (n - c) (replicate n (pos 0)) (pos 1 ∷ zs) short ∙ ap (λ (xs : List ℤ). xs ++ pos 1 ∷ zs) (drop-replicate (n - c) n (pos 0) ∙ ap (λ k. replicate k (pos 0)) left) in
-    let whole : n ≡ c + suc (n - (c + 1)) = omega arith in
-    let tail : take (n - (c + 1)) zs ≡ replicate (n - (c + 1)) (pos 0) = take-replicate (n - (c + 1)) (max n (w + 1)) (pos 0) (omega arith) in
     ap (take n) begun
-    ∙ ap (λ k. take k (replicate c (pos 0) ++ pos 1 ∷ zs)) whole
+    ∙ ap (λ k. take k (replicate c (pos 0) ++ pos 1 ∷ zs)) (omega arith)
     ∙ take-add c (suc (n - (c + 1))) (replicate c (pos 0) ++ pos 1 ∷ zs)
     ∙ rw (take_at (replicate c (pos 0)) (pos 1 ∷ zs) c (length-replicate c (pos 0)), drop_at (replicate c (pos 0)) (pos 1 ∷ zs) c (length-replicate c (pos 0))) refl
-    ∙ ap (λ (xs : List ℤ). replicate c (pos 0) ++ pos 1 ∷ xs) tail
+    ∙ ap (λ (xs : List ℤ). replicate c (pos 0) ++ pos 1 ∷ xs) (take-replicate (n - (c + 1)) (max n (w + 1)) (pos 0) (omega arith))
     ∙ sym (unit_parts n c h)
 
 -- behind the 1 are the entries of a constant form of zeros

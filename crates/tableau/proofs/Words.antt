@@ -14,20 +14,23 @@ pub use Rattle.pip_model.specs.Numbers.{fits}
 pub use Rattle.pip_model.specs.Forms.{entry, scale, width}
 pub use Rattle.row_laws.proofs.ShortRows.{short_eliminated, widened_short}
 pub use Rattle.row_laws.proofs.Substituting.{eliminated_none, checked_sides}
-pub use Rattle.row_laws.proofs.Unchanged.{all_fit-append, eliminated_listed_one, eliminated_listed-none, any_zero, by_one}
+pub use Rattle.row_laws.proofs.Unchanged.{all_fit-append, eliminated_listed_one, eliminated_listed-none, any_zero, by_one, once}
 pub use Rattle.row_laws.proofs.RowLaws.{count_map, widened_is_row, widened_content}
 pub use Rattle.row_laws.specs.Steps.{IsMadeReduced}
 pub use Rattle.row_laws.proofs.Stepping.{elimination, pivot_row}
 pub use Rattle.tableau_row.specs.Views.{row_of}
 pub use Rattle.pip_model.proofs.Forms.{length-count}
 pub use Rattle.pip_model.specs.Cuts.{rounded, rounded_listed}
-pub use Rattle.tableau.specs.KeptRows.{KeptRows, IsOver, IsSpare, AreLentOf, AreNext, AreSides, IsPivot, turned, turned_listed, with_more, with_rows, IsSteady, SameShape}
+pub use Rattle.tableau.specs.KeptRows.{KeptRows, IsOver, IsSpare, AreLentOf, AreNext, AreSides, IsPivot, turned, turned_listed, with_more, with_rows, IsSteady, SameShape, HasRoom}
 pub use Rattle.tableau.specs.Places.{IsSolvable, AreLent, lent_row, lent_rows, row_kept, IsPlace, IsPlainRow, IsFlat, AreKept, row_length, rows_kept, unit_run, kept_short, IsKnown, IsPlain, flat_numbers, IsUnsealed}
 pub use Rattle.tableau.specs.declared.kept.Lent.{Lent}
 pub use Rattle.tableau.specs.declared.kept.Kept.{Kept}
 pub use Rattle.tableau.specs.declared.kept.RowPlace.{RowPlace}
-pub use Rattle.std.proofs.Math.Nat.{add-mul}
+pub use Rattle.std.proofs.Math.Nat.{add-mul, mul-le-mul_right}
 pub use Rattle.row_laws.proofs.UnitRows.{unit_parts, unit_is}
-pub use Rattle.row_laws.proofs.Numbers.{row_again}
+pub use Rattle.row_laws.proofs.Numbers.{row_again, numbers_again}
 pub use Rattle.std.proofs.lemmas.Int.{ints}
 pub use Rattle.tableau_row.specs.Checks.{Fits}
+pub use Rattle.row_laws.proofs.Solved.{unit_short}
+pub use Rattle.row_laws.proofs.UnitFits.{unit_fits}
+pub use Rattle.std.proofs.lemmas.Simd.{map-map}

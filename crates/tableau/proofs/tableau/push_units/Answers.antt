@@ -6,9 +6,7 @@ push_unit-requires-clause-room c =
     let old = c.args.rows.now in
     let count = length-map (count_from 0 c.loop-c.c) (unit_row old.unknowns old.width) ∙ length-count 0 c.loop-c.c in
     let all : length c.loop-c.rows.rows ≡ c.loop-c.c = ap (λ (t : KeptRows). length t.rows) c.loop-c.invariant ∙ count in
-    let most : c.loop-c.rows.most ≡ old.most = ap (λ (t : KeptRows). t.most) c.loop-c.invariant in
-    let room = c.requires.room in
-    omega (arith, all, most, room)
+    omega (arith, all, (ap (λ (t : KeptRows). t.most) c.loop-c.invariant), c.requires.room)
 
 pub loop-c-preserved : goal.loop-c-preserved
 loop-c-preserved c =

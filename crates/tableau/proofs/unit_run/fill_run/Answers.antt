@@ -3,6 +3,4 @@ use Rattle.tableau.proofs.UnitRun.{run_made}
 use Rattle.tableau.proofs.unit_run.fill_run.Goals as goal
 
 pub returns-clause-ok : goal.returns-clause-ok
-returns-clause-ok c =
-    let long : c.in_ok-all.all ≡ c.args.unknowns + 1 + max c.args.unknowns (c.args.width + 1) = search rules in
-    run_made c.args.unknowns c.args.width c.in_ok-all.all c.resize.new.self.items (search rules) long
+returns-clause-ok c = run_made c.args.unknowns c.args.width c.in_ok-all.all c.resize.new.self.items (search rules) (search rules)

@@ -17,8 +17,7 @@ seal-requires-clause-unsealed c =
     let s = c.self.inside in
     let r = row_of c.args.row.now in
     let given = subst (λ (t : KeptRows). IsRow t.unknowns (t.width - 1) r) (sym c.self.view_is) c.requires.row in
-    let some = subst (λ (t : KeptRows). 0 < t.width) (sym c.self.view_is) c.requires.width in
-    let back : s.width - 1 + 1 ≡ s.width = omega (arith, some) in
+    let back : s.width - 1 + 1 ≡ s.width = omega (arith, (subst (λ (t : KeptRows). 0 < t.width) (sym c.self.view_is) c.requires.width)) in
     unsealed s.unknowns s.width _ s.numbers.items c.append_widened.new.numbers.items s.kept.items (widened r) c.append_widened.ensures.items (search rules) c.self.invariant.0
     (subst (λ k. IsRow s.unknowns k (widened r)) back (widened_is_row s.unknowns (s.width - 1) r given))
     (widened_content s.unknowns (s.width - 1) r given ∙ c.requires.reduced)

@@ -6,11 +6,7 @@ use Rattle.tableau.proofs.flat_rows.FlatRows.round.Goals as goal
 pub copy_rows-requires : goal.copy_rows-requires
 copy_rows-requires c =
     let s = c.sides.ensures in
-    record {
-      room = omega (arith, s.begun.count, s.begun.spare.room, s.count);
-      over = s.begun.over;
-      lent = s.front_lent;
-    }
+    record { room = omega (arith, s.begun.count, s.begun.spare.room, s.count); over = s.begun.over; lent = s.front_lent }
 
 pub push_rounded-requires : goal.push_rounded-requires
 push_rounded-requires c =
@@ -25,11 +21,7 @@ pub copy_rows-requires-2 : goal.copy_rows-requires-2
 copy_rows-requires-2 c =
     let s = c.sides.ensures in
     let second = second_made (lent_row c.sides.result.0) s c.copy_rows.new.next c.push_rounded.new.self _ c.copy_rows.ensures c.in_ok-push_rounded.ensures.ok in
-    record {
-      room = omega (arith, second.count, second.spare.room);
-      over = second.over;
-      lent = s.back_lent;
-    }
+    record { room = omega (arith, second.count, second.spare.room); over = second.over; lent = s.back_lent }
 
 pub returns-in_err-push_rounded-clause-listed : goal.returns-in_err-push_rounded-clause-listed
 returns-in_err-push_rounded-clause-listed c =

@@ -3,8 +3,7 @@ use Rattle.tableau.proofs.Parted.{sides_made}
 use Rattle.tableau.proofs.flat_rows.FlatRows.sides.Goals as goal
 
 pub lent-requires : goal.lent-requires
-lent-requires c =
-    c.requires.spare.run (c.requires.spare.begun (omega (arith, c.requires.row)))
+lent-requires c = c.requires.spare.run (c.requires.spare.begun (omega (arith, c.requires.row)))
 
 pub returns : goal.returns
 returns c =

@@ -10,31 +10,20 @@ invariant_of-pivot c = record { solvable = sides_solvable c.args.c c.sides.ensur
 pub turn_rows-requires : goal.turn_rows-requires
 turn_rows-requires c =
     let s = c.sides.ensures in
-    record {
-      room = omega (arith, s.begun.count, s.begun.spare.room, s.count);
-      over = s.begun.over;
-      lent = s.front_lent;
-    }
+    record { room = omega (arith, s.begun.count, s.begun.spare.room, s.count); over = s.begun.over; lent = s.front_lent }
 
 pub push_unit-requires : goal.push_unit-requires
 push_unit-requires c =
     let turn = λ (k : Kept). eliminated (row_of c.sides.result.2) c.args.c (lent_row c.sides.result.0 k) in
     let first = first_made turn c.sides.ensures c.turn_rows.new.next c.in_ok-turn_rows.ensures.ok in
-    record {
-      room = omega (arith, first.count, first.spare.room);
-      column = omega (arith, first.spare.unknowns, c.requires.pivot.column);
-    }
+    record { room = omega (arith, first.count, first.spare.room); column = omega (arith, first.spare.unknowns, c.requires.pivot.column) }
 
 pub turn_rows-requires-2 : goal.turn_rows-requires-2
 turn_rows-requires-2 c =
     let s = c.sides.ensures in
     let turn = λ (k : Kept). eliminated (row_of c.sides.result.2) c.args.c (lent_row c.sides.result.0 k) in
     let second = second_made turn s c.turn_rows.new.next c.push_unit.new.self _ c.in_ok-turn_rows.ensures.ok c.push_unit.ensures in
-    record {
-      room = omega (arith, second.count, second.spare.room);
-      over = second.over;
-      lent = s.back_lent;
-    }
+    record { room = omega (arith, second.count, second.spare.room); over = second.over; lent = s.back_lent }
 
 pub returns-in_err-turn_rows-clause-listed : goal.returns-in_err-turn_rows-clause-listed
 returns-in_err-turn_rows-clause-listed c =

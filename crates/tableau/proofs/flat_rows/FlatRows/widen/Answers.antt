@@ -1,5 +1,4 @@
-use Rattle.tableau.proofs.Words.{◌∙◌, ap, sym, map, widened, row_kept, with_rows}
-use Rattle.std.proofs.lemmas.Simd.{map-map}
+use Rattle.tableau.proofs.Words.{◌∙◌, ap, sym, map, widened, row_kept, with_rows, map-map}
 use Rattle.tableau.proofs.flat_rows.FlatRows.widen.Goals as goal
 
 pub returns : goal.returns

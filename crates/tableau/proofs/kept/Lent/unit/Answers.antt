@@ -1,5 +1,4 @@
-use Rattle.tableau.proofs.Words.{◌∙◌, subst, sym, rules, IsShortRow}
-use Rattle.row_laws.proofs.Solved.{unit_short}
+use Rattle.tableau.proofs.Words.{◌∙◌, subst, sym, rules, IsShortRow, unit_short}
 use Rattle.tableau.proofs.UnitRun.{lent_unit}
 use Rattle.tableau.proofs.kept.Lent.unit.Goals as goal
 
