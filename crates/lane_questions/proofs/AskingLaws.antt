@@ -1,19 +1,15 @@
 -- What is kept of a context in lanes, from question to question.
-use Rattle.lane_questions.proofs.Words.{◌≡◌, ◌∙◌, refl, ap, sym, subst, ℕ, ◌+◌, ◌≤◌, ℤ, false, arith, zero, suc, List, [], ◌∷◌, ◌++◌, length, take, length-append, length-map, length-take-le, take-take, take-append-le, take-map, take_all, IsTrue, IfSome, Option, Some, None, IsNarrow, lanes_of, all_lanes, AreFirst, LaneVertex, IsKeptLanes, IsEndedLanes, IsQuestion, LaneState, IsAsking, IsBegun, IsMade, unkept}
+use Rattle.lane_questions.proofs.Words.{◌≡◌, ◌∙◌, refl, ap, sym, subst, ℕ, ◌+◌, ◌≤◌, ℤ, false, arith, suc, List, [], ◌∷◌, ◌++◌, length, take, length-append, length-map, length-take-le, take-take, take-append-le, take-map, take_all, IsTrue, IfSome, Option, Some, None, IsNarrow, lanes_of, all_lanes, AreFirst, LaneVertex, IsKeptLanes, IsEndedLanes, IsQuestion, LaneState, IsAsking, IsBegun, IsMade, unkept}
 
 -- ---- the first of some forms
 
 front_le : {X : Type 0} → (f m : ℕ) (K : List X) → length (take f (take m K)) ≤ length (take f K)
-front_le zero m K = omega arith
-front_le (suc f) zero K = omega arith
-front_le (suc f) (suc m) [] = omega arith
 front_le (suc f) (suc m) (x ∷ K) = omega (arith, front_le f m K)
+front_le _ _ _ = omega arith
 
 front_is : {X : Type 0} → (f m : ℕ) (K : List X) → take (length (take f (take m K))) (take f K) ≡ take f (take m K)
-front_is zero m K = refl
-front_is (suc f) zero K = refl
-front_is (suc f) (suc m) [] = refl
 front_is (suc f) (suc m) (x ∷ K) = ap (λ (xs : List _). x ∷ xs) (front_is f m K)
+front_is _ _ _ = refl
 
 module _ (n : ℕ) (K : List (List ℤ)) (s : LaneState) (was : IsAsking n K s) where
   -- one form more

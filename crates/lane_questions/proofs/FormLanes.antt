@@ -5,15 +5,11 @@ use Rattle.lanes.specs.Narrow.{IsNarrow}
 -- ---- the sum of sizes
 
 pub norm_step : (zs : List ℤ) (k i : ℕ) → i ≡ k + 1 → norm (take i zs) ≡ norm (take k zs) + unsigned_abs (entry zs k)
-norm_step [] zero zero e = absurd (omega arith)
 norm_step [] zero (suc i) e = refl
-norm_step [] (suc k) zero e = absurd (omega arith)
 norm_step [] (suc k) (suc i) e = refl
-norm_step (z ∷ zs) zero zero e = absurd (omega arith)
 norm_step (z ∷ zs) zero (suc zero) e = omega arith
-norm_step (z ∷ zs) zero (suc (suc i)) e = absurd (omega arith)
-norm_step (z ∷ zs) (suc k) zero e = absurd (omega arith)
 norm_step (z ∷ zs) (suc k) (suc i) e = omega (arith, norm_step zs k i (omega arith))
+norm_step _ _ _ e = absurd (omega arith)
 
 -- opposites have the same sizes
 norm_negate : (zs : List ℤ) → norm (negate zs) ≡ norm zs

@@ -11,10 +11,9 @@ counts_one w h = let e : nat_lt w.pivots w.budget.pivots ≡ true = grind arith 
 pub counts_all : (k : ℕ) (w : Work) → w.pivots + k ≤ w.budget.pivots → counted_pivots k w ≡ Done tt (record w { pivots = w.pivots + k })
 counts_all zero w h = let e : w.pivots ≡ w.pivots + 0 = omega arith in ap (λ (p : ℕ). Done tt (record w { pivots = p })) e
 counts_all (suc k) w h =
-    let e : w.pivots + 1 + k ≡ w.pivots + suc k = omega arith in
     ap (λ o. go_on o (λ counted. counted_pivots k)) (counts_one w (omega (arith, h)))
     ∙ counts_all k (record w { pivots = w.pivots + 1 }) (omega (arith, h))
-    ∙ ap (λ (p : ℕ). Done tt (record w { pivots = p })) e
+    ∙ ap (λ (p : ℕ). Done tt (record w { pivots = p })) (omega arith)
 
 -- ---- whether a context has a point, and whether it has one with one form more
 
@@ -43,9 +42,7 @@ found_by_run (suc n) K w some = by_run (suc n) K w refl
 
 all_forms : (n : ℕ) (F : List (List ℤ)) → AreModest n F → AllForms n 0 F
 all_forms n [] h = tt
-all_forms n (f ∷ F) h =
-    let one : length f ≡ n + 1 = (h 0 [] (omega arith)).long in
-    (omega (arith, one), all_forms n F (λ k d lt. h (suc k) d (omega (arith, lt))))
+all_forms n (f ∷ F) h = (omega (arith, ((h 0 [] (omega arith)).long)), all_forms n F (λ k d lt. h (suc k) d (omega (arith, lt))))
 
 module _ (n : ℕ) (F : List (List ℤ)) where
   abbrev units : List Row

@@ -75,11 +75,10 @@ module _ (n : ℕ) (K : List (List ℤ)) (c : List ℤ) (all : List (List ℤ)) 
 
     pub row_behind : AreUnused v.table.unknowns row → entry row 0 <ℤ pos 0 → IsRowBelow v.table F row
     row_behind unused lt =
-        let below : is_nonneg (constant R.constant) ≡ false = sym sign ∙ below_zero (entry row 0) lt in
         let e : 0 + length E ≡ length E = omega arith in
         record {
           place = length E;
-          first = ap (negative_from 0) all_rows ∙ last_below E R 0 is.kept.end below ∙ ap Some e;
+          first = ap (negative_from 0) all_rows ∙ last_below E R 0 is.kept.end (sym sign ∙ below_zero (entry row 0) lt) ∙ ap Some e;
           within = subst (λ (rows : List Row). length E < length rows) (sym all_rows) (let l = length-append E (R ∷ []) in omega (arith, l));
           lanes = lanes;
           unused = unused;

@@ -59,13 +59,11 @@ question_fits n K c all one v is lanes =
 
 no_point : (o : Outcome (Option (List ℤ))) (v : Work) → go_on o (λ p. give (is_some p)) ≡ Done false v → o ≡ Done None v
 no_point (Done None u) v e = let same : u ≡ v = cc in ap (Done None) same
-no_point (Done (Some p) u) v e = absurd cc
-no_point (Refused f u) v e = absurd cc
+no_point _ v e = absurd cc
 
 some_point : (o : Outcome (Option (List ℤ))) (v : Work) → go_on o (λ p. give (is_some p)) ≡ Done true v → (p : List ℤ) × (o ≡ Done (Some p) v)
-some_point (Done None u) v e = absurd cc
 some_point (Done (Some p) u) v e = let same : u ≡ v = cc in (p, ap (Done (Some p)) same)
-some_point (Refused f u) v e = absurd cc
+some_point _ v e = absurd cc
 
 refused_point : (o : Outcome (Option (List ℤ))) (f : Refusal) (v : Work) → go_on o (λ p. give (is_some p)) ≡ Refused f v → o ≡ Refused f v
 refused_point (Done p u) f v e = absurd cc

@@ -12,10 +12,9 @@ pub gcd_narrow : (a b : ℤ) → IsNarrow a → IsNarrow b → IsNarrow (gcd a b
 gcd_narrow a b h k = euclid_below (unsigned_abs a) (unsigned_abs b) (2 ^ 31) h k
 
 smaller : (a d : ℤ) → pos 1 ≤ℤ d → unsigned_abs (floor_div a d) ≤ unsigned_abs a
-smaller a (pos zero) h = absurd (omega (arith, ints))
-smaller a (negsuc d) h = absurd (omega (arith, ints))
 smaller (pos n) (pos (suc d)) h = div-le_self n (suc d)
 smaller (negsuc n) (pos (suc d)) h = let small = div-le_self n (suc d) in omega (arith, small)
+smaller a _ h = absurd (omega (arith, ints))
 
 pub quotient_narrow : (a d : ℤ) → pos 1 ≤ℤ d → IsNarrow a → IsNarrow (floor_div a d)
 quotient_narrow a d h k = let small = smaller a d h in omega (arith, small, k)
@@ -84,8 +83,7 @@ lanes_divided d c h some =
 -- the tightened form in lanes, by the size of the divisor
 pub kept_lanes : (d : ℤ) (c form : List ℤ) → form ≡ lanes_of c → d ≡ gcd_of (drop 1 form) → pos 0 ≤ℤ d → d ≤ℤ pos 1 → form ≡ lanes_of (tighten c)
 kept_lanes d c form is e low small =
-    let divisor : d ≡ gcd_of (coefficients c) = e ∙ ap (λ (zs : List ℤ). gcd_of (drop 1 zs)) is ∙ common_in_lanes c in
-    is ∙ ap lanes_of (sym (tighten_kept d c divisor low small))
+    is ∙ ap lanes_of (sym (tighten_kept d c (e ∙ ap (λ (zs : List ℤ). gcd_of (drop 1 zs)) is ∙ common_in_lanes c) low small))
 
 pub divided_lanes : (d : ℤ) (c form : List ℤ) → form ≡ lanes_of c → d ≡ gcd_of (drop 1 form) → pos 1 <ℤ d → 0 < length c → floor_divided d form ≡ lanes_of (tighten c)
 divided_lanes d c form is e some long =

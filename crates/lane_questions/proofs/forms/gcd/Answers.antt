@@ -8,9 +8,7 @@ overflow_cast-result c =
     fits_signed_from_abs w32 (to_z w64 (of_z w64 c.short_gcd.result)) (rw value (gcd_narrow c.args.a c.args.b c.requires.a c.requires.b))
 
 pub returns-clause-value : goal.returns-clause-value
-returns-clause-value c =
-    let value : to_z w64 (of_z w64 c.short_gcd.result) ≡ gcd c.args.a c.args.b = search rules in
-    to_z-of_z w32 (to_z w64 (of_z w64 c.short_gcd.result)) (overflow_cast-result c) ∙ value
+returns-clause-value c = to_z-of_z w32 (to_z w64 (of_z w64 c.short_gcd.result)) (overflow_cast-result c) ∙ (search rules)
 
 pub returns-clause-low : goal.returns-clause-low
 returns-clause-low c = rw (returns-clause-value c) (omega (arith, ints))

@@ -26,8 +26,7 @@ returns-clause-value c = λ form some is.
 pub returns-clause-within : goal.returns-clause-within
 returns-clause-within c =
     let negated : c.get-constant.result ≡ entry (negate c.args.form) 0 = c.get-constant.ensures.value ∙ ap (λ (zs : List ℤ). entry zs 0) c.minus-negated.ensures.value in
-    let small = small_first c.args.form c.get-constant.result c.get.ensures.lanes c.requires negated in
-    let less = less_held c.get-constant.result small in
+    let less = less_held c.get-constant.result (small_first c.args.form c.get-constant.result c.get.ensures.lanes c.requires negated) in
     let constant = less ∙ ap (λ (z : ℤ). z -ℤ pos 1) (negated ∙ entry-negate c.args.form 0) in
     let made = c.with.ensures.value ∙ ap (λ (zs : List ℤ). slice_set zs 0 (to_z w32 (of_z w32 (to_z w32 (of_z w32 c.get-constant.result) -ℤ pos 1)))) c.minus-negated.ensures.value in
     record { lanes = c.with.ensures.lanes; norm = norm_opposite c.args.form c.with.result _ c.get.ensures.lanes constant made }

@@ -5,8 +5,7 @@ use Rattle.lane_questions.proofs.kept.KeptLanes.ask_readable.Goals as goal
 
 pub find-requires-clause-within : goal.find-requires-clause-within
 find-requires-clause-within c =
-    let one : c.from_ref.result.now ≡ c.args.form ∷ [] = search rules in
-    subst (λ (xs : List (List ℤ)). AreWithin c.args.forms.norm (c.args.forms.forms.now ++ xs)) (sym one)
+    subst (λ (xs : List (List ℤ)). AreWithin c.args.forms.norm (c.args.forms.forms.now ++ xs)) (sym (search rules))
     (within_pushed c.args.forms.norm (norm c.args.form) c.args.forms.norm c.args.forms.forms.now c.args.form (omega arith) c.requires.form.norm c.requires.within c.requires.form.lanes refl)
 
 pub returns-clause-gives : goal.returns-clause-gives

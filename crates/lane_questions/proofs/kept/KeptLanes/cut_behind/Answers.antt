@@ -1,4 +1,4 @@
-use Rattle.lane_questions.proofs.Words.{rules, ◌≡◌, ◌∙◌, ◌++◌, ap, sym, subst, Bool, true, None, ℤ, List, AgreesCounted, first_fraction, Done, counted_none, ScaledTable, stop_fault, finds_point, negative_from, LaneVertex, run_rows, forms_of}
+use Rattle.lane_questions.proofs.Words.{rules, ◌≡◌, ◌∙◌, ◌++◌, ap, sym, subst, Bool, true, None, ℤ, List, AgreesCounted, Done, counted_none, ScaledTable, stop_fault, finds_point, negative_from, LaneVertex, run_rows, forms_of}
 use Rattle.lane_run.proofs.CutTurns.{point_found}
 use Rattle.lane_questions.proofs.kept.KeptLanes.cut_behind.Goals as goal
 
@@ -6,10 +6,9 @@ pub returns-then-is_none-clause-gives : goal.returns-then-is_none-clause-gives
 returns-then-is_none-clause-gives c = λ F e above.
     let t = c.self.inside.rows in
     let same = ap (λ (v : LaneVertex). v.table) c.self.view_is in
-    let whole : first_fraction c.self.inside.rows.unknowns c.self.inside.rows.rows ≡ None = search rules in
     record {
       agrees = subst (λ (x : ScaledTable). negative_from 0 (run_rows x F) ≡ None → finds_point x.unknowns (run_rows x F) c.args.work.now ≡ Done true c.args.work.now) same
-          (λ none. point_found t t.most c.scale.ensures.rows c.unknowns.ensures.rows F none c.args.work.now whole) above;
+          (λ none. point_found t t.most c.scale.ensures.rows c.unknowns.ensures.rows F none c.args.work.now (search rules)) above;
       counted = counted_none c.args.work.now;
     }
 

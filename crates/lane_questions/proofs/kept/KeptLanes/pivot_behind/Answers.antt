@@ -24,9 +24,8 @@ returns-clause-gives c = λ F modest below e.
     let same = ap (λ (v : LaneVertex). v.table) c.self.view_is in
     let v = c.count_pivot.new.self in
     let counted : count_pivot c.args.work.now ≡ Done tt c.count_pivot.new.self = search rules in
-    let copied : c.copy_from.new.self ≡ c.self.inside.rows = search rules in
     let made : IsPivoted c.copy_from.new.self c.pivot_at.new.rows c.args.row c.in-Some.c = search rules in
-    let pivoted = subst (λ (t : ScaledTable). IsPivoted t c.pivot_at.new.rows c.args.row c.in-Some.c) (copied ∙ same) made in
+    let pivoted = subst (λ (t : ScaledTable). IsPivoted t c.pivot_at.new.rows c.args.row c.in-Some.c) ((search rules) ∙ same) made in
     let told = c.run_in_lanes.ensures.gives in
     let on = goes_on_pivoted c.args.self.now.table c.pivot_at.new.rows c.args.row c.in-Some.c F _ c.args.work.now v pivoted modest below e counted in
     record {

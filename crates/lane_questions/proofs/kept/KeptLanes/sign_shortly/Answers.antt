@@ -39,8 +39,7 @@ returns-then-not-branch-clause-gives c = λ n K form is.
     let fit = question_fits n K form all one v asked c.in-Some.ensures.lanes in
     let below = opposite_question n K form all one c.opposite-below.result v asked (c.opposite-below.ensures.value form is.narrow.some is.form) in
     let told = c.ask_readable.ensures.gives n K (opposite form) below in
-    let none : has_point n (K ++ opposite form ∷ []) c.args.work.now ≡ Done false c.ask_readable.new.work = search (rules, told) in
-    record { agrees = nowhere_below n K form c.args.work.now fit c.ask_readable.new.work none; counted = told.counted }
+    record { agrees = nowhere_below n K form c.args.work.now fit c.ask_readable.new.work (search (rules, told)); counted = told.counted }
 
 pub returns-in_err-ask_readable-2-clause-gives : goal.returns-in_err-ask_readable-2-clause-gives
 returns-in_err-ask_readable-2-clause-gives c = λ n K form is.
@@ -65,11 +64,10 @@ returns-then-not-branch-2-clause-gives c = λ n K form is.
     let fit = question_fits n K form all one v asked c.in-Some.ensures.lanes in
     let below = opposite_question n K form all one c.opposite-below.result v asked (c.opposite-below.ensures.value form is.narrow.some is.form) in
     let first = c.ask_readable.ensures.gives n K (opposite form) below in
-    let some : has_point n (K ++ opposite form ∷ []) c.args.work.now ≡ Done true c.ask_readable.new.work = search (rules, first) in
     let told = c.ask_readable-2.ensures.gives n K form asked in
     let none : has_point n (K ++ form ∷ []) c.ask_readable.new.work ≡ Done false c.ask_readable-2.new.work = search (rules, told) in
     record {
-      agrees = everywhere_below n K form c.args.work.now fit c.ask_readable.new.work some c.ask_readable-2.new.work none;
+      agrees = everywhere_below n K form c.args.work.now fit c.ask_readable.new.work (search (rules, first)) c.ask_readable-2.new.work none;
       counted = counted_on c.args.work.now c.ask_readable.new.work c.ask_readable-2.new.work first.counted told.counted;
     }
 
@@ -82,10 +80,9 @@ returns-clause-gives c = λ n K form is.
     let fit = question_fits n K form all one v asked c.in-Some.ensures.lanes in
     let below = opposite_question n K form all one c.opposite-below.result v asked (c.opposite-below.ensures.value form is.narrow.some is.form) in
     let first = c.ask_readable.ensures.gives n K (opposite form) below in
-    let some : has_point n (K ++ opposite form ∷ []) c.args.work.now ≡ Done true c.ask_readable.new.work = search (rules, first) in
     let told = c.ask_readable-2.ensures.gives n K form asked in
     let found : has_point n (K ++ form ∷ []) c.ask_readable.new.work ≡ Done true c.ask_readable-2.new.work = search (rules, told) in
     record {
-      agrees = of_both_signs n K form c.args.work.now fit c.ask_readable.new.work some c.ask_readable-2.new.work found;
+      agrees = of_both_signs n K form c.args.work.now fit c.ask_readable.new.work (search (rules, first)) c.ask_readable-2.new.work found;
       counted = counted_on c.args.work.now c.ask_readable.new.work c.ask_readable-2.new.work first.counted told.counted;
     }

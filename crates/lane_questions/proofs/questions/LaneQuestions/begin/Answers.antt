@@ -25,9 +25,8 @@ returns-then-self-len-clause-asking c K was =
     let n = c.args.places in
     let s : LaneState = the_view c.self.inside in
     let before : IsAsking n K s = subst (IsAsking n K) (sym c.self.view_is) was in
-    let is_kept : IsTrue c.self.inside.is_kept = c.if-not-self.false in
     unkept_from n K s before n (record s { earlier = c.copy_from-self-inside.new.self; is_earlier = c.copy_from-self-inside.result; fewer = s.known }) (asked_first n K s before)
-    (λ h. copied_earlier n K s before c.copy_from-self-inside.new.self is_kept (c.copy_from-self-inside.ensures h))
+    (λ h. copied_earlier n K s before c.copy_from-self-inside.new.self c.if-not-self.false (c.copy_from-self-inside.ensures h))
 
 pub returns-else-self-len-clause-begun : goal.returns-else-self-len-clause-begun
 returns-else-self-len-clause-begun c told K was =

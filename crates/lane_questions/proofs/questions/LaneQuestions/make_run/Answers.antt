@@ -22,7 +22,4 @@ returns-clause-made c told =
     let all : c.read.new.self.forms ≡ all_lanes K = c.read.ensures.all c.if-not-read.false in
     let forms : c.self-2.inside.forms.forms ≡ all_lanes K = ap (λ (s : LaneState). s.forms) c.self-2.view_is ∙ c.begin.ensures.forms ∙ all in
     let begun : IsBegun n K (the_view c.self-2.inside) = subst (IsBegun n K) (sym c.self-2.view_is) (c.begin.ensures.begun c.if-not-begin.false K read) in
-    record {
-      forms = forms;
-      kept = c.extend.ensures told n c.self-2.inside.known K c.requires.context forms begun.kept;
-    }
+    record { forms = forms; kept = c.extend.ensures told n c.self-2.inside.known K c.requires.context forms begun.kept }
