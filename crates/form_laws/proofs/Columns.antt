@@ -232,17 +232,21 @@ module _ {n w : ℕ} {rows : List Row} {L : ℤ} {m : ℕ} {numbers : List ℤ} 
 
   module _ (f : List ℤ) (bound : norm f * m < 2 ^ 63) where
     pub form_summable : (k : ℕ) → length f ≡ n + (w + 1) → k < n + w + 1 → IsSummable f (over L (part n k) rows)
-    form_summable k wide lt = summable m f (over L (part n k) rows) (omega (arith, length_over L (part n k) rows, h.size, wide)) some_most (column_within k lt) bound
+    form_summable k wide lt =
+        summable m f (over L (part n k) rows) (omega (arith, length_over L (part n k) rows, h.size, wide)) some_most (column_within k lt) bound
 
     pub place_step : (j : ℕ) → j < w + 1 → OwnStep f (over L (place j) rows) L (n + j)
     place_step j lt =
         subst (λ (k : ℕ). OwnStep f (over L (place j) rows) L (k + j)) (length_over L (place j) rows ∙ h.size)
-        (own_step m L f (over L (place j) rows) j some_most h.common (subst (All (λ z. unsigned_abs z ≤ m)) (part_place n j L rows) (column_within (n + j) (omega (arith, lt)))) bound)
+        (own_step m L f (over L (place j) rows) j some_most h.common
+        (subst (All (λ z. unsigned_abs z ≤ m)) (part_place n j L rows) (column_within (n + j) (omega (arith, lt)))) bound)
 
     coefficient_short : (k : ℕ) → k < n → unsigned_abs (dot f (over L (coef k) rows)) < 2 ^ 63
     coefficient_short k lt =
-        let within : All (λ z. unsigned_abs z ≤ m) (over L (coef k) rows) = subst (All (λ z. unsigned_abs z ≤ m)) (part_coef n k L rows lt) (column_within k (omega (arith, lt))) in
-        let sum = subst (λ (c : List ℤ). unsigned_abs (dot f c) ≤ norm f * m) (take_all n (over L (coef k) rows) (omega (arith, length_over L (coef k) rows, h.size))) (sum_within m f (over L (coef k) rows) n within) in
+        let within : All (λ z. unsigned_abs z ≤ m) (over L (coef k) rows)
+        = subst (All (λ z. unsigned_abs z ≤ m)) (part_coef n k L rows lt) (column_within k (omega (arith, lt))) in
+        let sum = subst (λ (c : List ℤ). unsigned_abs (dot f c) ≤ norm f * m) (take_all n (over L (coef k) rows) (omega (arith, length_over L (coef k) rows, h.size)))
+        (sum_within m f (over L (coef k) rows) n within) in
         omega (arith, sum, bound)
 
     all_counted : (g : ℕ → ℤ) (i : ℕ) → ((k : ℕ) → k < i → unsigned_abs (g k) < 2 ^ 63) → All IsShort (map g (count_from 0 i))

@@ -85,7 +85,8 @@ module _ (t : TableauRows) (b : Basis) (forms : List (List ℤ)) (h : All (IsRea
       → IsBasis t.unknowns t.width (map (eliminated (row_at (all_rows t b forms).rows r) c) t.rows) a.scale a.most a.columns.items
       → all_rows (record t { rows = map (eliminated (row_at (all_rows t b forms).rows r) c) t.rows }) a forms ≡ record (all_rows t b forms) { rows = pivot (all_rows t b forms).rows r c }
   all_pivot r c a lt inside above now =
-      ap (λ (rows : List Row). record t { rows = rows }) (forms_pivot t.unknowns t.width t.rows b.scale b.most b.columns.items first forms wide r c a.scale lt inside above now.positive now.rows)
+      ap (λ (rows : List Row). record t { rows = rows })
+      (forms_pivot t.unknowns t.width t.rows b.scale b.most b.columns.items first forms wide r c a.scale lt inside above now.positive now.rows)
 
   pub read_after : (now : TableauRows) (a : Basis) (most : ℕ) → now.unknowns ≡ t.unknowns → now.width ≡ t.width → IsBasis now.unknowns now.width now.rows a.scale a.most a.columns.items
       → All (λ f. norm f ≤ most) forms → most * a.most < 2 ^ 63 → All (IsRead now a) forms
