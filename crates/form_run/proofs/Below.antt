@@ -1,18 +1,11 @@
 -- The first row below 0 among rows that are read off their forms.
-use Rattle.form_run.proofs.Words.{◌≡◌, ◌∙◌, refl, ap, sym, subst, ℕ, suc, ◌+◌, ◌-◌, ◌<◌, ◌≤◌, ℤ, pos, negsuc, ◌*ℤ◌, ◌≤ℤ◌, ◌<ℤ◌, arith, Bool, true, false, Option, Some, None, List, [], ◌∷◌, ◌++◌, length, map, drop, get_or, length-append, if◌then◌else◌, ints, drop_more, drop_all, drop-append-le, get_or-map, length-map, map-append, is_nonneg, entry, constant, Row, row_at, form_row, entry-scale, TableauRows, place, wide_by_form, negative_from, Basis, IsRead, valued, combined, read, IsAbove, behind, constant_is, negative-front}
-use Rattle.std.specs.Prelude.{All}
-use Rattle.std.proofs.lemmas.List.{length-drop}
+use Rattle.form_run.proofs.Words.{◌≡◌, ◌∙◌, refl, ap, sym, subst, ℕ, suc, ◌+◌, ◌-◌, ◌<◌, ◌≤◌, ℤ, pos, negsuc, ◌*ℤ◌, ◌≤ℤ◌, ◌<ℤ◌, arith, Bool, true, false, Option, Some, None, List, [], ◌∷◌, ◌++◌, length, map, drop, get_or, length-append, if◌then◌else◌, ints, drop_more, drop_all, drop-append-le, get_or-map, length-map, map-append, is_nonneg, entry, constant, Row, row_at, form_row, entry-scale, TableauRows, place, wide_by_form, negative_from, Basis, IsRead, valued, combined, read, IsAbove, behind, constant_is, negative-front, is_nonneg_is, All, length-drop, below_behind}
 use Rattle.form_basis.proofs.Divided.{undivided}
 
 same_sign : (x : ℕ) (z k : ℤ) → 0 < x → pos x *ℤ z ≡ k → is_nonneg z ≡ is_nonneg k
-same_sign x (pos n) (pos k) h e = refl
 same_sign x (pos n) (negsuc k) h e = absurd (omega (arith, ints))
 same_sign x (negsuc n) (pos k) h e = absurd (omega (arith, ints))
-same_sign x (negsuc n) (negsuc k) h e = refl
-
-pub nonneg_is : (x : ℤ) → pos 0 ≤ℤ x → is_nonneg x ≡ true
-nonneg_is (pos x) h = refl
-nonneg_is (negsuc x) h = absurd (omega (arith, ints, h))
+same_sign x _ _ h e = refl
 
 pub negative_is : (x : ℤ) → x <ℤ pos 0 → is_nonneg x ≡ false
 negative_is (pos x) h = absurd (omega (arith, ints, h))
@@ -63,7 +56,7 @@ module _ (t : TableauRows) (b : Basis) (forms : List (List ℤ)) (h : All (IsRea
 
     pub form_above : pos 0 ≤ℤ v → negative_from k (map (read t b) forms) ≡ negative_from (k + i) (drop i (map (read t b) forms)) → negative_from k (map (read t b) forms) ≡ negative_from (k + (i + 1)) (drop (i + 1) (map (read t b) forms))
     unfolding rows
-    form_above above before = before ∙ below_more rows k i inside (sign_here ∙ nonneg_is v above)
+    form_above above before = before ∙ below_more rows k i inside (sign_here ∙ is_nonneg_is v above)
 
     pub form_negative : v <ℤ pos 0 → negative_from k (map (read t b) forms) ≡ negative_from (k + i) (drop i (map (read t b) forms)) → behind k (Some i) ≡ negative_from k (map (read t b) forms)
     unfolding rows
@@ -78,15 +71,6 @@ starts_below rows k = let e : k ≡ k + 0 = omega arith in ap (λ (j : ℕ). neg
 
 -- ---- rows in two parts
 
-pub below_behind : (R S : List Row) (i : ℕ) → negative_from i R ≡ None → negative_from i (R ++ S) ≡ negative_from (i + length R) S
-below_behind [] S i e = let s : i ≡ i + 0 = omega arith in ap (λ (j : ℕ). negative_from j S) s
-below_behind (x ∷ R) S i e = by (is_nonneg (constant x.constant)) e (below_behind R S (i + 1))
-  where
-    by : (t : Bool) → (if t then negative_from (i + 1) R else Some i) ≡ None → (negative_from (i + 1) R ≡ None → negative_from (i + 1) (R ++ S) ≡ negative_from ((i + 1) + length R) S)
-        → (if t then negative_from (i + 1) (R ++ S) else Some i) ≡ negative_from (i + suc (length R)) S
-    by true e later = let s : (i + 1) + length R ≡ i + suc (length R) = omega arith in later e ∙ ap (λ (j : ℕ). negative_from j S) s
-    by false e later = absurd cc
-
 pub behind_all : (R S : List Row) (o : Option ℕ) → negative_from 0 R ≡ None → behind (length R) o ≡ negative_from (length R) S → behind (length R) o ≡ negative_from 0 (R ++ S)
 behind_all R S o above e =
     let s : 0 + length R ≡ length R = omega arith in
@@ -96,12 +80,6 @@ behind_all R S o above e =
 
 pub none_above : (t : TableauRows) (b : Basis) (forms : List (List ℤ)) → IsAbove t b forms 0
 none_above t b forms = record { within = omega arith; first = starts_below (map (read t b) forms) (length t.rows) }
-
-pub all_above : (t : TableauRows) (b : Basis) (forms : List (List ℤ)) (i : ℕ) → i ≡ length forms → behind (length t.rows) None ≡ negative_from (length t.rows) (map (read t b) forms) → IsAbove t b forms i
-all_above t b forms i long none = record {
-  within = omega (arith, long);
-  first = sym none ∙ sym (ap (negative_from (length t.rows + i)) (drop_all i (map (read t b) forms) (omega (arith, long, length-map forms (read t b)))));
-}
 
 first_of_all : (rows S : List Row) (k i : ℕ) → i ≤ length rows → negative_from k rows ≡ negative_from (k + i) (drop i rows) → negative_from k (rows ++ S) ≡ negative_from (k + i) (drop i (rows ++ S))
 first_of_all rows S k i le e =

@@ -7,6 +7,3 @@ factors_more L rows j old new q lt e f g = g ∙ rw (e, f) (sym (map_more (λ (r
 
 pub factors_all : (L : ℤ) (rows : List Row) (j : ℕ) → length rows ≡ j → factors_of L (take j rows) ≡ factors_of L rows
 factors_all L rows j e = ap (factors_of L) (take_all j rows (omega arith))
-
-pub factor_here : (L : ℤ) (rows : List Row) (j : ℕ) (factors : List ℤ) (d : ℤ) → factors ≡ factors_of L rows → j < length rows → get_or factors j d ≡ floor_div L (row_at rows j).den
-factor_here L rows j factors d e lt = rw e (get_or-map (λ (r : Row). floor_div L r.den) rows j (form_row 0 []) d lt)

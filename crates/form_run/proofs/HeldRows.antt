@@ -1,6 +1,6 @@
 -- Rows of forms behind the places' rows: the column that enters, the first fraction, a pivot.
 use Rattle.std.proofs.Common.{All}
-use Rattle.form_run.proofs.Words.{◌≡◌, ◌∙◌, refl, ap, sym, ℕ, ◌+◌, ◌-◌, ◌*◌, ◌^◌, ◌<◌, ◌≤◌, ℤ, pos, ◌≤ℤ◌, arith, true, List, [], ◌∷◌, ◌++◌, length, map, take, get_or, length-append, ints, mul-le, take-append-le, length-map, get_or-map, get_or_append_left, get_or-append-add, entry, all_fit, Row, row_at, form_row, eliminated, pivot, pivot_listed, entering, entering_of, entering_listed, entering_of_listed, candidates, first_fraction, fraction_from, TableauRows, by_form, Kept, Form, turned, rows_by, norm, pivot_made, are_made, made_forms, none_refused, all_over, Basis, NumberLists, IsMeasured, IsRead, read, IsHeld, all_rows}
+use Rattle.form_run.proofs.Words.{◌≡◌, ◌∙◌, refl, ap, sym, ℕ, ◌+◌, ◌-◌, ◌*◌, ◌^◌, ◌<◌, ◌≤◌, ℤ, pos, ◌≤ℤ◌, arith, true, List, [], ◌∷◌, ◌++◌, length, map, take, get_or, length-append, ints, mul-le, take-append-le, length-map, get_or-map, get_or_append_left, get_or-append-add, entry, all_fit, Row, row_at, form_row, eliminated, pivot, pivot_listed, entering, entering_of, entering_listed, entering_of_listed, candidates, first_fraction, fraction_from, TableauRows, by_form, Kept, Form, turned, rows_by, norm, pivot_made, are_made, made_forms, none_refused, all_over, Basis, NumberLists, IsMeasured, IsRead, read, IsHeld, all_rows, forms_pivot}
 
 -- ---- what is held
 
@@ -41,9 +41,6 @@ few n k s i e small lt = omega (arith, e, small, lt, mul-le 1 s k s (omega arith
 
 -- ---- rows by their places
 
-pub row_front : (R S : List Row) (j : ℕ) → j < length R → row_at (R ++ S) j ≡ row_at R j
-row_front R S j lt = get_or_append_left R S (form_row 0 []) j lt
-
 pub row_behind : (R S : List Row) (j : ℕ) → row_at (R ++ S) (length R + j) ≡ row_at S j
 row_behind R S j = get_or-append-add R S j (form_row 0 [])
 
@@ -72,14 +69,7 @@ module _ (P S : List Row) (p : Row) (r n : ℕ) (long : length P ≡ n) (narrow 
   pub listed_with : entering_listed (P ++ p ∷ []) (length P + 0) ≡ entering_listed (P ++ S) r
   listed_with = rw (last, is) (ap (λ (u : List Row). entering_of_listed u p (candidates p)) front)
 
-pub fraction_front : (n : ℕ) (P S : List Row) → n ≤ length P → first_fraction n (P ++ S) ≡ first_fraction n P
-fraction_front n P S le = ap (fraction_from 0) (take-append-le n P S le)
-
 -- ---- a pivot of all rows
-
-turned_forms : (p : Row) (c : ℕ) (forms : List (List ℤ)) → map (turned p c) (map Form forms) ≡ map Form forms
-turned_forms p c [] = refl
-turned_forms p c (f ∷ forms) = rw (turned_forms p c forms) refl
 
 module _ (t : TableauRows) (b : Basis) (forms columns : NumberLists) (most : ℕ) (h : IsHeld t b forms columns most) where
   pub all_listed : (r c : ℕ) → r < length (all_rows t b forms.lists).rows → c < t.unknowns → all_fit (pivot_listed (all_rows t b forms.lists).rows r c) ≡ true
@@ -89,16 +79,5 @@ module _ (t : TableauRows) (b : Basis) (forms columns : NumberLists) (most : ℕ
       → IsMeasured (record t { rows = map (eliminated (row_at (all_rows t b forms.lists).rows r) c) t.rows }) a
       → all_rows (record t { rows = map (eliminated (row_at (all_rows t b forms.lists).rows r) c) t.rows }) a forms.lists ≡ record (all_rows t b forms.lists) { rows = pivot (all_rows t b forms.lists).rows r c }
   all_pivot r c a lt inside above now =
-      let p = row_at (all_rows t b forms.lists).rows r in
-      let basis = map (eliminated p c) t.rows in
-      let after = pivot_made t.unknowns 0 t.rows (map Form forms.lists) (all_rows t b forms.lists).rows r c
-      (are_made t.unknowns 0 t.rows b.scale b.most b.columns.items h.basis forms.lists h.wide) lt inside (omega (arith, ints, above)) in
-      let is : pivot (all_rows t b forms.lists).rows r c ≡ rows_by t.unknowns 0 a.scale basis (map (turned p c) (map Form forms.lists)) =
-      after.is a.scale (omega (arith, ints, now.positive)) (all_over t.unknowns 0 a.scale basis now.rows) in
-      let same : rows_by t.unknowns 0 a.scale basis (map (turned p c) (map Form forms.lists)) ≡ basis ++ map (by_form t.unknowns 0 a.scale basis) forms.lists =
-      ap (λ (kept : List Kept). rows_by t.unknowns 0 a.scale basis kept) (turned_forms p c forms.lists)
-      ∙ ap (λ (rows : List Row). basis ++ rows) (made_forms t.unknowns 0 basis a.scale a.most a.columns.items now a.scale basis forms.lists) in
-      ap (λ (rows : List Row). record { unknowns = t.unknowns; width = 0; rows = rows }) (sym (is ∙ same))
-
-  pub mapped_long : (p : Row) (c : ℕ) → length (map (eliminated p c) t.rows) ≡ t.unknowns
-  mapped_long p c = length-map t.rows (eliminated p c) ∙ h.basis.size
+      ap (λ (rows : List Row). record { unknowns = t.unknowns; width = 0; rows = rows })
+      (forms_pivot t.unknowns 0 t.rows b.scale b.most b.columns.items h.basis forms.lists h.wide r c a.scale lt inside above now.positive now.rows)

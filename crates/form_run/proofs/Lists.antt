@@ -17,12 +17,6 @@ list_here s (suc k) (suc i) zs lt =
     list_here s k i (drop s zs) (omega arith)
     ∙ ap (take s) (drop-drop (i * s) s zs ∙ ap (λ (j : ℕ). drop j zs) (sym (one_more i s)))
 
-pub place_inside : (s k i z : ℕ) → z ≡ k * s → i < k → i * s + s ≤ z
-place_inside s k i z e lt = omega (arith, e, one_more i s, mul-le (suc i) s k s (omega arith) (omega arith))
-
-pub list_long : (s k i : ℕ) (zs : List ℤ) → length zs ≡ k * s → i < k → length (take s (drop (i * s) zs)) ≡ s
-list_long s k i zs e lt = length-take-le s (drop (i * s) zs) (omega (arith, length-drop (i * s) zs, place_inside s k i (length zs) e lt))
-
 pub lists_more : (s k : ℕ) (zs ys : List ℤ) → length zs ≡ k * s → length ys ≡ s → lists_in s (k + 1) (zs ++ ys) ≡ lists_in s k zs ++ ys ∷ []
 lists_more s zero [] ys e f = rw (take_all s ys (omega arith)) refl
 lists_more s zero (z ∷ zs) ys e f = absurd (none (length zs) s e)

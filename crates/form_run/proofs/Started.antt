@@ -1,9 +1,8 @@
 -- The first rows of a question's run, and what the run tells of the question.
 use Rattle.std.proofs.Common.{is_some, All}
-use Rattle.form_run.proofs.Words.{◌≡◌, ◌∙◌, refl, ap, sym, ℕ, zero, suc, ◌+◌, ◌≤◌, ℤ, arith, List, [], ◌∷◌, ◌++◌, length, map, append-nil, length-map, map-append, All-cons, All-append, widen_to, Tree, start, unit_row, count_from, Work, Outcome, Done, Refused, go_on, give, run_from, point, point_run, point_setting, length-count, length-widened, TableauRows, has_point, finds_point, first_rows, node_of}
+use Rattle.form_run.proofs.Words.{◌≡◌, ◌∙◌, refl, ap, sym, ℕ, zero, suc, ◌+◌, ◌≤◌, ℤ, arith, List, [], ◌∷◌, ◌++◌, length, map, append-nil, length-map, map-append, All-cons, All-append, widen_to, Tree, start, unit_row, count_from, Work, Outcome, Done, Refused, go_on, give, run_from, point, point_run, point_setting, length-count, length-widened, TableauRows, has_point, finds_point, first_rows, node_of, numbers_of}
 use Rattle.pip_model.specs.Contexts.{IsContext}
-use Rattle.pip_model.specs.Run.{numbers_of}
-use Rattle.short_run.proofs.Ending.{finds_here}
+use Rattle.short_run.proofs.Ending.{alone_is}
 
 pub start_long : (n w : ℕ) → length (start n w []) ≡ n
 start_long n w = ap length (append-nil (map (unit_row n w) (count_from 0 n))) ∙ length-map (count_from 0 n) (unit_row n w) ∙ length-count 0 n
@@ -21,22 +20,5 @@ first_is n K M lists t e is = e ∙ ap (λ (l : List (List ℤ)). record { unkno
 
 -- ---- whether a context has a point
 
-by_run : (n : ℕ) (K : List (List ℤ)) (w : Work) → point n K ≡ point_run n K → has_point n K w ≡ finds_point n (first_rows n K) w
-by_run n K w is =
-    ap (λ part. go_on (part w) (λ p. give (is_some p))) is
-    ∙ each (run_from (point_setting n) (node_of (first_rows n K)) w)
-  where
-    each : (o : Outcome Tree) → go_on (go_on o (λ t. give (numbers_of t))) (λ p. give (is_some p)) ≡ go_on o (λ t. give (is_some (numbers_of t)))
-    each (Done x v) = refl
-    each (Refused f v) = refl
-
-alone_is : (n : ℕ) (K : List (List ℤ)) (w : Work) → has_point n K w ≡ finds_point n (first_rows n K) w
-alone_is zero [] w = sym (finds_here 0 [] [] w (omega arith) refl refl refl)
-alone_is zero (c ∷ K) w = by_run zero (c ∷ K) w refl
-alone_is (suc n) K w = by_run (suc n) K w refl
-
 pub finds_is : (n : ℕ) (K : List (List ℤ)) (t : TableauRows) (w : Work) → t ≡ record { unknowns = n; width = 0; rows = first_rows n K } → finds_point t.unknowns t.rows w ≡ has_point n K w
 finds_is n K t w e = ap (λ (s : TableauRows). finds_point s.unknowns s.rows w) e ∙ sym (alone_is n K w)
-
-pub first_enough : (n : ℕ) (K : List (List ℤ)) (t : TableauRows) → t ≡ record { unknowns = n; width = 0; rows = first_rows n K } → n ≤ length (first_rows n K) → t.unknowns ≤ length t.rows
-first_enough n K t e h = rw e h

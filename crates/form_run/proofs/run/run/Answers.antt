@@ -1,6 +1,4 @@
-use Rattle.form_run.proofs.Words.{rules, ◌≡◌, ap, true, false, Bottom, Again, Closed, Done, turn, leaf, point_setting, go_on, give, stop_fault, node_of, HasSameScope, starts_run, run_goes_on, run_less, run_closed}
-use Rattle.std.specs.Prelude.{is_some}
-use Rattle.pip_model.specs.Run.{numbers_of}
+use Rattle.form_run.proofs.Words.{rules, ◌≡◌, ap, true, false, Bottom, Again, Closed, Done, turn, leaf, point_setting, go_on, give, stop_fault, node_of, HasSameScope, starts_run, run_goes_on, run_less, run_closed, is_some, numbers_of}
 use Rattle.form_run.proofs.run.run.Goals as goal
 
 pub loop-init : goal.loop-init

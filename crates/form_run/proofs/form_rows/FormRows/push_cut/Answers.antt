@@ -1,6 +1,5 @@
-use Rattle.form_run.proofs.Words.{rules, arith, ◌≡◌, ◌∙◌, [], ◌∷◌, ◌++◌, ap, sym, subst, ℕ, ◌+◌, ◌<◌, pos, ◌≤ℤ◌, length, constant_cut, Row, row_at, form_row, divided, row_of_numbers, TableauRows, with_row, NumberLists, read, IsHeld, IsAbove, all_rows}
+use Rattle.form_run.proofs.Words.{rules, arith, ◌≡◌, ◌∙◌, [], ◌∷◌, ◌++◌, ap, sym, subst, ℕ, ◌+◌, ◌<◌, pos, ◌≤ℤ◌, length, constant_cut, Row, row_at, form_row, divided, row_of_numbers, TableauRows, with_row, NumberLists, read, IsHeld, IsAbove, all_rows, row_at-front}
 use Rattle.form_run.proofs.Below.{above_more}
-use Rattle.form_run.proofs.HeldRows.{row_front}
 use Rattle.form_run.proofs.MadeCuts.{cut_divided, row_added, held_more}
 use Rattle.form_run.proofs.form_rows.FormRows.push_cut.Goals as goal
 
@@ -19,7 +18,7 @@ returns-clause-ok c =
     = ap (λ (k : ℕ). row_of_numbers k c.row_numbers-row.result.now) (sym n) ∙ c.row_numbers-row.ensures.value ∙ cut in
     ap (λ (l : NumberLists). all_rows s.places s.basis l.lists) forms
     ∙ row_added s.places s.basis s.forms.lists f (constant_cut (row_at s.places.rows i)) (made ∙ ap divided row ∙ cut_divided (row_at s.places.rows i) den)
-    ∙ ap (λ (q : Row). with_row (all_rows s.places s.basis s.forms.lists) (constant_cut q)) (sym (row_front s.places.rows _ i lt))
+    ∙ ap (λ (q : Row). with_row (all_rows s.places s.basis s.forms.lists) (constant_cut q)) (sym (row_at-front s.places.rows _ i lt))
     ∙ ap (λ (t : TableauRows). with_row t (constant_cut (row_at t.rows i))) c.self.view_is
 
 pub read_cut-requires : goal.read_cut-requires
