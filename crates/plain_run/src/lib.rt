@@ -1,4 +1,4 @@
-//! Problems without parameters, run over rows of 64 bits from their first forms to their tree.
+//! Problems without parameters and points of contexts, run over rows of 64 bits to their tree or point.
 #![tactic(auto)]
 
 mod point;
