@@ -1,5 +1,5 @@
 -- The first row below 0 among rows that are read off their forms.
-use Rattle.form_run.proofs.Words.{◌≡◌, ◌∙◌, refl, ap, sym, subst, ℕ, suc, ◌+◌, ◌-◌, ◌<◌, ◌≤◌, ℤ, pos, negsuc, ◌*ℤ◌, ◌≤ℤ◌, ◌<ℤ◌, arith, Bool, true, false, Option, Some, None, List, [], ◌∷◌, ◌++◌, length, map, drop, get_or, length-append, if◌then◌else◌, ints, drop_more, drop_all, drop-append-le, get_or-map, length-map, map-append, is_nonneg, entry, constant, Row, row_at, form_row, entry-scale, TableauRows, place, wide_by_form, negative_from, Basis, IsRead, valued, combined, read, IsAbove, behind, constant_is, negative-front, is_nonneg_is, All, length-drop, below_behind}
+use Rattle.form_run.proofs.Words.{◌≡◌, ◌∙◌, refl, ap, sym, subst, ℕ, ◌+◌, ◌-◌, ◌<◌, ◌≤◌, ℤ, pos, negsuc, ◌*ℤ◌, ◌≤ℤ◌, ◌<ℤ◌, arith, Bool, true, false, Option, Some, None, List, [], ◌∷◌, ◌++◌, length, map, drop, get_or, length-append, if◌then◌else◌, ints, drop_more, drop_all, drop-append-le, get_or-map, length-map, map-append, is_nonneg, entry, constant, Row, row_at, form_row, entry-scale, TableauRows, place, wide_by_form, negative_from, Basis, IsRead, valued, combined, read, IsAbove, behind, constant_is, negative-front, is_nonneg_is, All, length-drop, below_behind}
 use Rattle.form_basis.proofs.Divided.{undivided}
 
 same_sign : (x : ℕ) (z k : ℤ) → 0 < x → pos x *ℤ z ≡ k → is_nonneg z ≡ is_nonneg k

@@ -1,5 +1,5 @@
 -- The factors of a scale, and the columns of a basis.
-use Rattle.form_run.proofs.Words.{◌≡◌, ◌∙◌, ap, sym, ℕ, ◌+◌, ◌<◌, ℤ, arith, List, [], ◌∷◌, ◌++◌, length, take, get_or, map_more, get_or-map, take_all, floor_div, Row, row_at, form_row, factors_of}
+use Rattle.form_run.proofs.Words.{◌≡◌, ◌∙◌, ap, sym, ℕ, ◌+◌, ◌<◌, ℤ, arith, List, [], ◌∷◌, ◌++◌, length, take, map_more, take_all, floor_div, Row, row_at, form_row, factors_of}
 
 pub factors_more : (L : ℤ) (rows : List Row) (j : ℕ) (old new : List ℤ) (q : ℤ) → j < length rows → old ≡ factors_of L (take j rows) → q ≡ floor_div L (row_at rows j).den → new ≡ old ++ q ∷ []
     → new ≡ factors_of L (take (j + 1) rows)

@@ -1,6 +1,6 @@
 -- Rows of forms behind the places' rows: the column that enters, the first fraction, a pivot.
 use Rattle.std.proofs.Common.{All}
-use Rattle.form_run.proofs.Words.{◌≡◌, ◌∙◌, refl, ap, sym, ℕ, ◌+◌, ◌-◌, ◌*◌, ◌^◌, ◌<◌, ◌≤◌, ℤ, pos, ◌≤ℤ◌, arith, true, List, [], ◌∷◌, ◌++◌, length, map, take, get_or, length-append, ints, mul-le, take-append-le, length-map, get_or-map, get_or_append_left, get_or-append-add, entry, all_fit, Row, row_at, form_row, eliminated, pivot, pivot_listed, entering, entering_of, entering_listed, entering_of_listed, candidates, first_fraction, fraction_from, TableauRows, by_form, Kept, Form, turned, rows_by, norm, pivot_made, are_made, made_forms, none_refused, all_over, Basis, NumberLists, IsMeasured, IsRead, read, IsHeld, all_rows, forms_pivot}
+use Rattle.form_run.proofs.Words.{◌≡◌, ◌∙◌, refl, ap, sym, ℕ, ◌+◌, ◌-◌, ◌*◌, ◌^◌, ◌<◌, ◌≤◌, ℤ, pos, ◌≤ℤ◌, arith, true, List, [], ◌∷◌, ◌++◌, length, map, take, get_or, length-append, ints, mul-le, take-append-le, length-map, get_or-map, get_or-append-add, entry, all_fit, Row, row_at, form_row, eliminated, pivot, pivot_listed, entering, entering_of, entering_listed, entering_of_listed, candidates, TableauRows, norm, none_refused, Basis, NumberLists, IsMeasured, IsRead, read, IsHeld, all_rows, forms_pivot}
 
 -- ---- what is held
 

@@ -1,7 +1,7 @@
 -- Lists one behind another, by their places.
 use Rattle.std.proofs.Common.{length-drop}
 use Rattle.std.proofs.Math.Nat.{suc-mul}
-use Rattle.form_run.proofs.Words.{◌≡◌, ◌∙◌, refl, ap, sym, ℕ, zero, suc, ◌+◌, ◌*◌, ◌<◌, ◌≤◌, ℤ, arith, List, [], ◌∷◌, ◌++◌, length, take, drop, get_or, length-append, mul-le, drop-drop, take-append-le, drop-append-le, take_all, length-take-le, NumberLists, lists_in}
+use Rattle.form_run.proofs.Words.{◌≡◌, ◌∙◌, refl, ap, sym, ℕ, zero, suc, ◌+◌, ◌*◌, ◌<◌, ◌≤◌, ℤ, arith, List, [], ◌∷◌, ◌++◌, length, take, drop, get_or, length-append, drop-drop, take-append-le, drop-append-le, take_all, NumberLists, lists_in}
 
 one_more : (i s : ℕ) → suc i * s ≡ s + i * s
 one_more i s = suc-mul i s ∙ omega arith

@@ -1,6 +1,6 @@
 -- The first rows of a question's run, and what the run tells of the question.
-use Rattle.std.proofs.Common.{is_some, All}
-use Rattle.form_run.proofs.Words.{◌≡◌, ◌∙◌, refl, ap, sym, ℕ, zero, suc, ◌+◌, ◌≤◌, ℤ, arith, List, [], ◌∷◌, ◌++◌, length, map, append-nil, length-map, map-append, All-cons, All-append, widen_to, Tree, start, unit_row, count_from, Work, Outcome, Done, Refused, go_on, give, run_from, point, point_run, point_setting, length-count, length-widened, TableauRows, has_point, finds_point, first_rows, node_of, numbers_of}
+use Rattle.std.proofs.Common.{All}
+use Rattle.form_run.proofs.Words.{◌≡◌, ◌∙◌, ap, sym, ℕ, ◌+◌, ℤ, arith, List, [], ◌∷◌, ◌++◌, length, map, append-nil, length-map, map-append, All-cons, All-append, widen_to, start, unit_row, count_from, Work, length-count, length-widened, TableauRows, has_point, finds_point, first_rows}
 use Rattle.pip_model.specs.Contexts.{IsContext}
 use Rattle.short_run.proofs.Ending.{alone_is}
 

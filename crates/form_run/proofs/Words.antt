@@ -35,3 +35,7 @@ pub use Rattle.short_run.specs.Stops.{stop_fault}
 pub use Rattle.point_turns.proofs.Pointing.{IsOneRun, starts_run, run_goes_on, run_less, run_closed}
 pub use Rattle.pip_model.proofs.Tests.{is_nonneg_is}
 pub use Rattle.short_run.proofs.Ending.{below_behind}
+pub use Rattle.std.proofs.Common.{◌+ℤ◌, ◌-ℤ◌, ◌⊎◌, inl, inr, ◌/◌, if◌then◌else◌}
+pub use Rattle.pip_model.specs.Forms.{dot}
+pub use Rattle.form_run.specs.declared.marks.Mark.{Mark}
+pub use Rattle.form_run.specs.Marks.{IsMark, IsMarkOf, IsNear, StaysAbove, IsMarked, NoneLess, NormsWithin, ValuesFrom, IsBelowAt, IsSeen, value_at}

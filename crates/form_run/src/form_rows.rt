@@ -6,12 +6,14 @@ ghost use Rattle.row_laws.specs.Choices.{IsCandidate};
 ghost use Rattle.row_laws.specs.Rows.{IsRow};
 ghost use Rattle.point_turns.specs.Turns.{negative_from};
 ghost use Rattle.form_basis.specs.ReadRows.{IsRead, read};
-ghost use Rattle.form_run.specs.Held.{IsAbove, IsOneRow, behind};
+ghost use Rattle.form_run.specs.Held.{IsAbove, IsOneRow};
 
 use crate::flat_lists::FlatLists;
+use crate::looking::form_below;
+use crate::marked_forms::MarkedForms;
 use crate::room::{RowRoom, read_form};
 use affine_forms::WantOfMemory;
-use form_basis::{Basis, value};
+use form_basis::Basis;
 use short_run::ShortTableau;
 use std::marker::Model;
 
@@ -22,7 +24,7 @@ use std::marker::Model;
 pub struct FormRows {
     pub(crate) places: ShortTableau,
     pub(crate) basis: Basis,
-    pub(crate) forms: FlatLists,
+    pub(crate) forms: MarkedForms,
     pub(crate) columns: FlatLists,
     pub(crate) norm: u64,
     pub(crate) above: usize,
@@ -40,28 +42,6 @@ impl Model for FormRows {
         × (IsAbove t.places t.basis t.forms.lists t.above) };
 }
 
-// The first of the forms whose row is below 0; so many first ones are known not to be.
-fn form_below(
-    places: &ShortTableau,
-    basis: &Basis,
-    forms: &FlatLists,
-    above: usize,
-) -> Option<usize>
-    requires read { All (IsRead places.now basis.now) forms.now.lists }
-    requires above { IsAbove places.now basis.now forms.now.lists above }
-    ensures value { behind (length places.now.rows) result
-        ≡ negative_from (length places.now.rows) (map (read places.now basis.now) forms.now.lists) }
-    ensures above { IfSome result (IsAbove places.now basis.now forms.now.lists) }
-    ensures bound { IfSome result (λ i. i < length forms.now.lists) }
-{
-    for i in above..forms.len() {
-        if value(places, basis, forms.at(i)) < 0 {
-            return Some(i);
-        }
-    }
-    None
-}
-
 impl FormRows {
     // The first row below 0. The forms in front of it are not asked again before the next pivot.
     pub(crate) fn first_below(&mut self) -> Option<usize>
@@ -72,8 +52,8 @@ impl FormRows {
         if let Some(r) = self.places.first_below() {
             return Some(r);
         }
-        let count = self.forms.len();
-        match form_below(&self.places, &self.basis, &self.forms, self.above) {
+        let count = self.forms.lists().len();
+        match form_below(&self.places, &self.basis, &mut self.forms, self.above) {
             Some(i) => {
                 self.above = i;
                 Some(self.places.rows() + i)
@@ -95,7 +75,7 @@ impl FormRows {
             room.row.restart(self.places.unknowns());
             room.row.push_copy(&self.places, r)
         } else {
-            let form = self.forms.at(r - n);
+            let form = self.forms.lists().at(r - n);
             read_form(room, &self.places, &self.basis, form)
         }
     }

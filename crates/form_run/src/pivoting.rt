@@ -8,6 +8,7 @@ ghost use Rattle.form_run.specs.Held.{IsHeld, IsOneRow};
 
 use crate::flat_lists::FlatLists;
 use crate::form_rows::FormRows;
+use crate::marked_forms::MarkedForms;
 use crate::measuring::measure;
 use form_basis::{Basis, are_short};
 use short_run::ShortTableau;
@@ -32,7 +33,7 @@ fn exchange(columns: &mut FlatLists, forms: &FlatLists, n: usize, r: usize, c: u
 fn clear(
     places: &mut ShortTableau,
     basis: &mut Basis,
-    forms: &mut FlatLists,
+    forms: &mut MarkedForms,
     columns: &mut FlatLists,
 )
     ensures { (most : ℕ) → most < 2 ^ 63 → IsHeld places.new basis.new forms.new columns.new most }
@@ -82,7 +83,7 @@ impl FormRows {
     {
         let n = self.places.rows();
         self.above = 0;
-        exchange(&mut self.columns, &self.forms, n, r, c);
+        exchange(&mut self.columns, self.forms.lists(), n, r, c);
         if turn(&mut self.places, &mut self.basis, row, c, self.norm) {
             return true;
         }

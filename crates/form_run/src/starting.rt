@@ -8,6 +8,7 @@ ghost use Rattle.short_run.specs.Stops.{stop_fault};
 
 use crate::flat_lists::FlatLists;
 use crate::form_rows::FormRows;
+use crate::marked_forms::MarkedForms;
 use crate::measuring::measure;
 use crate::room::RowRoom;
 use affine_forms::{Form, WantOfMemory};
@@ -97,7 +98,7 @@ fn measured(
     Ok(FormRows {
         places,
         basis,
-        forms,
+        forms: MarkedForms::new(alloc, forms),
         columns,
         norm,
         above: 0,

@@ -15,7 +15,7 @@ returns-in-Some-clause-bound c =
     omega (arith, c.in-Some.ensures.bound, all_long s.places s.basis s.forms.lists, ap (λ (t : TableauRows). length t.rows) c.self.view_is)
 
 pub form_below-requires : goal.form_below-requires
-form_below-requires c = let s = c.self.inside in record { read = reads s.places s.basis s.forms s.columns s.norm c.self.invariant.0; above = c.self.invariant.1 }
+form_below-requires c = let s = c.self.inside in record { measured = c.self.invariant.0.basis; size = c.self.invariant.0.size; read = reads s.places s.basis s.forms s.columns s.norm c.self.invariant.0; above = c.self.invariant.1 }
 
 pub returns-in-Some-form_below-clause-value : goal.returns-in-Some-form_below-clause-value
 returns-in-Some-form_below-clause-value c =
