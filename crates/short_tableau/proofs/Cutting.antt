@@ -64,9 +64,6 @@ module _ (n k i : ℕ) (zs : List ℤ) (dense : IsDense n k zs) (h : i < k) (pla
 
   -- the numbers of row i as they stand
   module _ (copied : List ℤ) (copy : copied ≡ slice_range zs place (place + row_size n)) where
-    pub copied_size : length copied ≡ row_size n
-    copied_size = ap length (copy ∙ range_is) ∙ parts.parts.mid_size
-
     pub copied_row : row_of_numbers n copied ≡ row_at (rows_in n k zs) i
     copied_row = ap (row_of_numbers n) (copy ∙ range_is) ∙ sym (split_read n k i zs (take place zs) mid (drop (row_size n) (drop place zs)) parts)
 
@@ -79,4 +76,4 @@ module _ (n k i : ℕ) (zs : List ℤ) (dense : IsDense n k zs) (h : i < k) (pla
       made_row = cut ∙ ap constant_cut copied_row
 
       pub made_numbers : now ≡ numbers_of (constant_cut (row_at (rows_in n k zs) i))
-      made_numbers = sym (numbers_again n now (omega (arith, size ∙ copied_size))) ∙ ap numbers_of made_row
+      made_numbers = sym (numbers_again n now (omega (arith, size ∙ (ap length (copy ∙ range_is) ∙ parts.parts.mid_size)))) ∙ ap numbers_of made_row

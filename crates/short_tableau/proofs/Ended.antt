@@ -19,10 +19,9 @@ sign_floor t (pos (suc e)) h =
     sym (sign_part e (floor_div t (pos (suc e))) t r.rest r.below r.is)
 
 positive_part : (e : ℕ) (f t : ℤ) (r : ℕ) → t ≡ pos (suc e) *ℤ f +ℤ pos r → is_positive t ≡ false → is_positive f ≡ false
-positive_part e (pos zero) t r is none = refl
-positive_part e (negsuc k) t r is none = refl
 positive_part e (pos (suc k)) (pos (suc m)) r is none = absurd cc
 positive_part e (pos (suc k)) _ r is none = absurd (omega (arith, ints))
+positive_part e _ t r is none = refl
 
 positive_floor : (t g : ℤ) → pos 1 ≤ℤ g → is_positive t ≡ false → is_positive (floor_div t g) ≡ false
 positive_floor t (negsuc e) h none = absurd (omega (arith, ints))
@@ -40,9 +39,8 @@ divisor_positive : (r : Row) → pos 1 ≤ℤ r.den → pos 1 ≤ℤ divisor r
 divisor_positive r h = (gcd_between r.den (gcd (gcd_of r.coefs) (gcd_of r.constant)) h).0
 
 constant_divided : (g : ℤ) (ts : List ℤ) → length ts ≡ 1 → constant (floor_divided g ts) ≡ floor_div (constant ts) g
-constant_divided g [] h = absurd (omega arith)
 constant_divided g (t ∷ []) h = refl
-constant_divided g (t ∷ s ∷ ts) h = absurd (omega arith)
+constant_divided g _ h = absurd (omega arith)
 
 pub nonneg_divided : (r : Row) → pos 1 ≤ℤ r.den → length r.constant ≡ 1 → is_nonneg (constant (divided r).constant) ≡ is_nonneg (constant r.constant)
 nonneg_divided r h one =
@@ -59,8 +57,7 @@ zero_left d q r x e f = let none : r ≡ pos 0 = omega (arith, ints, e, f) in rw
 
 none_left : (d q r x : ℤ) → d *ℤ q +ℤ r ≡ x → is_zero r ≡ true → x ≡ d *ℤ q
 none_left d q (pos zero) x e h = omega (arith, ints, e)
-none_left d q (pos (suc n)) x e h = absurd cc
-none_left d q (negsuc n) x e h = absurd cc
+none_left d q _ x e h = absurd cc
 
 divides_multiple : (d x : ℤ) → pos 1 ≤ℤ d → Multiple d x → divides d x ≡ true
 divides_multiple (negsuc n) x h m = absurd (omega (arith, ints))
@@ -85,13 +82,9 @@ quotients_divide (pos n) d x h positive m some e =
     let one : floor_div x (pos n) ≡ floor_div d (pos n) *ℤ is.times = floor-unique x q n (omega (arith, ints, h)) (omega (arith, ints, whole)) (omega (arith, ints, whole, h)) in
     divides_multiple (floor_div d (pos n)) (floor_div x (pos n)) some (record { times = is.times; is = one })
 
-mapped_length : (f : ℤ → ℤ) (xs : List ℤ) → length (map f xs) ≡ length xs
-mapped_length f xs = simp length-map refl
-
 whole_one : (d : ℤ) (ts : List ℤ) → length ts ≡ 1 → divides d (constant ts) ≡ true → is_whole d ts ≡ true
-whole_one d [] h e = absurd (omega arith)
 whole_one d (t ∷ []) h e = rw e refl
-whole_one d (t ∷ s ∷ ts) h e = absurd (omega arith)
+whole_one d _ h e = absurd (omega arith)
 
 -- a row is whole where its denominator divided its constant before
 pub whole_divided : (r : Row) → pos 1 ≤ℤ r.den → length r.constant ≡ 1 → divides r.den (constant r.constant) ≡ true → is_whole (divided r).den (divided r).constant ≡ true
@@ -99,18 +92,15 @@ whole_divided r h one e =
     let g = divisor r in
     let bounds = gcd_between r.den (gcd (gcd_of r.coefs) (gcd_of r.constant)) h in
     let some = quotient_positive r.den g bounds.0 bounds.1 in
-    whole_one (floor_div r.den g) (floor_divided g r.constant) (mapped_length (λ x. floor_div x g) r.constant ∙ one)
+    whole_one (floor_div r.den g) (floor_divided g r.constant) (length-map r.constant (λ x. floor_div x g) ∙ one)
     (ap (divides (floor_div r.den g)) (constant_divided g r.constant one)
     ∙ quotients_divide g r.den (constant r.constant) bounds.0 h (gcd-divides r.den (gcd (gcd_of r.coefs) (gcd_of r.constant))).0 some e)
 
 -- ---- a row with another put in
 
 pub constant_combined : (a : ℤ) (us : List ℤ) (b : ℤ) (vs : List ℤ) → length us ≡ 1 → length vs ≡ 1 → constant (combine a us b vs) ≡ a *ℤ entry us 0 -ℤ b *ℤ entry vs 0
-constant_combined a [] b vs h k = absurd (omega arith)
-constant_combined a (u ∷ x ∷ us) b vs h k = absurd (omega arith)
-constant_combined a (u ∷ []) b [] h k = absurd (omega arith)
-constant_combined a (u ∷ []) b (v ∷ y ∷ vs) h k = absurd (omega arith)
 constant_combined a (u ∷ []) b (v ∷ []) h k = refl
+constant_combined a _ b _ h k = absurd (omega arith)
 
 module _ (n : ℕ) (p : Row) (c : ℕ) (i : Row) (pivot : IsPivot n 0 p c) (row : IsShortReduced n 0 i) where
   abbrev a : ℤ
@@ -160,7 +150,7 @@ module _ (n : ℕ) (p : Row) (c : ℕ) (i : Row) (pivot : IsPivot n 0 p c) (row 
   whole_stays none = ap (λ (r : Row). is_whole r.den r.constant) (stays none)
 
   pub coefs_after : length (eliminated p c i).coefs ≡ n
-  coefs_after = mapped_length (λ x. floor_div x (divisor (substituted p c i))) (substituted p c i).coefs ∙ coefs_put_in
+  coefs_after = length-map (substituted p c i).coefs (λ x. floor_div x (divisor (substituted p c i))) ∙ coefs_put_in
 
 -- ---- all numbers, all rows
 
@@ -176,15 +166,12 @@ none_positive (x ∷ cs) all = rw (all 0 (omega arith)) (none_positive cs (λ k 
 
 -- one row more of rows that are all changed
 module _ (f : Row → Row) (rows : List Row) (i : ℕ) (h : i < length rows) where
-  mapped_rows : length (map f rows) ≡ length rows
-  mapped_rows = simp length-map refl
-
   mapped_here : row_at (map f rows) i ≡ f (row_at rows i)
   mapped_here = get_or-map f rows i (form_row 0 []) (form_row 0 []) h
 
   drop_mapped : drop i (map f rows) ≡ f (row_at rows i) ∷ drop (i + 1) (map f rows)
   drop_mapped =
-      drop_more (map f rows) i (form_row 0 []) (omega (arith, h, mapped_rows)) ∙ ap (λ (r : Row). r ∷ drop (i + 1) (map f rows)) mapped_here
+      drop_more (map f rows) i (form_row 0 []) (omega (arith, h, length-map rows f)) ∙ ap (λ (r : Row). r ∷ drop (i + 1) (map f rows)) mapped_here
 
   pub negative_here : is_nonneg (constant (f (row_at rows i)).constant) ≡ false → negative_from i (drop i (map f rows)) ≡ Some i
   negative_here e = ap (negative_from i) drop_mapped ∙ rw e refl
@@ -196,7 +183,7 @@ module _ (f : Row → Row) (rows : List Row) (i : ℕ) (h : i < length rows) whe
       → fraction_from i (drop i (take n (map f rows))) ≡ fraction_from (i + 1) (drop (i + 1) (take n (map f rows)))
   fraction_next n lt le e =
       let front = take n (map f rows) in
-      let long : length (take n (map f rows)) ≡ n = length-take-le n (map f rows) (omega (arith, le, mapped_rows)) in
+      let long : length (take n (map f rows)) ≡ n = length-take-le n (map f rows) (omega (arith, le, length-map rows f)) in
       let here : row_at (take n (map f rows)) i ≡ f (row_at rows i) = get_or-take n (map f rows) i (form_row 0 []) lt ∙ mapped_here in
       ap (fraction_from i) (drop_more front i (form_row 0 []) (omega (arith, lt, long)) ∙ ap (λ (r : Row). r ∷ drop (i + 1) (take n (map f rows))) here)
       ∙ rw e refl

@@ -16,13 +16,11 @@ constant_here n (suc k) zero zs size lt =
     let row = take (row_size n) zs in
     let long : length row ≡ n + 2 = length-take-le (row_size n) zs (first_long (row_size n) k (length zs) size) in
     let behind : length (drop n (drop 1 row)) ≡ length row - 1 - n = length-drop n (drop 1 row) ∙ ap (λ (m : ℕ). m - n) (length-drop 1 row) in
-    let last : length (drop n (drop 1 row)) - 1 ≡ 0 = omega (arith, behind, long) in
-    let place : 1 + (n + 0) ≡ zero * row_size n + (n + 1) = omega arith in
-    ap (entry (drop n (drop 1 row))) last
+    ap (entry (drop n (drop 1 row))) (omega (arith, behind, long))
     ∙ get_or-drop n (drop 1 row) 0 (pos 0)
     ∙ get_or-drop 1 row (n + 0) (pos 0)
     ∙ get_or-take (row_size n) zs (1 + (n + 0)) (pos 0) (omega arith)
-    ∙ ap (entry zs) place
+    ∙ ap (entry zs) (omega arith)
 constant_here n (suc k) (suc i) zs size lt =
     let l = row_size n in
     constant_here n k i (drop l zs) (length-drop l zs ∙ rest_long l i k (length zs) size) (omega arith)
@@ -33,11 +31,10 @@ pub coef_here : (n k i c : ℕ) (zs : List ℤ) → length zs ≡ k * row_size n
 coef_here n zero i c zs size lt inside = absurd (omega arith)
 coef_here n (suc k) zero c zs size lt inside =
     let row = take (row_size n) zs in
-    let place : 1 + c ≡ zero * row_size n + (1 + c) = omega arith in
     get_or-take n (drop 1 row) c (pos 0) inside
     ∙ get_or-drop 1 row c (pos 0)
     ∙ get_or-take (row_size n) zs (1 + c) (pos 0) (omega arith)
-    ∙ ap (entry zs) place
+    ∙ ap (entry zs) (omega arith)
 coef_here n (suc k) (suc i) c zs size lt inside =
     let l = row_size n in
     coef_here n k i c (drop l zs) (length-drop l zs ∙ rest_long l i k (length zs) size) (omega arith) inside

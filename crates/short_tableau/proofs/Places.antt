@@ -27,8 +27,7 @@ pub record AreParts (n k i : ℕ) (front mid back : List ℤ) : Type 0 where
 pub rows_parts : (n k i : ℕ) (front mid back : List ℤ) → AreParts n k i front mid back
     → rows_in n k (front ++ (mid ++ back)) ≡ rows_in n i front ++ row_of_numbers n mid ∷ rows_in n (k - (i + 1)) back
 rows_parts n k i front mid back h =
-    let whole : k ≡ i + suc (k - (i + 1)) = omega (arith, h.within) in
-    ap (λ j. rows_in n j (front ++ (mid ++ back))) whole
+    ap (λ j. rows_in n j (front ++ (mid ++ back))) (omega (arith, h.within))
     ∙ rows_append n i (suc (k - (i + 1))) front (mid ++ back) h.front_size
     ∙ ap (λ (rs : List Row). rows_in n i front ++ rs) (rw (take_at mid back (row_size n) h.mid_size, drop_at mid back (row_size n) h.mid_size) refl)
 
@@ -39,15 +38,12 @@ dense_row n k i zs h lt = h.rows i (form_row 0 []) (rw (length_rows n k zs) lt)
 
 back_of : (A B : List Row) (r : Row) (i : ℕ) → length A ≡ i → drop (i + 1) (A ++ r ∷ B) ≡ B
 back_of [] B r zero e = refl
-back_of [] B r (suc i) e = absurd (omega arith)
-back_of (a ∷ A) B r zero e = absurd (omega arith)
 back_of (a ∷ A) B r (suc i) e = let g : suc i + 1 ≡ suc (i + 1) = omega arith in rw g (back_of A B r i (omega arith))
+back_of _ B r _ e = absurd (omega arith)
 
 -- the numbers in front of row i, of it and behind it
 three_sizes : (l i k : ℕ) → i < k → k * l ≡ i * l + (l + (k - (i + 1)) * l)
-three_sizes l i k h =
-    let whole : k ≡ suc i + (k - (i + 1)) = omega (arith, h) in
-    ap (λ j. j * l) whole ∙ add-mul (suc i) (k - (i + 1)) l ∙ omega (arith, one_more i l)
+three_sizes l i k h = ap (λ j. j * l) (omega (arith, h)) ∙ add-mul (suc i) (k - (i + 1)) l ∙ omega (arith, one_more i l)
 
 -- ---- rows in three parts
 

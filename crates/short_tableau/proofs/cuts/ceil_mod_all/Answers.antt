@@ -1,4 +1,4 @@
-use Rattle.short_tableau.proofs.Words.{pos, arith, rules, ◌≡◌, ◌∙◌, neg_ℤ, All-set, IsShort, floor_mod, mapped, mapped_step}
+use Rattle.short_tableau.proofs.Words.{pos, arith, rules, ◌∙◌, All-set, IsShort, mapped_step}
 use Rattle.short_tableau.proofs.Cutting.{ceiled}
 use Rattle.short_tableau.proofs.cuts.ceil_mod_all.Goals as goal
 
@@ -9,6 +9,4 @@ loop-number-preserved c = (
 )
 
 pub returns-clause-value : goal.returns-clause-value
-returns-clause-value c =
-    let e : c.loop-number.entries ≡ mapped (λ x. neg_ℤ (floor_mod (neg_ℤ x) c.args.d)) c.loop-number.number-index c.args.entries.now = search rules in
-    e ∙ ceiled c.args.d c.args.entries.now c.loop-number.number-index (search rules)
+returns-clause-value c = (search rules) ∙ ceiled c.args.d c.args.entries.now c.loop-number.number-index (search rules)

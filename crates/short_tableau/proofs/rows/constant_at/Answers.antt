@@ -5,5 +5,4 @@ use Rattle.short_tableau.proofs.rows.constant_at.Goals as goal
 pub returns : goal.returns
 returns c =
     let here = constant_here c.args.unknowns c.args.rows c.args.i c.args.numbers.now c.requires.dense.size c.requires.row in
-    let place = c.place_of.ensures.value in
-    search (rules, here, place)
+    search (rules, here, c.place_of.ensures.value)

@@ -1,4 +1,4 @@
-use Rattle.short_tableau.proofs.Words.{rules, ◌∙◌, ap, sym, arith, refl, List, [], IsTrue, IsFalse, Row, row_at, form_row, eliminated, mapped_read, mapped_step, rows_in, row_of_numbers, is_short_row}
+use Rattle.short_tableau.proofs.Words.{rules, ◌∙◌, ap, sym, arith, refl, List, [], IsTrue, Row, row_at, form_row, eliminated, mapped_read, mapped_step, rows_in, row_of_numbers, is_short_row}
 use Rattle.short_tableau.proofs.Places.{length_rows, long_row, mapped_all, not_turned}
 use Rattle.short_tableau.proofs.rows.turn_rows.Goals as goal
 
@@ -25,9 +25,8 @@ pub returns-then-not-turn_at : goal.returns-then-not-turn_at
 returns-then-not-turn_at c =
     let old = rows_in c.args.unknowns c.args.rows c.args.numbers.now in
     let h = length_rows c.args.unknowns c.args.rows c.args.numbers.now in
-    let long : IsFalse c.turn_at.result = search rules in
     not_turned _ _ _ _
     (long_row (eliminated (row_of_numbers c.args.unknowns c.args.p.now) c.args.c) old c.loop-i.i (omega (arith, h))
     (ap (λ (r : Row). is_short_row (eliminated (row_of_numbers c.args.unknowns c.args.p.now) c.args.c r))
     (sym (ap (λ (rs : List Row). row_at rs c.loop-i.i) c.loop-i.invariant.rows ∙ mapped_read (eliminated (row_of_numbers c.args.unknowns c.args.p.now) c.args.c) old c.loop-i.i (form_row 0 []) (omega (arith, h))))
-    ∙ c.turn_at.ensures.long long))
+    ∙ c.turn_at.ensures.long (search rules)))

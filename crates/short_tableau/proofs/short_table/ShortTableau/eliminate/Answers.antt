@@ -1,4 +1,4 @@
-use Rattle.short_tableau.proofs.Words.{◌≡◌, ◌∙◌, ap, sym, subst, arith, rules, ℕ, ℤ, false, List, map, IsTrue, IsFalse, flat_map, list_all, IsCandidate, all_fit, Row, row_at, eliminated, eliminated_listed, TableauRows, rows_in, row_size, row_of_numbers, length, IsPivot, IsShortReduced, is_short_row}
+use Rattle.short_tableau.proofs.Words.{◌≡◌, ◌∙◌, ap, sym, subst, arith, rules, ℕ, ℤ, false, List, map, IsTrue, flat_map, list_all, IsCandidate, all_fit, Row, row_at, eliminated, eliminated_listed, TableauRows, rows_in, row_size, row_of_numbers, length, IsPivot, IsShortReduced, is_short_row}
 use Rattle.short_tableau.proofs.Fitting.{flat_fit}
 use Rattle.short_tableau.proofs.short_table.ShortTableau.eliminate.Goals as goal
 
@@ -38,8 +38,7 @@ returns-then-not-turn_rows-clause-long c = λ none.
     let s = c.self.inside in
     let n : c.args.t.now.unknowns ≡ c.self.inside.unknowns = c.requires.unknowns ∙ sym (ap (λ (t : TableauRows). t.unknowns) c.self.view_is) in
     let items : c.self.inside.numbers.items ≡ c.deref_mut.result.now = search rules in
-    let long : IsFalse c.turn_rows.result = search rules in
     subst (λ (t : TableauRows). list_all is_short_row (map (eliminated (row_at c.args.t.now.rows c.args.i) c.args.c) t.rows) ≡ false) c.self.view_is
     (ap (λ (zs : List ℤ). list_all is_short_row (map (eliminated (row_at c.args.t.now.rows c.args.i) c.args.c) (rows_in s.unknowns s.count zs))) items
     ∙ ap (λ (r : Row). list_all is_short_row (map (eliminated r c.args.c) (rows_in s.unknowns s.count c.deref_mut.result.now))) (sym c.row_numbers-row.ensures.value ∙ ap (λ (k : ℕ). row_of_numbers k c.row_numbers-row.result.now) n)
-    ∙ c.turn_rows.ensures.long long)
+    ∙ c.turn_rows.ensures.long (search rules))

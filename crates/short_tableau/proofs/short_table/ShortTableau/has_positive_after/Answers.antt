@@ -16,5 +16,4 @@ returns c = λ no.
     let p = row_of c.args.p.now in
     let row = c.columns-k-end.ensures.rows c.args.i (form_row 0 []) c.requires.row in
     let long = coefs_after c.args.self.now.unknowns p c.args.c (row_at c.args.self.now.rows c.args.i) c.requires.pivot row in
-    let n = c.columns-k-end.ensures.value in
-    none_positive _ (λ k h. c.loop-k.invariant k (omega (arith, h, long, n, c.loop-k-test.false)))
+    none_positive _ (λ k h. c.loop-k.invariant k (omega (arith, h, long, c.columns-k-end.ensures.value, c.loop-k-test.false)))
