@@ -2,9 +2,8 @@
 use Rattle.sign_split.proofs.Words.{◌≡◌, ap, refl, ℕ, ℤ, Bool, true, false, List, [], ◌∷◌, ◌++◌, Option, Some, None, is_some, IfSome, opposite, opposite_listed, all_fit, Work, Outcome, Done, Refused, Refusal, Class, go_on, give, point, class_by_points, has_point, class_if_below}
 
 some_point : (o : Outcome (Option (List ℤ))) (v : Work) → go_on o (λ p. give (is_some p)) ≡ Done true v → (p : List ℤ) × (o ≡ Done (Some p) v)
-some_point (Done None u) v e = absurd cc
 some_point (Done (Some p) u) v e = let same : u ≡ v = cc in (p, ap (λ (x : Work). Done (Some p) x) same)
-some_point (Refused f u) v e = absurd cc
+some_point _ v e = absurd cc
 
 refused_point : (o : Outcome (Option (List ℤ))) (f : Refusal) (v : Work) → go_on o (λ p. give (is_some p)) ≡ Refused f v → o ≡ Refused f v
 refused_point (Done p u) f v e = absurd cc

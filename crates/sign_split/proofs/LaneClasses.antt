@@ -1,14 +1,10 @@
 -- The class of a form by its sign in lanes.
-use Rattle.sign_split.proofs.Words.{◌≡◌, ap, sym, ◌∙◌, ◌+◌, ◌-◌, ◌<◌, ◌≤◌, ℕ, ℤ, true, arith, List, length, None, Result, Ok, Err, IfOk, IfErr, all_fit, opposite_listed, tighten, length_tighten, run_fault, Work, Done, class_by_points, class_of}
-use Rattle.pip_model.specs.Contexts.{IsNarrow}
+use Rattle.sign_split.proofs.Words.{◌≡◌, ap, sym, ◌∙◌, ◌+◌, ◌-◌, ◌<◌, ◌≤◌, ℕ, ℤ, arith, List, length, None, Result, Ok, Err, IfOk, IfErr, tighten, length_tighten, run_fault, Work, Done, class_by_points, class_of, IsNarrow, IsCountedRun, lanes_of, form_in}
 use Rattle.pip_problem.specs.declared.refusal.Refusal.{Refusal}
-use Rattle.run_counts.specs.Counts.{IsCountedRun}
-use Rattle.context_points.specs.InLanes.{lanes_of, form_in}
 use Rattle.context_points.specs.Signs.{class_of_sign}
 use Rattle.context_points.specs.LaneSign.{LaneSign}
 use Rattle.context_points.proofs.TightLanes.{form_again}
 use Rattle.sign_split.specs.declared.classes.Class.{Class}
-use Rattle.sign_split.proofs.ByPoints.{opposite_fits}
 
 pub tight_narrow : (w : ℕ) (c : List ℤ) → 0 < length c → length c ≤ w + 1 → IsNarrow w (tighten c)
 tight_narrow w c some most = record { some = omega (arith, some, length_tighten c); most = omega (arith, most, length_tighten c) }
@@ -21,9 +17,6 @@ tight_again c form places is some few at =
     ap (form_in places) is ∙ ap (λ (w : ℕ). form_in w (lanes_of (tighten c))) same ∙ form_again (tighten c) (omega (arith, long, some)) (omega (arith, long, few))
 
 module _ (w : ℕ) (K : List (List ℤ)) (t : List ℤ) (before after : Work) (sign : LaneSign) (asked : IsCountedRun (class_of_sign t) run_fault (Ok sign) before after (class_by_points w K t)) where
-  pub sign_fits : all_fit (opposite_listed t) ≡ true
-  sign_fits = opposite_fits w K t before after (class_of_sign t sign) asked.agrees
-
   pub class_by_sign : (f : List ℤ) (r : Result Class Refusal) → f ≡ t → IfOk r (λ c. class_of c ≡ class_of_sign f sign) → IfErr r (λ e. run_fault e ≡ None)
       → IsCountedRun class_of run_fault r before after (class_by_points w K t)
   class_by_sign f (Ok c) is class refused = record { agrees = asked.agrees ∙ ap (λ x. Done x after) (sym (class ∙ ap (λ (u : List ℤ). class_of_sign u sign) is)); counted = asked.counted }

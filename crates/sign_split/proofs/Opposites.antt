@@ -14,12 +14,10 @@ form_of cs k = cs ++ k ∷ []
 pub opposite_form : (cs : List ℤ) (k : ℤ) → opposite (form_of cs k) ≡ form_of (negate cs) (neg_ℤ k -ℤ pos 1)
 opposite_form cs k =
     let less = neg_ℤ k -ℤ pos 1 in
-    let n : length (form_of cs k) ≡ length cs + 1 = simp length-append refl in
-    let m : length (negate cs) ≡ length cs = length_map neg_ℤ cs in
-    sym (opposite_set (form_of cs k) (length cs) n)
+    sym (opposite_set (form_of cs k) (length cs) (simp length-append refl))
     ∙ ap (λ (x : ℤ). slice_set (negate (form_of cs k)) (length cs) (neg_ℤ x -ℤ pos 1)) (entry_end cs k [])
     ∙ ap (λ (xs : List ℤ). slice_set xs (length cs) less) (map-append neg_ℤ cs (k ∷ []))
-    ∙ ap (λ l. slice_set (form_of (negate cs) (neg_ℤ k)) l less) (sym m)
+    ∙ ap (λ l. slice_set (form_of (negate cs) (neg_ℤ k)) l less) (sym (length_map neg_ℤ cs))
     ∙ set-append_seam (negate cs) (neg_ℤ k) [] less
 
 -- as wide as the form
@@ -50,20 +48,14 @@ module _ (c : List ℤ) (some : 1 ≤ length c) where
   turned = ap opposite parts ∙ opposite_form cs k
 
   opposite_twice : opposite (opposite c) ≡ c
-  opposite_twice =
-      ap opposite turned
-      ∙ opposite_form (negate cs) (neg_ℤ k -ℤ pos 1)
-      ∙ ap₂ form_of (negate_twice cs) (back k)
-      ∙ sym parts
+  opposite_twice = ap opposite turned ∙ opposite_form (negate cs) (neg_ℤ k -ℤ pos 1) ∙ ap₂ form_of (negate_twice cs) (back k) ∙ sym parts
 
   -- so its listed number is the form's constant
   constant_back : neg_ℤ (constant (opposite c)) -ℤ pos 1 ≡ constant c
   constant_back = ap (λ (x : List ℤ). neg_ℤ (constant x) -ℤ pos 1) turned ∙ ap (λ (z : ℤ). neg_ℤ z -ℤ pos 1) (constant-end (negate cs) (neg_ℤ k -ℤ pos 1)) ∙ back k
 
   opposite_fits_back : IsForm c → IsTrue (all_fit (opposite_listed (opposite c)))
-  opposite_fits_back is =
-      let fits_last : Fits (constant c) = All-get_or Fits c (width c) (pos 0) (omega (arith, is.some)) is.fits in
-      rw constant_back (search (rules, fits_last))
+  opposite_fits_back is = rw constant_back (search (rules, (All-get_or Fits c (width c) (pos 0) (omega (arith, is.some)) is.fits)))
 
 -- a form that is turned twice
 pub turned_back : (c below now : List ℤ) → IsForm c → below ≡ opposite c → now ≡ opposite below → now ≡ c

@@ -1,33 +1,27 @@
 -- The signs of a form's entries tell its class as those of the tightened form do.
-use Rattle.sign_split.proofs.Words.{◌≡◌, refl, ap, sym, subst, ◌∙◌, ℕ, zero, suc, ◌<◌, ◌≤◌, ℤ, pos, negsuc, ◌+ℤ◌, ◌*ℤ◌, arith, Bool, true, false, ◌&&◌, not, List, [], ◌∷◌, ◌++◌, length, ints, get_or-map, length-map, if◌then◌else◌, AllByRecursion, list_all, is_nonneg, is_negative, is_positive, is_zero, floor_div, gcd_of, coefficients, constant, width, floor_divided, tighten, Work, Done, Plus, Minus, class, class_by_points, Multiple, floor-exact, rest_of, form-parts, gcd_of-natural, gcd_of-divides}
+use Rattle.sign_split.proofs.Words.{◌≡◌, refl, ap, sym, subst, ◌∙◌, ℕ, zero, suc, ◌<◌, ◌≤◌, ℤ, pos, negsuc, ◌+ℤ◌, ◌*ℤ◌, arith, Bool, true, false, ◌&&◌, not, List, [], ◌∷◌, ◌++◌, length, ints, get_or-map, length-map, if◌then◌else◌, AllByRecursion, list_all, is_nonneg, is_negative, is_positive, is_zero, floor_div, gcd_of, coefficients, constant, width, floor_divided, tighten, Work, Done, Plus, Minus, class, class_by_points, Multiple, floor-exact, rest_of, form-parts, gcd_of-natural, gcd_of-divides, and_assoc}
 
 -- ---- numbers
 
 same_sign : (e : ℕ) (q x : ℤ) (r : ℕ) → r < e → x ≡ pos e *ℤ q +ℤ pos r → is_nonneg q ≡ is_nonneg x
-same_sign e (pos n) (pos k) r h is = refl
 same_sign e (pos n) (negsuc k) r h is = absurd (omega (arith, ints))
 same_sign e (negsuc n) (pos k) r h is = absurd (omega (arith, ints))
-same_sign e (negsuc n) (negsuc k) r h is = refl
+same_sign e _ _ r h is = refl
 
 floor_nonneg : (x : ℤ) (e : ℕ) → 0 < e → is_nonneg (floor_div x (pos e)) ≡ is_nonneg x
 floor_nonneg x e h = let r = rest_of x e h in same_sign e (floor_div x (pos e)) x r.rest r.below r.is
 
 negative_as : (x y : ℤ) → is_nonneg x ≡ is_nonneg y → is_negative x ≡ is_negative y
-negative_as (pos n) (pos k) e = refl
 negative_as (pos n) (negsuc k) e = cc
 negative_as (negsuc n) (pos k) e = cc
-negative_as (negsuc n) (negsuc k) e = refl
+negative_as _ _ e = refl
 
 same_positive : (e : ℕ) (q x : ℤ) → 0 < e → x ≡ pos e *ℤ q → is_positive q ≡ is_positive x
 same_positive e (pos zero) (pos zero) h is = refl
-same_positive e (pos zero) (pos (suc k)) h is = absurd (omega (arith, ints))
-same_positive e (pos zero) (negsuc k) h is = absurd (omega (arith, ints))
-same_positive e (pos (suc n)) (pos zero) h is = absurd (omega (arith, ints))
 same_positive e (pos (suc n)) (pos (suc k)) h is = refl
-same_positive e (pos (suc n)) (negsuc k) h is = absurd (omega (arith, ints))
 same_positive e (negsuc n) (pos zero) h is = refl
-same_positive e (negsuc n) (pos (suc k)) h is = absurd (omega (arith, ints))
 same_positive e (negsuc n) (negsuc k) h is = refl
+same_positive e _ _ h is = absurd (omega (arith, ints))
 
 -- ---- lists
 
@@ -37,10 +31,6 @@ not_positive z = not (is_positive z)
 divided_nonneg : (e : ℕ) (cs : List ℤ) → 0 < e → list_all is_nonneg (floor_divided (pos e) cs) ≡ list_all is_nonneg cs
 divided_nonneg e [] h = refl
 divided_nonneg e (c ∷ cs) h = rw (floor_nonneg c e h, divided_nonneg e cs h) refl
-
-and_assoc : (a b c : Bool) → ((a && b) && c) ≡ (a && (b && c))
-and_assoc true b c = refl
-and_assoc false b c = refl
 
 last_below : (z : ℤ) → ((not_positive z && true) && is_negative z) ≡ is_negative z
 last_below (pos zero) = refl

@@ -1,6 +1,5 @@
 -- A form that is read over more places has the class that it has.
-use Rattle.sign_split.proofs.Words.{◌≡◌, refl, ap, sym, subst, ◌∙◌, ℕ, zero, suc, ◌+◌, ◌-◌, ◌≤◌, ℤ, pos, negsuc, ◌-ℤ◌, neg_ℤ, arith, Bool, true, false, ◌&&◌, Option, Some, None, List, [], ◌∷◌, ◌++◌, length, map, replicate, length-append, if◌then◌else◌, list_all, ints, map-append, is_nonneg, is_zero, floor_div, gcd_of, coefficients, constant, width, floor_divided, tighten, negate, opposite, widen_to, opposite_listed, Work, Outcome, Counted, Done, Refused, Class, Plus, Minus, go_on, ◌>>=◌, give, listed, root, run_from, point_setting, numbers_of, point, class, class_above, class_below, class_by_points, form-parts, gcd_of-natural, length_map, length_tighten, coefficients-end, constant-end, length-widen_to, widened_class}
-use Rattle.std.proofs.lemmas.List.Folds.{list_all-append}
+use Rattle.sign_split.proofs.Words.{◌≡◌, refl, ap, sym, subst, ◌∙◌, ℕ, zero, suc, ◌+◌, ◌-◌, ◌≤◌, ℤ, pos, negsuc, ◌-ℤ◌, neg_ℤ, arith, Bool, true, false, ◌&&◌, Option, Some, None, List, [], ◌∷◌, ◌++◌, length, map, replicate, length-append, if◌then◌else◌, list_all, ints, map-append, is_nonneg, is_zero, floor_div, gcd_of, coefficients, constant, width, floor_divided, tighten, negate, opposite, widen_to, opposite_listed, Work, Outcome, Counted, Done, Refused, Class, Plus, Minus, go_on, ◌>>=◌, give, listed, root, run_from, point_setting, numbers_of, point, class, class_above, class_below, class_by_points, form-parts, gcd_of-natural, length_map, length_tighten, coefficients-end, constant-end, length-widen_to, widened_class, list_all-append}
 use Rattle.pip_model.specs.Run.{class_of}
 use Rattle.affine_forms.proofs.Units.{widen_same}
 use Rattle.context_points.proofs.OneFormMore.{point_some}
@@ -47,10 +46,9 @@ all_more p cs n k e =
 widen_form : (w : ℕ) (cs : List ℤ) (k : ℤ) → widen_to w (form_of cs k) ≡ form_of (cs ++ zeros (w - length cs)) k
 widen_form w cs k =
     let c = form_of cs k in
-    let n : width c ≡ length cs = simp length-append (omega arith) in
     ap (λ (xs : List ℤ). form_of (xs ++ zeros (w - width c)) (constant c)) (coefficients-end cs k)
     ∙ ap (λ (z : ℤ). form_of (cs ++ zeros (w - width c)) z) (constant-end cs k)
-    ∙ ap (λ l. form_of (cs ++ zeros (w - l)) k) n
+    ∙ ap (λ l. form_of (cs ++ zeros (w - l)) k) (simp length-append (omega arith))
 
 -- tightened, by the divisor
 tight_by : (g : ℤ) (e w : ℕ) (cs : List ℤ) (k : ℤ) → g ≡ pos e
@@ -163,9 +161,8 @@ module _ (w : ℕ) (K : List (List ℤ)) (c : List ℤ) (some : 1 ≤ length c) 
 
   chosen : (a b : Bool) (v : Work) → (if a then give Plus else (if b then give Minus else class_by_points w K wide)) v
       ≡ then_wide ((if a then give Plus else (if b then give Minus else class_by_points w K c)) v)
-  chosen true b v = refl
-  chosen false true v = refl
   chosen false false v = by_points v
+  chosen _ _ v = refl
 
   of_widened : (v : Work) → class_of w K wide v ≡ then_wide (class_of w K c v)
   of_widened v = rw (all_widened w c some is_nonneg refl, below_widened w c some) (chosen (list_all is_nonneg c) (is_below c) v)

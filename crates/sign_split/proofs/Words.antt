@@ -15,3 +15,9 @@ pub use Rattle.pip_problem.specs.Faults.{run_fault}
 pub use Rattle.context_points.specs.Points.{has_point}
 pub use Rattle.run_counts.proofs.Counting.{counted_none, counted_on}
 pub use Rattle.sign_split.specs.Classes.{class_of, widened_class, class_if_below}
+pub use Rattle.pip_model.specs.Contexts.{IsNarrow, IsContext, ClassTells, IsPointRefusal}
+pub use Rattle.run_counts.specs.Counts.{IsCountedRun}
+pub use Rattle.context_points.specs.InLanes.{lanes_of, form_in}
+pub use Rattle.std.proofs.Math.Bool.{and_assoc}
+pub use Rattle.std.proofs.lemmas.List.Folds.{list_all-append}
+pub use Rattle.pip_model.proofs.Forms.{length-widened}

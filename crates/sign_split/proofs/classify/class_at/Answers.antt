@@ -1,5 +1,4 @@
-use Rattle.sign_split.proofs.Words.{rules, arith, counted_none, class_of, run_fault, class_by_points, tighten}
-use Rattle.run_counts.specs.Counts.{IsCountedRun}
+use Rattle.sign_split.proofs.Words.{rules, arith, counted_none, class_of, run_fault, class_by_points, tighten, IsCountedRun}
 use Rattle.sign_split.proofs.TightSigns.{class_plus, class_minus, class_points}
 use Rattle.sign_split.proofs.classify.class_at.Goals as goal
 

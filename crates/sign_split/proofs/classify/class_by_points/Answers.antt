@@ -13,13 +13,11 @@ take_opposite-requires c = back_fits c.args.form c.opposite.new.self (search rul
 
 pub class_above-requires-clause-narrow : goal.class_above-requires-clause-narrow
 class_above-requires-clause-narrow c =
-    let back = turned_back c.args.form c.opposite.new.self c.take_opposite.result (search rules) (search rules) (search rules) in
-    rw back (search rules)
+    rw (turned_back c.args.form c.opposite.new.self c.take_opposite.result (search rules) (search rules) (search rules)) (search rules)
 
 pub class_above-requires-clause-opposite_fits : goal.class_above-requires-clause-opposite_fits
 class_above-requires-clause-opposite_fits c =
-    let back = turned_back c.args.form c.opposite.new.self c.take_opposite.result (search rules) (search rules) (search rules) in
-    rw back (search rules)
+    rw (turned_back c.args.form c.opposite.new.self c.take_opposite.result (search rules) (search rules) (search rules)) (search rules)
 
 pub returns-clause-gives : goal.returns-clause-gives
 returns-clause-gives c =

@@ -1,6 +1,4 @@
-use Rattle.sign_split.proofs.Words.{rules, arith, ◌≡◌, ◌≤◌, ◌-◌, length, tighten}
-use Rattle.context_points.specs.InLanes.{lanes_of, form_in}
-use Rattle.run_laws.proofs.Lengths.{length_tighten}
+use Rattle.sign_split.proofs.Words.{rules, arith, ◌≡◌, ◌≤◌, ◌-◌, length, tighten, lanes_of, form_in, length_tighten}
 use Rattle.sign_split.proofs.LaneClasses.{tight_narrow, tight_again, class_by_sign}
 use Rattle.sign_split.proofs.classify.class_in_lanes.Goals as goal
 
@@ -19,5 +17,4 @@ returns-in-Ok-clause-condition c =
     let form : c.in_ok-form.form ≡ lanes_of (tighten c.args.entries.now) = search rules in
     let few : length c.args.entries.now ≤ 8 = search rules in
     let again = tight_again c.args.entries.now c.in_ok-form.form (length c.args.entries.now - 1) form c.requires.form.some few (omega arith) in
-    let long = length_tighten c.args.entries.now in
-    rw (again, long) at c.class_by_sign.ensures.condition
+    rw (again, length_tighten c.args.entries.now) at c.class_by_sign.ensures.condition
