@@ -24,6 +24,4 @@ pub remainder_made : (x d r : ℤ) → Fits x → Fits r → r ≡ floor_mod (to
 remainder_made x d r f g e = rw (held r g, ← held x f) e
 
 pub residue_made : (x d r : ℤ) → Fits x → Fits r → r ≡ floor_mod (to_z w128 (of_z w128 (pos 0 -ℤ to_z w128 (of_z w128 x)))) d → to_z w128 (of_z w128 r) ≡ floor_mod (neg_ℤ x) d
-residue_made x d r f g e =
-    let told = rw (held x f, opposite x, held (neg_ℤ x) (fits-neg x f)) at e in
-    rw (held r g) told
+residue_made x d r f g e = rw (held r g) (rw (held x f, opposite x, held (neg_ℤ x) (fits-neg x f)) at e)

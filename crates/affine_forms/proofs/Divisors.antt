@@ -1,5 +1,5 @@
 -- The greatest common divisors of the definitions.
-use Rattle.affine_forms.proofs.Words.{◌≡◌, ℕ, zero, suc, ◌+◌, ◌<◌, ℤ, pos, negsuc, ◌≤ℤ◌, ◌+ℤ◌, ◌*ℤ◌, true, refl, ◌∙◌, arith, List, [], ◌∷◌, length, drop, get_or, ints, drop_more, All, IsTrue, Fits, fits-floor, All-from_recursion, recursion_from_All, gcd, gcd_of, floor_div, floor_mod, divides, is_zero, floor_divided, scale, Multiple, gcd-divides, gcd_of-divides, all_through, floor-exact}
+use Rattle.affine_forms.proofs.Words.{◌≡◌, ℕ, zero, ◌+◌, ◌<◌, ℤ, pos, negsuc, ◌≤ℤ◌, ◌+ℤ◌, ◌*ℤ◌, true, refl, ◌∙◌, arith, List, [], ◌∷◌, length, drop, get_or, ints, drop_more, All, IsTrue, Fits, fits-floor, All-from_recursion, recursion_from_All, gcd, gcd_of, floor_div, floor_mod, divides, is_zero, floor_divided, scale, Multiple, gcd-divides, gcd_of-divides, all_through, floor-exact}
 use Rattle.std.specs.List.{AllByRecursion}
 pub use Rattle.pip_model.proofs.Gcd.{gcd_assoc, gcd_one, floor_divided_one}
 use Rattle.pip_model.proofs.Laws.{floor_mod-law}
@@ -26,8 +26,7 @@ positive_is n h = omega (arith, ints)
 
 none_left : (d q r x : ℤ) → d *ℤ q +ℤ r ≡ x → is_zero r ≡ true → d *ℤ q ≡ x
 none_left d q (pos zero) x e h = omega (arith, ints, e)
-none_left d q (pos (suc n)) x e h = absurd cc
-none_left d q (negsuc n) x e h = absurd cc
+none_left d q _ x e h = absurd cc
 
 -- a form is d times its quotients where d divides each entry
 pub scale_divided : (d : ℤ) (c : List ℤ) → pos 1 ≤ℤ d → All (λ x. IsTrue (divides d x)) c → scale d (floor_divided d c) ≡ c

@@ -24,12 +24,8 @@ mapped_step f old now i y d h e g =
     let read : get_or now i d ≡ get_or old i d = rw e (mapped_read f old i d h) in
     rw (g, read, e) (mapped_more f old i d h)
 
--- one more image is pushed
-pub pushed_step : {X Y : Type 0} (f : X → Y) (xs : List X) (found : List Y) (i : ℕ) (y : Y) (d : X) → i < length xs → found ≡ map f (take i xs) → y ≡ f (get_or xs i d) → found ++ y ∷ [] ≡ map f (take (i + 1) xs)
-pushed_step f xs found i y d h e g = rw (e, g) (sym (map_more f xs i d h))
-
 pub pushed_made : {X Y : Type 0} (f : X → Y) (xs : List X) (found now : List Y) (i : ℕ) (y : Y) (d : X) → i < length xs → now ≡ found ++ y ∷ [] → found ≡ map f (take i xs) → y ≡ f (get_or xs i d) → now ≡ map f (take (i + 1) xs)
-pushed_made f xs found now i y d h p e g = p ∙ pushed_step f xs found i y d h e g
+pushed_made f xs found now i y d h p e g = p ∙ (rw (e, g) (sym (map_more f xs i d h)))
 
 pub pushed_all : {X : Type 0} (P : X → Type 0) (xs now : List X) (y : X) → now ≡ xs ++ y ∷ [] → All P xs → P y → All P now
 pushed_all P xs now y p all e = subst (All P) (sym p) (All-push P xs y all e)

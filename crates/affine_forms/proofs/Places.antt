@@ -24,7 +24,6 @@ moved front k zero w e =
     rw (m, get_or_at front k [] (pos 0) w e, set_at front k [] k w e, set_at front k [] k w e) (ap (λ (xs : List ℤ). xs ++ k ∷ []) (sym (append-nil front)))
 moved front k (suc n) w e =
     let before : length (front ++ k ∷ replicate n (pos 0)) ≡ w + suc n = simp (length-append, length-replicate) (omega arith) in
-    let after : length (front ++ replicate (suc n) (pos 0)) ≡ w + suc n = simp (length-append, length-replicate) (omega arith) in
     let parts : front ++ k ∷ replicate (suc n) (pos 0) ≡ (front ++ k ∷ replicate n (pos 0)) ++ pos 0 ∷ [] =
     ap (λ (xs : List ℤ). front ++ k ∷ xs) (zeros_turn n) ∙ sym (append_assoc front (k ∷ replicate n (pos 0)) (pos 0 ∷ [])) in
     let read : get_or (front ++ k ∷ replicate (suc n) (pos 0)) (w + suc n) (pos 0) ≡ pos 0 =
@@ -34,7 +33,7 @@ moved front k (suc n) w e =
     ap (λ (z : ℤ). set (set (front ++ k ∷ replicate (suc n) (pos 0)) w z) (w + suc n) (get_or (front ++ k ∷ replicate (suc n) (pos 0)) w (pos 0))) read
     ∙ ap (λ (z : ℤ). set (set (front ++ k ∷ replicate (suc n) (pos 0)) w (pos 0)) (w + suc n) z) (get_or_at front k (replicate (suc n) (pos 0)) (pos 0) w e)
     ∙ ap (λ (xs : List ℤ). set xs (w + suc n) k) cleared
-    ∙ set_at (front ++ replicate (suc n) (pos 0)) (pos 0) [] k (w + suc n) after
+    ∙ set_at (front ++ replicate (suc n) (pos 0)) (pos 0) [] k (w + suc n) (simp (length-append, length-replicate) (omega arith))
 
 -- a form that grew by zeros at its end, with the constant put last
 pub widen_made : (c grown made : List ℤ) (m w n : ℕ) → 0 < length c → m ≡ length c + n → w ≡ length c - 1
@@ -44,12 +43,11 @@ widen_made c grown made m w n some m_is w_is is made_is =
     let same : grown ≡ c ++ replicate n (pos 0) = rw more at is ∙ ap (λ (ys : List ℤ). ys ++ replicate n (pos 0)) (take_all m c (omega arith)) in
     let whole : c ++ replicate n (pos 0) ≡ coefficients c ++ constant c ∷ replicate n (pos 0) =
     ap (λ (ys : List ℤ). ys ++ replicate n (pos 0)) (form-parts (length c - 1) c (omega arith)).0 ∙ append_assoc (coefficients c) (constant c ∷ []) (replicate n (pos 0)) in
-    let front : length (coefficients c) ≡ w = simp length-take (omega arith) in
     let size : length grown ≡ length c + n = rw same (simp (length-append, length-replicate) refl) in
     made_is
     ∙ sym (swap_is grown w (w + n) (pos 0) (omega arith) (omega arith))
     ∙ ap (λ (ys : List ℤ). set (set ys w (get_or ys (w + n) (pos 0))) (w + n) (get_or ys w (pos 0))) (same ∙ whole)
-    ∙ moved (coefficients c) (constant c) n w front
+    ∙ moved (coefficients c) (constant c) n w (simp length-take (omega arith))
 
 pub widen_form : (n : ℕ) (c : List ℤ) → IsForm c → IsForm (widen n c)
 widen_form n c form =

@@ -1,13 +1,9 @@
 -- The form of a quotient, `-g + d*q`, and the form with a number added, as they are made in place.
-use Rattle.affine_forms.proofs.Words.{◌≡◌, ℕ, ◌+◌, ◌-◌, ◌<◌, ◌≤◌, ℤ, pos, ◌+ℤ◌, neg_ℤ, List, length, [], ◌∷◌, refl, IsTrue, IsFalse, all_fit, fits, ap, sym, ◌∙◌, arith, slice_set, ints, length-map, get_or-map, width, constant, entry, negate, plus, widen_to}
+use Rattle.affine_forms.proofs.Words.{◌≡◌, ℕ, ◌+◌, ◌-◌, ◌<◌, ◌≤◌, ℤ, pos, ◌+ℤ◌, neg_ℤ, List, length, [], ◌∷◌, refl, IsTrue, IsFalse, all_fit, fits, ap, sym, ◌∙◌, arith, slice_set, ints, length-map, get_or-map, width, constant, entry, negate, plus, widen_to, IsChecked, Overflow, is_overflow, Result, IsErr, ⊤}
 use Rattle.pip_model.specs.Cuts.{rounding}
 use Rattle.pip_model.proofs.Forms.{length-widened, entry-widened, constant-plus}
 use Rattle.affine_forms.proofs.Units.{add_unit, add_last}
-use Rattle.std.specs.Prelude.{Result, IsErr, ⊤}
 use Rattle.affine_forms.proofs.Combined.{refused}
-use Rattle.pip_model.specs.Agreement.{IsChecked}
-use Rattle.affine_forms.specs.declared.numbers.Overflow.{Overflow}
-use Rattle.affine_forms.specs.Checks.{is_overflow}
 
 from_zero : (z g : ℤ) → g ≡ pos 0 → neg_ℤ g +ℤ z ≡ z
 from_zero z g e = omega (arith, ints, e)
@@ -21,15 +17,11 @@ rounding_is w q g d h lt free =
     let one : entry (negate wide) q +ℤ d ≡ d = ap (λ z. z +ℤ d) at ∙ from_zero d (entry wide q) (entry-widened w g h q lt free) in
     ap (λ z. slice_set (negate wide) q z) (sym one) ∙ sym (add_unit (negate wide) w q d (simp length-map long) (omega (arith, lt)))
 
--- a form and a number
-pub plus_is : (c : List ℤ) (z : ℤ) → 0 < length c → slice_set c (length c - 1) (entry c (length c - 1) +ℤ z) ≡ plus c z
-plus_is c z h = sym (add_last c (width c) z (omega (arith, h)))
-
 pub constant_plus : (c : List ℤ) (z : ℤ) → 0 < length c → constant (plus c z) ≡ entry c (length c - 1) +ℤ z
 constant_plus c z h = constant-plus c z (omega (arith, h))
 
 pub plus_made : (c : List ℤ) (z v : ℤ) → 0 < length c → v ≡ entry c (length c - 1) +ℤ z → slice_set c (length c - 1) v ≡ plus c z
-plus_made c z v h e = ap (λ x. slice_set c (length c - 1) x) e ∙ plus_is c z h
+plus_made c z v h e = ap (λ x. slice_set c (length c - 1) x) e ∙ (sym (add_last c (width c) z (omega (arith, h))))
 
 pub constant_refused : (c : List ℤ) (z : ℤ) (r : Result ⊤ Overflow) → 0 < length c → IsErr r → IsFalse (fits (entry c (length c - 1) +ℤ z))
     → IsChecked is_overflow (constant (plus c z) ∷ []) r

@@ -35,10 +35,8 @@ negate_zeros (suc n) = ap (λ (xs : List ℤ). pos 0 ∷ xs) (negate_zeros n)
 -- t - (-g + u) is (t + g) - u
 pub add_back : (ts gs us : List ℤ) → length ts ≡ length gs → length gs ≡ length us → add ts (negate (add (negate gs) us)) ≡ add (add ts gs) (negate us)
 add_back [] [] us e f = refl
-add_back [] (g ∷ gs) us e f = absurd (omega arith)
-add_back (t ∷ ts) [] us e f = absurd (omega arith)
-add_back (t ∷ ts) (g ∷ gs) [] e f = absurd (omega arith)
 add_back (t ∷ ts) (g ∷ gs) (u ∷ us) e f = rw (back t g u, add_back ts gs us (omega arith) (omega arith)) refl
+add_back _ _ _ e f = absurd (omega arith)
 
 negate_append : (xs ys : List ℤ) → negate (xs ++ ys) ≡ negate xs ++ negate ys
 negate_append [] ys = refl

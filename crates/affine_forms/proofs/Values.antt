@@ -1,11 +1,7 @@
 -- Steps of a form's value, which is summed product by product.
-use Rattle.affine_forms.proofs.Words.{◌≡◌, ℕ, ◌+◌, ◌<◌, ℤ, pos, ◌+ℤ◌, ◌*ℤ◌, List, [], ◌∷◌, ◌++◌, length, drop, get_or, IsTrue, drop_more, dot, all_fit, dot_listed, fit_behind}
+use Rattle.affine_forms.proofs.Words.{◌≡◌, ℕ, ◌+◌, ◌<◌, ℤ, pos, ◌+ℤ◌, ◌*ℤ◌, List, [], ◌∷◌, ◌++◌, length, drop, get_or, IsTrue, drop_more, dot, all_fit, dot_listed, fit_behind, IsChecked, Overflow, is_overflow, Result, IsErr, false}
 use Rattle.affine_forms.proofs.Words.{refl, ap, sym, ◌∙◌, Bool, true, ◌&&◌, arith, ints, IsFalse, fits, Fits, drop_all, fit_never, value, value_listed}
-use Rattle.std.specs.Prelude.{Result, IsErr, false}
 use Rattle.std.proofs.Math.IntN.{+ℤ_assoc}
-use Rattle.pip_model.specs.Agreement.{IsChecked}
-use Rattle.affine_forms.specs.declared.numbers.Overflow.{Overflow}
-use Rattle.affine_forms.specs.Checks.{is_overflow}
 use Rattle.affine_forms.proofs.Combined.{refused}
 
 -- the vector's numbers from place i on, and the 1 of the constant
@@ -63,14 +59,11 @@ module _ (sum : ℤ) (form v : List ℤ) (i : ℕ) where
   times_one : (z : ℤ) → z *ℤ pos 1 ≡ z
   times_one z = omega (arith, ints)
 
-  both_fit : (x y : ℤ) → Fits x → (fits x && (fits y && true)) ≡ fits y
-  both_fit x y h = rw h (and_true (fits y))
-
   listed_end : i ≡ length v → length v + 1 ≡ length form → Fits (get_or form (length v) (pos 0))
       → all_fit (dot_listed sum (drop i form) (vector_from i v)) ≡ fits (sum +ℤ get_or form (length v) (pos 0))
   listed_end at e fit =
       let last = get_or form (length v) (pos 0) in
-      rw (form_end at e, drop_all i v (omega (arith, at)), times_one last) (both_fit last (sum +ℤ last) fit)
+      rw (form_end at e, drop_all i v (omega (arith, at)), times_one last) (rw fit (and_true (fits (sum +ℤ last))))
 
   pub constant_added : (r : Result ℤ Overflow) → IsErr r → i ≡ length v → length v + 1 ≡ length form → Fits (get_or form (length v) (pos 0))
       → all_fit (dot_listed sum (drop i form) (vector_from i v)) ≡ all_fit (value_listed form v)
@@ -89,5 +82,4 @@ module _ (sum : ℤ) (form v : List ℤ) (i : ℕ) where
       → sum +ℤ get_or form (length v) (pos 0) ≡ value form v
   value_end at long so_far =
       let last = get_or form (length v) (pos 0) in
-      let end : dot (drop i form) (vector_from i v) ≡ last = rw (form_end at long, drop_all i v (omega (arith, at)), times_one last) (zero_more last) in
-      ap (λ z. sum +ℤ z) (sym end) ∙ so_far
+      ap (λ z. sum +ℤ z) (sym (rw (form_end at long, drop_all i v (omega (arith, at)), times_one last) (zero_more last))) ∙ so_far

@@ -13,8 +13,7 @@ from_entries-requires c =
 
 pub returns : goal.returns
 returns c =
-    let rounded = rw (held c.args.d c.requires.d) at c.in_ok-entries.ensures.value in
     c.from_entries.ensures
     ∙ kept_whole c.in_ok-entries.entries.len c.in_ok-entries.entries.items c.deref_mut.result.now c.negate_all.new.entries c.deref_mut.ensures.value c.deref_mut.ensures.len (omega (arith, c.negate_all.auto.entries))
     ∙ c.negate_all.ensures.value
-    ∙ ap negate (c.deref_mut.ensures.value ∙ rounded)
+    ∙ ap negate (c.deref_mut.ensures.value ∙ (rw (held c.args.d c.requires.d) at c.in_ok-entries.ensures.value))

@@ -1,4 +1,4 @@
-use Rattle.affine_forms.proofs.Words.{◌≡◌, arith, rules, sym, ◌∙◌, IsTrue, IsFalse, fits, all_fit, ◌+ℤ◌, get_or, length, pos, to_z, of_z, w128}
+use Rattle.affine_forms.proofs.Words.{arith, rules, sym, ◌∙◌, IsTrue, IsFalse, fits, all_fit, ◌+ℤ◌, get_or, length, pos, to_z, w128}
 use Rattle.affine_forms.proofs.Values.{listed_at, value_listed_step, value_step, value_refused, constant_added, all_made, value_end}
 use Rattle.affine_forms.proofs.evaluation.evaluate.Goals as goal
 
@@ -33,5 +33,4 @@ pub returns-clause-value : goal.returns-clause-value
 returns-clause-value c =
     let form = c.args.form.now in
     let v = c.args.v.now in
-    let made : to_z w128 (of_z w128 c.in_ok-whole.whole) ≡ (to_z w128 c.loop-i.sum-bits) +ℤ get_or form (length v) (pos 0) = search rules in
-    made ∙ value_end (to_z w128 c.loop-i.sum-bits) form v c.loop-i.i (omega arith) c.requires.lengths c.loop-i.invariant.1
+    (search rules) ∙ value_end (to_z w128 c.loop-i.sum-bits) form v c.loop-i.i (omega arith) c.requires.lengths c.loop-i.invariant.1

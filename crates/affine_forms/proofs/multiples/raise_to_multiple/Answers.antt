@@ -11,5 +11,4 @@ floor_mod-requires-clause-fits c = opposite_fits c.args.x c.requires.fits
 pub returns : goal.returns
 returns c =
     let made = residue_made c.args.x (to_z w128 (of_z w128 c.args.d)) c.floor_mod.result c.requires.fits c.floor_mod.ensures.fits c.floor_mod.ensures.value in
-    let left = rw (to_z-of_z w128 c.args.d c.ranges.d) at made in
-    rw (held c.args.x c.requires.fits, left) at c.plus.ensures
+    rw (held c.args.x c.requires.fits, rw (to_z-of_z w128 c.args.d c.ranges.d) at made) at c.plus.ensures

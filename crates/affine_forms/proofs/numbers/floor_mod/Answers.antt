@@ -1,5 +1,4 @@
-use Rattle.affine_forms.proofs.Words.{rules, arith, ints, lt-ltb, ◌^◌, ◌<ℤ◌, ◌≤ℤ◌, ℤ, pos, negsuc, unsigned_abs, floor_mod, Fits}
-use Rattle.pip_model.proofs.Fitting.{fits-below}
+use Rattle.affine_forms.proofs.Words.{rules, arith, ints, lt-ltb, ◌^◌, ◌<ℤ◌, ◌≤ℤ◌, ℤ, pos, negsuc, unsigned_abs, floor_mod, Fits, fits-below}
 use Rattle.affine_forms.proofs.numbers.floor_mod.Goals as goal
 
 low : (a d : ℤ) → pos 0 ≤ℤ floor_mod a d

@@ -9,15 +9,13 @@ invariant_of-self c =
 
 pub returns-clause-value : goal.returns-clause-value
 returns-clause-value c =
-    let divided = rw (to_z-of_z w128 c.args.d c.ranges.d) at c.divide_evenly.ensures.value in
     kept_whole c.self.inside.entries.len c.self.inside.entries.items c.deref_mut.result.now c.divide_evenly.new.entries c.deref_mut.ensures.value c.deref_mut.ensures.len (omega (arith, c.divide_evenly.auto.entries))
-    ∙ divided
+    ∙ (rw (to_z-of_z w128 c.args.d c.ranges.d) at c.divide_evenly.ensures.value)
     ∙ ap (floor_divided c.args.d) (c.deref_mut.ensures.value ∙ c.self.view_is)
 
 pub returns-clause-exact : goal.returns-clause-exact
 returns-clause-exact c =
-    let exact = rw (to_z-of_z w128 c.args.d c.ranges.d) at c.divide_evenly.ensures.exact in
     ap (scale c.args.d) (kept_whole c.self.inside.entries.len c.self.inside.entries.items c.deref_mut.result.now c.divide_evenly.new.entries c.deref_mut.ensures.value c.deref_mut.ensures.len (omega (arith, c.divide_evenly.auto.entries)))
-    ∙ exact
+    ∙ (rw (to_z-of_z w128 c.args.d c.ranges.d) at c.divide_evenly.ensures.exact)
     ∙ c.deref_mut.ensures.value
     ∙ c.self.view_is
