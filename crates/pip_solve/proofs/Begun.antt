@@ -7,8 +7,7 @@ module _ (P : Problem) (w v : Work) (given : has_point P.params P.context w ≡ 
     where
       by : (o : Outcome (Option (List ℤ))) → go_on o (λ p. give (is_some p)) ≡ Done true v → go_on o (answer_from P) ≡ go_on (run_from (setting P) (first_node P) v) (λ t. give (Solved t))
       by (Done (Some p) u) e = let same : u ≡ v = cc in ap (λ (x : Work). go_on (run_from (setting P) (first_node P) x) (λ t. give (Solved t))) same
-      by (Done None u) e = absurd cc
-      by (Refused f u) e = absurd cc
+      by _ e = absurd cc
 
   pub answer-made : (tree : Tree) (x : Work) → run_from (setting P) (first_node P) v ≡ Done tree x → answer P w ≡ Done (Solved tree) x
   answer-made tree x e = pointed ∙ ap (λ (o : Outcome Tree). go_on o (λ t. give (Solved t))) e

@@ -23,9 +23,8 @@ module _ (path now : Path) (c : List ℤ) (entered : IsBelow path (c ∷ []) [] 
     forms = ([], forms_back ∙ sym (append-nil _));
     room =
         let more = ap (λ (fs : List (List ℤ)). length fs) entered.forms in
-        let long = length-append path.context.forms (c ∷ []) in
         let kept = ap (λ (fs : List (List ℤ)). length fs) forms_back in
-        omega (arith, more, long, kept, forms, entered.room);
+        omega (arith, more, length-append path.context.forms (c ∷ []), kept, forms, entered.room);
     params = ap (λ (q : Scope). q.params) quotients_back;
     quotients = ([], ap (λ (q : Scope). q.quotients) quotients_back ∙ sym (append-nil _));
   }
@@ -54,9 +53,7 @@ pub second_grown : (path mid now : Path) (frames : List Frame) (c : List ℤ) (m
 second_grown path mid now frames c mark quotients marks back entered = record {
   integer = entered.integer ∙ back.integer;
   forms = (opposite c ∷ [], entered.forms ∙ ap (λ (fs : List (List ℤ)). fs ++ opposite c ∷ []) back.forms);
-  room =
-      let long = length-take-le mark.forms path.context.forms marks.forms in
-      omega (arith, long, marks.forms, back.room, entered.room);
+  room = omega (arith, length-take-le mark.forms path.context.forms marks.forms, marks.forms, back.room, entered.room);
   params = ap (λ (q : Scope). q.params) entered.quotients ∙ ap (λ (q : Scope). q.params) back.quotients;
   quotients = ([], ap (λ (q : Scope). q.quotients) entered.quotients ∙ ap (λ (q : Scope). q.quotients ++ []) back.quotients);
 }
@@ -102,10 +99,9 @@ pub below_on : (most w : ℕ) (rows now_rows : TableauRows) (path now : Path) (f
     → IsBelow path (lower_bound (size path.quotients + 1) (size path.quotients) k ∷ upper_bound (size path.quotients + 1) (size path.quotients) k ∷ []) (k ∷ []) now
     → (u : Work) → turned_run rows path frames (code.Below i k) u ≡ whole_run now_rows now (frame.NewParm k.form k.den ∷ frames) u
 below_on most w rows now_rows path now frames i k waits wide cut entered u =
-    let S = setting_of rows path in
     let N = node_of rows path in
     let q = size path.quotients in
-    grouped (run_from S (below N i q k) u) (λ a. give (NewParm k.form k.den a)) (λ t. finished path frames t)
+    grouped (run_from (setting_of rows path) (below N i q k) u) (λ a. give (NewParm k.form k.den a)) (λ t. finished path frames t)
     ∙ ap (λ o. go_on o (λ a. finished path frames (NewParm k.form k.den a))) there
     ∙ same_after (node_run now_rows now u) (λ a. finished path frames (NewParm k.form k.den a)) (λ a. finished now frames (NewParm k.form k.den a)) (λ a v. sym (finished_grown most w path now frames (grown_below path now _ _ entered) waits (NewParm k.form k.den a) v))
   where

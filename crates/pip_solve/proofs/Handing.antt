@@ -98,15 +98,13 @@ module _ (rows : TableauRows) (path now : Path) (pending : Waiting) (running : I
 
   pub split_room : (c : List ℤ) → IsBelow path (c ∷ []) [] now → HasRoom pending.most now
   split_room c entered =
-      let long = length-append path.context.forms (c ∷ []) in
       let more = ap (λ (fs : List (List ℤ)). length fs) entered.forms in
-      omega (arith, room, nested, entered.depth, entered.room, long, more)
+      omega (arith, room, nested, entered.depth, entered.room, length-append path.context.forms (c ∷ []), more)
 
   pub below_room : (a b : List ℤ) (k : Quotient) → IsBelow path (a ∷ b ∷ []) (k ∷ []) now → HasRoom pending.most now
   below_room a b k entered =
-      let long = length-append path.context.forms (a ∷ b ∷ []) in
       let more = ap (λ (fs : List (List ℤ)). length fs) entered.forms in
-      omega (arith, room, nested, entered.depth, entered.room, long, more)
+      omega (arith, room, nested, entered.depth, entered.room, length-append path.context.forms (a ∷ b ∷ []), more)
 
   pub split_next : (c : List ℤ) (mark : ContextMark) (quotients : ℕ) → IsCondition rows.width c → IsBelow path (c ∷ []) [] now → mark.forms ≡ length path.context.forms → mark.width ≡ path.context.width → IsContext path.context.width path.context.forms → quotients ≡ length path.quotients.quotients
       → IsNextNode 2 path pending rows now (record pending { frames = frame.SecondDue c rows mark quotients ∷ pending.frames })
@@ -244,9 +242,8 @@ second_running most w rows path mid now frames c mark quotients first waits back
 -- back at its marks the context has room for what the second tree may need
 pub back_room : (most : ℕ) (path mid : Path) (mark : ContextMark) (quotients depth : ℕ) → AreMarks path mark quotients → IsBack path mark quotients mid → HasRoom most (gone_back path mark quotients depth) → mid.depth ≡ depth → HasRoom most mid
 back_room most path mid mark quotients depth marks back room deep =
-    let marked = length-take-le mark.forms path.context.forms marks.forms in
     let gone = ap (λ (fs : List (List ℤ)). length fs) back.forms in
-    omega (arith, room, back.room, marked, gone, marks.forms, deep)
+    omega (arith, room, back.room, length-take-le mark.forms path.context.forms marks.forms, gone, marks.forms, deep)
 
 pub kept_room : (most : ℕ) (path later : Path) → IsKept path later → HasRoom most path → HasRoom most later
 kept_room most path later kept room = omega (arith, kept.depth, kept.context.spare, room)
@@ -272,9 +269,7 @@ less rows now path T w u e = by T (subst (AtMost (left w)) e ((falls-turn S fall
 
     by : (T : turns.Turn) → AtMost (left w) (Done (turn_of now path T) u) → Progress (left w) (Done (turn_of now path T) u) → 2 * left u + weight T ≤ 2 * left w
     by (code.Closed tree) h k = omega (arith, h)
-    by code.Again h k = omega (arith, k)
-    by (code.Split c) h k = omega (arith, k)
-    by (code.Below i q) h k = omega (arith, k)
+    by _ h k = omega (arith, k)
 
 module _ (start : TableauRows) (from : Path) (before : Waiting) (v : Work) (rows : TableauRows) (path : Path) (pending : Waiting) (w : Work) (g : GoesOn start from before v rows path pending w) where
   module _ (now : TableauRows) (later : Path) (T : turns.Turn) (u : Work) (e : turn (setting_of rows path) (node_of rows path) w ≡ Done (turn_of now path T) u) (given : TurnIs rows now path u.budget.nesting T) (kept : IsKept path later) (budget : u.budget ≡ w.budget) where
@@ -289,17 +284,11 @@ module _ (start : TableauRows) (from : Path) (before : Waiting) (v : Work) (rows
     pub leaves : whole_run start from before.frames v ≡ turned_run now later pending.frames T u
     leaves = sym g.same ∙ turned_on rows now path later pending T w u g.running e within kept
 
-    pub leaves_params : later.quotients.params ≡ from.quotients.params
-    leaves_params = ap (λ (q : Scope). q.params) kept.quotients ∙ g.params
-
-    pub leaves_budget : pending.most ≡ u.budget.nesting
-    leaves_budget = g.budget ∙ ap (λ (b : Budget). b.nesting) (sym budget)
-
     pub goes_on : (next : TableauRows) (there : Path) (waiting : Waiting) → IsNextNode (weight T) later pending next there waiting → ((x : Work) → turned_run now later pending.frames T x ≡ whole_run next there waiting.frames x) → GoesOn start from before v next there waiting u
     goes_on next there waiting n same = record {
       running = n.running;
-      budget = n.most ∙ leaves_budget;
-      params = n.params ∙ leaves_params;
+      budget = n.most ∙ (g.budget ∙ ap (λ (b : Budget). b.nesting) (sym budget));
+      params = n.params ∙ (ap (λ (q : Scope). q.params) kept.quotients ∙ g.params);
       same = sym (same u) ∙ sym leaves;
     }
 

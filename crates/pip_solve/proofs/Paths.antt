@@ -1,6 +1,5 @@
 -- The rows and the path below a new parameter.
-use Rattle.pip_solve.proofs.Words.{◌≡◌, sym, subst, ap, ℕ, ◌+◌, ◌-◌, ◌<◌, ◌≤◌, ℤ, pos, List, [], ◌∷◌, ◌++◌, length, map, true, append_assoc, arith, get_or-append_seam, get_or-map, All-from_recursion, tighten, Row, row_at, form_row, widened, started, start, Quotient, Problem, most_nesting, IsRow, IsProblem, TableauRows, Scope, size, quotient_at, Path, IsNode, Waiting, Waits, IsRunning, Frame}
-use Rattle.std.proofs.Common.{All}
+use Rattle.pip_solve.proofs.Words.{◌≡◌, sym, subst, ap, ℕ, ◌+◌, ◌-◌, ◌<◌, ◌≤◌, ℤ, pos, List, [], ◌∷◌, ◌++◌, length, map, true, append_assoc, arith, get_or-append_seam, get_or-map, All-from_recursion, tighten, Row, row_at, form_row, widened, started, start, Quotient, Problem, most_nesting, IsRow, IsProblem, TableauRows, Scope, size, quotient_at, Path, IsNode, Waiting, Waits, IsRunning, Frame, All}
 use Rattle.run_laws.proofs.Started.{started_formed}
 use Rattle.node_turn.proofs.Pointing.{length_start}
 use Rattle.pip_solve.specs.Starts.{IsFirstPath}
@@ -22,32 +21,27 @@ pub starts : (P : Problem) (t : TableauRows) (path : Path) → IsProblem P → t
 starts P t path formed rows first =
     let size = ap (λ (q : Scope). size q) first.quotients in
     let params = ap (λ (q : Scope). q.params) first.quotients in
-    let none = ap (λ (q : Scope). length q.quotients) first.quotients in
-    let width = first.width in
     rw rows record {
       some_unknowns = formed.some_unknowns;
       few_unknowns = formed.few_unknowns;
       rows = length_start P.unknowns P.params (started P.integer P.rows);
       scope = omega (arith, size);
-      context = width;
+      context = first.width;
       few_params = omega (arith, params, formed.few_params);
-      few_quotients = omega (arith, none);
+      few_quotients = omega (arith, ap (λ (q : Scope). length q.quotients) first.quotients);
       shallow = omega (arith, first.depth);
     }
 
 -- the node is in hand, and nothing waits
 pub starts_running : (P : Problem) (t : TableauRows) (path : Path) (pending : Waiting) → IsProblem P → t ≡ record { unknowns = P.unknowns; width = P.params; rows = start P.unknowns P.params (started P.integer P.rows) } → IsFirstPath P path → pending.frames ≡ [] → pending.most ≤ most_nesting → IsRunning t path pending
 starts_running P t path pending formed rows first none few =
-    let empty = ap (λ (fs : List Frame). length fs) none in
-    let width = ap (λ (x : TableauRows). x.width) rows in
     let params = ap (λ (q : Scope). q.params) first.quotients in
-    let over : t.width ≡ path.quotients.params = omega (arith, width, params) in
     record {
       node = starts P t path formed rows first;
-      depth = omega (arith, first.depth, empty);
+      depth = omega (arith, first.depth, (ap (λ (fs : List Frame). length fs) none));
       nested = omega (arith, first.depth);
       few = few;
-      waits = subst (Waits pending.most t.width path) (sym none) over;
+      waits = subst (Waits pending.most t.width path) (sym none) (omega (arith, (ap (λ (x : TableauRows). x.width) rows), params));
     }
 
 -- tightened rows are as wide as a problem's rows

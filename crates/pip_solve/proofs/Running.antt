@@ -57,12 +57,11 @@ module _ (path now : Path) (grown : Grown path now) (mark : ContextMark) (quotie
 
   pub grown_back : Grown (gone_back path mark quotients depth) (gone_back now mark quotients depth)
   grown_back =
-      let long = length-take-le mark.forms path.context.forms marks.forms in
       let still = length-take-le mark.forms now.context.forms (omega (arith, marks.forms, longer)) in
       record {
         integer = grown.integer;
         forms = ([], forms_there ∙ sym (append-nil _));
-        room = omega (arith, long, still, longer, grown.room, marks.forms);
+        room = omega (arith, length-take-le mark.forms path.context.forms marks.forms, still, longer, grown.room, marks.forms);
         params = grown.params;
         quotients = ([], quotients_there ∙ sym (append-nil _));
       }

@@ -1,5 +1,5 @@
 -- The words of other modules that the proofs of this crate cite, passed on from one place. Declares nothing.
-pub use Rattle.std.proofs.Common.{◌≡◌, sym, ap, ◌∙◌, ℕ, ◌+◌, ◌++◌, ◌∷◌, [], map, take, List, ℤ, length, arith, refl, ◌-◌, ◌≤◌, Bool, subst, Result, Ok, Err, Some, ◌<◌, Option, None, pos, true, ◌*◌, append_assoc, is_some, rules}
+pub use Rattle.std.proofs.Common.{◌≡◌, sym, ap, ◌∙◌, ℕ, ◌+◌, ◌++◌, ◌∷◌, [], map, take, List, ℤ, length, arith, refl, ◌-◌, ◌≤◌, Bool, subst, Result, Ok, Err, Some, ◌<◌, Option, None, pos, true, ◌*◌, append_assoc, is_some, rules, All}
 pub use Rattle.std.proofs.Math.Seq.{take-append_seam, get_or-append_seam}
 pub use Rattle.std.proofs.lemmas.List.{append-nil, length-append, length-take-le, take-append-le, get_or-map, length-map}
 pub use Rattle.std.proofs.lemmas.List.Elements.{All-from_recursion}

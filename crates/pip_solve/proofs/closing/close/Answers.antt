@@ -29,8 +29,7 @@ returns-in-SecondDue-clause-room c =
     let deep : c.loop-frame.path.depth - 1 + 1 ≡ c.loop-frame.path.depth = omega (arith, h.closing.depth) in
     let most = ap (λ (p : Waiting). p.most) c.push.ensures in
     let room = second_room c.args.tree c.args.path.now c.args.pending.now c.loop-frame.tree c.loop-frame.path c.pop.new.self (c.loop-frame.path.depth - 1) c.in-SecondDue.condition c.in-SecondDue.due c.in-SecondDue.context c.in-SecondDue.quotients h c.back_to.new.self c.enter_opposite.new.self deep c.back_to.ensures entered in
-    let kept = ap (λ (p : Waiting). p.most) c.take_rows.ensures.kept in
-    omega (arith, most, room, kept)
+    omega (arith, most, room, (ap (λ (p : Waiting). p.most) c.take_rows.ensures.kept))
 
 pub returns-in-SecondDue-clause-next : goal.returns-in-SecondDue-clause-next
 returns-in-SecondDue-clause-next c =

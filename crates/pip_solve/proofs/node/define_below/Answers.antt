@@ -27,6 +27,5 @@ returns-clause-next c =
 
 pub returns-clause-room : goal.returns-clause-room
 returns-clause-room c =
-    let most = ap (λ (p : Waiting). p.most) c.push.ensures in
     let room = below_room c.args.rows.now c.args.path.now c.add_quotient.new.path c.args.pending.now c.requires.running c.requires.nested c.requires.room _ _ c.args.key c.in_ok-add_quotient.ensures in
-    omega (arith, most, room)
+    omega (arith, (ap (λ (p : Waiting). p.most) c.push.ensures), room)

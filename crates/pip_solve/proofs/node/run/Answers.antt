@@ -5,12 +5,7 @@ use Rattle.pip_solve.proofs.node.run.Goals as goal
 
 pub loop-turn-init : goal.loop-turn-init
 loop-turn-init c = record {
-  on = record {
-    running = c.requires.running;
-    budget = c.requires.budget;
-    params = refl;
-    same = refl;
-  };
+  on = record { running = c.requires.running; budget = c.requires.budget; params = refl; same = refl };
   room = c.requires.room;
   known = known_none c.args.path.now.context.forms c.args.path.now.context.width c.args.work.now.budget c.forget.new.self c.forget.ensures;
 }

@@ -22,6 +22,5 @@ returns-clause-next c =
 pub returns-clause-room : goal.returns-clause-room
 returns-clause-room c =
     let entered = c.in_ok-enter_copy.ensures in
-    let most = ap (λ (p : Waiting). p.most) (rw c.copy_rows.ensures.kept at c.push.ensures) in
     let room = split_room c.args.rows.now c.args.path.now c.enter_copy.new.self c.args.pending.now c.requires.running c.requires.nested c.requires.room c.args.condition entered in
-    omega (arith, most, room)
+    omega (arith, (ap (λ (p : Waiting). p.most) (rw c.copy_rows.ensures.kept at c.push.ensures)), room)
