@@ -1,8 +1,7 @@
 -- A turn of a question's run where no row is below 0.
-use Rattle.lane_run.proofs.Words.{◌≡◌, ◌∙◌, ap, sym, ℕ, ◌<◌, ◌≤◌, ℤ, arith, true, Option, Some, None, List, [], ◌∷◌, ◌++◌, length, take, drop, map, append_assoc, length-append, IfSome, take-append-le, drop-append-le, take_all, map-append, Row, row_at, first_fraction, fraction_from, constant_cut, Work, Outcome, Done, Refused, Refusal, go_on, give, turn, count_cut, point_setting, rows_by, Kept, Form, Whole, made, AreScaled, kept_of, ScaledTable, with_row, finds_point, IsTurnOf, negative_from, node_of, counted_cut, finds_whole, cut_goes_on, cut_refuses, run_rows}
+use Rattle.lane_run.proofs.Words.{◌≡◌, ◌∙◌, ap, sym, ℕ, ◌<◌, ◌≤◌, ℤ, arith, true, Option, Some, None, List, [], ◌∷◌, ◌++◌, length, take, drop, map, append_assoc, length-append, IfSome, take-append-le, drop-append-le, take_all, map-append, Row, row_at, first_fraction, fraction_from, constant_cut, Work, Outcome, Done, Refused, Refusal, go_on, give, turn, count_cut, point_setting, rows_by, Kept, Form, Whole, made, AreScaled, kept_of, ScaledTable, with_row, finds_point, IsTurnOf, negative_from, node_of, counted_cut, finds_whole, cut_goes_on, cut_refuses, run_rows, row_at-front}
 use Rattle.run_laws.proofs.Fractions.{fraction_some}
 use Rattle.form_laws.proofs.Pivots.{rows_added}
-use Rattle.lane_run.proofs.FirstBelow.{row_front}
 use Rattle.lane_run.proofs.Parts.{column_at, columns_long, one_constant}
 
 -- a row more behind the others
@@ -40,13 +39,12 @@ module _ (t : ScaledTable) (m : ℕ) (scaled : AreScaled t.unknowns 0 t.scale m 
     fraction_is = ap (fraction_from 0) front_is
 
     row_here : (i : ℕ) → i < n → row_at (run_rows t F) i ≡ row_at t.rows i
-    row_here i lt = let f = columns_long t m scaled enough in row_front basis made_behind i (omega (arith, lt, f)) ∙ column_at t m scaled enough i lt
+    row_here i lt = let f = columns_long t m scaled enough in row_at-front basis made_behind i (omega (arith, lt, f)) ∙ column_at t m scaled enough i lt
 
   pub fraction_inside : (i : ℕ) → first_fraction n t.rows ≡ Some i → i < n
   fraction_inside i e =
-      let f = columns_long t m scaled enough in
       let at = fraction_some 0 i basis e in
-      omega (arith, f, at.1, at.2)
+      omega (arith, (columns_long t m scaled enough), at.1, at.2)
 
   module _ (F : List (List ℤ)) (above : negative_from 0 (run_rows t F) ≡ None) where
     pub point_found : (w : Work) → first_fraction n t.rows ≡ None → finds_point n (run_rows t F) w ≡ Done true w

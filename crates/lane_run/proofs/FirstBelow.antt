@@ -1,5 +1,5 @@
 -- The first row below 0 among rows that stand in parts one behind the other.
-use Rattle.lane_run.proofs.Words.{◌≡◌, ◌∙◌, refl, ap, sym, ℕ, zero, suc, ◌+◌, ◌-◌, ◌<◌, ◌≤◌, ℤ, arith, ◌⊎◌, inl, inr, Bool, true, false, Some, None, List, [], ◌∷◌, ◌++◌, length, length-append, if◌then◌else◌, cases_lt, get_or_append_left, get_or-append-add, Row, row_at, form_row, negative_from, ScaledTable, is_above, AreAbove, IsFirstRowBelow}
+use Rattle.lane_run.proofs.Words.{◌≡◌, ◌∙◌, refl, ap, sym, ℕ, zero, suc, ◌+◌, ◌-◌, ◌<◌, ◌≤◌, ℤ, arith, ◌⊎◌, inl, inr, Bool, true, false, Some, None, List, [], ◌∷◌, ◌++◌, length, length-append, if◌then◌else◌, cases_lt, get_or-append-add, Row, row_at, form_row, negative_from, ScaledTable, is_above, AreAbove, IsFirstRowBelow, row_at-front}
 
 -- ---- as the run finds it
 
@@ -12,9 +12,8 @@ below_some : (rows : List Row) (i k : ℕ) → k < length rows → is_above (row
 below_some [] i k lt e before = absurd (omega arith)
 below_some (r ∷ rows) i zero lt e before = let s : i ≡ i + 0 = omega arith in ap (λ (b : Bool). if b then negative_from (i + 1) rows else Some i) e ∙ ap (λ (j : ℕ). Some j) s
 below_some (r ∷ rows) i (suc k) lt e before =
-    let s : (i + 1) + k ≡ i + suc k = omega arith in
     ap (λ (b : Bool). if b then negative_from (i + 1) rows else Some i) (before 0 (omega arith))
-    ∙ below_some rows (i + 1) k (omega arith) e (λ j less. before (suc j) (omega (arith, less))) ∙ ap (λ (j : ℕ). Some j) s
+    ∙ below_some rows (i + 1) k (omega arith) e (λ j less. before (suc j) (omega (arith, less))) ∙ ap (λ (j : ℕ). Some j) (omega arith)
 
 pub none_negative : (rows : List Row) → AreAbove rows → negative_from 0 rows ≡ None
 none_negative rows all = above_none rows 0 all
@@ -25,9 +24,6 @@ first_negative t rows row h = let s : 0 + h.place ≡ h.place = omega arith in b
 -- ---- parts
 
 module _ (R S : List Row) where
-  pub row_front : (j : ℕ) → j < length R → row_at (R ++ S) j ≡ row_at R j
-  row_front j lt = get_or_append_left R S (form_row 0 []) j lt
-
   pub row_behind : (j : ℕ) → row_at (R ++ S) (length R + j) ≡ row_at S j
   row_behind j = get_or-append-add R S j (form_row 0 [])
 
@@ -35,7 +31,7 @@ module _ (R S : List Row) where
   above_at front k back j lt = by (cases_lt j (length R))
     where
       by : (j < length R) ⊎ (length R ≤ j) → is_above (row_at (R ++ S) j) ≡ true
-      by (inl less) = ap is_above (row_front j less) ∙ front j less
+      by (inl less) = ap is_above (row_at-front R S j less) ∙ front j less
       by (inr le) =
           let s : length R + (j - length R) ≡ j = omega (arith, le) in
           sym (ap (λ (i : ℕ). is_above (row_at (R ++ S) i)) s) ∙ ap is_above (row_behind (j - length R)) ∙ back (j - length R) (omega (arith, lt, le))
@@ -47,11 +43,11 @@ module _ (R S : List Row) where
   first_front t row h = record {
     place = h.place;
     within = omega (arith, h.within, length-append R S);
-    below = ap is_above (row_front h.place h.within) ∙ h.below;
-    before = λ j lt. ap is_above (row_front j (omega (arith, lt, h.within))) ∙ h.before j lt;
+    below = ap is_above (row_at-front R S h.place h.within) ∙ h.below;
+    before = λ j lt. ap is_above (row_at-front R S j (omega (arith, lt, h.within))) ∙ h.before j lt;
     lanes = h.lanes;
     unused = h.unused;
-    same = h.same ∙ sym (row_front h.place h.within);
+    same = h.same ∙ sym (row_at-front R S h.place h.within);
   }
 
   pub first_behind : (t : ScaledTable) (row : List ℤ) → AreAbove R → IsFirstRowBelow t S row → IsFirstRowBelow t (R ++ S) row

@@ -1,11 +1,9 @@
 -- The pivot at the first row below 0, where rows of forms are read off: it is the written run's, and the forms make the rows
 -- after it of the pivoted columns' rows.
-use Rattle.lane_run.proofs.Words.{◌≡◌, ◌∙◌, refl, ap, sym, subst, ℕ, ◌+◌, ◌*◌, ◌^◌, ◌<◌, ◌≤◌, ℤ, pos, ◌<ℤ◌, arith, true, false, Option, Some, None, is_some, List, [], ◌∷◌, ◌++◌, length, map, take, drop, append-nil, append_assoc, length-append, All, IfSome, ints, mul-le, take-append-le, take_all, length-take-le, take-map, drop-map, drop_all, entry, Row, row_at, eliminated, pivot, pivot_listed, entering, entering_of, entering_listed, candidates, Work, Outcome, Done, Refused, Refusal, Again, go_on, give, count_pivot, turn, point_setting, again_run, refused_run_from, falls-constant_class, norm, AllShort, Kept, Form, Whole, by_form, made, rows_by, turned, IsWide, AllWide, IsOver, MadeBy, row_wide, pivot_made, kept_of, AreScaled, ScaledTable, finds_point, negative_from, node_of, finds_no_column, pivot_refused, row_of, IsNarrowTable, IsEntering, IsPivoted, run_rows, AreModest, IsRowBelow}
+use Rattle.lane_run.proofs.Words.{◌≡◌, ◌∙◌, refl, ap, sym, subst, ℕ, ◌+◌, ◌*◌, ◌^◌, ◌<◌, ◌≤◌, ℤ, pos, ◌<ℤ◌, arith, true, false, Option, Some, None, is_some, List, [], ◌∷◌, ◌++◌, length, map, take, drop, append-nil, append_assoc, length-append, All, IfSome, ints, mul-le, take-append-le, take_all, length-take-le, take-map, drop-map, drop_all, entry, Row, row_at, eliminated, pivot, pivot_listed, entering, entering_of, entering_listed, candidates, Work, Outcome, Done, Refused, Refusal, Again, go_on, give, count_pivot, turn, point_setting, again_run, refused_run_from, falls-constant_class, norm, AllShort, Kept, Form, Whole, by_form, made, rows_by, turned, IsWide, AllWide, IsOver, MadeBy, row_wide, pivot_made, kept_of, AreScaled, ScaledTable, finds_point, negative_from, node_of, finds_no_column, pivot_refused, row_of, IsNarrowTable, IsEntering, IsPivoted, run_rows, AreModest, IsRowBelow, IsStep, negative-front, row_at-front, turn-alone, numbers_of}
 use Rattle.pip_model.specs.Listed.{all_fit}
-use Rattle.pip_model.specs.Run.{numbers_of}
 use Rattle.form_laws.proofs.Within.{all_wide, all_over}
 use Rattle.scaled_laws.proofs.Within.{rows_are_short, are_made, made_kept, none_refused, comparison_refused, scaled_front, scaled_back}
-use Rattle.short_run.proofs.FurtherRows.{IsStep, negative-front, row_at-front, turn-alone}
 
 -- ---- a turn that counts a pivot, and the run from there
 

@@ -7,3 +7,4 @@ pub mod CutTurns
 pub mod Modest
 pub mod SameRun
 mod Words
+pub use Rattle.short_run.proofs.Ending

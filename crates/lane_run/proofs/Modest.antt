@@ -1,5 +1,5 @@
 -- Forms in lanes as forms over some columns: their length, and the sum of their sizes.
-use Rattle.lane_run.proofs.Words.{◌≡◌, ℕ, zero, suc, ◌+◌, ◌^◌, ◌<◌, ◌≤◌, ℤ, pos, unsigned_abs, arith, List, [], ◌∷◌, ◌++◌, get_or, take, norm, numbers_long, IsWithin, AreWithin, forms_of, IsModest, AreModest}
+use Rattle.lane_run.proofs.Words.{◌≡◌, ℕ, suc, ◌+◌, ◌^◌, ◌<◌, ◌≤◌, ℤ, pos, unsigned_abs, arith, List, [], ◌∷◌, ◌++◌, get_or, take, norm, numbers_long, IsWithin, AreWithin, forms_of, IsModest, AreModest}
 use Rattle.std.proofs.lemmas.List.Elements.{All-map}
 use Rattle.lane_rows.specs.Laned.{numbers_of}
 
@@ -8,9 +8,8 @@ norm_behind [] z = omega arith
 norm_behind (x ∷ xs) z = let e = norm_behind xs z in omega (arith, e)
 
 norm_front : (n : ℕ) (xs : List ℤ) → norm (take n xs) ≤ norm xs
-norm_front zero xs = omega arith
-norm_front (suc n) [] = omega arith
 norm_front (suc n) (x ∷ xs) = let e = norm_front n xs in omega (arith, e)
+norm_front _ _ = omega arith
 
 pub norm_numbers : (n : ℕ) (x : List ℤ) → norm (numbers_of n x) ≤ norm x
 norm_numbers n [] = let none : List ℤ = [] in let e = norm_front n none in let f = norm_behind (take n none) (pos 0) in omega (arith, e, f)

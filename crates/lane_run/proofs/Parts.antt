@@ -14,18 +14,13 @@ pub below_zero : (z : ℤ) → z <ℤ pos 0 → is_nonneg z ≡ false
 below_zero (pos k) h = absurd (omega (arith, ints, h))
 below_zero (negsuc k) h = refl
 
-pub not_below : (z : ℤ) → pos 0 ≤ℤ z → is_nonneg z ≡ true
-not_below (pos k) h = refl
-not_below (negsuc k) h = absurd (omega (arith, ints, h))
-
 and_true : (b : Bool) → (b && true) ≡ b
 and_true true = refl
 and_true false = refl
 
 pub alone : (c : List ℤ) → length c ≡ 1 → list_all is_nonneg c ≡ is_nonneg (constant c)
-alone [] e = absurd (omega arith)
 alone (z ∷ []) e = and_true (is_nonneg z)
-alone (z ∷ y ∷ c) e = absurd (omega arith)
+alone _ e = absurd (omega arith)
 
 -- of the row of these lanes
 pub lanes_sign : (n : ℕ) (l : ℤ) (x : List ℤ) (r : Row) → pos 1 ≤ℤ l → n < length x → divided (row_over n l (numbers_of n x)) ≡ r → length r.constant ≡ 1 → is_nonneg (entry x 0) ≡ is_above r
@@ -123,8 +118,7 @@ module _ (t : ScaledTable) where
     pub cut_is_below : (i : ℕ) (row : List ℤ) → n ≤ i → i < length t.rows → is_above (row_at t.rows i) ≡ false → ((j : ℕ) → n ≤ j → j < i → is_above (row_at t.rows j) ≡ true)
         → AreLanes row → AreUnused n row → divided (row_over n t.scale (numbers_of n row)) ≡ row_at t.rows i → IsFirstRowBelow t (drop n t.rows) row
     cut_is_below i row le lt below before lanes unused same =
-        let s : n + (i - n) ≡ i = omega (arith, le) in
-        let here : row_at (drop n t.rows) (i - n) ≡ row_at t.rows i = cut_at (i - n) ∙ ap (row_at t.rows) s in
+        let here : row_at (drop n t.rows) (i - n) ≡ row_at t.rows i = cut_at (i - n) ∙ ap (row_at t.rows) (omega (arith, le)) in
         record {
           place = i - n;
           within = omega (arith, le, lt, length-drop n t.rows);

@@ -1,16 +1,12 @@
 -- A question's run from turn to turn: it finds what it found from the first rows on.
-use Rattle.lane_run.proofs.Words.{◌≡◌, ◌∙◌, refl, ap, sym, subst, ℕ, ℤ, ◌<◌, Bool, Option, Some, None, is_some, List, IfSome, Ok, Err, Row, Work, Refused, Refusal, left, turn, go_on, give, point_setting, again_run, again_less, refused_run_from, falls-constant_class, finds_point, IsTurnOf, node_of, ScaledTable, run_rows, forms_of}
-use Rattle.pip_model.specs.Run.{numbers_of}
-use Rattle.run_counts.specs.Counts.{HasCounted, IsCountedRun}
-use Rattle.run_counts.proofs.Counting.{counted_on, counted_none}
+use Rattle.lane_run.proofs.Words.{◌≡◌, ◌∙◌, ap, sym, subst, ℕ, ℤ, ◌<◌, None, is_some, List, Row, Work, left, go_on, give, point_setting, again_run, again_less, falls-constant_class, finds_point, IsTurnOf, node_of, ScaledTable, run_rows, forms_of, numbers_of}
+use Rattle.run_counts.specs.Counts.{HasCounted}
+use Rattle.run_counts.proofs.Counting.{counted_on}
 
 -- the run of n unknowns from the first rows and counts, which goes on from others
 pub record IsSameRun (n : ℕ) (first now : List Row) (before w : Work) : Type 0 where
   pub counted : HasCounted before w
   pub same : finds_point n now w ≡ finds_point n first before
-
-pub same_start : (n : ℕ) (first : List Row) (before : Work) → IsSameRun n first first before before
-same_start n first before = record { counted = counted_none before; same = refl }
 
 module _ (n : ℕ) (first now : List Row) (before w v : Work) (is : IsSameRun n first now before w) (counted : HasCounted w v) where
   pub same_on : (next : List Row) → IsTurnOf n now next w v None → IsSameRun n first next before v
@@ -21,21 +17,6 @@ module _ (n : ℕ) (first now : List Row) (before w v : Work) (is : IsSameRun n 
 
   pub less_left : (next : List Row) → IsTurnOf n now next w v None → left v < left w
   less_left next e = again_less (point_setting n) falls-constant_class (node_of now) (node_of next) w v e
-
-  pub run_ended : {E : Type 0} (fault : E → Option Refusal) (next : List Row) (found : Bool) → IsTurnOf n now next w v (Some found)
-      → IsCountedRun (λ b. b) fault (Ok found) before v (finds_point n first)
-  run_ended fault next found e = record {
-    agrees = sym is.same ∙ e;
-    counted = counted_on before w v is.counted counted;
-  }
-
-  stopped : (o : Option Refusal) → IfSome o (λ f. turn (point_setting n) (node_of now) w ≡ Refused f v) → IfSome o (λ f. finds_point n first before ≡ Refused f v)
-  stopped None e = e
-  stopped (Some f) e = sym is.same ∙ ap (λ o. go_on o (λ t. give (is_some (numbers_of t)))) (refused_run_from (point_setting n) falls-constant_class (node_of now) w v f e)
-
-  pub run_stopped : {E : Type 0} (fault : E → Option Refusal) (e : E) → IfSome (fault e) (λ f. turn (point_setting n) (node_of now) w ≡ Refused f v)
-      → IsCountedRun (λ (b : Bool). b) fault (Err e) before v (finds_point n first)
-  run_stopped fault e h = record { agrees = stopped (fault e) h; counted = counted_on before w v is.counted counted }
 
 -- a turn over the table's columns is one over as many columns
 pub turn_over : (k n : ℕ) (rows now : ScaledTable) (forms : List (List ℤ)) (w v : Work) → k ≡ n

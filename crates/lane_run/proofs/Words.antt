@@ -20,7 +20,7 @@ pub use Rattle.scaled_laws.specs.Scaled.{row_over, AreScaled}
 pub use Rattle.scaled_laws.specs.Kept.{kept_of}
 pub use Rattle.lane_rows.specs.Laned.{AreUnused}
 pub use Rattle.std.proofs.lemmas.Nat.{mul-le}
-pub use Rattle.pip_model.specs.Run.{Work, Outcome, Done, Refused, Refusal, Again, go_on, give, count_pivot, turn, point_setting, count_cut, left}
+pub use Rattle.pip_model.specs.Run.{Work, Outcome, Done, Refused, Refusal, Again, go_on, give, count_pivot, turn, point_setting, count_cut, left, numbers_of}
 pub use Rattle.pip_model.proofs.Fuel.{again_run, refused_run_from, falls-constant_class, again_less}
 pub use Rattle.point_turns.specs.Points.{finds_point, IsTurnOf}
 pub use Rattle.short_run.proofs.QuestionTurns.{finds_no_column, pivot_refused, finds_whole, cut_goes_on, cut_refuses}
@@ -29,3 +29,5 @@ pub use Rattle.pip_model.specs.Cuts.{constant_cut}
 pub use Rattle.std.specs.Int.{w32}
 pub use Rattle.std.proofs.lemmas.Grind.{common_steps}
 pub use Rattle.pip_problem.specs.Faults.{run_fault}
+pub use Rattle.pip_model.proofs.Tests.{is_nonneg_is}
+pub use Rattle.short_run.proofs.FurtherRows.{row_at-front, IsStep, negative-front, turn-alone}

@@ -1,5 +1,5 @@
-use Rattle.lane_run.proofs.Words.{◌≡◌, ◌∙◌, ap, sym, arith, rules, ℕ, ◌+◌, ◌<◌, ◌≤◌, pos, true, false, ◌<ℤ◌, ◌≤ℤ◌, to_z, of_z, length, ◌⊎◌, inl, inr, ints, cases_lt, w32, is_nonneg, row_at, is_above}
-use Rattle.lane_run.proofs.Parts.{below_zero, not_below, lanes_at, cut_is_below}
+use Rattle.lane_run.proofs.Words.{◌≡◌, ◌∙◌, ap, sym, arith, rules, ℕ, ◌+◌, ◌<◌, ◌≤◌, pos, true, false, ◌<ℤ◌, ◌≤ℤ◌, to_z, of_z, length, ◌⊎◌, inl, inr, ints, cases_lt, w32, is_nonneg, row_at, is_above, is_nonneg_is}
+use Rattle.lane_run.proofs.Parts.{below_zero, lanes_at, cut_is_below}
 use Rattle.lane_run.proofs.turn.cut_below.Goals as goal
 
 pub returns-then-get-lt0-clause-some : goal.returns-then-get-lt0-clause-some
@@ -23,7 +23,7 @@ loop-i-preserved c =
     let least : pos 0 ≤ℤ c.get.result = let e = c.if-get-lt0.false in omega (arith, ints, e, whole) in
     let sign : is_above (row_at c.args.rows.now.rows c.loop-i.i) ≡ true =
     sym (lanes_at t t.most c.scale.ensures.rows c.unknowns-i.ensures.rows c.loop-i.i c.row-row.result inside long c.row-row.ensures.value)
-    ∙ sym (ap is_nonneg c.get.ensures.value) ∙ not_below c.get.result least in
+    ∙ sym (ap is_nonneg c.get.ensures.value) ∙ is_nonneg_is c.get.result least in
     λ j le lt. by j le lt (cases_lt j c.loop-i.i) c.loop-i.invariant sign
   where
     by : (j : ℕ) → c.args.rows.now.unknowns ≤ j → j < c.loop-i.i + 1 → (j < c.loop-i.i) ⊎ (c.loop-i.i ≤ j) → ((j : ℕ) → c.args.rows.now.unknowns ≤ j → j < c.loop-i.i → is_above (row_at c.args.rows.now.rows j) ≡ true)

@@ -5,8 +5,7 @@ use Rattle.lane_run.proofs.turn.cut_or_end.Goals as goal
 pub returns-in_default-clause-turn : goal.returns-in_default-clause-turn
 returns-in_default-clause-turn c =
     let t = c.args.rows.now in
-    let none : first_fraction c.args.rows.now.unknowns c.args.rows.now.rows ≡ None = search rules in
-    λ F above. point_found t t.most c.scale.ensures.rows c.unknowns.ensures.rows F above c.args.work.now none
+    λ F above. point_found t t.most c.scale.ensures.rows c.unknowns.ensures.rows F above c.args.work.now (search rules)
 
 pub returns-in_err-count_cut-clause-refused : goal.returns-in_err-count_cut-clause-refused
 returns-in_err-count_cut-clause-refused c =
@@ -18,8 +17,7 @@ returns-in_err-count_cut-clause-refused c =
 pub push_cut-requires : goal.push_cut-requires
 push_cut-requires c =
     let t = c.args.rows.now in
-    let some : first_fraction c.args.rows.now.unknowns c.args.rows.now.rows ≡ Some c.in-Some.i = search rules in
-    let inside = fraction_inside t t.most c.scale.ensures.rows c.unknowns.ensures.rows c.in-Some.i some in
+    let inside = fraction_inside t t.most c.scale.ensures.rows c.unknowns.ensures.rows c.in-Some.i (search rules) in
     omega (arith, inside, c.unknowns.ensures.rows)
 
 pub returns-clause-turn : goal.returns-clause-turn

@@ -1,6 +1,6 @@
-use Rattle.lane_run.proofs.Words.{◌≡◌, ◌∙◌, ap, sym, arith, rules, ℤ, List, get_or, [], true, false, pos, ◌<ℤ◌, ◌≤ℤ◌, take, to_z, of_z, below_more, ints, get_or_default, w32, is_nonneg, combination, value_of}
+use Rattle.lane_run.proofs.Words.{◌≡◌, ◌∙◌, ap, sym, arith, rules, ℤ, List, get_or, [], true, false, pos, ◌<ℤ◌, ◌≤ℤ◌, take, to_z, of_z, below_more, ints, get_or_default, w32, is_nonneg, combination, value_of, is_nonneg_is}
 use Rattle.lane_rows.specs.Laned.{numbers_of}
-use Rattle.lane_run.proofs.Parts.{below_zero, not_below, made_above, made_below}
+use Rattle.lane_run.proofs.Parts.{below_zero, made_above, made_below}
 use Rattle.lane_run.proofs.turn.form_below.Goals as goal
 
 pub returns-then-value-lt0-clause-some : goal.returns-then-value-lt0-clause-some
@@ -22,8 +22,8 @@ loop-form-preserved c =
     let k = c.loop-form.form-index in
     let item : c.form-item.result ≡ get_or c.args.forms.now c.loop-form.form-index [] = c.form-item.is ∙ get_or_default A k c.form-item.result [] c.loop-form-test.true in
     let whole : to_z w32 (of_z w32 c.value.result) ≡ c.value.result = search rules in
-    let least : pos 0 ≤ℤ c.value.result = let e = c.if-value-lt0.false in omega (arith, ints, e, whole) in
-    let sign : is_nonneg (value_of c.args.rows.now (get_or c.args.forms.now c.loop-form.form-index [])) ≡ true = sym (ap is_nonneg (c.value.ensures ∙ ap (value_of t) item)) ∙ not_below c.value.result least in
+    let high : pos 0 ≤ℤ c.value.result = let e = c.if-value-lt0.false in omega (arith, ints, e, whole) in
+    let sign : is_nonneg (value_of c.args.rows.now (get_or c.args.forms.now c.loop-form.form-index [])) ≡ true = sym (ap is_nonneg (c.value.ensures ∙ ap (value_of t) item)) ∙ is_nonneg_is c.value.result high in
     below_more (λ j. is_nonneg (value_of t (get_or A j [])) ≡ true) k c.loop-form.invariant sign
 
 pub returns-clause-none : goal.returns-clause-none
