@@ -1,5 +1,5 @@
 -- The kept run of a context's forms: where it starts, that it goes on with further forms, and what it counts.
-use Rattle.lane_questions.proofs.Words.{◌≡◌, ◌∙◌, refl, ap, ap₂, sym, subst, ℕ, zero, suc, ◌+◌, ◌<◌, ◌≤◌, ℤ, pos, arith, true, List, [], ◌∷◌, ◌++◌, length, map, take, drop, append-nil, append_assoc, take_all, drop_all, length-map, take-append-drop, nat_lt, is_some, widen_to, IsContext, Tree, Row, start, unit_row, count_from, Work, Outcome, Done, Refused, go_on, give, count_pivot, run_from, numbers_of, point, point_run, point_setting, length-count, HasCounted, HasRoomFor, counted_more, has_point, finds_point, first_rows, node_of, Form, rows_by, AllForms, ScaledTable, column_rows, LaneVertex, counted_pivots, IsKeptLanes, run_rows, AreModest}
+use Rattle.lane_questions.proofs.Words.{◌≡◌, ◌∙◌, refl, ap, ap₂, sym, subst, ℕ, zero, suc, ◌+◌, ◌<◌, ◌≤◌, ℤ, pos, arith, true, List, [], ◌∷◌, ◌++◌, length, map, take, drop, append-nil, append_assoc, take_all, drop_all, length-map, take-append-drop, nat_lt, widen_to, IsContext, Row, start, unit_row, count_from, Work, Done, go_on, count_pivot, length-count, HasCounted, HasRoomFor, counted_more, finds_point, first_rows, Form, rows_by, AllForms, ScaledTable, column_rows, LaneVertex, counted_pivots, IsKeptLanes, run_rows, AreModest}
 use Rattle.form_laws.proofs.Begun.{start_by}
 use Rattle.scaled_laws.specs.Kept.{kept_of}
 
@@ -14,29 +14,6 @@ counts_all (suc k) w h =
     ap (λ o. go_on o (λ counted. counted_pivots k)) (counts_one w (omega (arith, h)))
     ∙ counts_all k (record w { pivots = w.pivots + 1 }) (omega (arith, h))
     ∙ ap (λ (p : ℕ). Done tt (record w { pivots = p })) (omega arith)
-
--- ---- whether a context has a point, and whether it has one with one form more
-
-some_form : (n : ℕ) (K : List (List ℤ)) (c : List ℤ) → point n (K ++ c ∷ []) ≡ point_run n (K ++ c ∷ [])
-some_form zero [] c = refl
-some_form zero (d ∷ K) c = refl
-some_form (suc n) K c = refl
-
-by_run : (n : ℕ) (K : List (List ℤ)) (w : Work) → point n K ≡ point_run n K → has_point n K w ≡ finds_point n (first_rows n K) w
-by_run n K w same =
-    ap (λ part. go_on (part w) (λ p. give (is_some p))) same
-    ∙ each (run_from (point_setting n) (node_of (first_rows n K)) w)
-  where
-    each : (o : Outcome Tree) → go_on (go_on o (λ t. give (numbers_of t))) (λ p. give (is_some p)) ≡ go_on o (λ t. give (is_some (numbers_of t)))
-    each (Done x v) = refl
-    each (Refused f v) = refl
-
-pub asked_by_run : (n : ℕ) (K : List (List ℤ)) (c : List ℤ) (w : Work) → has_point n (K ++ c ∷ []) w ≡ finds_point n (first_rows n (K ++ c ∷ [])) w
-asked_by_run n K c w = by_run n (K ++ c ∷ []) w (some_form n K c)
-
-pub found_by_run : (n : ℕ) (K : List (List ℤ)) (w : Work) → 1 ≤ n → has_point n K w ≡ finds_point n (first_rows n K) w
-found_by_run zero K w some = absurd (omega (arith, some))
-found_by_run (suc n) K w some = by_run (suc n) K w refl
 
 -- ---- the start
 

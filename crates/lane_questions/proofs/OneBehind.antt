@@ -1,28 +1,16 @@
 -- One form more behind the kept run of a context's forms: its row is the last one.
-use Rattle.lane_questions.proofs.Words.{◌≡◌, ◌∙◌, refl, ap, sym, subst, ℕ, suc, ◌+◌, ◌<◌, ℤ, pos, ◌≤ℤ◌, ◌<ℤ◌, arith, Bool, true, false, Option, Some, None, List, [], ◌∷◌, ◌++◌, length, map, take, length-append, map-append, get_or_at, if◌then◌else◌, IfSome, is_some, is_nonneg, entry, constant, widen_to, Row, row_at, divided, form_row, Work, Done, Refused, Refusal, go_on, give, numbers_of, count_pivot, turn, point_setting, refused_run_from, falls-constant_class, HasRoomFor, counted_more, has_point, finds_point, negative_from, node_of, by_form, combination, row_over, ScaledTable, AreLanes, AreUnused, IsBehind, LaneVertex, IsKeptLanes, run_rows, forms_of, AreModest, IsRowBelow, IsEntering, IsPivoted, rows_further, front_finds, front_refused}
+use Rattle.lane_questions.proofs.Words.{◌≡◌, ◌∙◌, refl, ap, sym, subst, ℕ, ◌+◌, ◌<◌, ℤ, pos, ◌≤ℤ◌, ◌<ℤ◌, arith, Bool, true, false, Option, Some, None, List, [], ◌∷◌, ◌++◌, length, map, take, length-append, map-append, get_or_at, if◌then◌else◌, IfSome, is_some, is_nonneg, entry, constant, widen_to, Row, row_at, divided, form_row, Work, Done, Refused, Refusal, go_on, give, numbers_of, count_pivot, turn, point_setting, refused_run_from, falls-constant_class, HasRoomFor, counted_more, has_point, finds_point, negative_from, node_of, by_form, combination, row_over, ScaledTable, AreLanes, AreUnused, IsBehind, LaneVertex, IsKeptLanes, run_rows, forms_of, AreModest, IsRowBelow, IsEntering, IsPivoted, rows_further, front_finds, front_refused, alone_is, below_behind, is_nonneg_is}
 use Rattle.lane_run.specs.Laned.{numbers_of as lane_numbers}
-use Rattle.lane_run.proofs.Parts.{below_zero, not_below, lanes_sign}
-use Rattle.lane_questions.proofs.KeptRuns.{goes_on_kept, asked_by_run}
+use Rattle.lane_run.proofs.Parts.{below_zero, lanes_sign}
+use Rattle.lane_questions.proofs.KeptRuns.{goes_on_kept}
 
 -- ---- the first row below 0 where only the last one can be below 0
 
 last_below : (E : List Row) (r : Row) (i : ℕ) → negative_from i E ≡ None → is_nonneg (constant r.constant) ≡ false → negative_from i (E ++ r ∷ []) ≡ Some (i + length E)
-last_below [] r i none below = let e : i ≡ i + 0 = omega arith in rw below (ap Some e)
-last_below (x ∷ E) r i none below = by (is_nonneg (constant x.constant)) none (λ h. last_below E r (i + 1) h below)
-  where
-    by : (t : Bool) → (if t then negative_from (i + 1) E else Some i) ≡ None → (negative_from (i + 1) E ≡ None → negative_from (i + 1) (E ++ r ∷ []) ≡ Some (i + 1 + length E))
-        → (if t then negative_from (i + 1) (E ++ r ∷ []) else Some i) ≡ Some (i + suc (length E))
-    by true e more = let g : i + 1 + length E ≡ i + suc (length E) = omega arith in more e ∙ ap Some g
-    by false e more = absurd cc
+last_below E r i none below = below_behind E (r ∷ []) i none ∙ ap (λ (b : Bool). if b then None else Some (i + length E)) below
 
 last_above : (E : List Row) (r : Row) (i : ℕ) → negative_from i E ≡ None → is_nonneg (constant r.constant) ≡ true → negative_from i (E ++ r ∷ []) ≡ None
-last_above [] r i none above = rw above refl
-last_above (x ∷ E) r i none above = by (is_nonneg (constant x.constant)) none (λ h. last_above E r (i + 1) h above)
-  where
-    by : (t : Bool) → (if t then negative_from (i + 1) E else Some i) ≡ None → (negative_from (i + 1) E ≡ None → negative_from (i + 1) (E ++ r ∷ []) ≡ None)
-        → (if t then negative_from (i + 1) (E ++ r ∷ []) else Some i) ≡ None
-    by true e more = more e
-    by false e more = absurd cc
+last_above E r i none above = below_behind E (r ∷ []) i none ∙ ap (λ (b : Bool). if b then None else Some (i + length E)) above
 
 finds_refused : (n : ℕ) (rows : List Row) (w v : Work) (f : Refusal) → turn (point_setting n) (node_of rows) w ≡ Refused f v → finds_point n rows w ≡ Refused f v
 finds_refused n rows w v f e = ap (λ o. go_on o (λ t. give (is_some (numbers_of t)))) (refused_run_from (point_setting n) falls-constant_class (node_of rows) w v f e)
@@ -52,7 +40,7 @@ module _ (n : ℕ) (K : List (List ℤ)) (c : List ℤ) (all : List (List ℤ)) 
   -- the run of all forms, behind its pivots
   pub goes_on_behind : (w u : Work) (k : ℕ) → k ≡ v.pivots → HasRoomFor w (record { pivots = k; cuts = 0; splits = 0 }) → u ≡ counted_more w (record { pivots = k; cuts = 0; splits = 0 })
       → has_point n (K ++ c ∷ []) w ≡ finds_point v.table.unknowns (run_rows v.table F) u
-  goes_on_behind w u k same room counted = asked_by_run n K c w ∙ goes_on_kept n K v kept w u k same room counted (c ∷ []) (is.narrow, tt) is.modest
+  goes_on_behind w u k same room counted = alone_is n (K ++ c ∷ []) w ∙ goes_on_kept n K v kept w u k same room counted (c ∷ []) (is.narrow, tt) is.modest
 
   pub forms_behind : F ≡ forms_of v.table.unknowns all
   forms_behind = sym is.forms ∙ ap (λ (k : ℕ). forms_of k all) (sym kept.unknowns)
@@ -86,7 +74,7 @@ module _ (n : ℕ) (K : List (List ℤ)) (c : List ℤ) (all : List (List ℤ)) 
         }
 
     pub none_behind : pos 0 ≤ℤ entry row 0 → negative_from 0 (run_rows v.table F) ≡ None
-    none_behind le = ap (negative_from 0) all_rows ∙ last_above E R 0 is.kept.end (sym sign ∙ not_below (entry row 0) le)
+    none_behind le = ap (negative_from 0) all_rows ∙ last_above E R 0 is.kept.end (sym sign ∙ is_nonneg_is (entry row 0) le)
 
 -- ---- the pivot on its row
 

@@ -1,6 +1,6 @@
 -- The point of a context itself, behind the kept run of its forms.
-use Rattle.lane_questions.proofs.Words.{◌≡◌, ◌∙◌, ap, sym, subst, ℕ, ◌^◌, ◌<◌, ◌≤◌, arith, ℤ, List, [], ◌++◌, map, append-nil, widen_to, Work, HasRoomFor, counted_more, has_point, finds_point, first_rows, all_lanes, AreWithin, LaneVertex, IsKeptLanes, IsEndedLanes, run_rows, forms_of, AreModest}
-use Rattle.lane_questions.proofs.KeptRuns.{goes_on_kept, found_by_run}
+use Rattle.lane_questions.proofs.Words.{◌≡◌, ◌∙◌, ap, sym, subst, ℕ, ◌^◌, ◌<◌, ◌≤◌, arith, ℤ, List, [], ◌++◌, map, append-nil, widen_to, Work, HasRoomFor, counted_more, has_point, finds_point, first_rows, all_lanes, AreWithin, LaneVertex, IsKeptLanes, IsEndedLanes, run_rows, forms_of, AreModest, alone_is}
+use Rattle.lane_questions.proofs.KeptRuns.{goes_on_kept}
 use Rattle.lane_questions.proofs.Widened.{all_widened, all_modest}
 
 module _ (n : ℕ) (K : List (List ℤ)) (v : LaneVertex) (is : IsEndedLanes n K v) where
@@ -23,6 +23,6 @@ module _ (n : ℕ) (K : List (List ℤ)) (v : LaneVertex) (is : IsEndedLanes n K
   pub goes_on_own : (w u : Work) (k : ℕ) → k ≡ v.pivots → HasRoomFor w (record { pivots = k; cuts = 0; splits = 0 }) → u ≡ counted_more w (record { pivots = k; cuts = 0; splits = 0 })
       → 1 ≤ n → AreModest n F → has_point n K w ≡ finds_point v.table.unknowns (run_rows v.table F) u
   goes_on_own w u k same room counted some modest =
-      found_by_run n K w some
+      alone_is n K w
       ∙ subst (λ (forms : List (List ℤ)). AreModest n (map (widen_to n) forms) → finds_point n (first_rows n forms) w ≡ finds_point v.table.unknowns (run_rows v.table (map (widen_to n) forms)) u)
       (append-nil K) (goes_on_kept n K v kept w u k same room counted [] tt) modest

@@ -43,3 +43,5 @@ pub use Rattle.lane_questions.specs.contracts.questions.LaneQuestions.{the_view}
 pub use Rattle.run_counts.proofs.Counting.{counted_on, counted_none}
 pub use Rattle.lane_run.specs.Stops.{stop_fault}
 pub use Rattle.affine_forms.proofs.Mapped.{mapped, mapped_step}
+pub use Rattle.lane_run.proofs.Ending.{alone_is, below_behind}
+pub use Rattle.pip_model.proofs.Tests.{is_nonneg_is}
