@@ -8,9 +8,8 @@ use Rattle.check_laws.proofs.Fronts.{shared-fronts, shareable-short}
 
 pub other_lengths : (ts us : List (ℤ × ℤ)) → ¬ (length ts ≡ length us) → false ≡ same_terms ts us
 other_lengths [] [] h = absurd (h refl)
-other_lengths [] (u ∷ us) h = refl
-other_lengths (t ∷ ts) [] h = refl
 other_lengths (t ∷ ts) (u ∷ us) h = sym (and-false (same_number t.0 u.0 && same_number t.1 u.1)) ∙ ap (λ (b : Bool). same_number t.0 u.0 && same_number t.1 u.1 && b) (other_lengths ts us (λ k. h (omega (arith, k))))
+other_lengths _ _ h = refl
 
 module _ (ts us : List (ℤ × ℤ)) (i : ℕ) (d : ℤ × ℤ) (h : i < length ts) (k : i < length us) where
   heads : same_terms (drop i ts) (drop i us) ≡ (same_number (get_or ts i d).0 (get_or us i d).0 && same_number (get_or ts i d).1 (get_or us i d).1 && same_terms (drop (i + 1) ts) (drop (i + 1) us))
@@ -49,9 +48,8 @@ module _ (b o : ℕ) (xs : Refutation) (i : ℕ) where
   low = renumbered (lowered b o)
 
   few : (ys : Refutation) → length ys ≤ 1 → shareable b o ys ≡ []
-  few [] h = refl
-  few (y ∷ []) h = refl
   few (y ∷ z ∷ ys) h = absurd (omega arith)
+  few _ h = refl
 
   pub share_end : length (drop i xs) ≤ 1 → map low (take i xs) ++ shareable b o (drop i xs) ≡ map low (take i xs)
   share_end h = ap (λ (zs : Refutation). map low (take i xs) ++ zs) (few (drop i xs) h) ∙ append-nil (map low (take i xs))
@@ -105,9 +103,8 @@ after_at b n (s ∷ sizes) (y ∷ xs) (suc r) d x e h =
 
 pub length-after : (b n : ℕ) (sizes : List ℕ) (xs : List Refutation) → length xs ≡ length sizes → length (after_shared b n (map sized sizes) xs) ≡ length xs
 length-after b n [] [] e = refl
-length-after b n [] (x ∷ xs) e = absurd (omega arith)
-length-after b n (s ∷ sizes) [] e = absurd (omega arith)
 length-after b n (s ∷ sizes) (x ∷ xs) e = ap suc (length-after b n sizes xs (omega arith))
+length-after b n _ _ e = absurd (omega arith)
 
 -- ---- ends of loops
 
@@ -136,8 +133,7 @@ mapped_step {Y = Y} f xs i d old now h e k =
 
 pub nothing_shared : (b : ℕ) (sizes : List ℕ) (xs : List Refutation) → length xs ≡ 0 → length sizes ≡ length xs → [] ≡ shared_by b (map sized sizes) xs
 nothing_shared b [] xs e f = refl
-nothing_shared b (s ∷ sizes) [] e f = absurd (omega arith)
-nothing_shared b (s ∷ sizes) (x ∷ xs) e f = absurd (omega arith)
+nothing_shared b (s ∷ sizes) _ e f = absurd (omega arith)
 
 pub shared_step : (b : ℕ) (sizes : List ℕ) (xs : List Refutation) (k d : ℕ) (x : Refutation) (own old now : Refutation) → k + 1 < length sizes → length sizes ≡ length xs
     → own ≡ shareable b (get_or sizes k d) (get_or xs k x) → old ≡ shared_by b (drop (k + 1) (map sized sizes)) (drop (k + 1) xs) → now ≡ common_front own old

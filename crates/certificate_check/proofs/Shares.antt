@@ -1,9 +1,8 @@
 -- The shared proofs of leaves by the numbers of their forms alone, and what an accepted certificate has of refutations.
-use Rattle.certificate_check.proofs.Words.{◌≡◌, refl, ap, ap₂, sym, ◌∙◌, ℕ, zero, suc, ◌+◌, ◌<◌, ◌≤◌, ℤ, Bool, true, List, [], ◌∷◌, ◌++◌, length, map, drop, get_or, replicate, append_assoc, subst, arith, Ok, eqb-true, ◌==◌, Option, Some, None, length-append, length-map, length-replicate, drop-drop, drop_more, map-append, opposite, constant, widen_to, opposite_listed, Quotient, lower_bound, upper_bound, Problem, is_vector, Tree, Bottom, Leaf, If, NewParm, Component, Answer, Void, Solved, leaves, Refutation, LeafProofs, Certificate, ◌>>=◌, ◌>>◌, spot, holds, fit, after_steps, joined, carried, listed_before, check_refutations, places_from, scope_forms, unknown_forms, row_form, Premises, LeafCase, leaf_cases, leaf_forms, leaf_premises, row_premises, sign_premises, least_premises, smaller_from, fronts_from, check_proofs, check_leaf, check_leaves, is_whole_list, check_context, check_void, check_tree, check_by, void_forms, void_premises, proofs_at, Accepted, shareable, common_front, shared_by, after_shared, share_leaf, share_leaves, shared_leaves, renumbered, moved_index, check_leaves-if, goal_count, no_proofs, counts_from, own_sizes, sized, share_sized, share_at, share_below, IsCounted, IsCountedAt, own_goals}
-use Rattle.leaf_check.proofs.Smaller.{length-smaller_from}
+use Rattle.certificate_check.proofs.Words.{◌≡◌, refl, ap, ap₂, sym, ◌∙◌, ℕ, zero, suc, ◌+◌, ◌<◌, ◌≤◌, ℤ, Bool, true, List, [], ◌∷◌, ◌++◌, length, map, drop, get_or, replicate, append_assoc, subst, arith, Ok, eqb-true, ◌==◌, Option, Some, None, length-append, length-map, length-replicate, drop-drop, drop_more, map-append, opposite, constant, widen_to, opposite_listed, Quotient, lower_bound, upper_bound, Problem, is_vector, Tree, Bottom, Leaf, If, NewParm, Component, Answer, Void, Solved, leaves, Refutation, LeafProofs, Certificate, ◌>>=◌, ◌>>◌, spot, holds, fit, after_steps, joined, carried, listed_before, check_refutations, places_from, unknown_forms, row_form, Premises, LeafCase, leaf_cases, leaf_forms, leaf_premises, row_premises, sign_premises, least_premises, smaller_from, fronts_from, check_proofs, check_leaf, check_leaves, is_whole_list, check_context, check_void, check_tree, check_by, void_forms, void_premises, proofs_at, Accepted, shareable, common_front, shared_by, after_shared, share_leaf, share_leaves, shared_leaves, renumbered, moved_index, check_leaves-if, goal_count, no_proofs, counts_from, own_sizes, sized, share_sized, share_at, share_below, IsCounted, IsCountedAt, own_goals, length-smaller_from}
 use Rattle.check_laws.proofs.Paths.{length-leaf_cases}
 use Rattle.check_laws.proofs.Refutations.{then_ok, holds_ok}
-use Rattle.check_laws.proofs.ShareReadable.{length-places}
+use Rattle.check_laws.proofs.ShareReadable.{length-places, scope_long}
 
 -- a leaf's proofs that are checked are as many as there are to be
 count_checked : (shares : Bool) (l w : ℕ) (start : Premises) (own : List Premises) (p : LeafProofs) → check_proofs shares l w start own p ≡ Ok tt → length p.refutations ≡ length own
@@ -23,16 +22,13 @@ long : (n : ℕ) → length (sized n).known ≡ n
 long n = length-replicate n []
 
 shared_sized : (b : ℕ) (own : List Premises) (xs : List Refutation) → shared_by b (map sized (sizes own)) xs ≡ shared_by b own xs
-shared_sized b [] xs = refl
-shared_sized b (o ∷ []) [] = refl
-shared_sized b (o ∷ p ∷ own) [] = refl
 shared_sized b (o ∷ []) (x ∷ xs) = ap (λ (n : ℕ). shareable b n x) (long (length o.known))
 shared_sized b (o ∷ p ∷ own) (x ∷ xs) = ap₂ (λ (n : ℕ) (rest : Refutation). common_front (shareable b n x) rest) (long (length o.known)) (shared_sized b (p ∷ own) xs)
+shared_sized b _ _ = refl
 
 after_sized : (b n : ℕ) (own : List Premises) (xs : List Refutation) → after_shared b n (map sized (sizes own)) xs ≡ after_shared b n own xs
-after_sized b n [] xs = refl
-after_sized b n (o ∷ own) [] = refl
 after_sized b n (o ∷ own) (x ∷ xs) = ap₂ (λ (k : ℕ) (rest : List Refutation). map (renumbered (moved_index b k n)) (drop n x) ∷ rest) (long (length o.known)) (after_sized b n own xs)
+after_sized b n _ _ = refl
 
 pub leaf_sized : (start : Premises) (own : List Premises) (p : LeafProofs) → share_sized (length start.known) (sizes own) p ≡ share_leaf start own p
 leaf_sized start own p =
@@ -50,16 +46,6 @@ module _ (P : Problem) (L : LeafCase) where
   length-unknowns =
       length-append (places_from (L.scope + P.unknowns) L.scope P.unknowns) (map (row_form P.unknowns L.scope) P.rows)
       ∙ ap₂ (λ (i j : ℕ). i + j) (length-places (L.scope + P.unknowns) L.scope P.unknowns) (length-map P.rows (row_form P.unknowns L.scope))
-
-  pub length-scope : length (scope_forms P L) ≡ P.params + length P.context + length L.path
-  length-scope =
-      let all = L.scope + P.unknowns in
-      let e = length-places all 0 P.params in
-      let f = length-map P.context (widen_to all) in
-      let g = length-map L.path (widen_to all) in
-      let h = length-append (places_from all 0 P.params) (map (widen_to all) P.context) in
-      let i = length-append (places_from all 0 P.params ++ map (widen_to all) P.context) (map (widen_to all) L.path) in
-      omega arith
 
   ones : {X : Type 0} (f : X → Premises) (xs : List X) → ((x : X) → length (f x).known ≡ 1) → sizes (map f xs) ≡ replicate (length xs) 1
   ones f [] h = refl
@@ -87,12 +73,10 @@ module _ (P : Problem) (L : LeafCase) where
       let size = λ (o : Premises). length o.known in
       let rows = map (row_premises P L cs) P.rows in
       let signs = map (sign_premises P L) cs in
-      let lasts = map (least_premises P L) (fronts_from [] cs) in
-      let start : unknowns + 0 + 1 ≡ unknowns + 1 = omega arith in
-      map-append size (rows ++ signs) lasts
+      map-append size (rows ++ signs) (map (least_premises P L) (fronts_from [] cs))
       ∙ ap₂ (λ (a b : List ℕ). a ++ b)
       (map-append size rows signs ∙ ap₂ (λ (a b : List ℕ). a ++ b) (ones (row_premises P L cs) P.rows (λ x. refl)) (ones (sign_premises P L) cs (λ x. refl)) ∙ join_ones (length P.rows) (length cs))
-      (least_sizes [] cs ∙ ap (λ (n : ℕ). counts_from n (length cs)) start)
+      (least_sizes [] cs ∙ ap (λ (n : ℕ). counts_from n (length cs)) (omega arith))
 
 -- ---- the leaves of a tree
 
@@ -110,23 +94,20 @@ module _ (P : Problem) (ps : List LeafProofs) where
       let p = get_or ps l no_proofs in
       ap (share_leaves P (L ∷ [])) (drop_more ps l no_proofs h)
       ∙ ap (λ (q : LeafProofs). q ∷ []) (sym (leaf_sized (leaf_forms P L) (leaf_premises P L list) p))
-      ∙ ap₂ (λ (b : ℕ) (os : List ℕ). share_sized b os p ∷ []) (length-scope P L) (sizes_are P L list)
+      ∙ ap₂ (λ (b : ℕ) (os : List ℕ). share_sized b os p ∷ []) (scope_long P L) (sizes_are P L list)
 
   pub tree_shared : (l w : ℕ) (path : List (List ℤ)) (listed : List ℤ) (t : Tree) → l + leaves t ≤ length ps → share_leaves P (leaf_cases w path listed t) (drop l ps) ≡ share_below P ps (length path) l t
   tree_shared l w path listed Bottom h = one l w path listed None (omega arith)
   tree_shared l w path listed (Leaf cs) h = one l w path listed (Some cs) (omega arith)
   tree_shared l w path listed (If v a b) h =
-      let Ls = leaf_cases w (path ++ v ∷ []) listed a in
       let Ms = leaf_cases w (path ++ opposite v ∷ []) (listed ++ opposite_listed v) b in
-      let m : length (path ++ v ∷ []) ≡ length path + 1 = length-append path (v ∷ []) in
-      let n : length (path ++ opposite v ∷ []) ≡ length path + 1 = length-append path (opposite v ∷ []) in
       let count = length-leaf_cases w (path ++ v ∷ []) listed a in
-      share_leaves-append P Ls Ms (drop l ps)
+      share_leaves-append P (leaf_cases w (path ++ v ∷ []) listed a) Ms (drop l ps)
       ∙ ap₂ (λ (xs ys : List LeafProofs). xs ++ ys)
-      (tree_shared l w (path ++ v ∷ []) listed a (omega arith) ∙ ap (λ (k : ℕ). share_below P ps k l a) m)
+      (tree_shared l w (path ++ v ∷ []) listed a (omega arith) ∙ ap (λ (k : ℕ). share_below P ps k l a) (length-append path (v ∷ [])))
       (ap (share_leaves P Ms) (ap (λ (k : ℕ). drop k (drop l ps)) count ∙ drop-drop (leaves a) l ps)
       ∙ tree_shared (l + leaves a) w (path ++ opposite v ∷ []) (listed ++ opposite_listed v) b (omega arith)
-      ∙ ap (λ (k : ℕ). share_below P ps k (l + leaves a) b) n)
+      ∙ ap (λ (k : ℕ). share_below P ps k (l + leaves a) b) (length-append path (opposite v ∷ [])))
   tree_shared l w path listed (NewParm v d a) h =
       let k : Quotient = record { form = v; den = d } in
       let low = lower_bound (w + 1) w k in
@@ -152,8 +133,7 @@ module _ (P : Problem) (ps : List LeafProofs) where
       let Ms = leaf_cases w (path ++ opposite v ∷ []) (listed ++ opposite_listed v) b in
       let first = check_leaves P shares (l + 1) (leaf_cases w (path ++ v ∷ []) listed a) (drop l ps) in
       let parts = then_ok first (check_leaves P shares (l + 1 + leaves a) Ms (drop (leaves a) (drop l ps))) tt (sym (check_leaves-if P shares (l + 1) w path listed v a b (drop l ps)) ∙ e) in
-      let n : l + 1 + leaves a ≡ l + leaves a + 1 = omega arith in
-      let same = ap₂ (λ (k : ℕ) (qs : List LeafProofs). check_leaves P shares k Ms qs) n (drop-drop (leaves a) l ps) in
+      let same = ap₂ (λ (k : ℕ) (qs : List LeafProofs). check_leaves P shares k Ms qs) (omega arith) (drop-drop (leaves a) l ps) in
       (tree_counted shares l w (path ++ v ∷ []) listed a (omega arith) parts.0, tree_counted shares (l + leaves a) w (path ++ opposite v ∷ []) (listed ++ opposite_listed v) b (omega arith) (sym same ∙ parts.1))
   tree_counted shares l w path listed (NewParm v d a) h e =
       let k : Quotient = record { form = v; den = d } in
@@ -179,9 +159,8 @@ module _ (P : Problem) (c : Certificate) (e : Accepted P Void c) where
       ∙ ap₂ (λ (i j : ℕ). i + j) (length-places P.params 0 P.params) (length-map P.context (widen_to P.params))
 
   alone_is : (ls : List LeafProofs) → length ls ≡ 1 → ls ≡ get_or ls 0 no_proofs ∷ []
-  alone_is [] h = absurd (omega arith)
   alone_is (p ∷ []) h = refl
-  alone_is (p ∷ q ∷ ls) h = absurd (omega arith)
+  alone_is _ h = absurd (omega arith)
 
   pub void_shared : shared_leaves P Void c.leaves ≡ share_sized (P.params + length P.context) (0 ∷ []) (get_or c.leaves 0 no_proofs) ∷ []
   void_shared =
@@ -222,10 +201,9 @@ pub length_sizes : (P : Problem) (list : Option (List Component)) → length (ow
 length_sizes P None = refl
 length_sizes P (Some cs) =
     let front : List ℕ = replicate (length P.rows + length cs) 1 in
-    let rest = counts_from (P.unknowns + length P.rows + 1) (length cs) in
     let e : length front ≡ length P.rows + length cs = length-replicate (length P.rows + length cs) 1 in
     let f = length-counts (P.unknowns + length P.rows + 1) (length cs) in
-    length-append front rest ∙ omega arith
+    length-append front (counts_from (P.unknowns + length P.rows + 1) (length cs)) ∙ omega arith
 
 length-below : (P : Problem) (ps : List LeafProofs) (n l : ℕ) (t : Tree) → length (share_below P ps n l t) ≡ leaves t
 length-below P ps n l Bottom = refl

@@ -62,8 +62,7 @@ some_goals P (Some cs) some h = let count = whole_count P.unknowns cs h in omega
 both_hold : (shares : Bool) (l : ℕ) (b c : Bool) (rest : Checks (Unit {0})) → (b ≡ true → c ≡ true → rest ≡ Err (fault_at shares l))
     → (holds (spot l 0 0) b >> (holds (spot l 0 0) c >> rest)) ≡ Err (if b && c then fault_at shares l else Rejected (spot l 0 0))
 both_hold shares l true true rest k = k refl refl
-both_hold shares l true false rest k = refl
-both_hold shares l false c rest k = refl
+both_hold shares l _ _ rest k = refl
 
 leaf_unfit : (P : Problem) (shares : Bool) (l : ℕ) (L : LeafCase) (p : LeafProofs) → 0 < P.unknowns → all_fit L.listed ≡ false → leaf_fits shares p ≡ true → check_leaf P shares l L p ≡ Err (path_fault P shares l L.list p)
 leaf_unfit P shares l L p some h f =
@@ -148,10 +147,9 @@ module _ (P : Problem) (shares : Bool) (ps : List LeafProofs) where
         ∙ first_unfit P shares some (l + 1) (w + 1) longer (constant high ∷ []) a (get_or ps l no_proofs) (drop (l + 1) ps) k (passes_at (leaf_fits shares) ps l no_proofs f h)
 
 pub some_leaves : (t : Tree) → 0 < leaves t
-some_leaves Bottom = omega arith
-some_leaves (Leaf cs) = omega arith
 some_leaves (If v a b) = let e = some_leaves a in omega arith
 some_leaves (NewParm v d a) = some_leaves a
+some_leaves _ = omega arith
 
 -- ---- where the walk is
 

@@ -22,6 +22,6 @@ pub use Rattle.pip_model.proofs.Tests.{same_number_yes, same_number_no, both}
 pub use Rattle.quast.specs.Trees.{tree_of}
 pub use Rattle.quast.specs.Answers.{answer_of}
 pub use Rattle.pip_model.proofs.Bounds.{length-bounds}
-pub use Rattle.leaf_check.proofs.Smaller.{if_ok}
+pub use Rattle.leaf_check.proofs.Smaller.{if_ok, length-smaller_from}
 pub use Rattle.certificate_check.specs.Paths.{no_proofs, PathForms, first_list, path_fault}
 pub use Rattle.certificate_check.specs.Sharing.{counts_from, own_sizes, sized, share_sized, share_at, share_below, IsCounted, IsCountedAt, index_of}

@@ -9,10 +9,9 @@ share_node-requires-in-Select t c =
     let whole = ap tree_of c.in-Select.is in
     let larger : size (tree_of c.args.node.now) ≡ 1 + size a + size b = ap size whole in
     let deeper : nesting (tree_of c.args.node.now) ≡ 1 + max (nesting a) (nesting b) = ap nesting whole in
-    let second : tree_of c.deref-in-Select.result.now ≡ b = ap tree_of c.deref-in-Select.ensures in
     let shares = ap (λ (d : Certificate). d.shares) c.in_ok-share_node-in-Select.ensures ∙ c.requires.shares in
     let counted = second_counted c.args.self.now.problem.now c.args.self.now.proofs.now c.args.path c.in-Select.field-0 a b (tree_of c.args.node.now) whole c.args.made.now c.share_node.new.made (rw c.deref.ensures at c.in_ok-share_node-in-Select.ensures) c.requires.counted in
-    rw second (omega arith, (shares, (omega arith, counted)))
+    rw (ap tree_of c.deref-in-Select.ensures) (omega arith, (shares, (omega arith, counted)))
 
 pub returns-in_ok-share_node-in-Select : goal.returns-in_ok-share_node-in-Select
 returns-in_ok-share_node-in-Select t c =
