@@ -1,5 +1,5 @@
 -- A row that the pivot's row is put into, number after number.
-use Rattle.short_row.proofs.Words.{rules, All-cons, get_or-take, All-same, take-append-drop, length-map, length-set, take_at, drop_at, set, true, false, content-divided, IsShortRow, is_short_row, IsDenominatorOf, Some, None, begun_coefs, begun_constant, begun_row, IsBegun, floor_div, floor_divided, gcd_assoc, ◌≡◌, refl, ap, sym, ◌∙◌, subst, ℕ, zero, suc, ◌+◌, ◌-◌, ◌<◌, ◌≤◌, ℤ, pos, ◌≤ℤ◌, ◌*ℤ◌, ◌-ℤ◌, Bool, List, [], ◌∷◌, ◌++◌, length, take, drop, get_or, arith, ints, All, All-drop, All-take, All-append, length-append, length-take, length-drop, slice_set, gcd, gcd_of, combine, entry, Row, divided, eliminated, entry-combine, row_of_numbers, row_from, IsRow, IsShort, places_of, IsShortReduced, IsTurned, IsShortDivisor, finished, combined, combined_step, set-get_or, content, IsOwnRow, AreLowest, substituted_by, eliminated-lowest, divisor-lowest, take_combine, drop_combine, take-map, drop-map, divided_row, divided_one, *ℤ_left_comm, AreTerms, Begun, some_product}
+use Rattle.short_row.proofs.Words.{rules, All-cons, get_or-take, All-same, take-append-drop, length-map, length-set, take_at, drop_at, set, true, false, content-divided, IsShortRow, is_short_row, IsDenominatorOf, Some, None, begun_coefs, begun_constant, begun_row, IsBegun, floor_div, floor_divided, gcd_assoc, ◌≡◌, refl, ap, sym, ◌∙◌, subst, ℕ, zero, suc, ◌+◌, ◌-◌, ◌<◌, ◌≤◌, ℤ, pos, ◌≤ℤ◌, ◌*ℤ◌, ◌-ℤ◌, Bool, List, [], ◌∷◌, ◌++◌, length, take, drop, get_or, arith, ints, All, All-drop, All-take, All-append, length-append, length-take, length-drop, slice_set, gcd, gcd_of, combine, entry, Row, divided, eliminated, entry-combine, row_of_numbers, row_from, IsShort, places_of, IsShortReduced, IsTurned, IsShortDivisor, finished, combined, combined_step, set-get_or, content, AreLowest, substituted_by, eliminated-lowest, divisor-lowest, take_combine, drop_combine, take-map, drop-map, divided_row, divided_one, *ℤ_left_comm, AreTerms, Begun, some_product, own_row, drop-set-lt, take-set-lt}
 use Rattle.std.proofs.Math.IntN.{*ℤ_comm}
 use Rattle.affine_forms.specs.Checks.{Fits}
 use Rattle.row_laws.specs.Steps.{IsElimination}
@@ -39,9 +39,6 @@ entry_there n c (z ∷ zs) h = let g : c + 1 ≡ suc c = omega arith in rw g (sy
 pub low_there : (n c : ℕ) (p old : List ℤ) (a b x y : ℤ) → a ≡ entry (row_of_numbers n p).coefs c → b ≡ entry (row_of_numbers n old).coefs c → AreLowest a b x y
     → AreLowest (entry (row_of_numbers n p).coefs c) (entry (row_of_numbers n old).coefs c) x y
 low_there n c p old a b x y e f low = subst (λ z. AreLowest z (entry (row_of_numbers n old).coefs c) x y) e (subst (λ z. AreLowest a z x y) f low)
-
-own_row : (n m : ℕ) (r : Row) → IsRow n m r → IsOwnRow r
-own_row n m r h = subst (λ (w : ℕ). IsRow (length r.coefs) w r) (omega (arith, h.constant)) (subst (λ (k : ℕ). IsRow k m r) (sym h.coefs) h)
 
 module _ (n : ℕ) (w : Put) (p old now : List ℤ) (h : IsTurning n p w.column old)
     (low : AreLowest (entry (row_of_numbers n p).coefs w.column) (entry (row_of_numbers n old).coefs w.column) w.by.of_row w.by.of_pivot)
@@ -235,21 +232,10 @@ module _ (n : ℕ) (w : Put) (p now : List ℤ) (h : IsPut n w p now) where
       → row_of_numbers n (slice_set (slice_set now 0 d) (w.column + 1) e) ≡ put_row n w p now
   put_closed d e all f g = closed now (omega (arith, h.some)) h.column (finished_all w.by.of_row w.by.of_pivot (drop 1 now) (drop 1 p) w.made (simp length-drop (omega (arith, all)))) ∙ rw (f, g) refl
     where
-      take_set : (zs : List ℤ) (n c : ℕ) (z : ℤ) → c < n → take n (set zs c z) ≡ set (take n zs) c z
-      take_set zs zero c z lt = absurd (omega arith)
-      take_set [] (suc n) c z lt = refl
-      take_set (y ∷ zs) (suc n) zero z lt = refl
-      take_set (y ∷ zs) (suc n) (suc c) z lt = ap (λ xs. y ∷ xs) (take_set zs n c z (omega arith))
-
-      drop_set : (zs : List ℤ) (n c : ℕ) (z : ℤ) → c < n → drop n (set zs c z) ≡ drop n zs
-      drop_set zs zero c z lt = absurd (omega arith)
-      drop_set (y ∷ zs) (suc n) (suc c) z lt = drop_set zs n c z (omega arith)
-      drop_set _ (suc n) _ z lt = refl
-
       closed : (now : List ℤ) → 1 ≤ length now → w.column < n → put_numbers w p now ≡ drop 1 now
           → row_of_numbers n (slice_set (slice_set now 0 d) (w.column + 1) e) ≡ row_from d (slice_set (take n (put_numbers w p now)) w.column e) (drop n (put_numbers w p now))
       closed [] size lt is = absurd (omega arith)
-      closed (z ∷ zs) size lt is = rw (one_more w.column, is, take_set zs n w.column e lt, drop_set zs n w.column e lt) refl
+      closed (z ∷ zs) size lt is = rw (one_more w.column, is, take-set-lt n zs w.column e lt, drop-set-lt n zs w.column e lt) refl
 
 -- ---- a row by its numbers
 

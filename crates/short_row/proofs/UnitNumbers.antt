@@ -1,5 +1,5 @@
 -- The numbers of the row of a column, and of a form's row.
-use Rattle.short_row.proofs.Words.{◌≡◌, refl, ap, sym, ◌∙◌, subst, ℕ, suc, ◌+◌, ◌-◌, ◌<◌, ◌≤◌, ℤ, pos, List, [], ◌∷◌, ◌++◌, length, map, take, drop, replicate, get_or, arith, append-nil, append_assoc, length-append, length-drop, length-set, All, slice_set, take_at, drop_at, take_all, drop_all, take_more, take-append-drop, length-replicate, set-append_left, set_at, length-take-le, drop_more, length_push, drop-replicate, take-replicate, ints, All-push, All-append, All-take, All-drop, All-replicate, width, coefficients, constant, widen_to, form_row, unit_row, mapped, row_of_numbers, numbers_of, IsShort, IsShortRow, content-one, IsShortReduced, replicate-append-replicate}
+use Rattle.short_row.proofs.Words.{◌≡◌, refl, ap, sym, ◌∙◌, subst, ℕ, suc, ◌+◌, ◌-◌, ◌<◌, ◌≤◌, ℤ, pos, List, [], ◌∷◌, ◌++◌, length, map, take, drop, replicate, get_or, arith, append-nil, append_assoc, length-drop, length-set, All, slice_set, take_at, drop_at, take_all, drop_all, take_more, take-append-drop, length-replicate, set-append_left, set_at, length-take-le, drop_more, drop-replicate, take-replicate, ints, All-push, All-append, All-take, All-drop, All-replicate, width, constant, widen_to, form_row, unit_row, mapped, row_of_numbers, numbers_of, IsShort, IsShortRow, content-one, IsShortReduced, replicate-append-replicate, length-widened}
 use Rattle.short_row.proofs.ShortParts.{short_row}
 
 const_map : (xs : List ℤ) → map (λ x. pos 0) xs ≡ replicate (length xs) (pos 0)
@@ -43,11 +43,8 @@ module _ (n : ℕ) (c : List ℤ) (some : 1 ≤ length c) (narrow : length c ≤
       record { den = omega arith; coefs = All-take IsShort n (widen_to n c) all; constant = All-drop IsShort n (widen_to n c) all }
 
 module _ (n : ℕ) (c : List ℤ) (some : 1 ≤ length c) (narrow : length c ≤ n + 1) where
-  full : length (coefficients c ++ replicate (n - width c) (pos 0)) ≡ n
-  full = simp (length-append, length-replicate, length-take-le) (omega (arith, some, narrow, length-take-le (width c) c (omega arith)))
-
   wide : length (widen_to n c) ≡ n + 1
-  wide = length_push (coefficients c ++ replicate (n - width c) (pos 0)) (constant c) ∙ ap (λ k. k + 1) full
+  wide = length-widened n c (omega (arith, narrow))
 
   pub form_kept : IsShortRow (form_row n (widen_to n c)) → IsShortReduced n 0 (form_row n (widen_to n c))
   form_kept short = record {

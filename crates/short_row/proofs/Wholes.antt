@@ -1,7 +1,6 @@
 -- Numbers that are divided by their greatest common divisor.
-use Rattle.short_row.proofs.Words.{◌≡◌, refl, ap, sym, ◌∙◌, subst, ℕ, zero, suc, ◌+◌, ◌<◌, ◌≤◌, ℤ, pos, negsuc, ◌≤ℤ◌, ◌*ℤ◌, List, [], ◌∷◌, ◌++◌, length, take, drop, get_or, set, arith, ints, All, All-take, All-same, take_at, take-append-drop, get_or-map, length-map, gcd, gcd_of, gcd_assoc, floor_div, Row, divided, row_of_numbers, IsShort, mapped, add-one, unsigned_abs, unsigned_abs-mul, take-map, drop-map, scale, content, AllByRecursion, All-from_recursion, recursion_from_All, dvd_antisymm, dvd_refl, IsGcd-swap, mapped_read, *ℤ_assoc, common-IsGcd, multiple-dvd, gcd_of-greatest, times-one, content-divides, scaled_front}
+use Rattle.short_row.proofs.Words.{◌≡◌, refl, ap, sym, ◌∙◌, subst, ℕ, zero, suc, ◌+◌, ◌<◌, ◌≤◌, ℤ, pos, negsuc, ◌≤ℤ◌, ◌*ℤ◌, List, [], ◌∷◌, ◌++◌, length, take, drop, get_or, set, arith, ints, All, All-take, All-same, take_at, take-append-drop, get_or-map, length-map, gcd, gcd_of, gcd_assoc, floor_div, Row, divided, row_of_numbers, IsShort, mapped, add-one, unsigned_abs, unsigned_abs-mul, take-map, drop-map, scale, content, AllByRecursion, All-from_recursion, recursion_from_All, dvd_antisymm, dvd_refl, IsGcd-swap, mapped_read, *ℤ_assoc, common-IsGcd, multiple-dvd, gcd_of-greatest, times-one, content-divides, scaled_front, scale_one, euclid_only}
 use Rattle.pip_model.proofs.Division.{Multiple, floor-exact, gcd-divides, gcd_of-divides}
-use Rattle.pip_model.proofs.Gcd.{euclid_only}
 use Rattle.row_laws.proofs.Unchanged.{scaled, content-scaled, divided-scaled}
 
 -- ---- number after number
@@ -119,10 +118,6 @@ common_whole (pos n) start old now h e common =
     each : (zs : List ℤ) → AllByRecursion (Multiple (pos n)) (scale (pos n) zs)
     each [] = tt
     each (z ∷ zs) = (record { times = z; is = refl }, each zs)
-
-scale_one : (zs : List ℤ) → scale (pos 1) zs ≡ zs
-scale_one [] = refl
-scale_one (z ∷ zs) = let one : pos 1 *ℤ z ≡ z = omega (arith, ints) in rw (one, scale_one zs) refl
 
 -- by 1 they stay
 pub scaled_one : (zs old : List ℤ) (k : ℕ) → scaled_front (pos 1) zs k ≡ old → scale (pos 1) zs ≡ old
