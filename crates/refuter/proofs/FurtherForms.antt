@@ -1,7 +1,5 @@
 -- The kept run of some forms with others behind them.
-use Rattle.refuter.proofs.Words.{◌≡◌, ◌∙◌, refl, ap, ap₂, sym, subst, ℕ, zero, suc, ◌+◌, ◌<◌, ◌≤◌, arith, ℤ, List, [], ◌∷◌, ◌++◌, All, length, length-append, map, get_or, take, drop, Option, IfSome, map-append, length-map, length-take-le, take-append-drop, All-head, All-tail, IsContext, narrow_to, Refutation, constant, width, form-parts, widen_to, Row, form_row, Work, Outcome, Done, Refused, Refusal, go_on, Trace, refute, refute_from, first_trace, length_slice_set, node_of, replayed, form_rows, first_rows, IsRemembered, exchanged, exchanges, IsTraced, Remembered, KeptForms, AreFirst}
-use Rattle.refuter.specs.KeptForms.{AreFirstOver}
-use Rattle.point_run.proofs.Leaving.{passes_refusal}
+use Rattle.refuter.proofs.Words.{◌≡◌, ◌∙◌, refl, ap, ap₂, sym, subst, ℕ, zero, suc, ◌+◌, ◌<◌, ◌≤◌, arith, ℤ, List, [], ◌∷◌, ◌++◌, All, length, length-append, map, get_or, take, drop, Option, IfSome, map-append, length-map, length-take-le, take-append-drop, All-head, All-tail, IsContext, narrow_to, Refutation, constant, width, form-parts, widen_to, Row, form_row, Work, Outcome, Done, Refused, Refusal, go_on, Trace, refute, refute_from, first_trace, length_slice_set, node_of, replayed, form_rows, first_rows, IsRemembered, exchanged, exchanges, IsTraced, Remembered, KeptForms, AreFirst, AreFirstOver, passes_refusal}
 use Rattle.kept_run.proofs.OneFormMore.{rows-more}
 use Rattle.refutation_steps.proofs.Tracing.{first-traced, refute_by_run}
 
@@ -11,14 +9,12 @@ length-form_rows n M = length-map (map (widen_to n) M) (form_row n) ∙ length-m
 -- ---- exchanges
 
 pub exchanges-rows : (rs cs : List ℕ) (T : Trace) → (exchanges rs cs T).rows ≡ T.rows
-exchanges-rows [] cs T = refl
-exchanges-rows (r ∷ rs) [] T = refl
 exchanges-rows (r ∷ rs) (c ∷ cs) T = exchanges-rows rs cs (exchanged T r c)
+exchanges-rows _ _ T = refl
 
 pub exchanges-columns : (rs cs : List ℕ) (T : Trace) → length (exchanges rs cs T).columns ≡ length T.columns
-exchanges-columns [] cs T = refl
-exchanges-columns (r ∷ rs) [] T = refl
 exchanges-columns (r ∷ rs) (c ∷ cs) T = exchanges-columns rs cs (exchanged T r c) ∙ length_slice_set T.columns c _
+exchanges-columns _ _ T = refl
 
 -- ---- the run
 
@@ -96,9 +92,8 @@ same-context w (c ∷ forms) long over =
 pub kept-further : (n : ℕ) (k : KeptForms) (known M : List (List ℤ)) → k.width ≡ n → AreFirst k known → M ≡ map (narrow_to n) (drop (length k.forms) known)
     → k.forms ++ M ≡ map (narrow_to n) known
 kept-further n k known M wide is rests =
-    let front = take (length k.forms) known in
     ap₂ (λ (X Y : List (List ℤ)). X ++ Y) (is.first ∙ ap (λ (v : ℕ). map (narrow_to v) (take (length k.forms) known)) wide) rests
-    ∙ sym (map-append (narrow_to n) front (drop (length k.forms) known))
+    ∙ sym (map-append (narrow_to n) (take (length k.forms) known) (drop (length k.forms) known))
     ∙ ap (λ (X : List (List ℤ)). map (narrow_to n) X) (take-append-drop (length k.forms) known)
 
 module _ (places : List ℤ) (known : List (List ℤ)) (first : ℤ) (k : KeptForms) (M : List (List ℤ)) (T : Trace)

@@ -1,6 +1,5 @@
 -- Kept forms that are the first of known ones.
-use Rattle.refuter.proofs.Words.{◌≡◌, ◌∙◌, ap, sym, ℕ, ◌≤◌, ℤ, List, length, map, take, arith, OnOk, length-map, length-take, length-take-le, take-take, narrow_to, KeptForms, AreFirst, AreFirstWithin}
-use Rattle.std.proofs.Common.{Result, Ok, Err}
+use Rattle.refuter.proofs.Words.{◌≡◌, ◌∙◌, ap, sym, ℕ, ◌≤◌, ℤ, List, length, map, take, arith, OnOk, length-map, length-take, length-take-le, take-take, narrow_to, KeptForms, AreFirst, AreFirstWithin, Result, Ok, Err}
 
 pub first-within : (k : KeptForms) (known : List (List ℤ)) → AreFirst k known → length k.forms ≤ length known
 first-within k known h =

@@ -1,5 +1,5 @@
 -- The words of other modules that the proofs of this crate cite, passed on from one place. Declares nothing.
-pub use Rattle.std.proofs.Common.{◌≡◌, refl, ap, sym, ◌∙◌, ℕ, zero, suc, ◌<◌, ◌≤◌, ℤ, true, false, Option, Some, List, [], ◌∷◌, length, map, take, arith, length-append, subst, ◌+◌, ◌++◌, get_or, drop, ap₂, All, rules}
+pub use Rattle.std.proofs.Common.{◌≡◌, refl, ap, sym, ◌∙◌, ℕ, zero, suc, ◌<◌, ◌≤◌, ℤ, true, false, Option, Some, List, [], ◌∷◌, length, map, take, arith, length-append, subst, ◌+◌, ◌++◌, get_or, drop, ap₂, All, rules, Result, Ok, Err, to_z, of_z}
 pub use Rattle.std.specs.Prelude.{IfSome, OnOk, nat_eq}
 pub use Rattle.std.proofs.lemmas.List.{length-map, map-append, length-take, length-take-le, take-take, take-append-drop}
 pub use Rattle.std.proofs.lemmas.Grind.{common_steps}
@@ -21,5 +21,6 @@ pub use Rattle.point_run.specs.Points.{form_rows, first_rows, is_end}
 pub use Rattle.kept_run.specs.Remembered.{replayed, IsRemembered}
 pub use Rattle.kept_run.specs.Traces.{exchanged, exchanges, IsTraced, IsClosing}
 pub use Rattle.kept_run.specs.declared.remembered.Remembered.{Remembered}
-pub use Rattle.refuter.specs.KeptForms.{KeptForms, AreFirst, AreFirstWithin}
+pub use Rattle.refuter.specs.KeptForms.{KeptForms, AreFirst, AreFirstWithin, AreFirstOver}
 pub use Rattle.short_run.specs.Stops.{stop_fault}
+pub use Rattle.point_run.proofs.Leaving.{passes_refusal, run_same}

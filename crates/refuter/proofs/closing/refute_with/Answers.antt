@@ -5,9 +5,8 @@ use Rattle.refuter.proofs.closing.refute_with.Goals as goal
 pub trace_behind-requires-clause-index : goal.trace_behind-requires-clause-index
 trace_behind-requires-clause-index c =
     let E = c.args.m.now.run.end.rows in
-    let now = c.args.question.now.row.rows in
     let is : IsClosing c.args.question.now.row.rows c.in-Some.r = search rules in
-    omega (arith, c.rows.ensures, c.requires.traced.rows_traced, is.within, length-append E now)
+    omega (arith, c.rows.ensures, c.requires.traced.rows_traced, is.within, length-append E c.args.question.now.row.rows)
 
 pub returns-in-Some : goal.returns-in-Some
 returns-in-Some c =

@@ -1,5 +1,4 @@
-use Rattle.refuter.proofs.Words.{rules, arith, ◌≡◌, refl, ◌≤◌, ℕ, ℤ, Work, List, [], ◌∷◌, length, false, nat_eq}
-use Rattle.std.proofs.Common.{to_z, of_z}
+use Rattle.refuter.proofs.Words.{rules, arith, ◌≡◌, refl, ◌≤◌, ℕ, ℤ, Work, List, [], ◌∷◌, length, false, nat_eq, to_z, of_z}
 use Rattle.std.specs.Int.{w128}
 use Rattle.refuter.proofs.refuter.Refuter.refute_first.Goals as goal
 

@@ -1,13 +1,10 @@
-use Rattle.refuter.proofs.Words.{rules, ◌≡◌, length, map, drop, narrow_to, first_trace}
+use Rattle.refuter.proofs.Words.{rules, ◌≡◌, length, map, drop, narrow_to, first_trace, run_same}
 use Rattle.refuter.proofs.FurtherForms.{kept-traced, kept-run}
 use Rattle.refuter.proofs.KeptFirst.{first-within}
-use Rattle.point_run.proofs.Leaving.{run_same}
 use Rattle.refuter.proofs.refuter.Refuter.refute_kept.Goals as goal
 
 pub split_at-requires : goal.split_at-requires
-split_at-requires c =
-    let few = first-within c.args.self.now c.args.known.now c.requires.first.first in
-    search (rules, few)
+split_at-requires c = search (rules, first-within c.args.self.now c.args.known.now c.requires.first.first)
 
 pub refute_behind-requires-clause-traced : goal.refute_behind-requires-clause-traced
 refute_behind-requires-clause-traced c =

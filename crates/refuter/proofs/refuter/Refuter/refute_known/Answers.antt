@@ -1,11 +1,10 @@
-use Rattle.refuter.proofs.Words.{rules, ◌≡◌, sym, subst, true, KeptForms, AreFirst}
+use Rattle.refuter.proofs.Words.{rules, sym, subst, KeptForms, AreFirst}
 use Rattle.refuter.proofs.KeptFirst.{on_ok}
 use Rattle.refuter.proofs.refuter.Refuter.refute_known.Goals as goal
 
 pub refute_first-requires-clause-first : goal.refute_first-requires-clause-first
 refute_first-requires-clause-first c =
-    let kept : c.in_ok-recall_first.field-0 ≡ true = search rules in
-    record { width = c.in_ok-recall_first.ensures.width kept; first = c.in_ok-recall_first.ensures.first }
+    record { width = c.in_ok-recall_first.ensures.width (search rules); first = c.in_ok-recall_first.ensures.first }
 
 pub returns-clause-first : goal.returns-clause-first
 returns-clause-first c =
