@@ -1,5 +1,5 @@
 -- The cut by a row whose numbers stand over one denominator.
-use Rattle.scaled_laws.proofs.Words.{◌≡◌, ◌∙◌, refl, ap, sym, ℕ, zero, suc, ◌+◌, ◌-◌, ◌<◌, ◌≤◌, ℤ, pos, negsuc, ◌*ℤ◌, ◌≤ℤ◌, ◌<ℤ◌, neg_ℤ, unsigned_abs, arith, nat_lt, Bool, true, false, List, [], ◌∷◌, length, take, drop, map, length-drop, All, ints, get_or-take, get_or-drop, get_or_default, length-take-le, floor_mod, entry, scale, negate, residue, Row, divided, rest_of, floor_mod-law, var, num, ◌⊗◌, ring, length_map, row_by, same_row, same_entries, Undivided, undivided, divided-multiple, entry_first, length_counted, row_over, row_size, above, minus_one, get_or-map}
+use Rattle.scaled_laws.proofs.Words.{◌≡◌, ◌∙◌, refl, ap, sym, ℕ, zero, suc, ◌+◌, ◌-◌, ◌<◌, ◌≤◌, ℤ, pos, negsuc, ◌*ℤ◌, ◌≤ℤ◌, ◌<ℤ◌, neg_ℤ, unsigned_abs, arith, nat_lt, Bool, true, false, List, [], ◌∷◌, length, take, drop, map, length-drop, All, ints, get_or-take, get_or-drop, get_or_default, length-take-le, floor_mod, entry, scale, negate, residue, Row, divided, var, num, ◌⊗◌, ring, length_map, row_by, same_row, same_entries, Undivided, undivided, divided-multiple, entry_first, length_counted, row_over, row_size, above, minus_one, get_or-map, floor_mod_is}
 use Rattle.pip_model.specs.Cuts.{constant_cut}
 use Rattle.scaled_laws.specs.Cut.{left_of, cut_numbers}
 use Rattle.scaled_laws.proofs.Scaled.{mod_over, den_positive}
@@ -43,15 +43,9 @@ module _ (n : ℕ) (l : ℤ) (zs : List ℤ) (h : pos 1 ≤ℤ l) where
 
 -- ---- what a quotient leaves
 
-mod_low : (z : ℤ) (d : ℕ) → 0 < d → (pos 0 ≤ℤ floor_mod z (pos d)) × (floor_mod z (pos d) <ℤ pos d)
-mod_low z d h =
-    let r = rest_of z d h in
-    let is : floor_mod z (pos d) ≡ pos r.rest = omega (arith, ints, r.is, (floor_mod-law z d h)) in
-    (omega (arith, ints, is), omega (arith, ints, is, r.below))
-
 left_bound : (l : ℤ) (b : Bool) (z : ℤ) → pos 1 ≤ℤ l → unsigned_abs (left_of l b z) ≤ unsigned_abs l
-left_bound (pos d) true z h = let m = mod_low z d (omega (arith, ints, h)) in omega (arith, ints, m.0, m.1)
-left_bound (pos d) false z h = let m = mod_low (neg_ℤ z) d (omega (arith, ints, h)) in omega (arith, ints, m.0, m.1)
+left_bound (pos d) true z h = let m = floor_mod_is z d (omega (arith, ints, h)) in omega (arith, ints, m.0, m.1)
+left_bound (pos d) false z h = let m = floor_mod_is (neg_ℤ z) d (omega (arith, ints, h)) in omega (arith, ints, m.0, m.1)
 left_bound (negsuc d) b z h = absurd (omega (arith, ints, h))
 
 pub cut_within : (n : ℕ) (l : ℤ) (m : ℕ) (xs : List ℤ) → pos 1 ≤ℤ l → unsigned_abs l ≤ m → All (λ z. unsigned_abs z ≤ m) (cut_numbers n l xs)

@@ -1,5 +1,5 @@
 -- Rows whose numbers stand over one denominator, and the rows that they are once they are divided.
-use Rattle.scaled_laws.proofs.Words.{◌≡◌, ◌∙◌, refl, ap, sym, subst, ℕ, zero, suc, ◌+◌, ◌*◌, ◌<◌, ℤ, pos, negsuc, ◌+ℤ◌, ◌-ℤ◌, ◌*ℤ◌, ◌≤ℤ◌, ◌<ℤ◌, arith, List, [], ◌∷◌, length, take, drop, length-drop, ints, get_or-take, length-take-le, take-map, drop-map, drop-set-lt, take-set-lt, slice_set, floor_div, floor_mod, divides, is_nonneg, is_zero, entry, combine, scale, Row, divided, substituted, eliminated, floor-unique, floor_div-law, floor_mod-law, mul_nn, mul_pp, factor_p, var, ◌⊕◌, ◌⊖◌, ◌⊗◌, ring, ring_by, entry-scale, length_floors, divisor, coef, place, IsScaled, row_over, same_row, Undivided, undivided, divided-multiple, eliminated_divided, set_scaled, take_combine, drop_combine}
+use Rattle.scaled_laws.proofs.Words.{◌≡◌, ◌∙◌, refl, ap, sym, subst, ℕ, zero, suc, ◌+◌, ◌*◌, ◌<◌, ℤ, pos, negsuc, ◌+ℤ◌, ◌-ℤ◌, ◌*ℤ◌, ◌≤ℤ◌, ◌<ℤ◌, arith, List, [], ◌∷◌, length, take, drop, length-drop, ints, get_or-take, length-take-le, take-map, drop-map, drop-set-lt, take-set-lt, slice_set, floor_div, floor_mod, divides, is_nonneg, is_zero, entry, combine, scale, Row, divided, substituted, eliminated, floor-unique, floor_div-law, floor_mod-law, mul_nn, mul_pp, factor_p, var, ◌⊕◌, ◌⊖◌, ◌⊗◌, ring, ring_by, entry-scale, length_floors, divisor, coef, place, IsScaled, row_over, same_row, Undivided, undivided, divided-multiple, eliminated_divided, set_scaled, take_combine, drop_combine, *ℤ_comm}
 use Rattle.std.specs.List.{list_all}
 use Rattle.form_laws.proofs.Unchanged.{scaled}
 
@@ -75,9 +75,6 @@ module _ (n : ℕ) (l : ℤ) (zs : List ℤ) (h : pos 1 ≤ℤ l) where
   pub over_place : (k : ℕ) → floor_div l now.den *ℤ place k now ≡ entry (drop n zs) k
   over_place k = rw factor_is (sym (entry-scale (pos u.by) now.constant k) ∙ ap (place k) u.is)
 
-  swap : (x y : ℤ) → x *ℤ y ≡ y *ℤ x
-  swap x y = ring (x ∷ y ∷ []) (var 0 ⊗ var 1) (var 1 ⊗ var 0) refl
-
   pub is_scaled : (w : ℕ) → length zs ≡ n + (w + 1) → IsScaled n w l now
   is_scaled w e = record {
     wide = record {
@@ -85,7 +82,7 @@ module _ (n : ℕ) (l : ℤ) (zs : List ℤ) (h : pos 1 ≤ℤ l) where
       coefs = length_floors (divisor (row_over n l zs)) (take n zs) ∙ length-take-le n zs (omega (arith, e));
       constant = length_floors (divisor (row_over n l zs)) (drop n zs) ∙ length-drop n zs ∙ omega (arith, e);
     };
-    multiple = sym den_is ∙ swap (pos u.by) now.den ∙ ap (λ (x : ℤ). now.den *ℤ x) (sym factor_is);
+    multiple = sym den_is ∙ *ℤ_comm (pos u.by) now.den ∙ ap (λ (x : ℤ). now.den *ℤ x) (sym factor_is);
   }
 
   -- ---- signs and divisors of the constant form

@@ -1,15 +1,12 @@
 -- A row with another put in, solved for a column.
-use Rattle.scaled_laws.proofs.Words.{◌≡◌, ◌∙◌, refl, ap, sym, ℕ, zero, suc, ℤ, pos, ◌-ℤ◌, ◌*ℤ◌, arith, List, [], ◌∷◌, length, ints, slice_set, entry, combine, scale, set_scaled, scale_one}
+use Rattle.scaled_laws.proofs.Words.{◌≡◌, ◌∙◌, refl, ap, sym, ℕ, zero, suc, ℤ, pos, ◌-ℤ◌, ◌*ℤ◌, arith, List, [], ◌∷◌, length, ints, slice_set, entry, combine, scale, set_scaled, scale_one, *ℤ_comm}
 use Rattle.scaled_laws.specs.Turned.{turned}
-
-swap : (x y : ℤ) → x *ℤ y ≡ y *ℤ x
-swap x y = omega (arith, ints)
 
 pub turned_made : (l : ℤ) (p : List ℤ) (c : ℕ) (old mid new : List ℤ) → scale l mid ≡ combine (entry p c) old (entry old c) p → new ≡ slice_set mid c (entry old c) → scale l new ≡ turned l p c old
 turned_made l p c old mid new e f =
     ap (scale l) f ∙ sym (set_scaled l mid c (entry old c))
     ∙ ap (λ (zs : List ℤ). slice_set zs c (l *ℤ entry old c)) e
-    ∙ ap (slice_set (combine (entry p c) old (entry old c) p) c) (swap l (entry old c))
+    ∙ ap (slice_set (combine (entry p c) old (entry old c) p) c) (*ℤ_comm l (entry old c))
 
 combine_none : (a : ℤ) (r s : List ℤ) → length r ≡ length s → combine a r (pos 0) s ≡ scale a r
 combine_none a [] s e = refl

@@ -9,7 +9,7 @@ pub use Rattle.scaled_laws.specs.Scaled.{AreScaled, row_over}
 pub use Rattle.std.proofs.lemmas.List.{get_or-take, get_or-drop, get_or_default, length-take-le, take-map, drop-map, drop-set-lt, drop-replicate, take-replicate, get_or-map}
 pub use Rattle.pip_model.specs.Numbers.{floor_mod, floor_div, divides, is_nonneg, is_zero, is_positive}
 pub use Rattle.pip_model.specs.Forms.{entry, scale, negate, residue, combine}
-pub use Rattle.pip_model.proofs.Division.{rest_of, floor-unique}
+pub use Rattle.pip_model.proofs.Division.{floor-unique}
 pub use Rattle.pip_model.proofs.Laws.{floor_mod-law, floor_div-law}
 pub use Rattle.pip_model.proofs.Polynomials.{var, num, ◌⊗◌, ring, ◌⊕◌, ◌⊖◌, ring_by}
 pub use Rattle.run_laws.proofs.Lengths.{length_map, length_floors}
@@ -24,3 +24,5 @@ pub use Rattle.run_laws.proofs.RowsAt.{divisor}
 pub use Rattle.pip_model.proofs.Tests.{above}
 pub use Rattle.pip_model.proofs.RingLaws.{minus_one}
 pub use Rattle.form_laws.proofs.Places.{take_combine, drop_combine}
+pub use Rattle.std.proofs.Math.IntN.{*ℤ_comm}
+pub use Rattle.run_laws.proofs.Gomory.{floor_mod_is}
