@@ -1,9 +1,8 @@
 -- A context without forms or without places: its run ends at its first rows.
-use Rattle.context_points.proofs.Words.{◌≡◌, ◌∙◌, refl, ap, ℕ, zero, suc, ◌+◌, ◌-◌, ℤ, arith, Bool, true, false, ◌&&◌, Option, Some, None, is_none, List, [], ◌∷◌, length, map, take, replicate, pos, if◌then◌else◌, filter, list_all, length-map, is_nonneg, is_positive, width, coefficients, constant, entry, widen_to, Row, row_at, form_row, unit_row, count_from, fraction_from, Work, Done, length-count, negative_from, has_point, finds_point}
+use Rattle.context_points.proofs.Words.{◌≡◌, ◌∙◌, refl, ap, ℕ, suc, ◌+◌, ◌-◌, ℤ, arith, Bool, true, false, ◌&&◌, Option, Some, None, is_none, List, [], ◌∷◌, length, map, take, replicate, pos, if◌then◌else◌, filter, list_all, length-map, is_nonneg, is_positive, width, coefficients, constant, entry, widen_to, Row, row_at, form_row, unit_row, count_from, fraction_from, Work, Done, length-count, negative_from, has_point, finds_point, alone_is}
 use Rattle.std.specs.Prelude.{◌++◌}
 use Rattle.run_laws.proofs.Scopes.{constant-end}
 use Rattle.kept_run.proofs.Ending.{finds_here, finds_none}
-use Rattle.kept_run.proofs.OneFormMore.{alone_is}
 
 -- ---- without forms
 
@@ -13,10 +12,8 @@ units_above n [] i = refl
 units_above n (k ∷ ks) i = units_above n ks (i + 1)
 
 units_whole : (n m : ℕ) (ks : List ℕ) (i : ℕ) → fraction_from i (take m (map (unit_row n 0) ks)) ≡ None
-units_whole n zero [] i = refl
-units_whole n zero (k ∷ ks) i = refl
-units_whole n (suc m) [] i = refl
 units_whole n (suc m) (k ∷ ks) i = units_whole n m ks (i + 1)
+units_whole n _ _ i = refl
 
 pub point_of_none : (n : ℕ) (K : List (List ℤ)) (w : Work) → length K ≡ 0 → has_point n K w ≡ Done true w
 point_of_none n [] w e =
@@ -31,9 +28,8 @@ abbrev rows_of : List (List ℤ) → List Row
 rows_of K = map (form_row 0) (map (widen_to 0) K)
 
 no_coefs : (K : List (List ℤ)) (r : ℕ) → (row_at (rows_of K) r).coefs ≡ []
-no_coefs [] r = refl
-no_coefs (c ∷ K) zero = refl
 no_coefs (c ∷ K) (suc r) = no_coefs K r
+no_coefs _ _ = refl
 
 abbrev from_zero : List (List ℤ) → Bool
 from_zero K = list_all (λ c. is_nonneg (constant c)) K

@@ -1,14 +1,9 @@
 -- The run that a context keeps.
-use Rattle.std.proofs.Common.{length-append}
-use Rattle.context_points.proofs.Words.{◌≡◌, ap, sym, subst, ℕ, ◌+◌, ◌≤◌, ℤ, Bool, false, arith, List, [], ◌∷◌, ◌++◌, length, take, IsTrue, take-take, take-append-le, length-take-le, IsContext, Remembered, IsRemembered, IsKnown, ◌∙◌, Result, ScopedForms, IsKeptContext, ◌-◌, drop, Ok, Err, OnOk, is_ok, take_all, take_rest, take-append-drop}
+use Rattle.context_points.proofs.Words.{◌≡◌, ap, sym, subst, ℕ, ◌+◌, ◌≤◌, ℤ, Bool, false, arith, List, [], ◌∷◌, ◌++◌, length, take, IsTrue, take-take, take-append-le, length-take-le, IsContext, Remembered, IsRemembered, IsKnown, ◌∙◌, Result, ScopedForms, IsKeptContext, ◌-◌, drop, Ok, Err, OnOk, is_ok, take_all, take_rest, take-append-drop, length-append}
 use Rattle.kept_run.proofs.Longer.{context_longer}
 
 pub kept_on : (k between now : ScopedForms) → IsKeptContext k between → IsKeptContext between now → IsKeptContext k now
-kept_on k between now a b = record {
-  width = b.width ∙ a.width;
-  forms = b.forms ∙ a.forms;
-  spare = omega (arith, a.spare, b.spare);
-}
+kept_on k between now a b = record { width = b.width ∙ a.width; forms = b.forms ∙ a.forms; spare = omega (arith, a.spare, b.spare) }
 
 -- ---- a context's run, known of its first forms and then of all
 

@@ -1,5 +1,5 @@
 -- The words of other modules that the proofs of this crate cite, passed on from one place. Declares nothing.
-pub use Rattle.std.proofs.Common.{◌≡◌, refl, ap, sym, ◌∙◌, ℕ, zero, suc, ◌≤◌, ℤ, Bool, true, false, Option, Some, None, List, [], ◌∷◌, length, map, take, arith, subst, ◌+◌, ◌++◌, ◌-◌, is_none, pos, drop, ◌&&◌, replicate, rules}
+pub use Rattle.std.proofs.Common.{◌≡◌, refl, ap, sym, ◌∙◌, ℕ, zero, suc, ◌≤◌, ℤ, Bool, true, false, Option, Some, None, List, [], ◌∷◌, length, map, take, arith, subst, ◌+◌, ◌++◌, ◌-◌, is_none, pos, drop, ◌&&◌, replicate, rules, length-append}
 pub use Rattle.std.specs.Prelude.{IfSome, Result, Ok, Err, if◌then◌else◌, IfOk, IfErr, OnOk, IsTrue, is_ok, filter}
 pub use Rattle.std.proofs.lemmas.List.{length-map, take-append-le, length-take-le, take-take, take_all, take_rest, take-append-drop}
 pub use Rattle.std.specs.List.{list_all}
@@ -17,3 +17,4 @@ pub use Rattle.kept_run.specs.Remembered.{IsRemembered}
 pub use Rattle.context_points.specs.Known.{IsKnown}
 pub use Rattle.kept_run.specs.declared.remembered.Remembered.{Remembered}
 pub use Rattle.context_points.specs.Scoped.{ScopedForms, IsKeptContext}
+pub use Rattle.kept_run.proofs.OneFormMore.{alone_is, known_tells, has_point_is}

@@ -1,5 +1,4 @@
-use Rattle.context_points.proofs.Words.{rules, ◌≡◌, subst, ◌≤◌, ℤ, List, length, take, take_all, IsRemembered}
-use Rattle.kept_run.proofs.OneFormMore.{known_tells}
+use Rattle.context_points.proofs.Words.{rules, ◌≡◌, subst, ◌≤◌, ℤ, List, length, take, take_all, IsRemembered, known_tells}
 use Rattle.context_points.proofs.context.Context.ask_known.Goals as goal
 
 pub returns-clause-gives : goal.returns-clause-gives

@@ -1,11 +1,9 @@
-use Rattle.context_points.proofs.Words.{rules, ◌≡◌, length, list_all, constant, is_nonneg}
+use Rattle.context_points.proofs.Words.{rules, ◌≡◌, list_all, constant, is_nonneg}
 use Rattle.context_points.proofs.AtOnce.{point_of_none, point_of_no_places}
 use Rattle.context_points.proofs.context.Context.point_at_once.Goals as goal
 
 pub returns-then-is_empty-clause-some : goal.returns-then-is_empty-clause-some
-returns-then-is_empty-clause-some c w =
-    let none : length c.args.self.now.forms ≡ 0 = search rules in
-    point_of_none c.args.self.now.width c.args.self.now.forms w none
+returns-then-is_empty-clause-some c w = point_of_none c.args.self.now.width c.args.self.now.forms w (search rules)
 
 pub returns-then-self-eq0-clause-some : goal.returns-then-self-eq0-clause-some
 returns-then-self-eq0-clause-some c w =

@@ -1,6 +1,5 @@
-use Rattle.context_points.proofs.Words.{rules, arith, ◌≡◌, ◌∙◌, sym, [], ◌∷◌}
+use Rattle.context_points.proofs.Words.{rules, arith, ◌≡◌, ◌∙◌, sym, [], ◌∷◌, has_point_is}
 use Rattle.kept_run.proofs.Leaving.{run_same}
-use Rattle.kept_run.proofs.OneFormMore.{has_point_is}
 use Rattle.context_points.proofs.context.Context.point_with_wider.Goals as goal
 
 pub ask_known-requires : goal.ask_known-requires
