@@ -2,9 +2,12 @@
 from __future__ import annotations
 
 import itertools
+import math
+import numbers
 import os
 import re
 import selectors
+import signal
 import subprocess
 import sys
 import threading
@@ -18,6 +21,7 @@ from .trees import is_one_group
 MOST_INPUT_BYTES = 16_777_216  # what one run of the program takes
 MOST_IDLE = 8  # processes that are kept for later calls
 HELD_SECONDS = 1.0  # how long a line of standard error may be the last one, a refusal's
+LOOK_SECONDS = 1.0  # how long a call waits before it looks again whether it was ended
 
 
 class Refused(Exception):
@@ -85,44 +89,134 @@ def late(seconds: Optional[float], notes: Notes, text: str, what: str = "answer"
     return TimedOut(-9, f"no {what} in {seconds} seconds{said}", text, bytes_before)
 
 
+def checked_seconds(seconds: Optional[float]) -> Optional[float]:
+    """The seconds of a timeout; none where there is no limit, as of infinity."""
+    if seconds is None:
+        return None
+    if not isinstance(seconds, numbers.Real) or isinstance(seconds, bool):
+        raise TypeError(f"a timeout is a number of seconds, or None, not {seconds!r}")
+    if not seconds > 0:  # (that of NaN too)
+        raise ValueError(f"a timeout is above 0, or None for no limit, not {seconds!r}")
+    return None if math.isinf(seconds) else seconds
+
+
+# ---- A process -----------------------------------------------------------------------------------------------------
+
+
+class Child:
+    """A process with pipes, of one call at a time. It leads a group of processes, which ends with it: `./pip` has others below it
+    while it builds the program. A fork has a copy of this, which leaves the process to whom it belongs."""
+
+    def __init__(self, command: Sequence[str]) -> None:
+        self.command = list(command)
+        self.process: Optional[subprocess.Popen[bytes]] = None
+        self.closed = False
+        self._owner = os.getpid()
+
+    def start(self) -> None:
+        pipe = subprocess.PIPE
+        self._owner = os.getpid()
+        self.go_on()
+        self.process = subprocess.Popen(self.command, stdin=pipe, stdout=pipe, stderr=pipe, bufsize=0, start_new_session=True)
+        for end in self.pipes():
+            os.set_blocking(end, False)
+        if self.closed:  # meanwhile, when there was no process to end
+            self.stop()
+        self.go_on()
+
+    def pipes(self) -> Tuple[int, int, int]:
+        process = self.process
+        assert process and process.stdin and process.stdout and process.stderr
+        return process.stdin.fileno(), process.stdout.fileno(), process.stderr.fileno()
+
+    def go_on(self) -> None:
+        """RuntimeError where the call that has the process may not go on with it."""
+        if self.closed:
+            raise RuntimeError("the Solver was closed while this call was under way")
+        if self._owner != os.getpid():
+            raise RuntimeError("this call was begun before a fork, and belongs to the other process")
+
+    def interrupt(self) -> None:
+        """Ends the process of a call that is under way, perhaps in another thread: the call fails."""
+        self.closed = True
+        process = self.process
+        if process is not None:
+            _kill(process)
+
+    def stop(self) -> None:
+        """Ends the process. Nothing that it still writes is wanted."""
+        process, self.process = self.process, None
+        if process is not None:
+            _kill(process)
+            process.wait()
+            for end in (process.stdin, process.stdout, process.stderr):
+                if end is not None:
+                    end.close()
+
+
+def _kill(process: subprocess.Popen[bytes]) -> None:
+    """Ends a process and those below it. One that was waited for, or is another one's, is left alone."""
+    if process.poll() is None:
+        try:
+            os.killpg(process.pid, signal.SIGKILL)
+        except ProcessLookupError:  # another thread has just waited for it
+            pass
+
+
 # ---- A run of its own ----------------------------------------------------------------------------------------------
 
 
-def run_once(command: Sequence[str], text: str, timeout: Optional[float]) -> Tuple[int, bytes, str]:
-    """The status of a run over a text, what it writes, and its last line."""
-    pipe = subprocess.PIPE
+class Runs:
+    """Runs over one text each, that `stop` ends."""
+
+    def __init__(self) -> None:
+        self._under_way: List[Child] = []
+
+    def run(self, command: Sequence[str], text: str, timeout: Optional[float]) -> Tuple[int, bytes, str]:
+        """The status of a run over a text, what it writes, and its last line."""
+        child = Child(command)
+        self._under_way.append(child)
+        try:
+            return _run(child, text, timeout)
+        finally:
+            child.stop()
+            self._under_way.remove(child)
+
+    def stop(self) -> None:
+        for child in list(self._under_way):
+            child.interrupt()
+
+
+def _run(child: Child, text: str, timeout: Optional[float]) -> Tuple[int, bytes, str]:
     outgoing, found, notes = memoryview(text.encode()), bytearray(), Notes()
     end = None if timeout is None else time.monotonic() + timeout
-    with subprocess.Popen(command, stdin=pipe, stdout=pipe, stderr=pipe, bufsize=0) as process:
-        assert process.stdin and process.stdout and process.stderr
-        try:
-            with selectors.DefaultSelector() as selector:
-                os.set_blocking(process.stdin.fileno(), False)
-                for stream, kind in ((process.stdin, selectors.EVENT_WRITE), (process.stdout, selectors.EVENT_READ),
-                                     (process.stderr, selectors.EVENT_READ)):
-                    selector.register(stream, kind)
-                while selector.get_map():
-                    ready = _select(selector, end, notes)
-                    if ready is None:
-                        raise late(timeout, notes, text, "end")
-                    for key, _ in ready:
-                        if key.fileobj is process.stdin:
-                            outgoing = write_some(key.fd, outgoing)
-                            if not outgoing:
-                                selector.unregister(process.stdin)
-                                process.stdin.close()
-                            continue
-                        piece = os.read(key.fd, 1 << 16)
-                        if not piece:
-                            selector.unregister(key.fileobj)
-                        elif key.fileobj is process.stderr:
-                            notes.add(piece)
-                        else:
-                            found += piece
-        except BaseException:
-            process.kill()
-            raise
-        status = process.wait()
+    child.start()
+    assert child.process and child.process.stdin
+    sink, source, errors = child.pipes()
+    with selectors.DefaultSelector() as selector:
+        selector.register(sink, selectors.EVENT_WRITE)
+        for stream in (source, errors):
+            selector.register(stream, selectors.EVENT_READ)
+        while selector.get_map():
+            ready = _select(selector, end, notes, child)
+            if ready is None:
+                raise late(timeout, notes, text, "end")
+            for key, _ in ready:
+                if key.fd == sink:
+                    outgoing = write_some(sink, outgoing)
+                    if not outgoing:
+                        selector.unregister(sink)
+                        child.process.stdin.close()
+                    continue
+                piece = os.read(key.fd, 1 << 16)
+                if not piece:
+                    selector.unregister(key.fd)
+                elif key.fd == errors:
+                    notes.add(piece)
+                else:
+                    found += piece
+    status = child.process.wait()
+    child.go_on()
     if status == 0:
         notes.pass_on()
     return status, bytes(found), notes.end()
@@ -141,14 +235,15 @@ def write_some(sink: int, outgoing: memoryview) -> memoryview:
 _Ready = List[Tuple[selectors.SelectorKey, int]]
 
 
-def _select(selector: selectors.BaseSelector, end: Optional[float], notes: Notes) -> Optional[_Ready]:
+def _select(selector: selectors.BaseSelector, end: Optional[float], notes: Notes, child: Child) -> Optional[_Ready]:
     """What is ready; none where it is not before the end. What notes hold goes on meanwhile."""
     while True:
-        left = None if end is None else end - time.monotonic()
-        if left is not None and left <= 0:
+        child.go_on()
+        left = LOOK_SECONDS if end is None else end - time.monotonic()
+        if left <= 0:
             return None
         held = notes.wait()
-        ready = selector.select(left if held is None else held if left is None else min(held, left))
+        ready = selector.select(min(left, LOOK_SECONDS if held is None else held))
         if ready:
             return ready
         notes.pass_on_late()
@@ -164,18 +259,17 @@ class _Asked:
     bytes_before: int = 0
 
 
-class Coprocess:
+class Coprocess(Child):
     """A process that is given one group after the other and answers each with so many groups. One call at a time uses it.
 
     Its pipes are read and written as they are ready, so neither side waits for the other. (A pipe's two ends are
     blocking or not each by itself: the program's stay as they are.)"""
 
     def __init__(self, command: Sequence[str], groups: int, timeout: Optional[float]) -> None:
-        self.command, self.groups, self.timeout = list(command), groups, timeout
-        self.process: Optional[subprocess.Popen[bytes]] = None
+        super().__init__(command)
+        self.groups, self.timeout = groups, timeout
         self.bytes_given = 0
         self.notes = Notes()
-        self.closed = False
 
     def answers(self, texts: Iterable[str]) -> Iterator[Union[List[str], Refused]]:
         """What comes of each text, in order: its groups, or its refusal. A refusal ends the process; the next text gets
@@ -189,16 +283,15 @@ class Coprocess:
                     waiting.extend(_asked(text) for text in itertools.islice(source, 64))
                 if not waiting and not given:
                     return
-                self._refuse_closed()
-                if not self._goes_on(waiting[0]):
+                if not self._is_ready(waiting[0]):
                     self.stop()
-                    self._start()
+                    self.start()
                 yield from self._exchange(waiting, given)
         finally:
             if given:  # the caller left: what is still to come must not be taken for other answers
                 self.stop()
 
-    def _goes_on(self, asked: _Asked) -> bool:
+    def _is_ready(self, asked: _Asked) -> bool:
         """Whether there is a process that can be given the text. It may have ended by itself, or taken its most."""
         return self.process is not None and self.process.poll() is None and self._has_room(asked)
 
@@ -209,7 +302,7 @@ class Coprocess:
         """Gives what waits to the process, as far as one run takes it, and yields what comes back, up to the end of what
         is given or of the process."""
         assert self.process is not None
-        sink, source, errors = self._pipes()
+        sink, source, errors = self.pipes()
         outgoing, made = memoryview(b""), _Groups()
         found: List[str] = []
         end = self._deadline()
@@ -227,7 +320,7 @@ class Coprocess:
                 if not given:
                     self.notes.pass_on()
                     return
-                ready = _select(selector, end, self.notes)
+                ready = _select(selector, end, self.notes, self)
                 if ready is None:
                     yield self._late(given, waiting)
                     return
@@ -251,16 +344,13 @@ class Coprocess:
                         if len(found) == self.groups:
                             given.popleft()
                             yield found
+                            self.go_on()
                             found = []
                             end = self._deadline()
 
-    def _refuse_closed(self) -> None:
-        if self.closed:
-            raise RuntimeError("the Solver was closed while this call was under way")
-
     def _ended(self, given: Deque[_Asked], waiting: Deque[_Asked]) -> Refused:
         """The refusal of the first text that has no answer. The texts behind it wait again."""
-        self._refuse_closed()
+        self.go_on()
         assert self.process is not None and self.process.stderr is not None
         os.set_blocking(self.process.stderr.fileno(), True)
         self.notes.add(self.process.stderr.read())
@@ -280,35 +370,9 @@ class Coprocess:
     def _deadline(self) -> Optional[float]:
         return None if self.timeout is None else time.monotonic() + self.timeout
 
-    def _start(self) -> None:
-        pipe = subprocess.PIPE
-        self.process = subprocess.Popen(self.command, stdin=pipe, stdout=pipe, stderr=pipe, bufsize=0)
+    def start(self) -> None:
+        super().start()
         self.bytes_given, self.notes = 0, Notes()
-        for end in self._pipes():
-            os.set_blocking(end, False)
-
-    def _pipes(self) -> Tuple[int, int, int]:
-        process = self.process
-        assert process and process.stdin and process.stdout and process.stderr
-        return process.stdin.fileno(), process.stdout.fileno(), process.stderr.fileno()
-
-    def interrupt(self) -> None:
-        """Ends the process of a call that is under way, perhaps in another thread: the call fails."""
-        self.closed = True
-        process = self.process
-        if process is not None:
-            process.kill()
-
-    def stop(self) -> None:
-        """Ends the process. Nothing that it still writes is wanted."""
-        process, self.process = self.process, None
-        if process is not None:
-            if process.poll() is None:
-                process.kill()
-            process.wait()
-            for end in (process.stdin, process.stdout, process.stderr):
-                if end is not None:
-                    end.close()
 
 
 class Pool:

@@ -93,6 +93,8 @@ class Shortener:
     """Shortens one tree. When a limit is reached it goes on without questions: what it has made so far is as right as before."""
 
     def __init__(self, ask: Ask, questions: Optional[int] = QUESTIONS, seconds: Optional[float] = SECONDS) -> None:
+        if seconds is not None and math.isnan(seconds):
+            raise ValueError("the seconds of an answer are a number")
         self._ask, self._most = ask, questions
         self._end = None if seconds is None else time.monotonic() + seconds
         self.asked = 0

@@ -8,7 +8,7 @@ from typing import Any, Deque, Dict, Iterable, Iterator, List, Optional, Sequenc
 
 from .answers import Answer, AnswerBySigns
 from .problems import Posed, Problem, numbers_over
-from .processes import MOST_INPUT_BYTES, Pool, Refused, TimedOut, run_once
+from .processes import MOST_INPUT_BYTES, Pool, Refused, Runs, TimedOut, checked_seconds
 from .prepare import prepared
 from .refutations import NotCertified, Obligations, steps_of
 from .shorten import QUESTIONS, SECONDS, Shortener
@@ -26,8 +26,9 @@ class Solver:
 
     `simplify` asks for simplified answers. `pivots`, `cuts`, `splits`, `nesting` are the budgets of a problem, the
     program's own where none is given; a stranger's problems should have some. `timeout` is the seconds that a problem
-    may take. A Solver ends its processes by `close`, or at the end of a `with`; a call that is under way then fails. What comes
-    of a pickled Solver, or of that of a pickled answer, has processes of its own.
+    may take, above 0, or None. A Solver ends its processes by `close`, or at the end of a `with`; a call that is under way then
+    fails, in another thread too. What comes of a pickled Solver, or of that of a pickled answer, has processes of its own, and so
+    has a fork; a call that was begun before it is read on by the other process alone.
 
     `prepare=True` takes equalities out of each problem before it is solved, `prepare="when refused"` out of those that were
     refused or late. The answer is put back here, in Python, and then `check` is asked whether it is right: its `checked` says
@@ -39,13 +40,14 @@ class Solver:
         if prepare not in (False, True, "when refused"):
             raise ValueError(f"prepare is True, False or 'when refused', not {prepare!r}")
         self.program, self.prepare, self.simplify = os.fspath(program), prepare, simplify
-        self.timeout = timeout
+        self.timeout = checked_seconds(timeout)
         self.budgets = {"pivots": pivots, "cuts": cuts, "splits": splits, "nesting": nesting}
         words = self.budget_words(list(self.budgets))
         plain = [self.program, "solve", *words, *(["--simplify"] if simplify else [])]
-        self._plain = Pool(plain, 1, timeout)
-        self._certified = Pool([self.program, "solve", "--certificate", *words], 2, timeout)
-        self._questions = Pool([self.program, "solve", "--pivots", "1000", "--cuts", "60"], 1, timeout)
+        self._plain = Pool(plain, 1, self.timeout)
+        self._certified = Pool([self.program, "solve", "--certificate", *words], 2, self.timeout)
+        self._questions = Pool([self.program, "solve", "--pivots", "1000", "--cuts", "60"], 1, self.timeout)
+        self._runs = Runs()
 
     def __enter__(self) -> Solver:
         return self
@@ -64,6 +66,7 @@ class Solver:
         self._plain.stop()
         self._certified.stop()
         self._questions.stop()
+        self._runs.stop()
 
     def budget_words(self, names: Sequence[str]) -> List[str]:
         """The words of the budgets of these names, as far as they were given."""
@@ -218,7 +221,7 @@ class Solver:
             return []
         words = ["same", str(count), *self.budget_words(["pivots", "cuts", "splits"])]
         try:
-            output = run_once([self.program, *words], "".join(texts), self.timeout)[1].decode()
+            output = self._runs.run([self.program, *words], "".join(texts), self.timeout)[1].decode()
         except TimedOut:
             half = len(texts) // 2
             return [*self._same(count, texts[:half]), *self._same(count, texts[half:])] if half else [False]
@@ -263,7 +266,7 @@ class Solver:
             while waiting and (not batch or size + _size(waiting[0]) <= MOST_INPUT_BYTES):
                 size += _size(waiting[0])
                 batch.append(waiting.popleft())
-            status, output, line = run_once([self.program, "check"], "".join(map(_joined, batch)), None)
+            status, output, line = self._runs.run([self.program, "check"], "".join(map(_joined, batch)), None)
             accepted = output.decode().splitlines()
             if any(line != "accepted" for line in accepted) or len(accepted) > len(batch):
                 raise RuntimeError(f"check wrote {accepted[:3]}")
@@ -276,7 +279,7 @@ class Solver:
 
     def run(self, words: Sequence[str], text: str) -> str:
         """What another command writes over a text, by a process of its own: `run(["pieces", "2"], answer.text)`."""
-        status, output, line = run_once([self.program, *words], text, self.timeout)
+        status, output, line = self._runs.run([self.program, *words], text, self.timeout)
         if status != 0:
             raise Refused(status, line, text)
         return output.decode()
