@@ -79,18 +79,20 @@ class Solver:
 
     def solve_all(self, problems: Iterable[Problem]) -> Iterator[Union[Answer, Refused]]:
         """What comes of each problem, in order: its answer, or its refusal (not raised, so that the others go on).
-        Several problems are under way at a time."""
-        taken: Deque[Posed] = deque()
+        Several problems are under way at a time: up to 64 are read before the first answer is given out. What reading them
+        raises is raised behind the answers to those that were read."""
         if self.prepare is True:
             yield from map(self._solve_prepared, _taken(problems))
             return
-        for found in self._plain.answers(_texts(problems, taken)):
-            posed = taken.popleft()
+        source = _Source(problems)
+        for found in self._plain.answers(source.texts()):
+            posed = source.taken.popleft()
             if not isinstance(found, Refused):
                 yield Answer(posed, found[0] + "\n", solver=self)
             else:
                 made = self._prepared(posed) if self.prepare else None
                 yield found if made is None else made
+        source.end()
 
     def _solve_prepared(self, posed: Posed) -> Union[Answer, Refused]:
         made = self._prepared(posed)
@@ -237,11 +239,11 @@ class Solver:
     def certify_all(self, problems: Iterable[Problem]) -> Iterator[Union[Answer, Refused]]:
         """What comes of each problem, in order: its answer, which `check` has accepted with its certificate, or the
         refusal of either command. `check` reads its whole input before it writes, so the answers come at the end."""
-        taken: Deque[Posed] = deque()
+        source = _Source(problems)
         made: List[Union[Answer, Refused]] = []
         triples: List[Tuple[str, str, str]] = []
-        for found in self._certified.answers(_texts(problems, taken)):
-            posed = taken.popleft()
+        for found in self._certified.answers(source.texts()):
+            posed = source.taken.popleft()
             if isinstance(found, Refused):
                 made.append(found)
             else:
@@ -251,6 +253,7 @@ class Solver:
         for item in made:
             verdict = next(verdicts) if isinstance(item, Answer) else None
             yield item if verdict is None else verdict
+        source.end()
 
     def check(self, triples: Iterable[Tuple[str, str, str]]) -> List[Optional[Refused]]:
         """What `check` says of each problem, answer and certificate: none where it accepts them, else its refusal. One
@@ -291,11 +294,26 @@ def checked_answer(answer: object) -> Answer:
     return answer
 
 
-def _texts(problems: Iterable[Problem], taken: Deque[Posed]) -> Iterator[str]:
-    """The problems' texts. What is posed is kept in `taken` until its answer is there."""
-    for posed in _taken(problems):
-        taken.append(posed)
-        yield posed.text
+class _Source:
+    """The problems of a call. What is posed is in `taken` until its answer is there; what reading the problems raises is kept until
+    the answers to those before it are given out."""
+
+    def __init__(self, problems: Iterable[Problem]) -> None:
+        self.taken: Deque[Posed] = deque()
+        self._problems = problems
+        self._error: Optional[Exception] = None
+
+    def texts(self) -> Iterator[str]:
+        try:
+            for posed in _taken(self._problems):
+                self.taken.append(posed)
+                yield posed.text
+        except Exception as error:
+            self._error = error
+
+    def end(self) -> None:
+        if self._error is not None:
+            raise self._error
 
 
 def _taken(problems: Iterable[Problem]) -> Iterator[Posed]:
