@@ -12,7 +12,7 @@ from .processes import MOST_INPUT_BYTES, Pool, Refused, Runs, TimedOut, checked_
 from .prepare import prepared
 from .refutations import NotCertified, Obligations, steps_of
 from .shorten import QUESTIONS, SECONDS, Shortener
-from .texts import native
+from .texts import Fault, native
 from .trees import Bottom, Point, Void, answer_text, is_one_group, parse_answer
 
 
@@ -107,8 +107,12 @@ class Solver:
         return None if text is None else Answer(posed, text, solver=self, checked=self.proves(posed.text, text))
 
     def ask_prepared(self, text: str) -> Optional[str]:
-        """The answer to a native text of one problem, by the problem made smaller: put back, and not checked."""
-        problem, = native(text.encode())
+        """The answer to a native text of one problem, by the problem made smaller: put back, and not checked. None where nothing
+        can be taken out, or the program does not read the text or refuses the smaller one."""
+        try:
+            problem, = native(text.encode())
+        except Fault:
+            return None
         made = prepared(problem)
         if made is None or made.text is None:
             return None
