@@ -259,7 +259,8 @@ class Reader:
         found = self.term(known)
         while self.peek() in ("+", "-"):
             sign = 1 if self.take() == "+" else -1
-            found = [_Case(a.held + b.held, a.form + b.form * sign) for a in found for b in self.term(known)]
+            more = self.term(known)
+            found = [_Case(a.held + b.held, a.form + b.form * sign) for a in found for b in more]
         return found
 
     def term(self, known: Mapping[str, str]) -> List[_Case]:
