@@ -5,11 +5,12 @@ from __future__ import annotations
 import itertools
 import math
 import re
-from typing import Callable, Dict, Iterator, List, Mapping, NamedTuple, Sequence, Set, Tuple
+from typing import Callable, Collection, Dict, Iterator, List, Mapping, NamedTuple, Sequence, Set, Tuple
 
 from .forms import Form, Relation, congruent
 
-_TOKEN = re.compile(r"\s*(->|<<=|>>=|<<|>>|<=|>=|==|!=|&&|\|\||\d+|[A-Za-z_][A-Za-z0-9_']*|[-+*/%(){}\[\],:;<>=!])")
+_NAME = r"[A-Za-z_][A-Za-z0-9_']*"
+_TOKEN = re.compile(rf"\s*(->|<<=|>>=|<<|>>|<=|>=|==|!=|&&|\|\||\d+|{_NAME}|[-+*/%(){{}}\[\],:;<>=!])")
 _COMPARE: Dict[str, Callable[[Form, Form], List[Relation]]] = {
     "<": lambda a, b: [a < b], "<=": lambda a, b: [a <= b], "=": lambda a, b: [a == b], "==": lambda a, b: [a == b],
     ">=": lambda a, b: [a >= b], ">": lambda a, b: [a > b], "!=": lambda a, b: [a < b, a > b]}
@@ -40,6 +41,7 @@ class _Case(NamedTuple):
 
 
 class Tuples(NamedTuple):
+    named: Tuple[str, ...]  # the names of the tuples themselves
     domain: List[str]  # of a map
     unknowns: List[str]
     parts: List[Part]
@@ -51,6 +53,7 @@ class Reader:
             raise TypeError(f"a text is wanted, not {text!r}")
         self.text, self.place = text, 0
         self.taken: Set[str] = set()  # all names that were given
+        self.words = set(re.findall(_NAME, text))
 
     # Tokens.
 
@@ -92,8 +95,9 @@ class Reader:
             raise self.fault("a name is missing")
         return self.take()
 
-    def fresh(self, name: str) -> str:
-        while name in self.taken:
+    def fresh(self, name: str, others: Collection[str] = ()) -> str:
+        """The name, changed where it is taken or one of the others."""
+        while name in self.taken or name in others:
             name += "'"
         self.taken.add(name)
         return name
@@ -122,22 +126,25 @@ class Reader:
         return parameters, found
 
     def tuple_of(self, known: Dict[str, str]) -> Tuples:
+        named = [self.tuple_name()]
         first, made = self.entries(known, "i")
         domain: List[str] = []
         if self.has("->"):
             domain = first
+            named.append(self.tuple_name())
             first, more = self.entries(known, "o")
             made = product(made, more)
         if self.peek() == "->":
             raise self.fault("a map of maps is not read")
         if self.has(":"):
             made = product(made, self.formula(known))
-        return Tuples(domain, first, made)
+        return Tuples(tuple(named), domain, first, made)
+
+    def tuple_name(self) -> str:
+        return "" if self.peek() == "[" else self.name()
 
     def entries(self, known: Dict[str, str], letter: str) -> Tuple[List[str], List[Part]]:
         """The names of a tuple; a form in the place of a name is equal to an own name. Adds the names to those known."""
-        if self.peek() != "[":
-            self.name()  # the tuple's
         self.expect("[")
         names: List[str] = []
         made = [Part((), ())]
@@ -153,10 +160,9 @@ class Reader:
                         break
                     continue
                 self.place = before
-            own = self.fresh(f"{letter}{len(names)}")
+            own = self.fresh(f"{letter}{len(names)}", self.words)  # (what the text names later is another one)
             names.append(own)
             made = product(made, [Part((*case.held, Form({own: 1}) == case.form), ()) for case in self.form(known)])
-            known[own] = own
             if not self.has(","):
                 break
         self.expect("]")

@@ -21,7 +21,7 @@ Parameters are from 0 on unless `low` says otherwise: `low={"n": -100}`. What is
 from __future__ import annotations
 
 import re
-from typing import Iterator, List, Mapping, Optional, Sequence, Tuple
+from typing import Iterator, List, Mapping, Optional, Sequence, Set, Tuple
 
 from .answers import Answer
 from .formulas import Fault, Part, Reader
@@ -34,8 +34,8 @@ from .trees import Choice, NewParameter, Point, Tree, form_of
 def problems(text: str, *, greatest: bool = False, low: Mapping[str, int] = {}, context: str = "") -> List[Problem]:
     """The problems of a set or a map: one for each part of its `or`."""
     parameters, tuples = Reader(text).whole()
-    if len({(tuple(it.domain), len(it.unknowns)) for it in tuples}) > 1:
-        raise Fault("the parts of the set have tuples of different lengths, or of a map other names in the first one")
+    if len({(it.named, tuple(it.domain), len(it.unknowns)) for it in tuples}) > 1:
+        raise Fault("the parts of the set have tuples of different names or lengths, or of a map other names in the first one")
     names = [*parameters, *(tuples[0].domain if tuples else [])]
     asked = tuples[0].unknowns if tuples else []
     if tuples and (other := [name for name in low if name not in (*names, *asked)]):
@@ -52,7 +52,8 @@ def problems(text: str, *, greatest: bool = False, low: Mapping[str, int] = {}, 
 
 def _problem(text: str, parameters: Sequence[str], asked: Sequence[str], unknowns: Sequence[str], part: Part, greatest: bool,
              low: Mapping[str, int], context: Sequence[Relation]) -> Problem:
-    named = {own: Form({name: 1}) for own, name in zip(unknowns, asked) if own != name}
+    further = _apart(part.further, {*parameters, *asked})
+    named = {own: Form({name: 1}) for own, name in [*zip(unknowns, asked), *zip(part.further, further)] if own != name}
     relations = [relation.substitute(named) for relation in part.relations]
     problem = Problem(re.sub(r"[()]", "", text))
     for name in parameters:
@@ -71,9 +72,19 @@ def _problem(text: str, parameters: Sequence[str], asked: Sequence[str], unknown
         else:
             problem.greatest(name, low=least, high=most)
         before.append(name)
-    for name in part.further:
+    for name in further:
         problem.further(name, low=None)
     return problem.where(*relations).context(*context)
+
+
+def _apart(names: Sequence[str], taken: Set[str]) -> List[str]:
+    """Names of what has to exist, changed where the first tuple has them."""
+    found: List[str] = []
+    for name in names:
+        while name in taken or name in found:
+            name += "'"
+        found.append(name)
+    return found
 
 
 def _bound(relations: Sequence[Relation], name: str, before: Sequence[str], sign: int) -> Optional[Form]:
