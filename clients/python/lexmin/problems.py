@@ -154,9 +154,16 @@ class Problem:
         either = [name for name, own in self._parameters.items() if own.low is None and own.high is None]
         for ranges in itertools.product((Range(0), Range(None, -1)), repeat=len(either)):
             part = copy.copy(self)
-            part._parameters = {**self._parameters, **dict(zip(either, ranges))}
-            part._unknowns, part._rows, part._context = dict(self._unknowns), list(self._rows), list(self._context)
+            part._parameters.update(zip(either, ranges))
             yield part
+
+    def __copy__(self) -> Problem:
+        """A problem of its own: what is added to the one is not added to the other."""
+        made = self.__class__.__new__(self.__class__)
+        vars(made).update(vars(self))
+        made._parameters, made._unknowns = dict(self._parameters), dict(self._unknowns)
+        made._rows, made._context = list(self._rows), list(self._context)
+        return made
 
     def __repr__(self) -> str:
         asked = [name for name, unknown in self._unknowns.items() if not unknown.further]
