@@ -116,8 +116,8 @@ class Problem:
         """Adds that a form is at least 0 at each point of a domain, by Farkas' lemma: there the form is a sum of multiples of
         the domain's relations, none below 0, and of a number from 0 on.
 
-        The domain's names (turns of loops, sizes) come from a Problem of their own, and nothing is known of them but what
-        the relations say. `form` gives for each of them its coefficient, a form over this problem's unknowns and parameters,
+        The domain's names (turns of loops, sizes) come from a Problem of their own, none is one of this problem's, and nothing is
+        known of them but what the relations say. `form` gives for each of them its coefficient, a form over this problem's unknowns and parameters,
         and for "" the constant. Each relation's multiplier is a further unknown: whole ones in the integer mode, which leaves
         out forms that need fractions. The domain must not be empty: there every form would do, and the lemma says nothing."""
         domain = tuple(map(checked_relation, domain))
@@ -125,6 +125,8 @@ class Problem:
         for relation in domain:
             if relation.kind == "multiple" or any(isinstance(atom, Floor) for atom in relation.form.terms):
                 raise ValueError("a domain has neither floors nor congruences")
+        if both := [name for name in names if name in self._parameters or name in self._unknowns]:
+            raise ValueError(f"{', '.join(both)}: a name of this problem can't be one of the domain, which holds for all its values")
         for coefficient in form.values():
             self._known(as_form(coefficient), [*self._parameters, *self._unknowns])
         self._multipliers += 1
