@@ -105,6 +105,12 @@ class Reader:
     # Sets.
 
     def whole(self) -> Tuple[List[str], List[Tuples]]:
+        try:
+            return self.set()
+        except RecursionError:
+            raise Fault("the text is nested too deep") from None
+
+    def set(self) -> Tuple[List[str], List[Tuples]]:
         parameters: List[str] = []
         if self.has("["):
             while self.peek() != "]":

@@ -117,7 +117,10 @@ def leaves(tree: Tree) -> List[Tree]:
 
 def parse_answer(text: str) -> Tuple[str, Tree]:
     """The comment of an answer, without its brackets, and its tree."""
-    return _Reader(text).answer()
+    try:
+        return _Reader(text).answer()
+    except RecursionError:
+        raise ValueError("no answer: its tree is nested too deep") from None
 
 
 class _Reader:
