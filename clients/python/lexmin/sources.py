@@ -25,6 +25,7 @@ from .forms import Column, Floor, Form
 from .problems import Range, Space
 from .trees import Choice, NewParameter, Point, Tree, form_of, leaves, parameter_count, parse_answer
 
+MOST_INDENTS = 90  # of lines in Python, which takes 100
 _PLAIN = re.compile(r"[A-Za-z_][A-Za-z0-9_]*")
 _TAKEN = frozenset("""alignas alignof and as asm assert async await auto bool break case char class const constexpr continue def default del do
 double elif else enum except extern false finally float for from global goto if import in inline int is lambda long None nonlocal not nullptr or
@@ -59,6 +60,7 @@ class _Writer:
         if not _PLAIN.fullmatch(name) or (name in _TAKEN and name != "lexmin"):
             raise ValueError(f"{name!r} can't be the name of a function")
         self.answer, self.c = answer, c
+        self.turned = not c and _indents(answer.tree) > MOST_INDENTS
         self.names: Dict[str, str] = {}
         for own in answer.posed.parameters:
             plain = own if _PLAIN.fullmatch(own) and own not in _TAKEN and own != name else f"p{len(self.names)}_"
@@ -73,15 +75,17 @@ class _Writer:
     def _below(self, tree: Tree, scope: List[Form], margin: str) -> Iterator[str]:
         end = ";" if self.c else ""
         if isinstance(tree, Choice):
-            form = self._text(form_of(tree.form, scope))
-            yield f"{margin}if ({form} >= 0) {{" if self.c else f"{margin}if {form} >= 0:"
-            yield from self._below(tree.yes, scope, margin + "    ")
+            asked, inner, outer = f"{self._text(form_of(tree.form, scope))} >= 0", tree.yes, tree.no
+            if self.turned and _least_indents(tree.no) < _least_indents(tree.yes):
+                asked, inner, outer = asked.replace(">= 0", "< 0"), tree.no, tree.yes
+            yield f"{margin}if ({asked}) {{" if self.c else f"{margin}if {asked}:"
+            yield from self._below(inner, scope, margin + "    ")
             if self.c:
                 yield margin + "}"
-            yield from self._below(tree.no, scope, margin)  # what stands above has returned
+            yield from self._below(outer, scope, margin)  # what stands above has returned
         elif isinstance(tree, NewParameter):
             own = f"q{tree.number}_"
-            while own in self.parameters:
+            while own in self.parameters or own in self.names:
                 own += "_"
             text = self._floor(self._text(form_of(tree.form, scope)), tree.divisor)
             yield f"{margin}{'const long long ' if self.c else ''}{own} = {text}{end}"
@@ -115,6 +119,21 @@ class _Writer:
             terms.append(f"{'-' if form.constant < 0 else '+'} {abs(form.constant)}")
         text = " ".join(terms)
         return text[2:] if text.startswith("+ ") else "-" + text[2:]
+
+
+def _indents(tree: Tree) -> int:
+    """In how many choices the innermost line stands, where `yes` stands inside of each."""
+    if isinstance(tree, Choice):
+        return max(_indents(tree.yes) + 1, _indents(tree.no))
+    return _indents(tree.below) if isinstance(tree, NewParameter) else 0
+
+
+def _least_indents(tree: Tree) -> int:
+    """The same, where of each choice the side that takes less stands inside."""
+    if isinstance(tree, Choice):
+        one, other = _least_indents(tree.yes), _least_indents(tree.no)
+        return one + 1 if one == other else max(one, other)
+    return _least_indents(tree.below) if isinstance(tree, NewParameter) else 0
 
 
 # ---- The command ---------------------------------------------------------------------------------------------------
