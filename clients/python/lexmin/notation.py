@@ -97,9 +97,9 @@ def _bound(relations: Sequence[Relation], name: str, before: Sequence[str], sign
         own = form.terms.get(name, 0)
         if relation.kind == "==" and own * sign < 0:
             form, own = -form, -own
-        if own * sign <= 0 or any(atom != name and atom not in before for atom in form.terms):
-            continue
         rest = Form({atom: number for atom, number in form.terms.items() if atom != name}, form.constant)
+        if own * sign <= 0 or any(other not in before for other in rest.names()):
+            continue
         most = rest if abs(own) == 1 else rest // abs(int(own))
         found.append(-most if sign > 0 else most)  # own*name + rest >= 0: name >= -rest/own, or name <= rest/|own|
     plain = [form for form in found if all(isinstance(atom, str) for atom in form.terms)]
