@@ -15,8 +15,9 @@ _pip_words() {
             least) words="--pivots --cuts --splits --nesting" ;;
         esac
         # An option is given once, and its number is not completed.
-        for word in "${COMP_WORDS[@]:2:COMP_CWORD-2}"; do words=${words/"$word"/}; done
-        case ${COMP_WORDS[COMP_CWORD-1]} in --pivots | --cuts | --splits | --nesting) words="" ;; esac
+        words=" $words "
+        for word in "${COMP_WORDS[@]:2:COMP_CWORD-2}"; do words=${words/" $word "/ }; done
+        case ${COMP_WORDS[COMP_CWORD-1]} in --pivots | --cuts | --splits | --nesting | =) words="" ;; esac
     fi
     COMPREPLY=($(compgen -W "$words" -- "${COMP_WORDS[COMP_CWORD]}"))
 }
