@@ -3,7 +3,7 @@
     functions = read(text)
 
 `int` parameters are sizes, `double` ones data. Loop variables are ints that only their loop changes. Comments and lines that
-begin with `#` are passed over.
+begin with `#` are passed over, but for those of `#if`: which lines it takes isn't known.
 """
 from __future__ import annotations
 
@@ -141,18 +141,25 @@ def assignments(block: Block) -> Iterator[Assignment]:
 
 _PASSED = re.compile(r"/\*.*?\*/|//[^\n]*|^[ \t]*#[^\n]*", re.DOTALL | re.MULTILINE)
 _TOKEN = re.compile(r"\s*(\d+\.\d*(?:[eE][-+]?\d+)?|\d+|[A-Za-z_]\w*|[<>=!]=|&&|\|\||\+\+|--|[-+*/]=|[-+*/%<>=!;,(){}\[\]])")
+_CHOICE = re.compile(r"^[ \t]*#[ \t]*(if|ifdef|ifndef|elif|else)\b", re.MULTILINE)
 _WEIGHTS = {"||": 1, "&&": 2, "==": 3, "!=": 3, "<": 4, "<=": 4, ">": 4, ">=": 4, "+": 5, "-": 5, "*": 6, "/": 6, "%": 6}
 _WORDS = frozenset("int double void for if else assert const while do return break continue goto switch".split())
 
 
 def read(text: str) -> List[Function]:
     """The functions of a text; a Fault where something in it is not read."""
-    blanked = _PASSED.sub(lambda found: re.sub(r"[^\n]", " ", found.group()), text)
+    blanked = _PASSED.sub(_blanked, text)
     reader = _Reader(blanked)
     functions: List[Function] = []
     while reader.peek():
         functions.append(reader.function())
     return functions
+
+
+def _blanked(passed: re.Match[str]) -> str:
+    if _CHOICE.match(passed.group()):
+        raise Fault(passed.string.count("\n", 0, passed.start()) + 1, "`#if` and the like are not read")
+    return re.sub(r"[^\n]", " ", passed.group())
 
 
 class _Reader:
@@ -325,7 +332,7 @@ class _Reader:
             return 1 if word == "++" else -1
         if word not in ("+=", "-=") or not self.peek().isdigit() or int(self.peek()) == 0:
             raise self.fault("a step is `++`, `--`, or `+=` or `-=` of a number")
-        return int(self.take()) * (1 if word == "+=" else -1)
+        return self.whole() * (1 if word == "+=" else -1)
 
     def branch(self) -> If:
         line = self.line()
@@ -354,8 +361,8 @@ class _Reader:
             self.expect(")")
             return inner
         if re.match(r"\d", self.peek()):
-            word = self.take()
-            return Number(int(word) if word.isdigit() else float(word))
+            word = self.peek()
+            return Number(self.whole() if word.isdigit() else float(self.take()))
         begin = self.begin()
         name = self.name()
         if self.has("("):
@@ -375,6 +382,11 @@ class _Reader:
             found.append(self.expression())
         self.expect(")")
         return tuple(found)
+
+    def whole(self) -> int:
+        if self.peek().startswith("0") and self.peek() != "0":
+            raise self.fault(f"`{self.peek()}` is octal, which is not read")
+        return int(self.take())
 
     def subscripts(self) -> Iterator[Expression]:
         while self.has("["):
