@@ -35,6 +35,12 @@ class ReadProblem:
     integer: bool
 
 
+def value_of(text: bytes) -> int:
+    """A number's value. Of one with more than 40 digits the first ones say that it is past all that are taken."""
+    size = int(text.lstrip(b"+-").lstrip(b"0")[:40] or b"0")
+    return -size if text.startswith(b"-") else size
+
+
 def wide(place: int, what: str) -> Fault:
     return Fault(place, f"{what} is past 2^127 - 1", f"number too wide at byte {place}")
 
@@ -131,7 +137,7 @@ class _Reader:
         found = self.token()
         if not found.is_number():
             self.fail(found, f"{what} belongs here, a whole number")
-        value = int(found.text)
+        value = value_of(found.text)
         if abs(value) > MOST_NUMBER:
             raise wide(found.place, what)
         return value
@@ -198,7 +204,7 @@ class _Reader:
                 raise Fault(found.place, f"{what} has {_count(len(numbers), 'number')}, and {width} belong there: {order}")
             if not found.is_number():
                 self.fail(found, f"number {len(numbers) + 1} of {what} belongs here ({order})")
-            numbers.append(int(found.text))
+            numbers.append(value_of(found.text))
             if abs(numbers[-1]) > MOST_NUMBER:
                 raise wide(found.place, f"a number of {what}")
         found = self.token()
@@ -232,10 +238,11 @@ class _Matrices:
         if not _NUMBER.fullmatch(text):
             native_text = " (a native problem? it is read without --polylib)" if text.startswith(b"(") else ""
             raise Fault(place, f"{what} belongs here, a whole number; {described(self.data, place, text)}{native_text}")
-        if abs(int(text)) > MOST_NUMBER:
+        value = value_of(text)
+        if abs(value) > MOST_NUMBER:
             raise wide(place, what)
         self.next += 1
-        return int(text), place
+        return value, place
 
     def matrix(self, name: str, limit: str, most: int, first: int, last: int, order: str) -> Tuple[List[List[int]], int]:
         """The rows of a matrix without their kind, an equality as two, and the number of columns."""
