@@ -15,7 +15,7 @@ _COMPARE: Dict[str, Callable[[Form, Form], List[Relation]]] = {
     "<": lambda a, b: [a < b], "<=": lambda a, b: [a <= b], "=": lambda a, b: [a == b], "==": lambda a, b: [a == b],
     ">=": lambda a, b: [a >= b], ">": lambda a, b: [a > b], "!=": lambda a, b: [a < b, a > b]}
 _BEFORE = {"<<": "<", "<<=": "<", ">>": ">", ">>=": ">"}  # lexicographic comparisons, with that of the first places that differ
-_WORDS = ("and", "or", "not", "exists", "mod", "floor", "floord", "ceil", "min", "max", "true", "false", "implies")
+_WORDS = ("and", "or", "not", "exists", "mod", "floor", "floord", "ceil", "ceild", "min", "max", "true", "false", "implies")
 MOST_PARTS = 256  # of the `or` of one set
 
 
@@ -275,18 +275,24 @@ class Reader:
             found = [_Case(a.held + b.held, a.form + b.form * sign) for a in found for b in more]
         return found
 
-    def term(self, known: Mapping[str, str]) -> List[_Case]:
+    def term(self, known: Mapping[str, str], behind: str = "") -> List[_Case]:
+        """`behind` is what was done last, or the minus of a number: what isl does then in another order than others is a Fault."""
         found = self.factor(known)
         while True:
             bare = len(found) == 1 and not found[0].form.terms
-            if self.has("*") or (bare and (self.is_name() or self.peek() in ("(", "floor", "ceil", "floord", "min", "max"))):
-                found = self.times(found, self.factor(known))
-            elif self.has("mod", "%"):
+            if self.has("*") or (bare and (self.is_name() or self.peek() in ("(", "floor", "ceil", "floord", "ceild", "min", "max"))):
+                if behind == "a quotient":
+                    raise self.fault("a product behind a quotient: brackets are wanted")
+                found, behind = self.times(found, self.factor(known)), "a product"
+            elif self.peek() in ("mod", "%"):
+                if behind in ("a product", "a minus"):
+                    raise self.fault(f"`mod` behind {behind}: brackets are wanted, as in `(2i) mod 3` or `2*(i mod 3)`,")
+                self.take()
                 divisor = self.whole_number()
-                found = [_Case(it.held, it.form % divisor) for it in found]
+                found, behind = [_Case(it.held, it.form % divisor) for it in found], ""
             elif self.has("/"):
                 divisor = self.whole_number()
-                found = [_Case(it.held, it.form / divisor) for it in found]
+                found, behind = [_Case(it.held, it.form / divisor) for it in found], "a quotient"
             else:
                 return found
 
@@ -300,20 +306,21 @@ class Reader:
 
     def factor(self, known: Mapping[str, str]) -> List[_Case]:
         if self.has("-"):
-            return [_Case(it.held, -it.form) for it in self.term(known)]
+            return [_Case(it.held, -it.form) for it in self.term(known, "a minus" if self.peek().isdigit() else "")]
         if self.peek().isdigit():
             return [_Case((), Form({}, int(self.take())))]
         if self.has("floor"):
             return [_Case(it.held, _floor(it.form)) for it in self.bracket(known)]
         if self.has("ceil"):
             return [_Case(it.held, -_floor(-it.form)) for it in self.bracket(known)]
-        if self.has("floord"):
+        if self.peek() in ("floord", "ceild"):
+            sign = 1 if self.take() == "floord" else -1
             self.expect("(")
             inner = self.form(known)
             self.expect(",")
             divisor = self.whole_number()
             self.expect(")")
-            return [_Case(it.held, it.form // divisor) for it in inner]
+            return [_Case(it.held, it.form * sign // divisor * sign) for it in inner]
         if self.peek() in ("min", "max"):
             return self.choice(self.take() == "min", known)
         if self.peek() == "(":

@@ -9,8 +9,10 @@
 What is read: `[parameters] -> { Name[unknowns] : constraints ; .. }`. Constraints are chains of `<`, `<=`, `=`, `!=`, `>=`, `>`
 between affine forms, and of `<<`, `<<=`, `>>`, `>>=` between lists of them (`i, j << k, l`: lexicographically before), joined by
 `and`, `or`, `not`, `implies` and brackets, with `exists (a, b : ..)`, `true` and `false`; in forms stand `floor(form/d)`,
-`ceil(form/d)`, `floord(form, d)`, `form mod d`, `min(..)`, `max(..)`, `2i` and `2*i`. An entry of a tuple may be a form.
+`ceil(form/d)`, `floord(form, d)`, `ceild(form, d)`, `form mod d`, `min(..)`, `max(..)`, `2i` and `2*i`. An entry of a tuple may be a form.
 Of a map `{ A[i, j] -> B[k] : .. }` the first tuple's names are parameters: its answer is the map's lexmin or lexmax.
+A quotient that is not rounded is a fraction: `2i < N` is what `i < N/2` says. (isl has `i <= N/2 - 1` there.) `mod` behind a product
+or a quotient times a number, which isl reads in an order of its own, want brackets.
 What isn't read: nested tuples, and `not` of an `exists` whose name neither is a form of others nor stands in one equality alone.
 
 Each part of an `or` is a problem of its own, and `least` puts the answers together. isl's numbers have either sign, the
