@@ -52,6 +52,9 @@ class Answer:
         count = parameter_count(self.tree)
         if count not in (None, len(posed.parameters)):
             raise ValueError(f"an answer over {count} parameters to a problem with {len(posed.parameters)}")
+        wanted = posed.columns()
+        if any(len(leaf.components) < wanted for leaf in leaves(self.tree) if isinstance(leaf, Point)):
+            raise ValueError(f"an answer with points of fewer components than the {wanted} unknowns of its problem")
 
     def __eq__(self, other: object) -> bool:
         return isinstance(other, Answer) and (self.posed, self.tree) == (other.posed, other.tree)

@@ -80,6 +80,9 @@ class Form:
 
     __hash__ = None  # type: ignore[assignment]
 
+    def __bool__(self) -> bool:
+        raise TypeError("a form has no truth value: of `a and b`, `a or b` Python would take one")
+
     def whole(self) -> Tuple[Form, int]:
         """The form times the least number from 1 on that makes all its numbers whole, and that number."""
         numbers = [*self.terms.values(), self.constant]

@@ -227,6 +227,11 @@ class Space:
     def _key(self) -> Tuple[object, ...]:
         return tuple(self.parameters.items()), self.context_text(), self.points_key()
 
+    def columns(self) -> int:
+        """How many of the program's unknowns its points have at least."""
+        return max((atom.place + 1 for form in self.points.values() for atom in form.terms
+                    if isinstance(atom, Column) and not atom.is_parameter), default=0)
+
     def points_key(self) -> Tuple[object, ...]:
         """What tells one choice of unknowns from another."""
         return tuple((name, tuple(sorted(form.terms.items(), key=str)), form.constant) for name, form in self.points.items())
