@@ -75,7 +75,7 @@ class _Writer:
     def _below(self, tree: Tree, scope: List[Form], margin: str) -> Iterator[str]:
         end = ";" if self.c else ""
         if isinstance(tree, Choice):
-            asked, inner, outer = f"{self._text(form_of(tree.form, scope))} >= 0", tree.yes, tree.no
+            asked, inner, outer = f"{self._text(form_of(tree.form, scope).whole()[0])} >= 0", tree.yes, tree.no
             if self.turned and _least_indents(tree.no) < _least_indents(tree.yes):
                 asked, inner, outer = asked.replace(">= 0", "< 0"), tree.no, tree.yes
             yield f"{margin}if ({asked}) {{" if self.c else f"{margin}if {asked}:"
@@ -87,7 +87,8 @@ class _Writer:
             own = f"q{tree.number}_"
             while own in self.parameters or own in self.names:
                 own += "_"
-            text = self._floor(self._text(form_of(tree.form, scope)), tree.divisor)
+            form, common = form_of(tree.form, scope).whole()
+            text = self._floor(self._text(form), tree.divisor * common)
             yield f"{margin}{'const long long ' if self.c else ''}{own} = {text}{end}"
             yield from self._below(tree.below, [*scope, Form({own: 1})], margin)
         elif isinstance(tree, Point):
