@@ -23,7 +23,7 @@ import pathlib
 import sys
 from typing import Iterator, List, Optional, Sequence
 
-from .drawing import told_apart
+from .drawing import names_of, told_apart
 from .forms import Form
 from .texts import Fault, ReadProblem, likely_matrices, native, polylib
 from .trees import form_of
@@ -121,7 +121,7 @@ def main(words: Sequence[str]) -> int:
     parser.add_argument("--unknowns", metavar="NAMES", help="the names of the unknowns, apart by commas")
     parser.add_argument("file", nargs="?", type=pathlib.Path, help="the problems; standard input where none is named")
     chosen = parser.parse_args(words)
-    named = [None if text is None else [name.strip() for name in text.split(",")] for text in (chosen.parameters, chosen.unknowns)]
+    named = [names_of(chosen.parameters), names_of(chosen.unknowns)]
     name = chosen.file or "standard input"
     data = b""
     try:
