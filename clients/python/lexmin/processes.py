@@ -7,7 +7,6 @@ import numbers
 import os
 import re
 import selectors
-import signal
 import subprocess
 import sys
 import threading
@@ -22,6 +21,7 @@ MOST_INPUT_BYTES = 16_777_216  # what one run of the program takes
 MOST_IDLE = 8  # processes that are kept for later calls
 HELD_SECONDS = 1.0  # how long a line of standard error may be the last one, a refusal's
 LOOK_SECONDS = 1.0  # how long a call waits before it looks again whether it was ended
+END_SECONDS = 3.0  # how long a process has to end by itself
 
 
 class Refused(Exception):
@@ -104,8 +104,7 @@ def checked_seconds(seconds: Optional[float]) -> Optional[float]:
 
 
 class Child:
-    """A process with pipes, of one call at a time. It leads a group of processes, which ends with it: `./pip` has others below it
-    while it builds the program. A fork has a copy of this, which leaves the process to whom it belongs."""
+    """A process with pipes, of one call at a time. A fork has a copy of this, which leaves the process to whom it belongs."""
 
     def __init__(self, command: Sequence[str]) -> None:
         self.command = list(command)
@@ -117,7 +116,7 @@ class Child:
         pipe = subprocess.PIPE
         self._owner = os.getpid()
         self.go_on()
-        self.process = subprocess.Popen(self.command, stdin=pipe, stdout=pipe, stderr=pipe, bufsize=0, start_new_session=True)
+        self.process = subprocess.Popen(self.command, stdin=pipe, stdout=pipe, stderr=pipe, bufsize=0)
         for end in self.pipes():
             os.set_blocking(end, False)
         if self.closed:  # meanwhile, when there was no process to end
@@ -137,30 +136,27 @@ class Child:
             raise RuntimeError("this call was begun before a fork, and belongs to the other process")
 
     def interrupt(self) -> None:
-        """Ends the process of a call that is under way, perhaps in another thread: the call fails."""
+        """Ends the process of a call that is under way, perhaps in another thread: the call fails. It does so at the latest when it
+        looks again, since what the process has below it may keep the pipes."""
         self.closed = True
         process = self.process
         if process is not None:
-            _kill(process)
+            process.terminate()
 
     def stop(self) -> None:
-        """Ends the process. Nothing that it still writes is wanted."""
+        """Ends the process. Nothing that it still writes is wanted. (`./pip` ends its build first.)"""
         process, self.process = self.process, None
         if process is not None:
-            _kill(process)
-            process.wait()
+            if not self.closed:  # else it is ending
+                process.terminate()
+            try:
+                process.wait(END_SECONDS)
+            except subprocess.TimeoutExpired:
+                process.kill()
+                process.wait()
             for end in (process.stdin, process.stdout, process.stderr):
                 if end is not None:
                     end.close()
-
-
-def _kill(process: subprocess.Popen[bytes]) -> None:
-    """Ends a process and those below it. One that was waited for, or is another one's, is left alone."""
-    if process.poll() is None:
-        try:
-            os.killpg(process.pid, signal.SIGKILL)
-        except ProcessLookupError:  # another thread has just waited for it
-            pass
 
 
 # ---- A run of its own ----------------------------------------------------------------------------------------------
@@ -201,6 +197,8 @@ def _run(child: Child, text: str, timeout: Optional[float]) -> Tuple[int, bytes,
             ready = _select(selector, end, notes, child)
             if ready is None:
                 raise late(timeout, notes, text, "end")
+            if not ready:
+                break
             for key, _ in ready:
                 if key.fd == sink:
                     outgoing = write_some(sink, outgoing)
@@ -236,7 +234,8 @@ _Ready = List[Tuple[selectors.SelectorKey, int]]
 
 
 def _select(selector: selectors.BaseSelector, end: Optional[float], notes: Notes, child: Child) -> Optional[_Ready]:
-    """What is ready; none where it is not before the end. What notes hold goes on meanwhile."""
+    """What is ready; none where it is not before the end, nothing where the process has ended and others keep its pipes. What
+    notes hold goes on meanwhile."""
     while True:
         child.go_on()
         left = LOOK_SECONDS if end is None else end - time.monotonic()
@@ -246,6 +245,8 @@ def _select(selector: selectors.BaseSelector, end: Optional[float], notes: Notes
         ready = selector.select(min(left, LOOK_SECONDS if held is None else held))
         if ready:
             return ready
+        if child.process is not None and child.process.poll() is not None:
+            return selector.select(0)  # (what it wrote meanwhile)
         notes.pass_on_late()
 
 
@@ -324,6 +325,9 @@ class Coprocess(Child):
                 if ready is None:
                     yield self._late(given, waiting)
                     return
+                if not ready:
+                    yield self._ended(given, waiting)
+                    return
                 for key, _ in ready:
                     if key.fd == sink:
                         outgoing = write_some(sink, outgoing)
@@ -350,16 +354,25 @@ class Coprocess(Child):
 
     def _ended(self, given: Deque[_Asked], waiting: Deque[_Asked]) -> Refused:
         """The refusal of the first text that has no answer. The texts behind it wait again."""
-        self.go_on()
-        assert self.process is not None and self.process.stderr is not None
-        os.set_blocking(self.process.stderr.fileno(), True)
-        self.notes.add(self.process.stderr.read())
+        self._read_errors()
+        assert self.process is not None
         status = self.process.wait()
         line = self.notes.end()
         self.stop()
         refused = given.popleft()
         _wait_again(given, waiting)
         return Refused(status, line, refused.text, refused.bytes_before)
+
+    def _read_errors(self) -> None:
+        """Reads what is left of standard error, up to its end or that of the process."""
+        errors = self.pipes()[2]
+        with selectors.DefaultSelector() as selector:
+            selector.register(errors, selectors.EVENT_READ)
+            while _select(selector, None, self.notes, self):
+                piece = os.read(errors, 1 << 16)
+                if not piece:
+                    return
+                self.notes.add(piece)
 
     def _late(self, given: Deque[_Asked], waiting: Deque[_Asked]) -> TimedOut:
         self.stop()
