@@ -5,7 +5,7 @@ from __future__ import annotations
 import itertools
 import math
 import re
-from typing import Callable, Collection, Dict, Iterator, List, Mapping, NamedTuple, Sequence, Set, Tuple
+from typing import Callable, Collection, Dict, List, Mapping, NamedTuple, Sequence, Set, Tuple
 
 from .forms import Form, Relation, congruent
 

@@ -104,7 +104,8 @@ def checked_seconds(seconds: Optional[float]) -> Optional[float]:
 
 
 class Child:
-    """A process with pipes, of one call at a time. A fork has a copy of this, which leaves the process to whom it belongs."""
+    """A process with pipes, of one call at a time, in the caller's group: Ctrl-C and `timeout` end both. A fork has a copy of this,
+    which leaves the process to whom it belongs."""
 
     def __init__(self, command: Sequence[str]) -> None:
         self.command = list(command)
