@@ -272,6 +272,7 @@ class Reader:
         while self.peek() in ("+", "-"):
             sign = 1 if self.take() == "+" else -1
             more = self.term(known)
+            few(len(found) * len(more))
             found = [_Case(a.held + b.held, a.form + b.form * sign) for a in found for b in more]
         return found
 
@@ -298,6 +299,7 @@ class Reader:
 
     def times(self, first: List[_Case], second: List[_Case]) -> List[_Case]:
         made = []
+        few(len(first) * len(second))
         for a, b in itertools.product(first, second):
             if a.form.terms and b.form.terms:
                 raise self.fault("a product of two names is not affine,")
@@ -342,6 +344,7 @@ class Reader:
         found = self.forms(known)
         self.expect(")")
         made: List[_Case] = []
+        few(math.prod(map(len, found)) * len(found))
         for picked in itertools.product(*found):
             held = tuple(relation for it in picked for relation in it.held)
             for place, own in enumerate(picked):
@@ -371,8 +374,15 @@ def negated(parts: Sequence[Part]) -> List[Part]:
     """Where none of the parts holds."""
     found = [Part((), ())]
     for part in parts:
-        found = product(found, [Part((it,), ()) for relation in without_further(part) for it in relation.negated()])
+        found = product(found, [Part((it,), ()) for relation in without_further(part) for it in _negated(relation)])
     return found
+
+
+def _negated(relation: Relation) -> List[Relation]:
+    if relation.kind != "multiple":
+        return relation.negated()
+    form, common = relation.form.whole()
+    return [form % (relation.modulus * common) >= 1]
 
 
 def without_further(part: Part) -> List[Relation]:
@@ -402,7 +412,11 @@ def _number(form: Form, name: str) -> int:
     return number if number and name not in (whole - Form({name: number})).names() else 0
 
 
-def product(first: Sequence[Part], second: Sequence[Part]) -> List[Part]:
-    if len(first) * len(second) > MOST_PARTS:
+def few(count: int) -> None:
+    if count > MOST_PARTS:
         raise Fault(f"the set has more than {MOST_PARTS} parts")
+
+
+def product(first: Sequence[Part], second: Sequence[Part]) -> List[Part]:
+    few(len(first) * len(second))
     return [a.under(b) for a in first for b in second]

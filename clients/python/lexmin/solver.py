@@ -261,7 +261,7 @@ class Solver:
 
     def check(self, triples: Iterable[Tuple[str, str, str]]) -> List[Optional[Refused]]:
         """What `check` says of each problem, answer and certificate: none where it accepts them, else its refusal. One
-        process reads as many triples as it can, and the timeout is not for it: a check is one pass over the certificate."""
+        process reads as many triples as it can; the timeout is not for it."""
         waiting = deque(triples)
         for triple in waiting:
             if not all(map(is_one_group, triple)):  # its verdicts would be taken for those of the next
