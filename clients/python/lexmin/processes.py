@@ -279,18 +279,20 @@ class Coprocess(Child):
         source = iter(texts)
         waiting: Deque[_Asked] = deque()  # to be given (again)
         given: Deque[_Asked] = deque()  # and not yet answered
+        ended = False
         try:
             while True:
                 if not waiting:
                     waiting.extend(_asked(text) for text in itertools.islice(source, 64))
                 if not waiting and not given:
+                    ended = True
                     return
                 if not self._is_ready(waiting[0]):
                     self.stop()
                     self.start()
                 yield from self._exchange(waiting, given)
         finally:
-            if given:  # the caller left: what is still to come must not be taken for other answers
+            if not ended:  # the caller left, or could not read an answer: what is still to come must not be taken for other ones
                 self.stop()
 
     def _is_ready(self, asked: _Asked) -> bool:
@@ -345,6 +347,8 @@ class Coprocess(Child):
                         yield self._ended(given, waiting)
                         return
                     for group in made.add(piece):
+                        if not given:
+                            raise RuntimeError(f"{self.command[0]} writes more than was asked for")
                         found.append(group)
                         if len(found) == self.groups:
                             given.popleft()
