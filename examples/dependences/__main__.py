@@ -16,7 +16,7 @@ from typing import Iterator, Optional, Sequence, Set
 from lexmin import Refused, Solver
 from dependences import Analyser
 from nests import Kernel, Statement
-from syntax import Fault, read
+from syntax import read
 
 
 def described(kernel: Kernel, solver: Solver, shorten: bool) -> Iterator[str]:
@@ -53,7 +53,7 @@ def main(given: Sequence[str]) -> int:
     except BrokenPipeError:  # who reads has read enough
         os.dup2(os.open(os.devnull, os.O_WRONLY), sys.stdout.fileno())
         return 1
-    except (OSError, Fault, Refused) as error:
+    except (OSError, ValueError, Refused) as error:
         print(f"examples/dependences: {error}", file=sys.stderr)
         return 1
     return 0
