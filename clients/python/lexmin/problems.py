@@ -116,10 +116,11 @@ class Problem:
         """Adds that a form is at least 0 at each point of a domain, by Farkas' lemma: there the form is a sum of multiples of
         the domain's relations, none below 0, and of a number from 0 on.
 
-        The domain's names (turns of loops, sizes) come from a Problem of their own, none is one of this problem's, and nothing is
-        known of them but what the relations say. `form` gives for each of them its coefficient, a form over this problem's unknowns and parameters,
-        and for "" the constant. Each relation's multiplier is a further unknown: whole ones in the integer mode, which leaves
-        out forms that need fractions. The domain must not be empty: there every form would do, and the lemma says nothing."""
+        The domain's names (turns of loops, sizes) come from a Problem of their own, none is one of this problem's, and
+        nothing is known of them but what the relations say. `form` gives for each of them its coefficient, a form over this
+        problem's unknowns and parameters, and for "" the constant. Each relation's multiplier is a further unknown: whole
+        ones in the integer mode, which leaves out forms that need fractions. The domain must not be empty: there every form
+        would do, and the lemma says nothing."""
         domain = tuple(map(checked_relation, domain))
         names = dict.fromkeys([*(name for name in form if name), *(name for it in domain for name in it.form.names())])
         for relation in domain:
