@@ -1,10 +1,10 @@
 ghost use Rattle.std.specs.Prelude.{◌≡◌, pos, ◌*ℤ◌, ◌-ℤ◌, neg_ℤ, ◌&&◌, IsTrue, IsFalse};
 ghost use Rattle.std.specs.List.{list_all};
 ghost use Rattle.affine_forms.specs.Checks.{Fits};
-ghost use Rattle.row_laws.specs.Short.{is_short as is_short_number, IsShort, IsShortRow, AreShort, AreHalf, AreShortLists, IsCombined};
+ghost use Rattle.row_laws.specs.Short.{is_short as is_short_number, IsShort, IsShortRow, AreShort, AreShortLists, IsCombined};
 ghost use Rattle.row_laws.specs.Rows.{row_from};
 
-use short_numbers::{half_difference, is_half, narrow, short_difference};
+use short_numbers::{narrow, short_difference};
 
 // Whether the number lies from -(2^63 - 1) to 2^63 - 1.
 pub(crate) fn is_short(z: i128) -> bool
@@ -54,22 +54,15 @@ pub(crate) fn short_opposite(z: i128) -> i128
     -(narrow(z) as i128)
 }
 
-// `a*x - b*y` for short numbers, by 64 bits where they have 32, a and b as is known; whether it is known to be short.
-fn short_entry(half: bool, a: i64, x: i128, b: i64, y: i128) -> (i128, bool)
-    requires half { IsTrue half → AreHalf a b }
+// `a*x - b*y` for short numbers; whether it is short.
+fn short_entry(a: i128, x: i128, b: i128, y: i128) -> (i128, bool)
     requires factors { AreShort a b }
     requires entries { AreShort x y }
     ensures value { result.0 ≡ a *ℤ x -ℤ b *ℤ y }
     ensures fits { Fits result.0 }
     ensures short { IsTrue result.1 → IsShort result.0 }
 {
-    let narrow_x = narrow(x);
-    let narrow_y = narrow(y);
-    if half && is_half(narrow_x) && is_half(narrow_y) {
-        let entry = half_difference(a, narrow_x, b, narrow_y);
-        return (entry as i128, true);
-    }
-    let entry = short_difference(a as i128, x, b as i128, y);
+    let entry = short_difference(a, x, b, y);
     (entry, is_short(entry))
 }
 
@@ -81,34 +74,21 @@ fn changes(a: i64, entry: i64) -> bool
     a != 1 || entry != 0
 }
 
-// Makes `a*r - b*s` of r, entry by entry, for short numbers, a and b of 32 bits as is known; whether those are short
-// too. Under an a of 1 the entries of r stay at which s is 0.
+// Makes `a*r - b*s` of r, entry by entry, for short numbers; whether those are short too. Under an a of 1 the entries of
+// r stay at which s is 0.
 #[tactic(auto, using(row_laws::proofs::ShortRows::fits_short))]
-fn combine_by(half: bool, a: i64, r: &mut [i128], b: i64, s: &[i128]) -> bool
-    requires half { IsTrue half → AreHalf a b }
+pub(crate) fn combine_short(a: i128, r: &mut [i128], b: i128, s: &[i128]) -> bool
     requires factors { AreShort a b }
     requires lists { AreShortLists r.old s.now }
     ensures { IsCombined a r.old b s.now result r.new }
 {
     let mut short = true;
     for i in 0..r.len() {
-        if changes(a, narrow(s[i])) {
-            let (entry, entry_short) = short_entry(half, a, r[i], b, s[i]);
+        if changes(narrow(a), narrow(s[i])) {
+            let (entry, entry_short) = short_entry(a, r[i], b, s[i]);
             short = both(short, entry_short);
             r[i] = entry;
         }
     }
     short
-}
-
-// Makes `a*r - b*s` of r for short numbers; whether those are short too.
-pub(crate) fn combine_short(a: i128, r: &mut [i128], b: i128, s: &[i128]) -> bool
-    requires factors { AreShort a b }
-    requires lists { AreShortLists r.old s.now }
-    ensures { IsCombined a r.old b s.now result r.new }
-{
-    let narrow_a = narrow(a);
-    let narrow_b = narrow(b);
-    let half = both(is_half(narrow_a), is_half(narrow_b));
-    combine_by(half, narrow_a, r, narrow_b, s)
 }

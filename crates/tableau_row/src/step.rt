@@ -2,7 +2,7 @@ ghost use Rattle.std.specs.Prelude.{◌≡◌, ◌<◌, pos, ◌*ℤ◌, ◌-ℤ
 ghost use Rattle.pip_model.specs.Forms.{entry as entry_of};
 ghost use Rattle.pip_model.specs.Numbers.{gcd as gcd_of_two, floor_div as floor_div_of};
 ghost use Rattle.row_laws.specs.Lowest.{AreLowest};
-ghost use Rattle.row_laws.specs.Short.{IsShort, IsShortRow, AreHalf, AreShort};
+ghost use Rattle.row_laws.specs.Short.{IsShort, IsShortRow, AreShort};
 ghost use Rattle.tableau_row.specs.Views.{row_of};
 
 use crate::view::RowView;

@@ -1,5 +1,5 @@
 use Rattle.tableau_row.proofs.Words.{◌≡◌, drop, take, ◌++◌, All, IsTrue, combine, Fits, IsShort}
-use Rattle.tableau_row.proofs.short.combine_by.Given as goal
+use Rattle.tableau_row.proofs.short.combine_short.Given as goal
 
 abbrev pub invariant-loop-i : goal.invariant-loop-i
 invariant-loop-i l = record {

@@ -1,6 +1,6 @@
 use Rattle.tableau_row.proofs.Words.{arith, rules, subst, IsTrue, All-set, Fits, IsShort, combined_step, combined_all, kept_at, kept_step}
-use Rattle.tableau_row.proofs.short.combine_by.Goals as goal
-use Rattle.tableau_row.proofs.short.combine_by.Goals.{then-changes, else-changes}
+use Rattle.tableau_row.proofs.short.combine_short.Goals as goal
+use Rattle.tableau_row.proofs.short.combine_short.Goals.{then-changes, else-changes}
 
 pub short_entry-entry-requires-clause-entries : goal.short_entry-entry-requires-clause-entries
 short_entry-entry-requires-clause-entries c =
