@@ -1,5 +1,5 @@
 -- Where a run shows a point, the first row behind its own that is below 0 ends it where no column enters there.
-use Rattle.kept_run.proofs.Words.{◌≡◌, ◌∙◌, refl, ap, sym, ℕ, ◌+◌, ◌-◌, arith, Bool, true, false, Option, Some, None, is_none, List, [], ◌∷◌, ◌++◌, length, if◌then◌else◌, get_or-append_right, is_nonneg, constant, Row, row_at, form_row, candidates, first_fraction, Work, Done, both, negative_from, is_end, EndsWith, IsClosing, go_on, replayed, finds_point, asked, IsStopped, Remembered, none_of, no_candidates, finds_none, below_behind}
+use Rattle.kept_run.proofs.Words.{◌≡◌, ◌∙◌, refl, ap, sym, ℕ, ◌+◌, ◌-◌, arith, Bool, true, false, Option, Some, None, is_none, List, [], ◌∷◌, ◌++◌, length, if◌then◌else◌, get_or-append_right, is_nonneg, constant, Row, row_at, form_row, candidates, first_fraction, Work, Done, both, negative_from, is_end, EndsWith, IsClosing, go_on, replayed, finds_point, asked, IsStopped, Remembered, none_of, none_enters, finds_none, below_behind}
 
 -- so many places later
 abbrev later : ℕ → Option ℕ → Option ℕ
@@ -32,7 +32,7 @@ module _ (n : ℕ) (E S : List Row) (r : ℕ) (is : IsClosing S r) (end : is_end
       negative-behind E S 0 r none is.below ∙ ap Some (omega arith)
 
   pub free_here : candidates (row_at (E ++ S) (length E + r)) ≡ []
-  free_here = ap candidates row_here ∙ no_candidates (row_at S r) is.none
+  free_here = ap candidates row_here ∙ none_enters (row_at S r) is.none
 
 pub ends_below : (now : List Row) (r : ℕ) → IsClosing now r → EndsWith now false
 ends_below now r is n E v h e = finds_none n (E ++ now) (length E + r) (below_here n E now r is e) (free_here n E now r is e) v

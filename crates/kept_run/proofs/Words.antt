@@ -26,4 +26,4 @@ pub use Rattle.trace_laws.specs.Traces.{exchanged, exchanges, IsClosing}
 pub use Rattle.kept_run.specs.declared.remembered.Remembered.{Remembered}
 pub use Rattle.short_run.specs.Stops.{stop_fault}
 pub use Rattle.short_run.proofs.FurtherRows.{IsStep, negative-front, entering-front, turn-behind, all_fit-append}
-pub use Rattle.short_run.proofs.Ending.{none_of, no_candidates, finds_none, only, ends_above, below_behind}
+pub use Rattle.short_run.proofs.Ending.{none_of, none_enters, finds_none, only, ends_above, below_behind}

@@ -1,5 +1,10 @@
 -- The comparison of two columns over rows of lanes.
-use Rattle.lane_rows.proofs.Words.{get_or, ◌≡◌, ◌∙◌, refl, ap, sym, subst, ℕ, ◌+◌, ◌<◌, ◌≤◌, ℤ, pos, ◌*ℤ◌, arith, false, List, [], length, take, drop, take_all, drop_all, get_or-take, length-take-le, int_lt, is_positive, entry, Row, is_better, product_at, row_over, numbers_of, numbers_at, undivided_in, length_made, row_made}
+use Rattle.lane_rows.proofs.Words.{get_or, ◌≡◌, ◌∙◌, refl, ap, sym, subst, ℕ, zero, suc, ◌+◌, ◌<◌, ◌≤◌, ℤ, pos, negsuc, ◌*ℤ◌, ◌≤ℤ◌, neg_ℤ, ints, arith, true, false, ◌⊎◌, inl, inr, cases_lt, List, [], length, take, drop, take_all, drop_all, get_or-take, get_or_past, length-take-le, list_all, int_lt, is_positive, is_nonneg, entry, Row, candidates, is_better, product_at, row_over, numbers_of, numbers_at, undivided_in, length_made, row_made}
+use Rattle.pip_model.specs.Forms.{negate}
+use Rattle.pip_model.proofs.Forms.{entry-negate}
+use Rattle.run_laws.proofs.LeastValues.{all_nonneg_at}
+use Rattle.run_laws.proofs.Tableaux.{nn_at}
+use Rattle.row_laws.proofs.Choosing.{no_candidates}
 use Rattle.row_laws.proofs.Comparisons.{better_same, better_differ}
 use Rattle.lane_rows.proofs.Numbers.{coefficient, numbers_long}
 
@@ -46,3 +51,25 @@ sign_there n k p h lt = ap is_positive (front_coefficient n p k h lt)
 
 pub front_long : (n k : ℕ) (p : List ℤ) → n < length p → k < n → k < length (take n (numbers_of n p))
 front_long n k p h lt = let e = length-take-le n (numbers_of n p) (let f = numbers_long n p h in omega (arith, f)) in omega (arith, e, lt)
+
+-- where no number is above 0, no column enters
+opposed : (z : ℤ) → pos 0 ≤ℤ neg_ℤ z → is_positive z ≡ false
+opposed (pos zero) h = refl
+opposed (pos (suc m)) h = absurd (omega (arith, ints, h))
+opposed (negsuc m) h = refl
+
+module _ (n : ℕ) (p : List ℤ) (wide : n < length p) (none : list_all is_nonneg (negate p) ≡ true) where
+  not_above : (k : ℕ) → is_positive (entry p k) ≡ false
+  not_above k = opposed (entry p k) (subst (λ (z : ℤ). pos 0 ≤ℤ z) (entry-negate p k) (nn_at (negate p) k (all_nonneg_at (negate p) none)))
+
+  behind : (k : ℕ) → n ≤ k → length (take n (numbers_of n p)) ≤ k
+  behind k ge =
+      let e = length-take-le n (numbers_of n p) (let f = numbers_long n p wide in omega (arith, f)) in
+      omega (arith, e, ge)
+
+  there : (k : ℕ) → (k < n) ⊎ (n ≤ k) → is_positive (entry (take n (numbers_of n p)) k) ≡ false
+  there k (inl lt) = sign_there n k p wide lt ∙ not_above (k + 1)
+  there k (inr ge) = ap is_positive (get_or_past (take n (numbers_of n p)) k (pos 0) (behind k ge))
+
+  pub none_enters : candidates (row_over n (pos 1) (numbers_of n p)) ≡ []
+  none_enters = no_candidates (row_over n (pos 1) (numbers_of n p)) (λ k. there k (cases_lt k n))

@@ -125,7 +125,7 @@ fn next_best(rows: &[Lanes], n: usize, p: Lanes, best: Option<usize>, k: usize) 
     Some(better_of(rows, n, p, best, k))
 }
 
-// The column that enters where the row of the numbers p is below 0.
+// The column that enters where the row of the numbers p is below 0; none, without a loop, where no number is above 0.
 #[inline(always)]
 pub(crate) fn entering_in(rows: &[Lanes], n: usize, p: Lanes) -> Option<usize>
     requires rows { All AreLanes rows.now }
@@ -138,6 +138,9 @@ pub(crate) fn entering_in(rows: &[Lanes], n: usize, p: Lanes) -> Option<usize>
     ensures candidate { IfSome result (IsCandidate n
         (row_over n (pos 1) (numbers_of n p))) }
 {
+    if !p.minus().is_below() {
+        return None;
+    }
     let mut best = None;
     for k in 0..n {
         best = next_best(rows, n, p, best, k);

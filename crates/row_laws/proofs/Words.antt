@@ -1,6 +1,6 @@
 -- The words of other modules that the proofs of this crate cite, passed on from one place. Declares nothing.
 pub use Rattle.std.proofs.Common.{◌≡◌, refl, sym, subst, ◌∙◌, ℕ, ◌-◌, ◌<◌, pos, ◌≤ℤ◌, Bool, length, arith, ◌+◌, ◌^◌, ℤ, unsigned_abs, List, [], ◌∷◌, ◌++◌, replicate, take, drop, get_or, to_z, of_z, ap, flat_map, zero, suc, negsuc, ◌*ℤ◌, true, false, ◌&&◌, length-set, ◌≤◌, append-nil, append_assoc, map, length-append, ◌-ℤ◌, set, ◌+ℤ◌, neg_ℤ, ◌*◌, Option, Some, None}
-pub use Rattle.std.specs.Prelude.{IsTrue, IsFalse, All, slice_set, int_lt, if◌then◌else◌}
+pub use Rattle.std.specs.Prelude.{IsTrue, IsFalse, All, slice_set, filter, int_lt, if◌then◌else◌}
 pub use Rattle.std.specs.List.{list_all, AllByRecursion}
 pub use Rattle.std.proofs.lemmas.Bool.{ltb-true, lt-ltb}
 pub use Rattle.std.proofs.lemmas.List.Sums.{AllPass-from_list_all, list_all-from_AllPass}
@@ -11,7 +11,7 @@ pub use Rattle.std.proofs.lemmas.List.{take_at, drop_at, drop-replicate, take-re
 pub use Rattle.std.proofs.lemmas.Grind.{flat_map-append}
 pub use Rattle.std.proofs.lemmas.List.Folds.{list_all-append}
 pub use Rattle.pip_model.specs.Forms.{entry, width, coefficients, constant, combine, remove, floor_divided, negate, residue, unit_form, add, scale}
-pub use Rattle.pip_model.specs.Rows.{Row, divided, eliminated, widened, eliminated_listed, substituted, pivot_listed, row_at, unit_row, count_from, form_row, cross_products, up_to_difference, is_better}
+pub use Rattle.pip_model.specs.Rows.{Row, divided, eliminated, widened, eliminated_listed, substituted, pivot_listed, row_at, unit_row, count_from, candidates, form_row, cross_products, up_to_difference, is_better}
 pub use Rattle.pip_model.specs.Listed.{all_fit, combine_listed}
 pub use Rattle.short_numbers.specs.Checks.{Fits}
 pub use Rattle.short_numbers.proofs.Short.{short_fits, product_fits}

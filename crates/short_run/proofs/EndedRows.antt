@@ -1,7 +1,7 @@
 -- Rows at which a run ends.
 use Rattle.short_run.proofs.Words.{◌≡◌, ◌∙◌, refl, ap, ℕ, suc, ◌+◌, ◌<◌, ◌≤◌, arith, Bool, true, false, Option, Some, None, is_some, IsTrue, IfSome, List, [], ◌∷◌, ◌++◌, length, if◌then◌else◌, is_nonneg, is_positive, constant, list_any, Row, row_at, candidates, Work, Done, negative_from, finds_point}
 use Rattle.point_turns.specs.Ended.{IsEndedBy}
-use Rattle.short_run.proofs.Ending.{no_candidates, finds_here, finds_none}
+use Rattle.short_run.proofs.Ending.{none_enters, finds_here, finds_none}
 use Rattle.short_run.proofs.FurtherRows.{negative-front, row_at-front}
 
 negative-within : (S : List Row) (i r : ℕ) → negative_from i S ≡ Some r → r < i + length S
@@ -21,7 +21,7 @@ module _ (n : ℕ) (E S : List Row) (v : Work) (long : n ≤ length E) (above : 
   closed_at None e some free = absurd cc
   closed_at (Some r) e some free =
       let within : r < length E = let lt = negative-within E 0 r e in omega (arith, lt) in
-      finds_none n (E ++ S) r (negative-front E S 0 r e) (ap candidates (row_at-front E S r within) ∙ no_candidates (row_at E r) free) v
+      finds_none n (E ++ S) r (negative-front E S 0 r e) (ap candidates (row_at-front E S r within) ∙ none_enters (row_at E r) free) v
 
   pub finds_ended : (found : Bool) → IsEndedBy n E found → finds_point n (E ++ S) v ≡ Done found v
   finds_ended true is = finds_here n E S v long is.0 above is.1

@@ -1,5 +1,6 @@
 -- Where no row is below 0 and those of the unknowns are whole, the run without parameters has a point.
-use Rattle.short_run.proofs.Words.{◌≡◌, ◌∙◌, refl, ap, ℕ, zero, suc, ◌+◌, ◌≤◌, ℤ, arith, Bool, true, false, Option, Some, None, is_none, is_some, List, [], ◌∷◌, ◌++◌, length, take, if◌then◌else◌, filter, ◌||◌, take-append-le, list_any, is_nonneg, is_positive, constant, entry, Row, row_at, count_from, candidates, entering, entering_of, entering_of_listed, first_fraction, fraction_from, Bottom, Work, Done, Closed, go_on, give, listed, leaf, turn, turn_by, last_turn, pivot_turn, numbers_of, point_setting, both, closed_run_from, falls-constant_class, negative_from, node_of, finds_point, EndsWith, signs_of, turn_is, sym, Refused, Outcome, run_from, Tree, has_point, first_rows}
+use Rattle.short_run.proofs.Words.{◌≡◌, ◌∙◌, refl, ap, ℕ, zero, suc, ◌+◌, ◌≤◌, ℤ, arith, Bool, true, false, Option, Some, None, is_none, is_some, List, [], ◌∷◌, ◌++◌, length, take, if◌then◌else◌, ◌||◌, take-append-le, list_any, is_nonneg, is_positive, constant, entry, Row, row_at, candidates, entering, entering_of, entering_of_listed, first_fraction, fraction_from, Bottom, Work, Done, Closed, go_on, give, listed, leaf, turn, turn_by, last_turn, pivot_turn, numbers_of, point_setting, both, closed_run_from, falls-constant_class, negative_from, node_of, finds_point, EndsWith, signs_of, turn_is, sym, Refused, Outcome, run_from, Tree, has_point, first_rows}
+use Rattle.row_laws.proofs.Choosing.{no_candidates}
 
 numbers_are : (o : Outcome Tree) → go_on (go_on o (λ t. give (numbers_of t))) (λ p. give (is_some p)) ≡ go_on o (λ t. give (is_some (numbers_of t)))
 numbers_are (Done x v) = refl
@@ -64,12 +65,8 @@ no_entry [] k e = refl
 no_entry (c ∷ cs) zero e = (neither (is_positive c) (list_any is_positive cs) e).0
 no_entry (c ∷ cs) (suc k) e = no_entry cs k ((neither (is_positive c) (list_any is_positive cs) e).1)
 
-filter-none : (f : ℕ → Bool) (ks : List ℕ) → ((k : ℕ) → f k ≡ false) → filter f ks ≡ []
-filter-none f [] all = refl
-filter-none f (k ∷ ks) all = rw (all k) (filter-none f ks all)
-
-pub no_candidates : (p : Row) → list_any is_positive p.coefs ≡ false → candidates p ≡ []
-no_candidates p e = filter-none (λ k. is_positive (entry p.coefs k)) (count_from 0 (length p.coefs)) (λ k. no_entry p.coefs k e)
+pub none_enters : (p : Row) → list_any is_positive p.coefs ≡ false → candidates p ≡ []
+none_enters p e = no_candidates p (λ k. no_entry p.coefs k e)
 
 -- so the run ends there without a point
 module _ (n : ℕ) (rows : List Row) (r : ℕ) (below : negative_from 0 rows ≡ Some r) (free : candidates (row_at rows r) ≡ []) where
