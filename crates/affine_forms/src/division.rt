@@ -8,6 +8,23 @@ use crate::memory::WantOfMemory;
 use crate::numbers::{divides, floor_div, floor_mod, gcd};
 use std::alloc::Global;
 
+// The greatest common divisor of a number of at least 0 and an entry, which is often 0.
+#[inline(always)]
+fn gcd_more(found: i128, entry: i128) -> i128
+    requires low { pos 0 ≤ℤ found }
+    requires found_fits { Fits found }
+    requires entry_fits { Fits entry }
+    ensures value { result ≡ gcd_of_two found entry }
+    ensures low { pos 0 ≤ℤ result }
+    ensures positive { pos 1 ≤ℤ found → (pos 1 ≤ℤ result) × (result ≤ℤ found) }
+    ensures fits { Fits result }
+{
+    if entry == 0 {
+        return found;
+    }
+    gcd(found, entry)
+}
+
 // The greatest common divisor of a number and all entries.
 fn fold_gcd(start: i128, entries: &[i128]) -> i128
     requires start_nonnegative { pos 0 ≤ℤ start }
@@ -23,7 +40,7 @@ fn fold_gcd(start: i128, entries: &[i128]) -> i128
         if found == 1 {
             return 1;
         }
-        found = gcd(found, *entry);
+        found = gcd_more(found, *entry);
     }
     found
 }
