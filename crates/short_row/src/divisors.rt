@@ -19,7 +19,8 @@ fn gcd_half(a: u32, b: u32) -> u32
     x
 }
 
-// The greatest common divisor of a number of at least 1 and a short one: by 32 bits, where both have them.
+// The greatest common divisor of a number of at least 1 and a short one: at once where one of them is 1 or -1, by 32 bits
+// where both have them.
 #[inline(always)]
 pub(crate) fn gcd(a: i64, b: i64) -> i64
     requires a { IsShortDivisor a }
@@ -28,6 +29,9 @@ pub(crate) fn gcd(a: i64, b: i64) -> i64
     ensures divisor { IsShortDivisor result }
     ensures bound { result ≤ℤ a }
 {
+    if a == 1 || b == 1 || b == -1 {
+        return 1;
+    }
     if is_half(a) && is_half(b) {
         i64::from(gcd_half(a as u32, b.unsigned_abs() as u32))
     } else {
