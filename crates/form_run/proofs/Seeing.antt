@@ -1,6 +1,6 @@
 -- What is seen of forms that are looked at one by one, and of those that are passed over.
-use Rattle.form_run.proofs.Words.{◌≡◌, ◌∙◌, refl, ap, sym, subst, ℕ, zero, suc, ◌+◌, ◌-◌, ◌<◌, ◌≤◌, ◌⊎◌, inl, inr, ℤ, pos, ◌≤ℤ◌, arith, ints, List, [], length, map, get_or, TableauRows, place, over, Basis, IsRead, valued, read, negative_from, All, IsAbove, ValuesFrom, IsBelowAt, NoneLess, NumberLists, value_at, behind, Some}
-use Rattle.std.proofs.lemmas.Bool.{cases_eq}
+use Rattle.form_run.proofs.Words.{◌≡◌, ◌∙◌, refl, ap, sym, subst, ℕ, zero, suc, ◌+◌, ◌-◌, ◌<◌, ◌≤◌, ◌⊎◌, inl, inr, ℤ, pos, ◌≤ℤ◌, ◌<ℤ◌, arith, ints, List, [], length, map, get_or, TableauRows, place, over, Basis, IsRead, valued, read, negative_from, All, IsAbove, ValuesFrom, IsBelowAt, NoneLess, NumberLists, value_at, behind, Some}
+use Rattle.std.proofs.lemmas.Bool.{cases_eq, cases_lt}
 use Rattle.std.proofs.lemmas.List.{get_or_default}
 use Rattle.form_run.proofs.Below.{form_above, form_negative}
 
@@ -13,6 +13,18 @@ seen_more t b forms i j y z v f lt is value before le here k d from to = by (cas
         let same : f ≡ get_or forms k d = is ∙ get_or_default forms j [] d lt ∙ ap (λ (x : ℕ). get_or forms x d) (sym e) in
         subst (λ (g : List ℤ). z ≤ℤ (valued t b g)) same (subst (λ (x : ℤ). z ≤ℤ x) value here)
     by (inr not) = omega (arith, ints, le, before k d from (omega (arith, to, not)))
+
+-- the first form whose value is below 0
+pub seen_below : (t : TableauRows) (b : Basis) (forms : List (List ℤ)) (i j k : ℕ) (y v : ℤ) (f : List ℤ) → i ≤ k → k < j → j ≤ length forms → f ≡ get_or forms k [] → v ≡ valued t b f → pos 0 ≤ℤ y → ValuesFrom t b forms i k y → v <ℤ pos 0
+    → IsBelowAt t b forms i j k
+seen_below t b forms i j k y v f after inside within is value above before under = record {
+  after = after;
+  inside = inside;
+  first = λ x d from to. omega (arith, ints, above, before x d from to);
+  below = λ d.
+      let same : f ≡ get_or forms k d = is ∙ get_or_default forms k [] d (omega (arith, inside, within)) in
+      subst (λ (g : List ℤ). (valued t b g) <ℤ pos 0) same (subst (λ (x : ℤ). x <ℤ pos 0) value under);
+}
 
 -- no form from i on in front of j is below 0
 pub above_all : (t : TableauRows) (b : Basis) (forms : List (List ℤ)) → All (IsRead t b) forms → (i n : ℕ) → i + n ≤ length forms → ValuesFrom t b forms i (i + n) (pos 0) → IsAbove t b forms i → IsAbove t b forms (i + n)
@@ -44,6 +56,17 @@ pub above_seen : (t : TableauRows) (b : Basis) (forms : List (List ℤ)) → All
 above_seen t b forms h i j z le inside from_zero values above =
     let n : i + (j - i) ≡ j = omega (arith, le) in
     subst (IsAbove t b forms) n (above_all t b forms h i (j - i) (omega (arith, n, inside)) (λ x d from to. omega (arith, ints, from_zero, values x d from (omega (arith, to, n)))) above)
+
+-- what was seen of a block is kept by its mark
+pub none_less : (t : TableauRows) (b : Basis) (l : NumberLists) (here : List ℤ) (i j : ℕ) (z : ℤ) → here ≡ over b.scale (place 0) t.rows → l.size ≡ t.unknowns + 1 → (j < length l.lists → j ≡ i + 64) → ValuesFrom t b l.lists i j z → NoneLess l here b.scale i (i + 64) z
+none_less t b l here i j z is size whole values k d from to inside =
+    let n : l.size - 1 ≡ t.unknowns = omega (arith, size) in
+    let v : z ≤ℤ (valued t b (get_or l.lists k d)) = values k d from (by (cases_lt j (length l.lists))) in
+    subst (λ (m : ℕ). z ≤ℤ (value_at m here b.scale (get_or l.lists k d))) (sym n) (subst (λ (v : List ℤ). z ≤ℤ (value_at t.unknowns v b.scale (get_or l.lists k d))) (sym is) v)
+  where
+    by : (j < length l.lists) ⊎ (length l.lists ≤ j) → k < j
+    by (inl lt) = omega (arith, whole lt, to)
+    by (inr le) = omega (arith, inside, le)
 
 -- nor of a block of which a mark tells it
 pub above_marked : (t : TableauRows) (b : Basis) (l : NumberLists) (here : List ℤ) (i j : ℕ) → here ≡ over b.scale (place 0) t.rows → l.size ≡ t.unknowns + 1 → j ≤ i + 64 → j ≤ length l.lists → NoneLess l here b.scale i (i + 64) (pos 0) → ValuesFrom t b l.lists i j (pos 0)

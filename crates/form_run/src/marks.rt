@@ -14,27 +14,26 @@ pub(crate) struct Mark {
     pub(crate) vertex: Vec<i64>,
 }
 
-// The size of the difference of two products, where it is found.
-fn difference(a: i64, x: i64, b: i64, y: i64) -> Option<u128>
-    ensures { IfSome result (λ d. d ≡ unsigned_abs (a *ℤ x -ℤ b *ℤ y)) }
+// The size of the difference of two products.
+fn difference(a: i64, x: i64, b: i64, y: i64) -> u128
+    ensures { result ≡ unsigned_abs (a *ℤ x -ℤ b *ℤ y) }
 {
-    let difference = wide_product(a, x).checked_sub(wide_product(b, y))?;
-    Some(difference.unsigned_abs())
+    wide_product(a, x).abs_diff(wide_product(b, y))
 }
 
 // How far the vertex is from that of the mark: over both scales no place's numbers differ by more.
-fn distance(mark: &Mark, vertex: &[i64], scale: i64) -> Option<u128>
+fn distance(mark: &Mark, vertex: &[i64], scale: i64) -> u128
     requires { length mark.now.vertex.items ≡ length vertex.now }
-    ensures { IfSome result (IsNear mark.now vertex.now scale) }
+    ensures { IsNear mark.now vertex.now scale result }
 {
     let mut most: u128 = 0;
     for i in 0..vertex.len() {
-        let here = difference(vertex[i], mark.scale, mark.vertex[i], scale)?;
+        let here = difference(vertex[i], mark.scale, mark.vertex[i], scale);
         if most < here {
             most = here;
         }
     }
-    Some(most)
+    most
 }
 
 // Whether no form of the mark's block is below 0 at the vertex, as far as its distance tells.
@@ -43,10 +42,7 @@ pub(crate) fn stays_above(mark: &Mark, vertex: &[i64], scale: i64) -> bool
     requires scale { pos 1 ≤ℤ scale }
     ensures { IsTrue result → StaysAbove mark.now vertex.now scale }
 {
-    let Some(distance) = distance(mark, vertex, scale) else {
-        return false;
-    };
-    match distance.checked_mul(mark.norm as u128) {
+    match distance(mark, vertex, scale).checked_mul(mark.norm as u128) {
         None => false,
         Some(most) => most <= (scale as u128) * (mark.least as u128),
     }

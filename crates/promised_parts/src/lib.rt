@@ -10,11 +10,3 @@ mod outside;
 mod readings;
 mod signs;
 mod windows;
-
-pub use asking::next_asked;
-pub use contexts::{point_with, refute};
-pub use derivations::derive;
-pub use outside::{read, write};
-pub use readings::row;
-pub use signs::sign;
-pub use windows::next_dropped;

@@ -10,11 +10,3 @@ mod questions;
 mod quotients;
 mod rows;
 mod turns;
-
-pub use bases::checked_norm;
-pub use laned::{are_readable, entering_in_lanes, turned};
-pub use numbers::{count_pivot, floor_div};
-pub use questions::back_to;
-pub use quotients::keep_quotients;
-pub use rows::{entering, parametric_cut};
-pub use turns::{take_turn, tree_shortly};
