@@ -15,7 +15,7 @@ pub use Rattle.pip_model.specs.Printed.{IsCommented, IsCommentedAnswer, certific
 pub use Rattle.program_model.specs.Endings.{Ending, rational_certificate, refusal_ending, tool_ending, finished}
 pub use Rattle.program_model.specs.Items.{or_ending, needed, one_item, ItemAt, Gives, FirstItems, Ends, Items, IsItself, NoEnd, text_with, text_of_item, FirstItemsTo}
 pub use Rattle.program_model.specs.ItemKinds.{problem_item, matrix_item, answer_item, needed_answer, Triple, is_certifiable, rest_of_triple, triple_by, triple, Pair, pair_by, pair, Trio, trio_by, trio}
-pub use Rattle.text_laws.proofs.ReadPlaces.{Read, Between, through, Opens, expect-opens, expect-reads, Numbers}
+pub use Rattle.text_laws.proofs.ReadPlaces.{Read, Between, through, Opens, expect-opens, expect-reads, Numbers, weaker, ok_value}
 pub use Rattle.text_laws.proofs.ReadProblems.{Whole, read_native-reads, row-reads}
 pub use Rattle.text_laws.proofs.ReadMatrices.{read_matrices-reads}
 pub use Rattle.text_laws.proofs.ReadTrees.{read_answer-reads, printable, to_after}
@@ -53,3 +53,4 @@ pub use Rattle.text_laws.proofs.LocalAnswers.{read_answer-alone, read_answer-end
 pub use Rattle.text_laws.proofs.LocalCertificates.{read_certificate-alone, read_certificate-ends, read_certificate-moved}
 pub use Rattle.run_laws.proofs.ContextRight.{point-tells, class-tells, narrow_of}
 pub use Rattle.std.proofs.lemmas.Bool.{leb-true, le-leb, cases_Bool}
+pub use Rattle.text_laws.proofs.Binds.{then-ok, if-ok}
