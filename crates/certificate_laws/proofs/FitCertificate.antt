@@ -39,10 +39,9 @@ quotient_steps_fit : (front next : ℕ) (places : List ℤ) (path : List (List �
 quotient_steps_fit front next places path q k [] m up room few all fit = refl
 quotient_steps_fit front next places path q k (x ∷ ks) m up room few all fit =
     let s = quotient_step front places x in
-    let cs = coefficients x.quotient.form in
     let index : UpTo k (pos (front + x.bound)) = record { number = front + x.bound; is = refl; most = omega (arith, few, all.0.inside) } in
     let own = both_true (fits (pos (front + x.bound))) (fits (pos 1)) (fits_up_to k (pos (front + x.bound)) m index) refl in
-    let terms = both_true (term_fits (pos (front + x.bound), pos 1)) (list_all term_fits (positive_terms places cs)) own (positive_fits k places cs m up (fit_take (width x.quotient.form) x.quotient.form fit.0.1)) in
+    let terms = both_true (term_fits (pos (front + x.bound), pos 1)) (list_all term_fits (positive_terms places _)) own (positive_fits k places _ m up (fit_take (width x.quotient.form) x.quotient.form fit.0.1)) in
     let here = both_true (fits x.quotient.den) (list_all term_fits s.terms) fit.0.0 terms in
     both_true (step_fits s) (list_all step_fits (quotient_steps front (next + 1) (places ++ pos next ∷ []) ks)) here
     (quotient_steps_fit front (next + 1) (places ++ pos next ∷ []) path (suc q) k ks m (every-append (UpTo k) places (pos next ∷ []) up (record { number = next; is = refl; most = omega (arith, room) }, tt)) (omega (arith, room)) few all.1 fit.1)
@@ -82,10 +81,9 @@ module _ (P : Problem) (L : LeafCase) (ks : List PathQuotient) (n W limit most :
 
     places_up : AllUpTo (count + length ks) places
     places_up =
-        let k = count + length ks in
-        every-append (UpTo k) (indices 0 P.params ++ indices count (length ks)) (indices (front + length L.path) n)
-        (every-append (UpTo k) (indices 0 P.params) (indices count (length ks)) (up_to_indices k 0 P.params (omega (arith, long))) (up_to_indices k count (length ks) (omega arith)))
-        (up_to_indices k (front + length L.path) n (omega (arith, long)))
+        every-append (UpTo _) (indices 0 P.params ++ indices count (length ks)) (indices (front + length L.path) n)
+        (every-append (UpTo _) (indices 0 P.params) (indices count (length ks)) (up_to_indices _ 0 P.params (omega (arith, long))) (up_to_indices _ count (length ks) (omega arith)))
+        (up_to_indices _ (front + length L.path) n (omega (arith, long)))
 
     with_first : (o : Option Refutation) → IfSteps StepsFit o → StepsFit (first ++ steps_or_none o)
     with_first None h = all_append step_fits first [] first_fits refl
@@ -322,14 +320,13 @@ module _ (P : Problem) (formed : IsProblem P) (limit : ℕ) (room : most_known +
   tree_fits_made : P.integer ≡ true → (t : Tree) → IsRight P (Solved t) → is_scoped P.params t ≡ true → Shaped P.unknowns t → tree_fits t ≡ true → nesting t ≤ most_nesting → (p : List ℤ) → all_fit p ≡ true → (v : Work) → left v ≤ limit
       → OnWithin limit (λ (c : Certificate). certificate_fits c ≡ true) (run_certificate P (Some p) (Solved t) v)
   tree_fits_made integer t right scoped shaped fit shallow p vector v l =
-      let m = P.params in
-      let Ls = leaf_cases m [] [] t in
+      let Ls = leaf_cases _ [] [] t in
       let kss = path_quotients 0 [] t in
       let Q : Certificate → Type 0 = λ c. certificate_fits c ≡ true in
-      let few = fit_facts m [] [] 0 [] t scoped fit (λ e. tt) tt in
+      let few = fit_facts _ [] [] 0 [] t scoped fit (λ e. tt) tt in
       let few_is : AllPairs (FitFacts (2 * nesting t) (nesting t)) Ls kss = pairs-kept (FitFacts (0 + 2 * nesting t) (0 + nesting t)) (FitFacts (2 * nesting t) (nesting t)) Ls kss
       (λ L ks f. record { path_fit = f.path_fit; list = f.list; quotients = f.quotients; short = omega (arith, f.short); few_quotients = omega (arith, f.few_quotients) }) few in
-      (within-bind limit LeavesFit Q (made_leaves P Ls kss) (λ ls. give (record { shares = false; vector = Some p; leaves = ls })) (leaves_fit P formed integer t right shallow limit room Ls kss (leaf_facts P.unknowns m m [] [] 0 [] t refl scoped shaped) few_is)
+      (within-bind limit LeavesFit Q (made_leaves P Ls kss) (λ ls. give (record { shares = false; vector = Some p; leaves = ls })) (leaves_fit P formed integer t right shallow limit room Ls kss (leaf_facts P.unknowns _ _ [] [] 0 [] t refl scoped shaped) few_is)
       (λ ls h. within-give limit Q (record { shares = false; vector = Some p; leaves = ls }) (both_true (all_fit p) (list_all (leaf_fits false) ls) vector h))).within v l
 
 -- the certificate can be printed and read back
