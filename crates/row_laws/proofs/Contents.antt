@@ -10,12 +10,11 @@ content-one r e = rw e (gcd_one (gcd (gcd_of r.coefs) (gcd_of r.constant)))
 -- the divisor of a row divides each of its numbers
 pub content-divides : (r : Row) → Multiple (content r) r.den × AllByRecursion (Multiple (content r)) r.coefs × AllByRecursion (Multiple (content r)) r.constant
 content-divides r =
-    let rest = gcd (gcd_of r.coefs) (gcd_of r.constant) in
-    let parts = gcd-divides r.den rest in
+    let parts = gcd-divides r.den _ in
     let lists = gcd-divides (gcd_of r.coefs) (gcd_of r.constant) in (
       parts.0,
-      all_through (content r) (gcd_of r.coefs) r.coefs (through (content r) rest (gcd_of r.coefs) parts.1 lists.0) (gcd_of-divides r.coefs),
-      all_through (content r) (gcd_of r.constant) r.constant (through (content r) rest (gcd_of r.constant) parts.1 lists.1) (gcd_of-divides r.constant),
+      all_through (content r) (gcd_of r.coefs) r.coefs (through (content r) _ (gcd_of r.coefs) parts.1 lists.0) (gcd_of-divides r.coefs),
+      all_through (content r) (gcd_of r.constant) r.constant (through (content r) _ (gcd_of r.constant) parts.1 lists.1) (gcd_of-divides r.constant),
     )
 
 -- and is a multiple of what does
@@ -28,15 +27,14 @@ content_by : (r : Row) (g : ℕ) → content r ≡ pos g → 0 < g
     → gcd (floor_div r.den (pos g)) (gcd (gcd_of (floor_divided (pos g) r.coefs)) (gcd_of (floor_divided (pos g) r.constant))) ≡ pos 1
 content_by r g is h =
     let parts = rw is at (content-divides r) in
-    let d = unsigned_abs (floor_div r.den (pos g)) in
     let a = unsigned_abs (gcd_of (floor_divided (pos g) r.coefs)) in
     let b = unsigned_abs (gcd_of (floor_divided (pos g) r.constant)) in
     let both : unsigned_abs (gcd (gcd_of r.coefs) (gcd_of r.constant)) ≡ g * euclid (b + 1) a b
     = ap_two (λ x y. euclid (y + 1) x y) (size-gcd_of g r.coefs h parts.1) (size-gcd_of g r.constant h parts.2) ∙ common-scaled g a b h in
-    let all : g * euclid (euclid (b + 1) a b + 1) d (euclid (b + 1) a b) ≡ g
-    = sym (common-scaled g d (euclid (b + 1) a b) h)
+    let all : g * euclid (euclid (b + 1) a b + 1) _ (euclid (b + 1) a b) ≡ g
+    = sym (common-scaled g _ (euclid (b + 1) a b) h)
     ∙ sym (ap_two (λ x y. euclid (y + 1) x y) (size-divided g r.den h parts.0) both) ∙ (ap unsigned_abs is) in
-    ap pos (times-one g (euclid (euclid (b + 1) a b + 1) d (euclid (b + 1) a b)) h all)
+    ap pos (times-one g (euclid (euclid (b + 1) a b + 1) _ (euclid (b + 1) a b)) h all)
   where
     ap_two : (f : ℕ → ℕ → ℕ) {x y u v : ℕ} → x ≡ y → u ≡ v → f x u ≡ f y v
     ap_two f {x} {y} {u} {v} e k = ap (λ t. f t u) e ∙ ap (λ t. f y t) k

@@ -140,11 +140,10 @@ module _ (p : Row) (c : ℕ) (i : Row) (x y h : ℤ) (column : c < length p.coef
   -- its divisor divides both denominators
   content-den : Multiple (content made) i.den × Multiple (content made) p.den
   content-den =
-      let k = unsigned_abs (content made) in
       let parts = content-divides made in
-      let there = at_place k x y alone i.coefs p.coefs c (y *ℤ p.den) coefs column parts.1 in (
-        cancelled k (content made) x i.den (alone_with x p_alone) (times-multiple (pos k) (content made) i.den self) parts.0,
-        cancelled k (content made) y p.den (alone_with y i_alone) (times-multiple (pos k) (content made) p.den self) (subst (Multiple (pos k)) (*ℤ_comm y p.den) there),
+      let there = at_place _ x y alone i.coefs p.coefs c (y *ℤ p.den) coefs column parts.1 in (
+        cancelled _ (content made) x i.den (alone_with x p_alone) (times-multiple (pos _) (content made) i.den self) parts.0,
+        cancelled _ (content made) y p.den (alone_with y i_alone) (times-multiple (pos _) (content made) p.den self) (subst (Multiple (pos _)) (*ℤ_comm y p.den) there),
       )
 
   -- so it is found from theirs
@@ -152,13 +151,11 @@ module _ (p : Row) (c : ℕ) (i : Row) (x y h : ℤ) (column : c < length p.coef
   content-started =
       let e = gcd i.den p.den in
       let lists = gcd (gcd_of made.coefs) (gcd_of made.constant) in
-      let k = unsigned_abs (content made) in
-      let n = unsigned_abs (gcd e lists) in
       let dens = content-den in
-      let below = gcd-greatest k e lists (gcd-greatest k i.den p.den dens.0 dens.1) (gcd-divides made.den lists).1 in
+      let below = gcd-greatest _ e lists (gcd-greatest _ i.den p.den dens.0 dens.1) (gcd-divides made.den lists).1 in
       let parts = gcd-divides e lists in
-      let den = through (pos n) i.den made.den (through (pos n) e i.den parts.0 (gcd-divides i.den p.den).0) (record { times = x; is = refl }) in
-      ap pos (dvd_antisymm (multiple-dvd k (gcd e lists) below) (multiple-dvd n (content made) (gcd-greatest n made.den lists den parts.1)))
+      let den = through (pos _) i.den made.den (through (pos _) e i.den parts.0 (gcd-divides i.den p.den).0) (record { times = x; is = refl }) in
+      ap pos (dvd_antisymm (multiple-dvd _ (gcd e lists) below) (multiple-dvd _ (content made) (gcd-greatest _ made.den lists den parts.1)))
 
 pub divisor-lowest : (p : Row) (c : ℕ) (i : Row) (x y : ℤ) → IsElimination p c i → IsReduced p → IsReduced i → AreLowest (entry p.coefs c) (entry i.coefs c) x y
     → content (substituted_by x y p c i) ≡ gcd (gcd i.den p.den) (gcd (gcd_of (substituted_by x y p c i).coefs) (gcd_of (substituted_by x y p c i).constant))
