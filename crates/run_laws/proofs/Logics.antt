@@ -105,14 +105,12 @@ module _ (L : Logic) where
       at_minus r l t None e = L.gives T (Closed Bottom) (bottom r l t e)
       at_minus r l t (Some c) e =
           let fit = listed (pivot_listed N.rows r c) in
-          let next = Again (record N { rows = pivot N.rows r c }) in
-          then_do (Unit {0}) T count_pivot (fit >> give next) L.pivots (λ p. then_do (all_fit (pivot_listed N.rows r c) ≡ true) T fit (give next) (L.lists (pivot_listed N.rows r c)) (λ f. L.gives T next (pivoted r c l t e f)))
+          then_do (Unit {0}) T count_pivot (fit >> give _) L.pivots (λ p. then_do (all_fit (pivot_listed N.rows r c) ≡ true) T fit (give _) (L.lists (pivot_listed N.rows r c)) (λ f. L.gives T _ (pivoted r c l t e f)))
 
       at_unknown : (r : ℕ) (c : List ℤ) → r < length N.rows → Told (row_at N.rows r).constant (Unknown c) → L.Holds T (split_turn S N c)
       at_unknown r c l t =
-          let two = Split c (record N { context = N.context ++ c ∷ []; depth = N.depth + 1 }) (record N { context = N.context ++ opposite c ∷ []; depth = N.depth + 1 }) in
-          then_do (Unit {0}) T count_split (check_nesting (N.depth + 1) >> give two) (L.splits (may_part r c l t)) (λ p.
-          then_do (L.Room (N.depth + 1)) T (check_nesting (N.depth + 1)) (give two) (L.nests (may_part r c l t) (N.depth + 1)) (λ room. L.gives T two (parted r c l t room)))
+          then_do (Unit {0}) T count_split (check_nesting (N.depth + 1) >> give _) (L.splits (may_part r c l t)) (λ p.
+          then_do (L.Room (N.depth + 1)) T (check_nesting (N.depth + 1)) (give _) (L.nests (may_part r c l t) (N.depth + 1)) (λ room. L.gives T _ (parted r c l t room)))
 
       module _ (integer : S.integer ≡ true) (i : ℕ) (l : i < length N.rows) where
         abbrev R : Row
@@ -120,14 +118,12 @@ module _ (L : Logic) where
 
         at_known : (q : ℕ) → find_from S.params N.quotients (residue_of R) ≡ Some q → (c : Class) → Told (rounding (scope S N) q (residue_of R)) c → L.Holds T (known_cut N i R q c)
         at_known q e Plus t =
-            let next = Again (record N { rows = slice_set N.rows i (rounded R q) }) in
-            then_do (all_fit (rounded_listed R q) ≡ true) T (listed (rounded_listed R q)) (give next) (L.lists (rounded_listed R q)) (λ f. L.gives T next (rounds i q integer l e t f))
+            then_do (all_fit (rounded_listed R q) ≡ true) T (listed (rounded_listed R q)) (give _) (L.lists (rounded_listed R q)) (λ f. L.gives T _ (rounds i q integer l e t f))
         at_known q e _ t = L.gives T (Again (record N { rows = N.rows ++ parametric_cut R q ∷ [] })) (cut_by i q integer l e)
 
         at_quotient : is_whole R.den (coefficients R.constant) ≡ false → (o : Option ℕ) → find_from S.params N.quotients (residue_of R) ≡ o → L.Holds T (quotient_cut S N i R o)
         at_quotient f (Some q) e =
-            let t = rounding (scope S N) q (residue_of R) in
-            L.bind (Told t) T (S.class N.context (scope S N) t) (λ c. known_cut N i R q c) (by_rounding i q integer l e) (at_known q e)
+            L.bind (Told _) T (S.class N.context (scope S N) _) (λ c. known_cut N i R q c) (by_rounding i q integer l e) (at_known q e)
         at_quotient f None e = then_do (L.Room (N.depth + 1)) T (check_nesting (N.depth + 1)) _ (L.nests (may_define i integer l f) (N.depth + 1)) (λ room. L.gives T _ (defines i integer l f room))
 
         at_fraction : L.Holds T (cut_turn S N i R)
