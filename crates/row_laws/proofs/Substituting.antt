@@ -1,5 +1,5 @@
 -- A row with another put in: its listed numbers and its parts.
-use Rattle.row_laws.proofs.Words.{[], ◌+◌, ◌≡◌, ◌-◌, flat_map, take, drop, refl, ap, sym, ◌∙◌, ℕ, suc, ℤ, pos, negsuc, ◌*ℤ◌, ◌≤ℤ◌, Bool, true, ◌&&◌, List, length-set, arith, subst, IsTrue, All, flat_map-append, ints, list_all-append, length-combine, fits, entry, remove, all_fit, combine_listed, Row, substituted, eliminated, eliminated_listed, pivot_listed, row_at, Fits, IsRow, IsReduced, row_from}
+use Rattle.row_laws.proofs.Words.{◌+◌, ◌≡◌, flat_map, take, drop, refl, ap, sym, ◌∙◌, ℕ, suc, ℤ, pos, negsuc, ◌*ℤ◌, ◌≤ℤ◌, Bool, true, ◌&&◌, List, length-set, arith, subst, IsTrue, All, flat_map-append, ints, list_all-append, length-combine, fits, entry, remove, all_fit, combine_listed, Row, substituted, eliminated, eliminated_listed, pivot_listed, row_at, Fits, IsRow, IsReduced, row_from}
 use Rattle.row_laws.proofs.Contents.{content-divided}
 use Rattle.row_laws.proofs.Unchanged.{eliminated-none, all_fit-append}
 

@@ -1,4 +1,4 @@
-use Rattle.affine_forms.proofs.Words.{rules, pos, ◌-◌, ◌-ℤ◌, All-set, Fits, fits}
+use Rattle.affine_forms.proofs.Words.{rules, pos, ◌-ℤ◌, All-set, Fits}
 use Rattle.affine_forms.proofs.QuotientForms.{plus_made, constant_refused, constant_fits}
 use Rattle.affine_forms.proofs.bounds.add_below.Goals as goal
 
