@@ -33,6 +33,9 @@ class Refused(Exception):
         super().__init__(f"status {status}: {line}")
         self.status, self.line, self.text, self.bytes_before = status, line, text, bytes_before
 
+    def __reduce__(self) -> Tuple[object, ...]:  # (an exception is made anew of its words alone)
+        return type(self), (self.status, self.line, self.text, self.bytes_before)
+
 
 class TimedOut(Refused):
     """The program gave no answer in time, and was ended."""
