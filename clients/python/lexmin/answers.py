@@ -4,7 +4,7 @@ from __future__ import annotations
 from dataclasses import dataclass
 from typing import TYPE_CHECKING, Callable, Dict, Iterator, List, Mapping, NoReturn, Optional, Sequence, Tuple, Union
 
-from .forms import Atom, Column, Floor, Form, FormLike, Number, Relation, as_form, checked_name, divided
+from .forms import Atom, Column, Floor, Form, FormLike, Number, Relation, as_form, checked_name, divided, whole_number
 from .problems import Space, numbers_over
 from .shorten import QUESTIONS, SECONDS
 from .trees import (
@@ -96,12 +96,11 @@ class Answer:
         return self._named(value_at(found, []), parameters)
 
     def _sent(self, at: Mapping[str, int], named: Mapping[str, int]) -> Tuple[Dict[str, int], List[int]]:
-        parameters = {**at, **named}
+        given = {**at, **named}
         names = list(self.posed.parameters)
-        if set(parameters) != set(names):
-            raise ValueError(f"the parameters are {', '.join(names) or 'none'}; given were {', '.join(parameters) or 'none'}")
-        if not all(isinstance(number, int) and not isinstance(number, bool) for number in parameters.values()):
-            raise TypeError(f"parameters are whole numbers: {parameters}")
+        if set(given) != set(names):
+            raise ValueError(f"the parameters are {', '.join(names) or 'none'}; given were {', '.join(map(str, given)) or 'none'}")
+        parameters = {name: whole_number(number, "a parameter is a whole number") for name, number in given.items()}
         if not self.posed.holds_at(parameters):
             raise OutsideContext(f"outside the context: {parameters}")
         return parameters, self.posed.sent_values(parameters)

@@ -7,6 +7,7 @@ from collections import deque
 from typing import Any, Deque, Dict, Iterable, Iterator, List, Optional, Sequence, Tuple, TypeVar, Union
 
 from .answers import Answer, AnswerBySigns
+from .forms import whole_number
 from .problems import Posed, Problem, numbers_over
 from .processes import MOST_INPUT_BYTES, Pool, Refused, Runs, TimedOut, checked_seconds
 from .prepare import prepared
@@ -17,6 +18,7 @@ from .trees import Bottom, Point, Void, answer_text, is_one_group, parse_answer
 
 
 MOST_BATCH_BYTES = 4_000_000  # of the texts that one `same` reads
+MOST_BUDGETS = {"pivots": 1_000_000_000, "cuts": 1_000_000, "splits": 1_000_000, "nesting": 200}  # what the program takes
 
 
 class Solver:
@@ -44,7 +46,8 @@ class Solver:
             raise ValueError(f"prepare is True, False or 'when refused', not {prepare!r}")
         self.program, self.prepare, self.simplify = standing(program), prepare, simplify
         self.timeout = checked_seconds(timeout)
-        self.budgets = {"pivots": pivots, "cuts": cuts, "splits": splits, "nesting": nesting}
+        given = {"pivots": pivots, "cuts": cuts, "splits": splits, "nesting": nesting}
+        self.budgets = {name: checked_budget(name, most) for name, most in given.items()}
         words = self.budget_words(list(self.budgets))
         plain = [self.program, "solve", *words, *(["--simplify"] if simplify else [])]
         self._plain = Pool(plain, 1, self.timeout)
@@ -300,6 +303,15 @@ def standing(program: Union[str, os.PathLike[str]]) -> str:
     if os.path.isabs(name) or (isinstance(program, str) and not folder):
         return name
     return os.path.join(os.path.realpath(folder), file)
+
+
+def checked_budget(name: str, most: Optional[int]) -> Optional[int]:
+    if most is None:
+        return None
+    number = whole_number(most, f"{name} is a whole number, or None")
+    if not 0 <= number <= MOST_BUDGETS[name]:
+        raise ValueError(f"{name} is from 0 to {MOST_BUDGETS[name]}, not {number}")
+    return number
 
 
 def checked_answer(answer: object) -> Answer:
