@@ -42,8 +42,9 @@ class Answer:
     what these terms stand for. Answers are equal where they are about the same parameters, context and unknowns, and have
     the same tree. `same` asks whether they have the same values.
 
-    `checked` is None where the program made the answer of the problem as it was sent. Of an answer that was put back behind a
-    preparation it says whether `check` has accepted it; False stays with all that is made of such an answer."""
+    `checked` is None where the program made the answer of the problem as it was sent, and True where `certify` asked for it. Of an
+    answer that was put back behind a preparation it says whether `check` has accepted it; False stays with all that is made of such
+    an answer."""
 
     def __init__(self, posed: Space, text: str, tree: Optional[Tree] = None, solver: Optional[Solver] = None,
                  checked: Optional[bool] = None) -> None:

@@ -269,6 +269,8 @@ class Solver:
         verdicts = iter(self.check(triples))
         for item in made:
             verdict = next(verdicts) if isinstance(item, Answer) else None
+            if verdict is None and isinstance(item, Answer):
+                item.checked = True
             yield item if verdict is None else verdict
         source.end()
 
