@@ -280,6 +280,6 @@ def whole_number(number: object, what: str) -> int:
 
 
 def from_one_on(number: object, what: str) -> int:
-    if isinstance(number, numbers.Integral) and number >= 1:
+    if isinstance(number, numbers.Integral) and int(number) >= 1:
         return int(number)
     raise ValueError(f"{what}, not {number!r}")

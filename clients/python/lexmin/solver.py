@@ -237,8 +237,10 @@ class Solver:
             try:
                 status, output, line = self._runs.run([self.program, *words], "".join(rest), self.timeout)
             except TimedOut as late:
+                if len(rest) == 1:
+                    return [*found, late]
                 half = len(rest) // 2
-                return [*found, *([late] if half == 0 else [*self._lines(words, rest[:half]), *self._lines(words, rest[half:])])]
+                return [*found, *self._lines(words, rest[:half]), *self._lines(words, rest[half:])]
             said = output.decode().split("\n")[:-1]  # (of a process that was ended the last line may be a part of one)
             if len(said) > len(rest) or (status == 0 and len(said) < len(rest)):
                 raise RuntimeError(f"{words[0]} wrote {len(said)} lines for {len(rest)} texts")
