@@ -242,7 +242,7 @@ class Solver:
                 half = len(rest) // 2
                 return [*found, *self._lines(words, rest[:half]), *self._lines(words, rest[half:])]
             said = output.decode().split("\n")[:-1]  # (of a process that was ended the last line may be a part of one)
-            if len(said) > len(rest) or (status == 0 and len(said) < len(rest)):
+            if len(said) > len(rest):
                 raise RuntimeError(f"{words[0]} wrote {len(said)} lines for {len(rest)} texts")
             found += said
             if len(said) < len(rest):
