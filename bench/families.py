@@ -1,5 +1,15 @@
-"""Families of problems whose cost grows with their size, in native text, one group a file."""
+"""Families of problems whose cost grows with their size, in native text, one group a file; and the program that is measured."""
+import os
 import random
+import sys
+
+
+def existing_program(file):
+    """The path of the program; ends the script where it is not there, since a table of it would be one of nothing."""
+    program = os.path.abspath(file)
+    if not os.path.isfile(program) or not os.access(program, os.X_OK):
+        sys.exit(f"{program} is not there, or no program: ./pip builds crates/pip/out/pip")
+    return program
 
 
 def row(entries):

@@ -7,11 +7,20 @@ import shutil
 import signal
 import struct
 import subprocess
+import sys
 import tempfile
 
 HERE = pathlib.Path(__file__).resolve().parent
 MEMORY = "/dev/shm" if os.path.isdir("/dev/shm") else None
 MOST_STANDING = 12  # programs that stand before their main, one for each line of words
+
+
+def existing_program(file):
+    """The path of the program; ends the script where it is not there, before anything is told of it."""
+    program = os.path.abspath(file)
+    if not os.path.isfile(program) or not os.access(program, os.X_OK):
+        sys.exit(f"{program} is not there, or no program: ./pip builds crates/pip/out/pip")
+    return program
 
 
 class Late(Exception):

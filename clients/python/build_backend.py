@@ -1,16 +1,21 @@
-"""Makes a wheel of the package, with nothing but the standard library: what `pip install ./clients/python` calls.
+"""Makes a wheel of the package, with nothing but the standard library: what `pip install ./clients/python` calls; and an archive of
+its sources.
 
-A wheel is an archive of the package's files and of what is said about them. The same sources make the same bytes."""
+Both hold the package's files and what is said about them. The same sources make the same bytes."""
 import base64
+import gzip
 import hashlib
+import io
 import pathlib
 import re
 import tarfile
+import time
 import zipfile
 from typing import Any, Dict, Optional
 
 HERE = pathlib.Path(__file__).resolve().parent
 PACKAGE = "lexmin"
+TIME = 1577836800  # of all files: the beginning of 2020
 
 
 def _said(name: str) -> str:
@@ -53,7 +58,7 @@ def _wheel(folder: str, files: Dict[str, bytes]) -> str:
     made = f"{name}-py3-none-any.whl"
     with zipfile.ZipFile(pathlib.Path(folder) / made, "w", zipfile.ZIP_DEFLATED) as archive:
         for file, data in files.items():
-            entry = zipfile.ZipInfo(file, (2020, 1, 1, 0, 0, 0))
+            entry = zipfile.ZipInfo(file, time.gmtime(TIME)[:6])
             entry.external_attr = 0o644 << 16
             entry.compress_type = zipfile.ZIP_DEFLATED
             archive.writestr(entry, data)
@@ -77,12 +82,12 @@ def build_editable(wheel_directory: str, config_settings: Optional[Dict[str, Any
 
 def build_sdist(sdist_directory: str, config_settings: Optional[Dict[str, Any]] = None) -> str:
     name = f"{PACKAGE}-{_version()}"
-    with tarfile.open(pathlib.Path(sdist_directory) / f"{name}.tar.gz", "w:gz", format=tarfile.PAX_FORMAT) as archive:
-        for file in ("pyproject.toml", "README.md", "build_backend.py", *_sources()):
-            archive.add(HERE / file, f"{name}/{file}")
-        # what is said of the package stands beside it too
-        about = pathlib.Path(sdist_directory) / "PKG-INFO"
-        about.write_text(_metadata())
-        archive.add(about, f"{name}/PKG-INFO")
-        about.unlink()
+    files = {file: (HERE / file).read_bytes() for file in ("pyproject.toml", "README.md", "build_backend.py")}
+    made = io.BytesIO()
+    with tarfile.open(fileobj=made, mode="w", format=tarfile.PAX_FORMAT) as archive:
+        for file, data in {**files, **_sources(), "PKG-INFO": _metadata().encode()}.items():
+            entry = tarfile.TarInfo(f"{name}/{file}")
+            entry.size, entry.mtime = len(data), TIME
+            archive.addfile(entry, io.BytesIO(data))
+    (pathlib.Path(sdist_directory) / f"{name}.tar.gz").write_bytes(gzip.compress(made.getvalue(), mtime=TIME))
     return f"{name}.tar.gz"

@@ -139,7 +139,8 @@ def assignments(block: Block) -> Iterator[Assignment]:
 
 # ---- Reading -------------------------------------------------------------------------------------------------------
 
-_PASSED = re.compile(r"/\*.*?\*/|//[^\n]*|^[ \t]*#[^\n]*", re.DOTALL | re.MULTILINE)
+# (behind a backslash a line goes on with the next one)
+_PASSED = re.compile(r"/\*.*?\*/|//(?:\\.|[^\\\n])*|^[ \t]*#(?:\\.|[^\\\n])*", re.DOTALL | re.MULTILINE)
 _TOKEN = re.compile(r"\s*(\d+\.\d*(?:[eE][-+]?\d+)?|\d+|[A-Za-z_]\w*|[<>=!]=|&&|\|\||\+\+|--|[-+*/]=|[-+*/%<>=!;,(){}\[\]])")
 _CHOICE = re.compile(r"^[ \t]*#[ \t]*(if|ifdef|ifndef|elif|else)\b", re.MULTILINE)
 _WEIGHTS = {"||": 1, "&&": 2, "==": 3, "!=": 3, "<": 4, "<=": 4, ">": 4, ">=": 4, "+": 5, "-": 5, "*": 6, "/": 6, "%": 6}

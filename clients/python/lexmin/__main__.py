@@ -2,6 +2,7 @@
 from __future__ import annotations
 
 import os
+import signal
 import sys
 from typing import Optional, Sequence
 
@@ -11,8 +12,8 @@ from . import __version__, asking, drawing, explain, sources
 COMMANDS = {"draw": drawing.main, "explain": explain.main, "isl": asking.isl, "shorten": asking.shorten, "source": sources.main}
 USAGE = """usage: lexmin draw [--parameters NAMES] [--unknowns NAMES] [--mermaid] [--merge] [--across] [FILE]
        lexmin explain [--polylib] [--parameters NAMES] [--unknowns NAMES] [FILE]
-       lexmin isl [--program FILE] [--greatest] [--context CONSTRAINTS] [--low NAME=NUMBER] [--shorten] SET
-       lexmin shorten [--program FILE] [--questions N] [--seconds S] [FILE]
+       lexmin isl [--program FILE] [--timeout SECONDS] [--greatest] [--context CONSTRAINTS] [--low NAME=NUMBER] [--shorten] SET
+       lexmin shorten [--program FILE] [--timeout SECONDS] [--questions N] [--seconds S] [FILE]
        lexmin source [--c] [--name NAME] [--parameters NAMES] [--unknowns NAMES] [FILE]
        lexmin COMMAND --help"""
 
@@ -35,6 +36,8 @@ def main(words: Optional[Sequence[str]] = None) -> int:
     except BrokenPipeError:  # who reads has read enough
         os.dup2(os.open(os.devnull, os.O_WRONLY), sys.stdout.fileno())
         return 1
+    except KeyboardInterrupt:  # as a shell says of what Ctrl-C ended
+        return 128 + signal.SIGINT
 
 
 if __name__ == "__main__":

@@ -4,7 +4,7 @@ from __future__ import annotations
 from dataclasses import dataclass
 from typing import TYPE_CHECKING, Callable, Dict, Iterator, List, Mapping, NoReturn, Optional, Sequence, Tuple, Union
 
-from .forms import Atom, Column, Floor, Form, FormLike, Number, Relation, as_form, checked_name, divided
+from .forms import Atom, Column, Floor, Form, FormLike, Number, Relation, as_form, checked_name, divided, whole_number
 from .problems import Space, numbers_over
 from .shorten import QUESTIONS, SECONDS
 from .trees import (
@@ -42,8 +42,9 @@ class Answer:
     what these terms stand for. Answers are equal where they are about the same parameters, context and unknowns, and have
     the same tree. `same` asks whether they have the same values.
 
-    `checked` is None where the program made the answer of the problem as it was sent. Of an answer that was put back behind a
-    preparation it says whether `check` has accepted it; False stays with all that is made of such an answer."""
+    `checked` is None where the program made the answer of the problem as it was sent, and True where `certify` asked for it. Of an
+    answer that was put back behind a preparation it says whether `check` has accepted it; False stays with all that is made of such
+    an answer."""
 
     def __init__(self, posed: Space, text: str, tree: Optional[Tree] = None, solver: Optional[Solver] = None,
                  checked: Optional[bool] = None) -> None:
@@ -96,12 +97,11 @@ class Answer:
         return self._named(value_at(found, []), parameters)
 
     def _sent(self, at: Mapping[str, int], named: Mapping[str, int]) -> Tuple[Dict[str, int], List[int]]:
-        parameters = {**at, **named}
+        given = {**at, **named}
         names = list(self.posed.parameters)
-        if set(parameters) != set(names):
-            raise ValueError(f"the parameters are {', '.join(names) or 'none'}; given were {', '.join(parameters) or 'none'}")
-        if not all(isinstance(number, int) and not isinstance(number, bool) for number in parameters.values()):
-            raise TypeError(f"parameters are whole numbers: {parameters}")
+        if set(given) != set(names):
+            raise ValueError(f"the parameters are {', '.join(names) or 'none'}; given were {', '.join(map(str, given)) or 'none'}")
+        parameters = {name: whole_number(number, "a parameter is a whole number") for name, number in given.items()}
         if not self.posed.holds_at(parameters):
             raise OutsideContext(f"outside the context: {parameters}")
         return parameters, self.posed.sent_values(parameters)

@@ -19,15 +19,16 @@ from .trees import groups
 
 SHORTEN = """Solves the problems of a text, and writes their answers with fewer leaves.
 
-    lexmin shorten [--program FILE] [--questions N] [--seconds S] [FILE]
+    lexmin shorten [--program FILE] [--timeout SECONDS] [--questions N] [--seconds S] [FILE]
 
 A choice of which one side is right on both is taken out. What is written `same` has compared with the program's own answer,
 under the problem's context; where it did not say `same`, the program's own answer is written. --questions and --seconds are
-the limits of an answer. A refused problem is named on standard error, the others go on, and the status is then 1.
+the limits of making an answer shorter, --timeout is that of solving it, and of `same`. A problem that is refused or late is named on
+standard error, the others go on, and the status is then 1.
 """
 ISL = """Writes the lexmin of a set or a map in isl's notation, or its lexmax.
 
-    lexmin isl [--program FILE] [--greatest] [--context CONSTRAINTS] [--low NAME=NUMBER] [--shorten] SET
+    lexmin isl [--program FILE] [--timeout SECONDS] [--greatest] [--context CONSTRAINTS] [--low NAME=NUMBER] [--shorten] SET
 
     $ lexmin isl --greatest '[N] -> { [i] : 0 <= i < N and i mod 4 = 1 }'
 
@@ -48,15 +49,18 @@ def space_of(problem: ReadProblem) -> Space:
 def shorten(words: Sequence[str]) -> int:
     parser = argparse.ArgumentParser(prog="lexmin shorten", description=SHORTEN, formatter_class=argparse.RawDescriptionHelpFormatter)
     parser.add_argument("--program", default="./pip", help="the program, ./pip where none is named")
-    parser.add_argument("--questions", type=int, default=QUESTIONS)
-    parser.add_argument("--seconds", type=float, default=SECONDS)
+    parser.add_argument("--timeout", type=float, metavar="SECONDS", help="how long a problem may take; none without it")
+    parser.add_argument("--questions", type=int, default=QUESTIONS, metavar="N", help=f"{QUESTIONS:,} where not given")
+    parser.add_argument("--seconds", type=float, default=SECONDS, metavar="S", help=f"{SECONDS:g} where not given")
     parser.add_argument("file", nargs="?", type=pathlib.Path, help="the problems; standard input where none is named")
     chosen = parser.parse_args(words)
     status, data = 0, b""
     try:
         data = chosen.file.read_bytes() if chosen.file else sys.stdin.buffer.read()
         problems = list(native(data))
-        with Solver(chosen.program) as solver:
+        if not problems:
+            raise ValueError("no problem in the text")
+        with Solver(chosen.program, timeout=chosen.timeout) as solver:
             answers: List[Answer] = []
             for number, text in enumerate(groups(data.decode(errors="replace"))):
                 try:
@@ -80,6 +84,7 @@ def shorten(words: Sequence[str]) -> int:
 def isl(words: Sequence[str]) -> int:
     parser = argparse.ArgumentParser(prog="lexmin isl", description=ISL, formatter_class=argparse.RawDescriptionHelpFormatter)
     parser.add_argument("--program", default="./pip", help="the program, ./pip where none is named")
+    parser.add_argument("--timeout", type=float, metavar="SECONDS", help="how long a part of the set may take; none without it")
     parser.add_argument("--greatest", action="store_true", help="the lexmax")
     parser.add_argument("--context", default="", help="what is known of the parameters")
     parser.add_argument("--low", action="append", default=[], metavar="NAME=NUMBER", help="from where on a parameter or an unknown is")
@@ -94,7 +99,7 @@ def isl(words: Sequence[str]) -> int:
         except ValueError:
             parser.error(f"--low {word}: NAME=NUMBER is wanted")
     try:
-        with Solver(chosen.program) as solver:
+        with Solver(chosen.program, timeout=chosen.timeout) as solver:
             answer = notation.solved(solver, chosen.set, greatest=chosen.greatest, low=low, context=chosen.context)
             print(notation.written(answer.shorten() if chosen.shorten else answer))
     except BrokenPipeError:

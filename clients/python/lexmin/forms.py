@@ -2,6 +2,7 @@
 from __future__ import annotations
 
 import math
+import numbers
 import re
 from dataclasses import dataclass
 from fractions import Fraction
@@ -43,6 +44,7 @@ class Form:
     def __mul__(self, number: Number) -> Form:
         if isinstance(number, Form):
             raise TypeError("a product of two forms is not affine")
+        number = plain(number)  # (before it is multiplied: numbers of others have an end)
         return Form({name: number * own for name, own in self.terms.items()}, number * self.constant)
 
     __rmul__ = __mul__
@@ -52,8 +54,7 @@ class Form:
 
     def __floordiv__(self, divisor: int) -> Form:
         """The floor of the form over a whole number from 1 on."""
-        if not isinstance(divisor, int) or divisor < 1:
-            raise ValueError("a floor needs a whole divisor from 1 on")
+        divisor = from_one_on(divisor, "a floor needs a whole divisor from 1 on")
         scaled, common = self.whole()
         return Form({Floor(tuple(sorted(scaled.terms.items(), key=str)), int(scaled.constant), divisor * common): 1})
 
@@ -125,7 +126,7 @@ class Form:
     def at(self, values: Mapping[str, Number]) -> Number:
         """The form's value where its names have these values."""
         def value(name: Atom) -> Number:
-            return name.at(values) if isinstance(name, Floor) else values[str(name)]
+            return name.at(values) if isinstance(name, Floor) else plain(values[str(name)])
         return plain(sum(value(name) * number for name, number in self.terms.items()) + self.constant)
 
     def __str__(self) -> str:
@@ -230,16 +231,14 @@ def checked_name(name: object) -> str:
 
 def congruent(first: FormLike, second: FormLike, modulus: int) -> Relation:
     """That first - second is a multiple of the modulus, a whole number from 1 on."""
-    if not isinstance(modulus, int) or modulus < 1:
-        raise ValueError("a congruence needs a whole modulus from 1 on")
-    return Relation(as_form(first) - second, "multiple", modulus)
+    return Relation(as_form(first) - second, "multiple", from_one_on(modulus, "a congruence needs a whole modulus from 1 on"))
 
 
 def as_form(value: FormLike) -> Form:
     if isinstance(value, Form):
         return value
-    if isinstance(value, (int, Fraction)) and not isinstance(value, bool):
-        return Form({}, value)
+    if isinstance(value, numbers.Rational) and not isinstance(value, bool):
+        return Form({}, plain(value))
     raise TypeError(f"neither a form nor an exact number: {value!r}")
 
 
@@ -264,9 +263,23 @@ def row_text(numbers: Iterable[Number]) -> str:
 
 
 def plain(number: Number) -> Number:
-    """The number as an int where it is whole."""
+    """The number as an int where it is whole, of Python's own ints: those of others (numpy's) have an end."""
     if type(number) is int:
         return number
-    if isinstance(number, (int, Fraction)):
-        return int(number) if number == int(number) else number
+    if isinstance(number, numbers.Rational):
+        above, below = int(number.numerator), int(number.denominator)
+        return above if below == 1 else Fraction(above, below)
     raise TypeError(f"not an exact number: {number!r}")
+
+
+def whole_number(number: object, what: str) -> int:
+    """A whole number, as Python's own; TypeError with these words where it is none."""
+    if isinstance(number, numbers.Integral) and not isinstance(number, bool):
+        return int(number)
+    raise TypeError(f"{what}, not {number!r}")
+
+
+def from_one_on(number: object, what: str) -> int:
+    if isinstance(number, numbers.Integral) and int(number) >= 1:
+        return int(number)
+    raise ValueError(f"{what}, not {number!r}")

@@ -6,7 +6,8 @@ import itertools
 from dataclasses import dataclass
 from typing import Dict, Iterator, List, Mapping, Optional, Sequence, Tuple
 
-from .forms import Atom, Column, Floor, Form, FormLike, Number, Relation, as_form, checked_name, checked_relation, divided, row_text
+from .forms import (
+    Atom, Column, Floor, Form, FormLike, Number, Relation, as_form, checked_name, checked_relation, divided, row_text, whole_number)
 from .trees import is_one_group
 
 
@@ -66,9 +67,7 @@ class Problem:
         """A parameter: a whole number from `low` on, in both modes. With `low=None` it may have either sign, and the problem
         is solved by parts (`Solver.solve_by_signs`)."""
         self._new_name(name)
-        if low is not None and (not isinstance(low, int) or isinstance(low, bool)):
-            raise TypeError("the low of a parameter is a whole number, or None")
-        self._parameters[name] = Range(low)
+        self._parameters[name] = Range(None if low is None else whole_number(low, "the low of a parameter is a whole number, or None"))
         return Form({name: 1})
 
     def parameters(self, *names: str) -> List[Form]:

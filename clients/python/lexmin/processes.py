@@ -1,6 +1,7 @@
 """The program as processes that are kept open: a pool of them, of which each call under way has its own."""
 from __future__ import annotations
 
+import atexit
 import itertools
 import math
 import numbers
@@ -11,9 +12,10 @@ import subprocess
 import sys
 import threading
 import time
+import weakref
 from collections import deque
 from dataclasses import dataclass
-from typing import Deque, Iterable, Iterator, List, Optional, Sequence, Tuple, Union
+from typing import Deque, Iterable, Iterator, List, Optional, Sequence, Set, Tuple, Union
 
 from .trees import is_one_group
 
@@ -32,6 +34,9 @@ class Refused(Exception):
     def __init__(self, status: int, line: str, text: str, bytes_before: int = 0) -> None:
         super().__init__(f"status {status}: {line}")
         self.status, self.line, self.text, self.bytes_before = status, line, text, bytes_before
+
+    def __reduce__(self) -> Tuple[object, ...]:  # (an exception is made anew of its words alone)
+        return type(self), (self.status, self.line, self.text, self.bytes_before)
 
 
 class TimedOut(Refused):
@@ -117,6 +122,7 @@ class Child:
         pipe = subprocess.PIPE
         self._owner = os.getpid()
         self.go_on()
+        _STARTED.add(weakref.ref(self, _STARTED.discard))
         self.process = subprocess.Popen(self.command, stdin=pipe, stdout=pipe, stderr=pipe, bufsize=0)
         for end in self.pipes():
             os.set_blocking(end, False)
@@ -144,6 +150,11 @@ class Child:
         if process is not None:
             process.terminate()
 
+    def left(self) -> None:
+        """The same at the end of the program, which waits for no call of a thread that is a daemon."""
+        if self._owner == os.getpid():
+            self.interrupt()
+
     def stop(self) -> None:
         """Ends the process. Nothing that it still writes is wanted. (`./pip` ends its build first.)"""
         process, self.process = self.process, None
@@ -158,6 +169,17 @@ class Child:
             for end in (process.stdin, process.stdout, process.stderr):
                 if end is not None:
                     end.close()
+
+
+_STARTED: Set[weakref.ref[Child]] = set()
+
+
+@atexit.register
+def _end_all() -> None:
+    for found in list(_STARTED):
+        child = found()
+        if child is not None:
+            child.left()
 
 
 # ---- A run of its own ----------------------------------------------------------------------------------------------

@@ -7,6 +7,7 @@ from collections import deque
 from typing import Any, Deque, Dict, Iterable, Iterator, List, Optional, Sequence, Tuple, TypeVar, Union
 
 from .answers import Answer, AnswerBySigns
+from .forms import whole_number
 from .problems import Posed, Problem, numbers_over
 from .processes import MOST_INPUT_BYTES, Pool, Refused, Runs, TimedOut, checked_seconds
 from .prepare import prepared
@@ -17,6 +18,7 @@ from .trees import Bottom, Point, Void, answer_text, is_one_group, parse_answer
 
 
 MOST_BATCH_BYTES = 4_000_000  # of the texts that one `same` reads
+MOST_BUDGETS = {"pivots": 1_000_000_000, "cuts": 1_000_000, "splits": 1_000_000, "nesting": 200}  # what the program takes
 
 
 class Solver:
@@ -24,11 +26,14 @@ class Solver:
     another. Each call under way has a process of its own, so a call may begin while the answers of `solve_all` are still
     being taken, and threads may share a Solver.
 
+    `program` is a file, as `./pip`, that of the folder in which the Solver is made; a text without a folder, as `pip-solve`, is
+    looked for on the path.
+
     `simplify` asks for simplified answers. `pivots`, `cuts`, `splits`, `nesting` are the budgets of a problem, the
     program's own where none is given; a stranger's problems should have some. `timeout` is the seconds that a problem
-    may take, above 0, or None. A Solver ends its processes by `close`, or at the end of a `with`; a call that is under way then
-    fails, in another thread too. What comes of a pickled Solver, or of that of a pickled answer, has processes of its own, and so
-    has a fork; a call that was begun before it is read on by the other process alone.
+    may take, above 0, or None; of `same` and `check` too. A Solver ends its processes by `close`, or at the end of a `with`; a
+    call that is under way then fails, in another thread too. What comes of a pickled Solver, or of that of a pickled answer, has
+    processes of its own, and so has a fork; a call that was begun before it is read on by the other process alone.
 
     `prepare=True` takes equalities out of each problem before it is solved, `prepare="when refused"` out of those that were
     refused or late. The answer is put back here, in Python, and then `check` is asked whether it is right: its `checked` says
@@ -37,11 +42,12 @@ class Solver:
     def __init__(self, program: Union[str, os.PathLike[str]], *, simplify: bool = False, pivots: Optional[int] = None,
                  cuts: Optional[int] = None, splits: Optional[int] = None, nesting: Optional[int] = None,
                  timeout: Optional[float] = None, prepare: Union[bool, str] = False) -> None:
-        if prepare not in (False, True, "when refused"):
+        if prepare is not False and prepare is not True and prepare != "when refused":
             raise ValueError(f"prepare is True, False or 'when refused', not {prepare!r}")
-        self.program, self.prepare, self.simplify = os.fspath(program), prepare, simplify
+        self.program, self.prepare, self.simplify = standing(program), prepare, simplify
         self.timeout = checked_seconds(timeout)
-        self.budgets = {"pivots": pivots, "cuts": cuts, "splits": splits, "nesting": nesting}
+        given = {"pivots": pivots, "cuts": cuts, "splits": splits, "nesting": nesting}
+        self.budgets = {name: checked_budget(name, most) for name, most in given.items()}
         words = self.budget_words(list(self.budgets))
         plain = [self.program, "solve", *words, *(["--simplify"] if simplify else [])]
         self._plain = Pool(plain, 1, self.timeout)
@@ -212,27 +218,36 @@ class Solver:
     def same_all(self, trios: Sequence[Tuple[int, str, str, str]]) -> List[bool]:
         """Whether `same` says `same` of each number of parameters, context and two answers, given as texts; a refusal is none.
         Those that follow each other and are over as many parameters are read by one process, as many as it takes."""
-        waiting = deque((count, "\n".join(texts) + "\n") for count, *texts in trios)
+        waiting = deque((count, joined(texts, "a context and two answers")) for count, *texts in trios)
         verdicts: List[bool] = []
         while waiting:
             count, batch, size = waiting[0][0], [waiting.popleft()[1]], 0
             while waiting and waiting[0][0] == count and (size := size + len(batch[-1].encode())) < MOST_BATCH_BYTES:
                 batch.append(waiting.popleft()[1])
-            verdicts += self._same(count, batch)
+            words = ["same", str(count), *self.budget_words(["pivots", "cuts", "splits"])]
+            verdicts += [found == "same" for found in self._lines(words, batch)]
         return verdicts
 
-    def _same(self, count: int, texts: Sequence[str]) -> List[bool]:
-        """The same of texts that one process reads. Where it refuses one, or is late with all, others read the rest."""
-        if not texts:
-            return []
-        words = ["same", str(count), *self.budget_words(["pivots", "cuts", "splits"])]
-        try:
-            output = self._runs.run([self.program, *words], "".join(texts), self.timeout)[1].decode()
-        except TimedOut:
-            half = len(texts) // 2
-            return [*self._same(count, texts[:half]), *self._same(count, texts[half:])] if half else [False]
-        said = [line == "same" for line in output.splitlines()]
-        return said if len(said) == len(texts) else [*said, False, *self._same(count, texts[len(said) + 1:])]
+    def _lines(self, words: Sequence[str], texts: Sequence[str]) -> List[Union[str, Refused]]:
+        """The line that a command writes of each text, or its refusal. One process reads them all. Where it refuses one another reads
+        the rest; where it is late with all, others read the halves."""
+        found: List[Union[str, Refused]] = []
+        while len(found) < len(texts):
+            rest = texts[len(found):]
+            try:
+                status, output, line = self._runs.run([self.program, *words], "".join(rest), self.timeout)
+            except TimedOut as late:
+                if len(rest) == 1:
+                    return [*found, late]
+                half = len(rest) // 2
+                return [*found, *self._lines(words, rest[:half]), *self._lines(words, rest[half:])]
+            said = output.decode().split("\n")[:-1]  # (of a process that was ended the last line may be a part of one)
+            if len(said) > len(rest):
+                raise RuntimeError(f"{words[0]} wrote {len(said)} lines for {len(rest)} texts")
+            found += said
+            if len(said) < len(rest):
+                found.append(Refused(status, line, rest[len(said)], sum(len(text.encode()) for text in rest[:len(said)])))
+        return found
 
     # Certificates.
 
@@ -256,32 +271,24 @@ class Solver:
         verdicts = iter(self.check(triples))
         for item in made:
             verdict = next(verdicts) if isinstance(item, Answer) else None
+            if verdict is None and isinstance(item, Answer):
+                item.checked = True
             yield item if verdict is None else verdict
         source.end()
 
     def check(self, triples: Iterable[Tuple[str, str, str]]) -> List[Optional[Refused]]:
-        """What `check` says of each problem, answer and certificate: none where it accepts them, else its refusal. One
-        process reads as many triples as it can; the timeout is not for it."""
-        waiting = deque(triples)
-        for triple in waiting:
-            if not all(map(is_one_group, triple)):  # its verdicts would be taken for those of the next
-                raise ValueError("a problem, an answer and a certificate are wanted, each one group of balanced brackets")
+        """What `check` says of each problem, answer and certificate: none where it accepts them, else its refusal, or that it was
+        late with it. One process reads as many triples as it can."""
+        waiting = deque(joined(triple, "a problem, an answer and a certificate") for triple in triples)
         verdicts: List[Optional[Refused]] = []
         while waiting:
-            batch: List[Tuple[str, str, str]] = []
-            size = 0
-            while waiting and (not batch or size + _size(waiting[0]) <= MOST_INPUT_BYTES):
-                size += _size(waiting[0])
+            batch, size = [waiting.popleft()], 0
+            while waiting and (size := size + len(batch[-1].encode())) + len(waiting[0].encode()) <= MOST_INPUT_BYTES:
                 batch.append(waiting.popleft())
-            status, output, line = self._runs.run([self.program, "check"], "".join(map(_joined, batch)), None)
-            accepted = output.decode().splitlines()
-            if any(line != "accepted" for line in accepted) or len(accepted) > len(batch):
-                raise RuntimeError(f"check wrote {accepted[:3]}")
-            verdicts += [None] * len(accepted)
-            if len(accepted) < len(batch):
-                refused, *others = batch[len(accepted):]
-                verdicts.append(Refused(status, line, _joined(refused)))
-                waiting.extendleft(reversed(others))
+            for found in self._lines(["check"], batch):
+                if isinstance(found, str) and found != "accepted":
+                    raise RuntimeError(f"check wrote {found}")
+                verdicts.append(found if isinstance(found, Refused) else None)
         return verdicts
 
     def run(self, words: Sequence[str], text: str) -> str:
@@ -290,6 +297,25 @@ class Solver:
         if status != 0:
             raise Refused(status, line, text)
         return output.decode()
+
+
+def standing(program: Union[str, os.PathLike[str]]) -> str:
+    """The program by a path that stays its own where the process goes to another folder. A text without a folder is looked for on
+    the path; a Path has none where it was made of `./pip`."""
+    name = os.fspath(program)
+    folder, file = os.path.split(name)
+    if os.path.isabs(name) or (isinstance(program, str) and not folder):
+        return name
+    return os.path.join(os.path.realpath(folder), file)
+
+
+def checked_budget(name: str, most: Optional[int]) -> Optional[int]:
+    if most is None:
+        return None
+    number = whole_number(most, f"{name} is a whole number, or None")
+    if not 0 <= number <= MOST_BUDGETS[name]:
+        raise ValueError(f"{name} is from 0 to {MOST_BUDGETS[name]}, not {number}")
+    return number
 
 
 def checked_answer(answer: object) -> Answer:
@@ -342,9 +368,8 @@ def _raised(found: Union[_Found, Refused]) -> _Found:
     return found
 
 
-def _joined(triple: Tuple[str, str, str]) -> str:
-    return "\n".join(triple) + "\n"
-
-
-def _size(triple: Tuple[str, str, str]) -> int:
-    return len(_joined(triple).encode())
+def joined(texts: Sequence[str], what: str) -> str:
+    """Three texts that a command reads one after the other, each one group: else its verdict would be taken for that of the next."""
+    if len(texts) != 3 or not all(map(is_one_group, texts)):
+        raise ValueError(f"{what} are wanted, each one group of balanced brackets")
+    return "\n".join(texts) + "\n"

@@ -6,7 +6,7 @@
 
 The function takes the parameters in the problem's order. In Python it gives the values of the unknowns as a tuple, or None where
 there is no point; in C it writes them and returns 1, or returns 0. It says nothing of parameters outside the context. C's
-numbers are those of `long long`, and nothing is said of a function whose sums pass them.
+numbers are those of `long long`: an answer that holds others is refused, and nothing is said of a function whose sums pass them.
 
 NAMES stand apart by commas, in the order of the problem. Without them parameters are p0, p1, .. Unknowns behind the last one that
 is named are left out. Of several answers the functions are NAME1, NAME2 and so on. Without a FILE the text is standard input.
@@ -21,11 +21,12 @@ from typing import Dict, Iterator, List, Optional, Sequence
 
 from .answers import Answer
 from .drawing import answer_texts, names_of, told_apart
-from .forms import Column, Floor, Form
+from .forms import Column, Floor, Form, Number
 from .problems import Range, Space
 from .trees import Choice, NewParameter, Point, Tree, form_of, leaves, parameter_count, parse_answer
 
 MOST_INDENTS = 90  # of lines in Python, which takes 100
+MOST_IN_C = 2**63 - 1
 _PLAIN = re.compile(r"[A-Za-z_][A-Za-z0-9_]*")
 _TAKEN = frozenset("""alignas alignof and as asm assert async await auto bool break case char class const constexpr continue def default del do
 double elif else enum except extern false finally float for from global goto if import in inline int is lambda long None nonlocal not nullptr or
@@ -108,10 +109,17 @@ class _Writer:
         yield f"{margin}return 1;"
 
     def _floor(self, text: str, divisor: int) -> str:
+        self._fits(divisor)
         return f"floor_of({text}, {divisor})" if self.c else f"({text}) // {divisor}"
+
+    def _fits(self, number: Number) -> None:
+        if self.c and abs(number) > MOST_IN_C:
+            raise ValueError(f"the number {number} is past those of `long long`")
 
     def _text(self, form: Form) -> str:
         terms = []
+        for number in (*form.terms.values(), form.constant):
+            self._fits(number)
         for atom, number in form.terms.items():
             own = self._floor(self._text(atom.form()), atom.divisor) if isinstance(atom, Floor) else self.names.get(str(atom), str(atom))
             own = f"({own})" if isinstance(atom, Floor) else own

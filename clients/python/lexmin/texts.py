@@ -22,6 +22,9 @@ class Fault(Exception):
         super().__init__(words)
         self.place, self.words, self.line = place, words, line or f"syntax at byte {place}"
 
+    def __reduce__(self) -> Tuple[object, ...]:
+        return type(self), (self.place, self.words, self.line)
+
 
 @dataclass
 class ReadProblem:

@@ -281,7 +281,7 @@ def parameter_count(tree: Tree) -> Optional[int]:
 
 def value_at(tree: Tree, parameters: Sequence[int]) -> Union[Bottom, Void, Tuple[Number, ...]]:
     """A tree's value at parameters, in the program's order."""
-    scope = list(parameters)
+    scope = [plain(number) for number in parameters]
     if parameter_count(tree) not in (None, len(scope)):
         raise ValueError(f"{len(scope)} parameters for a tree over {parameter_count(tree)}")
 
