@@ -9,6 +9,5 @@ mod trial;
 
 pub use draw::draw_problem;
 pub use generator::Generator;
-pub use pip_solve::Solver;
 pub use tally::Tally;
 pub use trial::{print_trial, run_trial};

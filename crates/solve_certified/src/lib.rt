@@ -10,3 +10,4 @@ mod trail;
 mod walk;
 
 pub use certified::{Certifier, solve_with_certificate};
+pub use pip_solve::Solver;

@@ -11,13 +11,12 @@ ghost use Rattle.item_writing.specs.Items.{IsTextOfItem};
 use crate::certified::write_certified;
 use item_writing::{Ending, Items};
 use pip_problem::Problem;
-use pip_trial::Solver;
 use pip_words::SolveOptions;
 use polylib_reader::read_matrices;
 use quast::Answer;
 use quast_simplify::simplify_answer;
 use quast_text::print_answer;
-use solve_certified::Certifier;
+use solve_certified::{Certifier, Solver};
 use std::alloc::Global;
 
 // The answer, simplified where that is asked for.
