@@ -93,7 +93,7 @@ class Analyser:
                 for held in self.cases[writer] if own == level else ():
                     answer = self.last(Question(self.kernel, statement, case, statement.reads[read], writer, held, level))
                     if answer is not None:
-                        found = answer if found is None else self.solver.last_of(found, answer).simplify()
+                        found = answer if found is None else self.solver.last_of(found, answer)
             if found is not None and found.is_total:
                 break  # what is written at the levels outside is overwritten in all turns
         answer = None if found is None else self.instance(found)

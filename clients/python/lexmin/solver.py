@@ -165,7 +165,7 @@ class Solver:
 
     def first_of(self, *answers: Answer) -> Answer:
         """The answer that has at all parameters of all contexts the lexicographically first of the answers' points, each
-        unknown by its value: the least of a union. No point counts behind all others."""
+        unknown by its value: the least of a union, simplified. No point counts behind all others."""
         return self._together(answers, greatest=False)
 
     def last_of(self, *answers: Answer) -> Answer:
@@ -175,10 +175,11 @@ class Solver:
     def _together(self, answers: Sequence[Answer], greatest: bool) -> Answer:
         if not answers:
             raise ValueError("no answers")
-        made = answers[0]
-        for answer in answers[1:]:
-            made = made.least(answer, greatest=greatest)
-        return made
+        made = list(answers)
+        while len(made) > 1:  # by pairs, each simplified: what chooses nothing would be asked for again and again
+            pairs = zip(made[::2], made[1::2])
+            made = [*(one.least(other, greatest=greatest).simplify() for one, other in pairs), *made[len(made) // 2 * 2:]]
+        return made[0]
 
     # Shorter answers.
 
