@@ -191,6 +191,8 @@ class Answer:
 
     def _with(self, other: Answer) -> Space:
         """What both answers are about: under both contexts."""
+        if not isinstance(other, Answer):
+            raise TypeError(f"not an answer: {other!r}" + ("; take each of its parts" if isinstance(other, AnswerBySigns) else ""))
         own, others = self.posed, other.posed
         if list(own.parameters.items()) != list(others.parameters.items()) or own.asked != others.asked:
             raise ValueError("the answers are not about the same parameters and unknowns, in the same order: {} over {}, {} over {}".format(
