@@ -6,7 +6,7 @@ import random
 import subprocess
 import tempfile
 
-from lexmin import Refused, Solver, TimedOut, groups, notation
+from lexmin import Refused, Solver, TimedOut, notation
 from lexmin.texts import native
 
 TOP = pathlib.Path(__file__).resolve().parent.parent

@@ -138,7 +138,7 @@ class Answer:
         posed = self._with(other).under(relations)
         as_written = self.posed.points_key() == other.posed.points_key() and self._is_all_asked() and other._is_all_asked()
         texts = [self.text, other.text] if as_written else [self._turned(1), other._turned(1)]
-        found = self._run("same", ["pivots", "cuts", "splits"], posed.context_text() + "".join(texts)).strip()
+        found = self._run("same", ["pivots", "cuts", "splits"], posed.context_text() + self._simplified(texts)).strip()
         if found == "same":
             return None
         return posed.values([int(number) for number in found[found.index("[") + 1:found.index("]")].split()])
@@ -148,7 +148,7 @@ class Answer:
         unknown by its value, or the greater of them. No point counts behind all others."""
         sign = -1 if greatest else 1
         posed = self._with(other)
-        text = posed.context_text() + self._turned(sign) + other._turned(sign)
+        text = posed.context_text() + self._simplified([self._turned(sign), other._turned(sign)])
         made = self._run("least", ["pivots", "cuts", "splits", "nesting"], text)
         return self._made(_values(posed, posed.asked, sign), made, other)
 
@@ -185,8 +185,14 @@ class Answer:
         turned = _Turned(self.posed, list(self.posed.points.values()) or [Form()], sign)
         return answer_text(self.posed.comment, turned.tree(self.tree))
 
+    def _simplified(self, texts: Sequence[str]) -> str:
+        """Answers of the same values, before a walk over them, which asks again of all that chooses nothing."""
+        return self._run("simplify", [], "".join(texts))
+
     def _with(self, other: Answer) -> Space:
         """What both answers are about: under both contexts."""
+        if not isinstance(other, Answer):
+            raise TypeError(f"not an answer: {other!r}" + ("; take each of its parts" if isinstance(other, AnswerBySigns) else ""))
         own, others = self.posed, other.posed
         if list(own.parameters.items()) != list(others.parameters.items()) or own.asked != others.asked:
             raise ValueError("the answers are not about the same parameters and unknowns, in the same order: {} over {}, {} over {}".format(

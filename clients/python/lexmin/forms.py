@@ -35,6 +35,9 @@ class Form:
     def __neg__(self) -> Form:
         return self * -1
 
+    def __pos__(self) -> Form:
+        return self
+
     def __sub__(self, other: FormLike) -> Form:
         return self + as_form(other) * -1
 

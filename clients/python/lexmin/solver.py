@@ -137,6 +137,7 @@ class Solver:
     def certificate(self, text: str, answer: str) -> str:
         """A certificate of an answer to a problem, given as texts, whoever made the answer; NotCertified where none is found.
         What it is worth `check` says."""
+        joined([text, answer, "()"], "a problem and an answer")
         problem, = native(text.encode())
         tree = parse_answer(answer)[1]
         needed = Obligations(problem, tree)
