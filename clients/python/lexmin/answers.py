@@ -98,6 +98,8 @@ class Answer:
 
     def _sent(self, at: Mapping[str, int], named: Mapping[str, int]) -> Tuple[Dict[str, int], List[int]]:
         given = {**at, **named}
+        if len(given) < len(at) + len(named):
+            raise ValueError(f"given twice: {', '.join(sorted(set(at) & set(named)))}")
         names = list(self.posed.parameters)
         if set(given) != set(names):
             raise ValueError(f"the parameters are {', '.join(names) or 'none'}; given were {', '.join(map(str, given)) or 'none'}")

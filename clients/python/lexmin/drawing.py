@@ -112,12 +112,17 @@ def quoted(text: str) -> str:
     return f'"{escaped}"'
 
 
+def as_entities(words: str) -> str:
+    """The words in a text of Mermaid, which has no other way to write a quote."""
+    return words.replace("#", "#35;").replace('"', "#quot;")
+
+
 def mermaid(drawing: Drawing, across: bool = False) -> Iterator[str]:
     shapes = {"choice": ("{", "}"), "floor": ("(", ")"), "point": ("[", "]"), "nothing": ("[", "]")}
     yield "graph LR" if across else "graph TD"
     for name, shape, words in drawing.nodes:
         opened, closed = shapes[shape]
-        yield f'    {name}{opened}"{words}"{closed}'
+        yield f'    {name}{opened}"{as_entities(words)}"{closed}'
     for start, end, label in drawing.arrows:
         yield f"    {start} -->|{label}| {end}" if label else f"    {start} --> {end}"
 
