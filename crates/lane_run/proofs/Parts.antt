@@ -112,9 +112,6 @@ module _ (t : ScaledTable) where
     cuts_above : (e : ℕ) → ((j : ℕ) → n ≤ j → j < e → is_above (row_at t.rows j) ≡ true) → (j : ℕ) → n + j < e → is_above (row_at (drop n t.rows) j) ≡ true
     cuts_above e all j lt = ap is_above (cut_at j) ∙ all (n + j) (omega arith) lt
 
-    pub none_below : ((j : ℕ) → n ≤ j → j < length t.rows → is_above (row_at t.rows j) ≡ true) → AreAbove (drop n t.rows)
-    none_below all j lt = cuts_above (length t.rows) all j (omega (arith, lt, length-drop n t.rows))
-
     pub cut_is_below : (i : ℕ) (row : List ℤ) → n ≤ i → i < length t.rows → is_above (row_at t.rows i) ≡ false → ((j : ℕ) → n ≤ j → j < i → is_above (row_at t.rows j) ≡ true)
         → AreLanes row → AreUnused n row → divided (row_over n t.scale (numbers_of n row)) ≡ row_at t.rows i → IsFirstRowBelow t (drop n t.rows) row
     cut_is_below i row le lt below before lanes unused same =
