@@ -71,16 +71,12 @@ flat_at g n each i (suc m) zero h =
     front : (xs ys : List ℤ) (n : ℕ) → length xs ≡ n → take n (drop 0 (xs ++ ys)) ≡ xs
     front xs ys n e = grind (arith, common_steps)
 flat_at g n each i (suc m) (suc k) h =
-    let one : suc k * n ≡ n + k * n = grind arith in
-    let further : (i + 1) + k ≡ i + suc k = omega arith in
-    behind (g i) (flat_map g (count_from (i + 1) m)) n (k * n) (suc k * n) (each i) one
+    behind (g i) (flat_map g (count_from (i + 1) m)) n (k * n) (suc k * n) (each i) (grind arith)
     ∙ flat_at g n each (i + 1) m k (omega arith)
-    ∙ ap g further
+    ∙ ap g (omega arith)
   where
     behind : (xs ys : List ℤ) (n a b : ℕ) → length xs ≡ n → b ≡ n + a → take n (drop b (xs ++ ys)) ≡ take n (drop a ys)
-    behind xs ys n a b e is =
-        let f : b ≡ length xs + a = omega (arith, e, is) in
-        ap (take n) (ap (λ (k : ℕ). drop k (xs ++ ys)) f ∙ drop_behind xs ys a)
+    behind xs ys n a b e is = ap (take n) (ap (λ (k : ℕ). drop k (xs ++ ys)) (omega (arith, e, is)) ∙ drop_behind xs ys a)
 
 flat_long : (g : ℕ → List ℤ) (n : ℕ) → ((k : ℕ) → length (g k) ≡ n) → (i m : ℕ) → length (flat_map g (count_from i m)) ≡ m * n
 flat_long g n each i zero = none n
@@ -226,7 +222,7 @@ module _ {n w : ℕ} {rows : List Row} {L : ℤ} {m : ℕ} {numbers : List ℤ} 
   some_most : 1 ≤ m
   some_most = omega (arith, ints, h.positive, h.common)
 
-  column_within : (k : ℕ) → k < n + w + 1 → All (λ z. unsigned_abs z ≤ m) (over L (part n k) rows)
+  pub column_within : (k : ℕ) → k < n + w + 1 → All (λ z. unsigned_abs z ≤ m) (over L (part n k) rows)
   column_within k lt = subst (All (λ z. unsigned_abs z ≤ m)) (basis_column k lt)
       (All-take (λ z. unsigned_abs z ≤ m) n (drop (k * n) numbers) (All-drop (λ z. unsigned_abs z ≤ m) (k * n) numbers h.within))
 

@@ -1,7 +1,7 @@
 -- The rows of a basis are wide, over its multiple, and within its bound.
 use Rattle.std.proofs.Common.{map, All}
 use Rattle.form_laws.proofs.Words.{◌≡◌, ◌∙◌, refl, ap, sym, subst, ℕ, zero, suc, ◌+◌, ◌*◌, ◌^◌, ◌<◌, ◌≤◌, ℤ, pos, ◌*ℤ◌, ◌<ℤ◌, unsigned_abs, arith, ◌⊎◌, inl, inr, true, List, [], ◌∷◌, ◌++◌, length, take, drop, append-nil, ints, unsigned_abs-mul, floor_div, entry, all_fit, Row, pivot_listed, start, unit_row, count_from, IsShortRow, coef, place, over, by_form, Form, made, IsWide, AllWide, KeptWide, IsOver, MadeBy, AllForms, norm, AllWithin, IsBounded, AllShort, KeptShort, part, IsScaled, IsBasis, All-take, All-drop, row_at, pivot, eliminated, turned, rows_by, ◌≤ℤ◌}
-use Rattle.form_laws.proofs.Columns.{column_at, part_coef, part_place}
+use Rattle.form_laws.proofs.Columns.{part_coef, part_place, column_within}
 use Rattle.form_laws.proofs.Listed.{basis_short, pivot_refuses_none}
 use Rattle.form_laws.proofs.Sizes.{short_by_form}
 use Rattle.form_laws.proofs.Invariant.{rows_any, start_made, pivot_made}
@@ -57,14 +57,10 @@ rows_within n w m L (r ∷ rows) h coefs places = (
     by_place k (inr e) = none_within (floor_div L r.den) (place k r) m e
 
 module _ (n w : ℕ) (basis : List Row) (L : ℤ) (m : ℕ) (numbers : List ℤ) (h : IsBasis n w basis L m numbers) where
-  column_within : (k : ℕ) → k < n + w + 1 → All (λ z. unsigned_abs z ≤ m) (over L (part n k) basis)
-  column_within k lt = subst (All (λ z. unsigned_abs z ≤ m)) (ap (λ (zs : List ℤ). take n (drop (k * n) zs)) h.columns ∙ column_at n w L basis k h.size lt)
-      (All-take (λ z. unsigned_abs z ≤ m) n (drop (k * n) numbers) (All-drop (λ z. unsigned_abs z ≤ m) (k * n) numbers h.within))
-
   pub basis_within : AllWithin m L basis
   basis_within = rows_within n w m L basis h.rows
-      (λ k lt. subst (All (λ z. unsigned_abs z ≤ m)) (part_coef n k L basis lt) (column_within k (omega (arith, lt))))
-      (λ k lt. subst (All (λ z. unsigned_abs z ≤ m)) (part_place n k L basis) (column_within (n + k) (omega (arith, lt))))
+      (λ k lt. subst (All (λ z. unsigned_abs z ≤ m)) (part_coef n k L basis lt) (column_within h k (omega (arith, lt))))
+      (λ k lt. subst (All (λ z. unsigned_abs z ≤ m)) (part_place n k L basis) (column_within h (n + k) (omega (arith, lt))))
 
   above : pos 0 <ℤ L
   above = omega (arith, ints, h.positive)
