@@ -45,9 +45,7 @@ entry-plus _ _ z e = absurd (omega arith)
 
 -- the constant of a form plus a number
 pub constant-plus : (c : List ℤ) (z : ℤ) → 1 ≤ length c → constant (plus c z) ≡ constant c +ℤ z
-constant-plus c z some =
-    let same : width (plus c z) ≡ width c = omega (arith, length-plus c z some) in
-    ap (entry (plus c z)) same ∙ entry-plus c (width c) z (omega arith)
+constant-plus c z some = ap (entry (plus c z)) (omega (arith, length-plus c z some)) ∙ entry-plus c (width c) z (omega arith)
 
 pub entry-combine : (a : ℤ) (us : List ℤ) (b : ℤ) (vs : List ℤ) (k : ℕ) → length us ≡ length vs
     → entry (combine a us b vs) k ≡ a *ℤ entry us k -ℤ b *ℤ entry vs k

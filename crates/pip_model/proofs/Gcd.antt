@@ -44,9 +44,7 @@ euclid-zero (suc steps) (suc b) h =
 scaled-mod : (x a b : ℕ) → 0 < x → 0 < b → (x * a) % (x * b) ≡ x * (a % b)
 scaled-mod x a b h k =
     let whole : x * a ≡ x * b * (a / b) + x * (a % b) = omega (arith, ap (λ n. x * n) (div-add-mod a b)) in
-    let below : a % b < b = mod-lt a k in
-    let small : x * (a % b) < x * b = mul-lt-mul_of_pos_left below h in
-    ap (λ n. n % (x * b)) whole ∙ mul-add-mod_self_left (x * b) (a / b) (x * (a % b)) ∙ mod-eq_of_lt small
+    ap (λ n. n % (x * b)) whole ∙ mul-add-mod_self_left (x * b) (a / b) (x * (a % b)) ∙ mod-eq_of_lt (mul-lt-mul_of_pos_left (mod-lt a k) h)
 
 -- the divisor of multiples is the multiple of the divisor
 pub euclid-scaled : (x steps a b : ℕ) → 0 < x → b < steps → IsGcd (x * a) (x * b) (x * euclid steps a b)
@@ -91,9 +89,8 @@ gcd-zero n = ap pos (euclid-zero (n + 1) n (omega arith))
 pub gcd_between : (a b : ℤ) → pos 1 ≤ℤ a → (pos 1 ≤ℤ gcd a b) × (gcd a b ≤ℤ a)
 gcd_between (negsuc n) b h = absurd (omega (arith, ints))
 gcd_between (pos n) b h =
-    let some : 0 < common n (unsigned_abs b) = pos_of_dvd_of_pos (common-IsGcd n (unsigned_abs b)).0 (omega (arith, ints)) in
     let le : common n (unsigned_abs b) ≤ n = le_of_dvd (omega (arith, ints)) (common-IsGcd n (unsigned_abs b)).0 in
-    (omega (arith, ints, some), omega (arith, ints, le))
+    (omega (arith, ints, (pos_of_dvd_of_pos (common-IsGcd n (unsigned_abs b)).0 (omega (arith, ints)))), omega (arith, ints, le))
 
 some_quotient : (n g q r : ℕ) → g * q + r ≡ n → r < g → g ≤ n → 0 < q
 some_quotient n g zero r e lt le = absurd (omega arith)
@@ -102,9 +99,7 @@ some_quotient n g (suc q) r e lt le = omega arith
 -- a smaller number goes at least once into one from 1 on
 pub quotient_positive : (a d : ℤ) → pos 1 ≤ℤ d → d ≤ℤ a → pos 1 ≤ℤ floor_div a d
 quotient_positive (pos n) (pos g) h le =
-    let some : 0 < g = omega (arith, ints) in
-    let q : 0 < n / g = some_quotient n g (n / g) (n % g) (div-add-mod n g) (mod-lt n some) (omega (arith, ints, le)) in
-    omega (arith, ints, q)
+    omega (arith, ints, (some_quotient n g (n / g) (n % g) (div-add-mod n g) (mod-lt n (omega (arith, ints))) (omega (arith, ints, le))))
 quotient_positive _ _ h le = absurd (omega (arith, ints))
 
 pub multiple-dvd : (d : ℕ) (x : ℤ) → Multiple (pos d) x → d ∣ nat_abs x
@@ -155,10 +150,9 @@ pub lowest : (d : ℤ) (cs : List ℤ) (g : ℕ) → gcd d (gcd_of cs) ≡ pos g
 lowest d cs g is h =
     let parts = rw is at (gcd-divides d (gcd_of cs)) in
     let entries = all_through (pos g) (gcd_of cs) cs parts.1 (gcd_of-divides cs) in
-    let size : common (unsigned_abs d) (unsigned_abs (gcd_of cs)) ≡ g = ap unsigned_abs is in
     let a = unsigned_abs (floor_div d (pos g)) in
     let b = unsigned_abs (gcd_of (floor_divided (pos g) cs)) in
-    let scaled : common (g * a) (g * b) ≡ g = rw (size-divided g d h parts.0, size-gcd_of g cs h entries) at size in
+    let scaled : common (g * a) (g * b) ≡ g = rw (size-divided g d h parts.0, size-gcd_of g cs h entries) at (ap unsigned_abs is) in
     ap pos (times-one g (common a b) h (sym (common-scaled g a b h) ∙ scaled))
 
 -- ---- division by 1
