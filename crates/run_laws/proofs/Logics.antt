@@ -197,8 +197,7 @@ module _ (L : Logic) where
 
     class_by_points_law : L.Holds Q (class_by_points w K c)
     class_by_points_law =
-        let below : Counted Class = point w (K ++ opposite c ∷ []) >>= λ o. class_below w K c o in
-        then_do (all_fit (opposite_listed c) ≡ true) Q (listed (opposite_listed c)) below (L.lists (opposite_listed c)) (λ f. L.bind (P (opposite c)) Q (point w (K ++ opposite c ∷ [])) (λ o. class_below w K c o) under class_below_law)
+        then_do (all_fit (opposite_listed c) ≡ true) Q (listed (opposite_listed c)) _ (L.lists (opposite_listed c)) (λ f. L.bind (P (opposite c)) Q (point w (K ++ opposite c ∷ [])) (λ o. class_below w K c o) under class_below_law)
 
     pub class_law : (list_all is_nonneg c ≡ true → Q Plus) → ((list_all (λ z. not (is_positive z)) c && is_negative (constant c)) ≡ true → Q Minus) → L.Holds Q (class_of w K c)
     class_law plus minus =
