@@ -1,6 +1,6 @@
 -- The rows of a basis are wide, over its multiple, and within its bound.
 use Rattle.std.proofs.Common.{map, All}
-use Rattle.form_laws.proofs.Words.{◌≡◌, ◌∙◌, refl, ap, sym, subst, ℕ, zero, suc, ◌+◌, ◌*◌, ◌^◌, ◌<◌, ◌≤◌, ℤ, pos, ◌*ℤ◌, ◌<ℤ◌, unsigned_abs, arith, ◌⊎◌, inl, inr, true, List, [], ◌∷◌, ◌++◌, length, take, drop, append-nil, ints, unsigned_abs-mul, floor_div, entry, all_fit, Row, pivot_listed, start, unit_row, count_from, IsShortRow, coef, place, over, by_form, Form, made, IsWide, AllWide, KeptWide, IsOver, MadeBy, AllForms, norm, AllWithin, IsBounded, AllShort, KeptShort, part, IsScaled, IsBasis, All-take, All-drop, row_at, pivot, eliminated, turned, rows_by, ◌≤ℤ◌}
+use Rattle.form_laws.proofs.Words.{◌≡◌, ◌∙◌, refl, ap, sym, subst, ℕ, zero, suc, ◌+◌, ◌*◌, ◌^◌, ◌<◌, ◌≤◌, ℤ, pos, ◌*ℤ◌, ◌<ℤ◌, unsigned_abs, arith, ◌⊎◌, inl, inr, true, List, [], ◌∷◌, ◌++◌, length, append-nil, ints, unsigned_abs-mul, floor_div, entry, all_fit, Row, pivot_listed, start, unit_row, count_from, IsShortRow, coef, place, over, by_form, Form, made, IsWide, AllWide, KeptWide, IsOver, MadeBy, AllForms, norm, AllWithin, IsBounded, AllShort, KeptShort, IsScaled, IsBasis, row_at, pivot, eliminated, turned, rows_by, ◌≤ℤ◌}
 use Rattle.form_laws.proofs.Columns.{part_coef, part_place, column_within}
 use Rattle.form_laws.proofs.Listed.{basis_short, pivot_refuses_none}
 use Rattle.form_laws.proofs.Sizes.{short_by_form}
