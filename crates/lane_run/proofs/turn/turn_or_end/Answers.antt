@@ -1,4 +1,4 @@
-use Rattle.lane_run.proofs.Words.{◌≡◌, ◌++◌, ℤ, Bool, Option, List, arith, Refused, Refusal, turn, point_setting, IsTurnOf, node_of, run_rows, forms_of, AreModest, IsRowBelow}
+use Rattle.lane_run.proofs.Words.{◌≡◌, ℤ, Bool, Option, List, arith, Refused, Refusal, turn, point_setting, IsTurnOf, node_of, run_rows, forms_of, AreModest, IsRowBelow}
 use Rattle.short_run.specs.Stops.{stop_fault}
 use Rattle.lane_run.proofs.Modest.{are_modest}
 use Rattle.lane_run.proofs.Passed.{ok_passed, err_passed}
