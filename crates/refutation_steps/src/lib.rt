@@ -8,8 +8,6 @@ mod room;
 mod short_refute;
 mod trace;
 
-pub use form_run::ask_by_forms;
-pub use point_run::{Point, find_point, push_form, run_on, start_rows, view_of};
 pub use positive_terms::push_positive;
 pub use refute::refute_forms;
 pub use room::RefutationRoom;

@@ -16,4 +16,4 @@ mod widening;
 
 pub use affine_forms::FormRefusal as StepRefusal;
 pub use tableau::Tableau;
-pub use tableau_row::{RowView, short_floor_div, short_gcd, view_of};
+pub use tableau_row::{RowView, view_of};

@@ -17,5 +17,4 @@ pub use append::{
 pub use elimination::check_eliminated;
 pub use row::{unit_column, view_of};
 pub use short::is_short_row;
-pub use short_numbers::{short_floor_div, short_gcd};
 pub use view::RowView;
