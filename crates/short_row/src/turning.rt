@@ -54,7 +54,7 @@ fn put_halves(by: Factors, row: &mut [i64], p: &[i64]) -> usize
 }
 
 /// Makes of the numbers of a row those after the pivot on row p and column c; whether they are short.
-#[inline(always)]
+#[inline(never)]
 pub fn turn(row: &mut [i64], unknowns: usize, p: &[i64], c: usize) -> bool
     requires { IsTurning unknowns p.now c row.old }
     ensures { IsTurned unknowns (model.eliminated (row_of_numbers unknowns p.now) c (row_of_numbers unknowns row.old)) result row.new }
