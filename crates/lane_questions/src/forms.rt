@@ -145,7 +145,7 @@ pub fn in_lanes(entries: &[i128]) -> Option<Lanes>
     }
     let mut lanes = Lanes::zeros().with(0, narrow(entries[places])?);
     for k in 0..places {
-        lanes = lanes.with(k + 1, narrow(entries[k])?);
+        lanes.set(k + 1, narrow(entries[k])?);
     }
     Some(lanes)
 }

@@ -64,7 +64,7 @@ pub(crate) fn vertex(rows: &[Lanes], n: usize, l: i32) -> Lanes
 {
     let mut at = unit(0, l);
     for j in 0..n {
-        at = at.with(j + 1, rows[j].get(0));
+        at.set(j + 1, rows[j].get(0));
     }
     at
 }

@@ -65,6 +65,18 @@ impl Lanes {
         Lanes { n }
     }
 
+    /// Makes number k another one, in place.
+    #[tactic(auto, using(crate::proofs::Writing::set_lanes))]
+    #[inline(always)]
+    pub fn set(&mut self, k: usize, z: i32)
+        requires number { k < 8 }
+        requires narrow { IsNarrow z }
+        ensures value { self.new ≡ slice_set self.old k z }
+        ensures lanes { AreLanes self.new }
+    {
+        self.n[k] = z;
+    }
+
     /// f times the numbers.
     #[inline(always)]
     pub fn times(self, f: i32) -> Lanes
