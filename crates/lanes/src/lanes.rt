@@ -42,11 +42,11 @@ impl Lanes {
 
     /// Number k.
     #[inline(always)]
-    pub fn get(self, k: usize) -> i32
+    pub fn get(&self, k: usize) -> i32
         requires { k < 8 }
-        ensures value { result ≡ entry self k }
+        ensures value { result ≡ entry self.now k }
         ensures narrow { IsNarrow result }
-        ensures lanes { AreLanes self }
+        ensures lanes { AreLanes self.now }
     {
         self.n[k]
     }

@@ -4,15 +4,16 @@ use Rattle.lane_rows.proofs.turning.turn_rows.Goals as goal
 
 pub turned_row-requires-clause-turnable : goal.turned_row-requires-clause-turnable
 turned_row-requires-clause-turnable c =
-    row_turnable _ c.args.p c.args.lane c.args.rows.now c.loop-j.rows c.loop-j.j _ c.index-rows-j.result c.requires.products c.loop-j.invariant.turned (omega arith)
-    (c.index-rows-j.is ∙ get_or_default c.loop-j.rows c.loop-j.j c.index-rows-j.result [] (omega arith))
+    row_turnable _ c.args.p c.args.lane c.args.rows.now c.loop-j.rows c.loop-j.j _ (get_or c.loop-j.rows c.loop-j.j c.index-rows-j.result) c.requires.products c.loop-j.invariant.turned (omega arith)
+    (get_or_default c.loop-j.rows c.loop-j.j c.index-rows-j.result [] (omega arith))
 
 pub loop-j-preserved : goal.loop-j-preserved
 loop-j-preserved c =
     let l = c.ranges.l in
     let kept = simp to_z-of_z at c.loop-j.invariant.turned in
-    let here : c.index-rows-j.result ≡ get_or c.args.rows.now c.loop-j.j [] = c.index-rows-j.is ∙ get_or_default c.loop-j.rows c.loop-j.j c.index-rows-j.result [] (omega arith) ∙ c.loop-j.invariant.turned.left c.loop-j.j (omega arith) in
-    let made : scale c.args.l c.in_ok-row.row ≡ turned c.args.l c.args.p c.args.lane c.index-rows-j.result = search (rules, c.in_ok-row.ensures.made) in
+    let row = get_or c.loop-j.rows c.loop-j.j c.index-rows-j.result in
+    let here : row ≡ get_or c.args.rows.now c.loop-j.j [] = get_or_default c.loop-j.rows c.loop-j.j c.index-rows-j.result [] (omega arith) ∙ c.loop-j.invariant.turned.left c.loop-j.j (omega arith) in
+    let made : scale c.args.l c.in_ok-row.row ≡ turned c.args.l c.args.p c.args.lane row = search (rules, c.in_ok-row.ensures.made) in
     record {
       narrow = omega (arith, c.with_bits-sizes.ensures.narrow);
       start = omega (arith, c.loop-j.invariant.start, c.with_bits-sizes.ensures.first);
