@@ -1,6 +1,6 @@
--- Rows of forms behind the places' rows: the column that enters, the first fraction, a pivot.
+-- Rows of forms behind the places' rows: what is held, and a pivot of all rows.
 use Rattle.std.proofs.Common.{All}
-use Rattle.form_run.proofs.Words.{◌≡◌, ◌∙◌, refl, ap, sym, ℕ, ◌+◌, ◌-◌, ◌*◌, ◌^◌, ◌<◌, ◌≤◌, ℤ, pos, ◌≤ℤ◌, arith, true, List, [], ◌∷◌, ◌++◌, length, map, take, get_or, length-append, ints, mul-le, take-append-le, length-map, get_or-map, get_or-append-add, entry, all_fit, Row, row_at, form_row, eliminated, pivot, pivot_listed, entering, entering_of, entering_listed, entering_of_listed, candidates, TableauRows, norm, none_refused, Basis, NumberLists, IsMeasured, IsRead, read, IsHeld, all_rows, forms_pivot}
+use Rattle.form_run.proofs.Words.{◌≡◌, ◌∙◌, refl, ap, ℕ, ◌+◌, ◌^◌, ◌<◌, ℤ, pos, ◌≤ℤ◌, arith, true, List, [], length, map, get_or, length-append, ints, mul-le, length-map, entry, all_fit, Row, row_at, eliminated, pivot, pivot_listed, TableauRows, norm, none_refused, Basis, NumberLists, IsMeasured, IsRead, read, IsHeld, all_rows, forms_pivot}
 
 -- ---- what is held
 
@@ -34,40 +34,6 @@ empty_held t b forms columns most e scale greatest numbers none alone small =
 
 pub all_long : (t : TableauRows) (b : Basis) (forms : List (List ℤ)) → length (all_rows t b forms).rows ≡ length t.rows + length forms
 all_long t b forms = length-append t.rows (map (read t b) forms) ∙ ap (λ (k : ℕ). length t.rows + k) (length-map forms (read t b))
-
--- so many rows are counted in 64 bits
-pub few : (n k s i : ℕ) → s ≡ n + 1 → k * s < 2 ^ 63 → i < k → n + i < 2 ^ 64
-few n k s i e small lt = omega (arith, e, small, lt, mul-le 1 s k s (omega arith) (omega arith), mul-le k 1 k s (omega arith) (omega arith))
-
--- ---- rows by their places
-
-pub row_behind : (R S : List Row) (j : ℕ) → row_at (R ++ S) (length R + j) ≡ row_at S j
-row_behind R S j = get_or-append-add R S j (form_row 0 [])
-
-pub form_at : (t : TableauRows) (b : Basis) (forms : List (List ℤ)) (r n : ℕ) (f : List ℤ) → n ≡ length t.rows → n ≤ r → r < length (all_rows t b forms).rows → f ≡ get_or forms (r - n) []
-    → row_at (all_rows t b forms).rows r ≡ read t b f
-form_at t b forms r n f e le lt is =
-    let place : r ≡ length t.rows + (r - n) = omega (arith, e, le) in
-    let inside : r - n < length forms = omega (arith, e, le, lt, all_long t b forms) in
-    ap (row_at (all_rows t b forms).rows) place
-    ∙ row_behind t.rows (map (read t b) forms) (r - n)
-    ∙ get_or-map (read t b) forms (r - n) [] (form_row 0 []) inside
-    ∙ ap (read t b) (sym is)
-
--- ---- the entering column asks the places' rows and the row alone
-
-module _ (P S : List Row) (p : Row) (r n : ℕ) (long : length P ≡ n) (narrow : length p.coefs ≡ n) (is : row_at (P ++ S) r ≡ p) where
-  last : row_at (P ++ p ∷ []) (length P + 0) ≡ p
-  last = row_behind P (p ∷ []) 0
-
-  front : take (length p.coefs) (P ++ p ∷ []) ≡ take (length p.coefs) (P ++ S)
-  front = take-append-le (length p.coefs) P (p ∷ []) (omega (arith, long, narrow)) ∙ sym (take-append-le (length p.coefs) P S (omega (arith, long, narrow)))
-
-  pub entering_with : entering (P ++ p ∷ []) (length P + 0) ≡ entering (P ++ S) r
-  entering_with = rw (last, is) (ap (λ (u : List Row). entering_of u p (candidates p)) front)
-
-  pub listed_with : entering_listed (P ++ p ∷ []) (length P + 0) ≡ entering_listed (P ++ S) r
-  listed_with = rw (last, is) (ap (λ (u : List Row). entering_of_listed u p (candidates p)) front)
 
 -- ---- a pivot of all rows
 

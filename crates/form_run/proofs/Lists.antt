@@ -1,7 +1,7 @@
 -- Lists one behind another, by their places.
 use Rattle.std.proofs.Common.{length-drop}
 use Rattle.std.proofs.Math.Nat.{suc-mul}
-use Rattle.form_run.proofs.Words.{◌≡◌, ◌∙◌, refl, ap, sym, ℕ, zero, suc, ◌+◌, ◌*◌, ◌<◌, ◌≤◌, ℤ, arith, List, [], ◌∷◌, ◌++◌, length, take, drop, get_or, length-append, drop-drop, take-append-le, drop-append-le, take_all, NumberLists, lists_in}
+use Rattle.form_run.proofs.Words.{◌≡◌, ◌∙◌, refl, ap, sym, ℕ, zero, suc, ◌+◌, ◌*◌, ◌<◌, ◌≤◌, ℤ, arith, List, [], ◌∷◌, ◌++◌, length, take, drop, get_or, drop-drop, take-append-le, drop-append-le, take_all, NumberLists, lists_in}
 
 one_more : (i s : ℕ) → suc i * s ≡ s + i * s
 one_more i s = suc-mul i s ∙ omega arith
@@ -29,9 +29,6 @@ lists_more s (suc k) zs ys e f =
     let rest : length (drop s zs) ≡ k * s = length-drop s zs ∙ omega (arith, e, whole) in
     let g : suc k + 1 ≡ suc (k + 1) = omega arith in
     rw (g, take-append-le s zs ys long, drop-append-le s zs ys long, lists_more s k (drop s zs) ys rest f) refl
-
-pub more_long : (s k : ℕ) (zs ys now : List ℤ) → length zs ≡ k * s → length ys ≡ s → now ≡ zs ++ ys → length now ≡ (k + 1) * s
-more_long s k zs ys now e f is = let whole : (k + 1) * s ≡ k * s + s = grind arith in ap length is ∙ length-append zs ys ∙ omega (arith, e, f, whole)
 
 pub count_is : (s k : ℕ) (zs : List ℤ) (t : NumberLists) → record { size = s; lists = lists_in s k zs } ≡ t → k ≡ length t.lists
 count_is s k zs t view = sym (length_lists s k zs) ∙ ap (λ (l : NumberLists). length l.lists) view

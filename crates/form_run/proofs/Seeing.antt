@@ -32,10 +32,9 @@ above_all t b forms h i zero le values above = let none : i ≡ i + 0 = omega ar
 above_all t b forms h i (suc n) le values above =
     let more : (i + 1) + n ≡ i + suc n = omega arith in
     let lt : i < length forms = omega (arith, le) in
-    let f = get_or forms i [] in
     let one : IsAbove t b forms (i + 1) = record {
       within = omega (arith, lt);
-      first = form_above t b forms h (length t.rows) i lt f refl (valued t b f) refl (values i [] (omega arith) (omega arith)) above.first;
+      first = form_above t b forms h (length t.rows) i lt _ refl (valued t b _) refl (values i [] (omega arith) (omega arith)) above.first;
     } in
     subst (IsAbove t b forms) more (above_all t b forms h (i + 1) n (omega (arith, le)) (λ k d from to. values k d (omega (arith, from)) (omega (arith, to))) one)
 
@@ -48,8 +47,7 @@ module _ (t : TableauRows) (b : Basis) (forms : List (List ℤ)) (h : All (IsRea
 
   pub below_here : behind (length t.rows) (Some k) ≡ negative_from (length t.rows) (map (read t b) forms)
   below_here =
-      let f = get_or forms k [] in
-      form_negative t b forms h (length t.rows) k (omega (arith, inside, seen.inside)) f refl (valued t b f) refl (seen.below []) above_here.first
+      form_negative t b forms h (length t.rows) k (omega (arith, inside, seen.inside)) _ refl (valued t b _) refl (seen.below []) above_here.first
 
 -- none from i on in front of j is
 pub above_seen : (t : TableauRows) (b : Basis) (forms : List (List ℤ)) → All (IsRead t b) forms → (i j : ℕ) (z : ℤ) → i ≤ j → j ≤ length forms → pos 0 ≤ℤ z → ValuesFrom t b forms i j z → IsAbove t b forms i → IsAbove t b forms j

@@ -1,5 +1,5 @@
 -- The words of other modules that the proofs of this crate cite, passed on from one place. Declares nothing.
-pub use Rattle.std.proofs.Common.{◌≡◌, refl, ℕ, Bool, true, Ok, Err, Result, ◌↔◌, IsTrue, ℤ, List, codes, ◌∙◌, sym, ap, zero, suc, ◌+◌, ◌-◌, ◌<◌, ◌≤◌, arith, sub-one, false, [], ◌∷◌, ◌++◌, length, append-nil, length-append, append_assoc, flat_map, rules, drop, take}
+pub use Rattle.std.proofs.Common.{◌≡◌, refl, ℕ, Bool, true, Ok, Err, Result, ◌↔◌, IsTrue, ℤ, List, codes, ◌∙◌, sym, ap, zero, suc, ◌+◌, ◌-◌, ◌<◌, ◌≤◌, arith, sub-one, false, [], ◌∷◌, ◌++◌, length, append-nil, length-append, append_assoc, flat_map, rules, drop, take, get_or}
 pub use Rattle.std.specs.Prelude.{Option, Some, None, IfOk, IfSome, OnOk, All}
 pub use Rattle.std.proofs.lemmas.Result.{err_from_is_err_and}
 pub use Rattle.pip_model.specs.Reading.{Fault, expect, Reads, same_bracket, up_to, number}
@@ -11,3 +11,4 @@ pub use Rattle.text_reading.specs.Steps.{fault_of}
 pub use Rattle.affine_forms.specs.Checks.{Fits}
 pub use Rattle.leaf_certificate.specs.Sequences.{leaves_to_end}
 pub use Rattle.leaf_certificate.specs.Printing.{spell_term, spell_step, spell_refutation, spell_leaf, spell_head}
+pub use Rattle.text_printing.proofs.Spellings.{begins_more, written, spelt_more}

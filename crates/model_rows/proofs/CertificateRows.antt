@@ -1,6 +1,5 @@
 -- Certificates of both formats and their check: texts and ends that an independent program gave.
-use Rattle.model_rows.proofs.Words.{refl, [], ◌∷◌, codes, ending, finished, CheckAll, Writes}
-use Rattle.std.specs.Fmt.{digits}
+use Rattle.model_rows.proofs.Words.{refl, [], ◌∷◌, codes, ending, finished, CheckAll, Writes, digits}
 
 record CertificateRowsHold : Type 0 where
   format_0 : Writes CheckAll (codes "((a) 1 0 1 0 -1 1 (#[1 -3]) ())((a)\n(list\n#[ 3]\n)\n)\n(certificate 0 #[] (() () ((1 1 1 2 1))))") ([]) (ending 3 (codes "unsupported certificate 0"))

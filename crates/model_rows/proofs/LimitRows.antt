@@ -1,6 +1,5 @@
 -- Rows at the limits of unknowns, parameters, rows, columns and components, which an independent program gave.
-use Rattle.model_rows.proofs.Words.{refl, true, false, [], ◌∷◌, codes, standard_budget, ending, finished, Command, Solve, Eval, Simplify, Writes}
-use Rattle.std.specs.Fmt.{digits}
+use Rattle.model_rows.proofs.Words.{refl, true, false, [], ◌∷◌, codes, standard_budget, ending, finished, Command, Solve, Eval, Simplify, Writes, digits}
 
 abbrev solve : Command
 solve = Solve (record { polylib = false; simplify = false; certificate = false; budget = standard_budget })

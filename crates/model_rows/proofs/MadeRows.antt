@@ -1,6 +1,5 @@
 -- Problems and the certificates of their answers, which an independent program in another language gave.
-use Rattle.model_rows.proofs.Words.{refl, ℕ, true, false, [], ◌∷◌, codes, ending, finished, Command, Solve, Writes}
-use Rattle.std.specs.Fmt.{digits}
+use Rattle.model_rows.proofs.Words.{refl, ℕ, true, false, [], ◌∷◌, codes, ending, finished, Command, Solve, Writes, digits}
 
 abbrev within : ℕ → ℕ → ℕ → ℕ → Command
 within p c s n = Solve (record { polylib = false; simplify = false; certificate = true; budget = record { pivots = p; cuts = c; splits = s; nesting = n } })

@@ -1,6 +1,5 @@
 -- Random problems, whose answers an independent program in another language gave (outside/rows.py).
-use Rattle.model_rows.proofs.Words.{refl, ℕ, false, [], ◌∷◌, codes, ending, finished, Command, Solve, Writes}
-use Rattle.std.specs.Fmt.{digits}
+use Rattle.model_rows.proofs.Words.{refl, ℕ, false, [], ◌∷◌, codes, ending, finished, Command, Solve, Writes, digits}
 
 abbrev solve_in : ℕ → ℕ → ℕ → ℕ → Command
 solve_in p c s n = Solve (record { polylib = false; simplify = false; certificate = false; budget = record { pivots = p; cuts = c; splits = s; nesting = n } })

@@ -1,6 +1,5 @@
 -- Random commands on trees, whose texts and ends an independent program gave.
-use Rattle.model_rows.proofs.Words.{refl, ℕ, [], ◌∷◌, codes, Budget, ending, finished, Restrict, Same, Least, Writes}
-use Rattle.std.specs.Fmt.{digits}
+use Rattle.model_rows.proofs.Words.{refl, ℕ, [], ◌∷◌, codes, Budget, ending, finished, Restrict, Same, Least, Writes, digits}
 
 abbrev budget : ℕ → ℕ → ℕ → ℕ → Budget
 budget p c s n = record { pivots = p; cuts = c; splits = s; nesting = n }

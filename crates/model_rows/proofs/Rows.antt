@@ -1,5 +1,4 @@
-use Rattle.model_rows.proofs.Words.{refl, ◌≡◌, ℕ, pos, negsuc, true, false, List, [], ◌∷◌, ◌++◌, ◌-◌, codes, Option, Some, Result, Ok, length, Budget, ending, finished, Command, Solve, Eval, Simplify, CheckAll, Trial, Writes}
-use Rattle.std.specs.Fmt.{digits}
+use Rattle.model_rows.proofs.Words.{refl, ◌≡◌, ℕ, pos, negsuc, true, false, List, [], ◌∷◌, ◌++◌, ◌-◌, codes, Option, Some, Result, Ok, length, Budget, ending, finished, Command, Solve, Eval, Simplify, CheckAll, Trial, Writes, digits}
 use Rattle.pip_model.specs.Tree.{Answer, Solved, Bottom, Leaf, If, NewParm}
 use Rattle.pip_model.specs.TreeText.{spell, read_answer}
 use Rattle.pip_model.specs.Certificate.{Certificate, read_certificate, spell_certificate}

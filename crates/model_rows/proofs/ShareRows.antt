@@ -1,6 +1,5 @@
 -- Certificates whose first steps are shared: texts and ends that an independent program gave.
-use Rattle.model_rows.proofs.Words.{refl, [], ◌∷◌, codes, ending, finished, ShareAll, Writes}
-use Rattle.std.specs.Fmt.{digits}
+use Rattle.model_rows.proofs.Words.{refl, [], ◌∷◌, codes, ending, finished, ShareAll, Writes, digits}
 
 record ShareRowsHold : Type 0 where
   format_2_unchanged_though_more_could_be_shared : Writes ShareAll (codes "((v) 1 1 0 2 -1 1 () (#[2 -1] #[-2 1]))((v)\nvoid\n)\n(certificate 2 void (() ((2 1 1) (1 2 1 3 2))))") (codes "(certificate 2 void\n(\n()\n((2 1 1)(1 2 1 3 2))\n)\n)\n" ∷ []) finished

@@ -1,6 +1,5 @@
 -- Problems whose rows are tightened at the start: answers and ends that an independent program gave.
-use Rattle.model_rows.proofs.Words.{refl, ℕ, true, false, [], ◌∷◌, codes, ending, finished, Command, Solve, Writes}
-use Rattle.std.specs.Fmt.{digits}
+use Rattle.model_rows.proofs.Words.{refl, ℕ, true, false, [], ◌∷◌, codes, ending, finished, Command, Solve, Writes, digits}
 
 abbrev solve_in : ℕ → ℕ → ℕ → ℕ → Command
 solve_in p c s n = Solve (record { polylib = false; simplify = false; certificate = false; budget = record { pivots = p; cuts = c; splits = s; nesting = n } })

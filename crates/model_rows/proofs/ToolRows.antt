@@ -1,6 +1,5 @@
 -- Commands on trees, row by row, from bytes to texts and ends.
-use Rattle.model_rows.proofs.Words.{refl, ℕ, [], ◌∷◌, codes, Budget, ending, finished, Restrict, Same, Least, Pieces, Writes}
-use Rattle.std.specs.Fmt.{digits}
+use Rattle.model_rows.proofs.Words.{refl, ℕ, [], ◌∷◌, codes, Budget, ending, finished, Restrict, Same, Least, Pieces, Writes, digits}
 
 abbrev budget : ℕ → ℕ → ℕ → ℕ → Budget
 budget p c s n = record { pivots = p; cuts = c; splits = s; nesting = n }

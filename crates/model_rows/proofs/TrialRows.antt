@@ -1,6 +1,5 @@
 -- Trials whose lines an independent program in another language gave (outside/run.py).
-use Rattle.model_rows.proofs.Words.{◌≡◌, refl, codes}
-use Rattle.std.specs.Fmt.{digits}
+use Rattle.model_rows.proofs.Words.{◌≡◌, refl, codes, digits}
 use Rattle.program_model.specs.Trial.{trial_text}
 
 record TrialRowsHold : Type 0 where

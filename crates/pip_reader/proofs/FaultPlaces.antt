@@ -1,5 +1,5 @@
 -- The place of a fault of a native text lies within the bytes, or at their end, and none is for an option word.
-use Rattle.pip_reader.proofs.Words.{◌≡◌, refl, ℕ, zero, suc, ◌+◌, ◌-◌, ◌≤◌, ℤ, pos, arith, List, length, length-drop, Bool, true, false, ◌&&◌, ◌==◌, Result, Ok, Err, Option, Some, None, IfOk, IfErr, if◌then◌else◌, int_le, unsigned_abs, LeftParen, RightParen, LeftRow, RightRow, Number, WideNumber, Unknowns, Parameters, Rows, ContextRows, most_unknowns, most_params, most_rows, most_context_rows, token, IsGroup, Fault, Syntax, Wide, Limit, BigParameter, OptionWord, ◌>>=◌, same_bracket, expect, number, number_of, numbers, row, rows, block, closing, group, group_to, within, no_big_parameter, next_open, item_at, problem_at, read_native, next_open-first, row-reads, AreRows, rows-reads, block-reads, InRange, within-reads, big-reads, group-reads}
+use Rattle.pip_reader.proofs.Words.{◌≡◌, refl, ℕ, zero, suc, ◌+◌, ◌-◌, ◌≤◌, ℤ, pos, arith, List, length, length-drop, Bool, true, false, ◌&&◌, ◌==◌, Result, Ok, Err, Option, Some, None, IfOk, IfErr, if◌then◌else◌, int_le, unsigned_abs, LeftParen, RightParen, LeftRow, RightRow, Number, WideNumber, Unknowns, Parameters, Rows, ContextRows, most_unknowns, most_params, most_rows, most_context_rows, token, IsGroup, Fault, Syntax, Wide, Limit, BigParameter, OptionWord, ◌>>=◌, same_bracket, expect, number, number_of, numbers, row, rows, block, closing, group, group_to, within, next_open, item_at, problem_at, read_native, next_open-first, row-reads, AreRows, rows-reads, block-reads, InRange, within-reads, big-reads, group-reads}
 use Rattle.std.specs.Prelude.{drop}
 use Rattle.pip_model.specs.declared.Kind.{Kind}
 use Rattle.pip_model.specs.declared.LimitKind.{LimitKind}
@@ -74,28 +74,24 @@ group-fault bytes place h =
 within-fault : (kind : LimitKind) (low high n : ℕ) (z : ℤ × ℕ) → IfErr (within kind low high z) (FaultWithin n)
 within-fault kind low high n z = choose n (int_le (pos low) z.0 && int_le z.0 (pos high)) (unsigned_abs z.0, z.1) (Limit kind z.0) tt
 
-big-fault : (n : ℕ) (z : ℤ × ℕ) → IfErr (no_big_parameter z) (FaultWithin n)
-big-fault n z = choose n (int_le z.0 (pos 0) && (unsigned_abs z.0 == 1)) z.1 (BigParameter z.0) tt
-
 pub problem_at-fault : (bytes : List ℕ) (place : ℕ) → place ≤ length bytes → IfErr (problem_at bytes place) (FaultWithin (length bytes))
 problem_at-fault bytes place h =
-    let n = length bytes in
     then-err _ _ _ (Opens bytes place) (expect-fault bytes LeftParen place h) (expect-opens bytes place h) (λ first p1.
     then-err _ _ _ (Read bytes first IsGroup) (group-fault bytes first p1.high) (group-reads bytes first p1.high) (λ comment p2.
     then-err _ _ _ (Read bytes comment.1 Fitting) (number-fault bytes comment.1 p2.between.high) (number-reads bytes comment.1 p2.between.high) (λ n1 p3.
-    then-err _ _ _ (InRange 1 most_unknowns n1.1) (within-fault Unknowns 1 most_unknowns n n1) (within-reads Unknowns 1 most_unknowns n1) (λ unknowns p4.
+    then-err _ _ _ (InRange 1 most_unknowns n1.1) (within-fault Unknowns 1 most_unknowns _ n1) (within-reads Unknowns 1 most_unknowns n1) (λ unknowns p4.
     let at4 : unknowns.1 ≤ length bytes = omega (arith, p3.between.high, p4.2) in
     then-err _ _ _ (Read bytes unknowns.1 Fitting) (number-fault bytes unknowns.1 at4) (number-reads bytes unknowns.1 at4) (λ m p5.
-    then-err _ _ _ (InRange 0 most_params m.1) (within-fault Parameters 0 most_params n m) (within-reads Parameters 0 most_params m) (λ params p6.
+    then-err _ _ _ (InRange 0 most_params m.1) (within-fault Parameters 0 most_params _ m) (within-reads Parameters 0 most_params m) (λ params p6.
     let at6 : params.1 ≤ length bytes = omega (arith, p5.between.high, p6.2) in
     then-err _ _ _ (Read bytes params.1 Fitting) (number-fault bytes params.1 at6) (number-reads bytes params.1 at6) (λ l p7.
-    then-err _ _ _ (InRange 0 most_rows l.1) (within-fault Rows 0 most_rows n l) (within-reads Rows 0 most_rows l) (λ row_count p8.
+    then-err _ _ _ (InRange 0 most_rows l.1) (within-fault Rows 0 most_rows _ l) (within-reads Rows 0 most_rows l) (λ row_count p8.
     let at8 : row_count.1 ≤ length bytes = omega (arith, p7.between.high, p8.2) in
     then-err _ _ _ (Read bytes row_count.1 Fitting) (number-fault bytes row_count.1 at8) (number-reads bytes row_count.1 at8) (λ k p9.
-    then-err _ _ _ (InRange 0 most_context_rows k.1) (within-fault ContextRows 0 most_context_rows n k) (within-reads ContextRows 0 most_context_rows k) (λ context_count p10.
+    then-err _ _ _ (InRange 0 most_context_rows k.1) (within-fault ContextRows 0 most_context_rows _ k) (within-reads ContextRows 0 most_context_rows k) (λ context_count p10.
     let at10 : context_count.1 ≤ length bytes = omega (arith, p9.between.high, p10.2) in
     then-err _ _ _ (Read bytes context_count.1 Fitting) (number-fault bytes context_count.1 at10) (number-reads bytes context_count.1 at10) (λ big p11.
-    then-err _ _ _ (λ p. p ≡ big.1) (big-fault n big) (big-reads big) (λ flag p12.
+    then-err _ _ _ (λ p. p ≡ big.1) (choose _ (int_le big.0 (pos 0) && (unsigned_abs big.0 == 1)) big.1 (BigParameter big.0) tt) (big-reads big) (λ flag p12.
     let at12 : flag ≤ length bytes = omega (arith, p11.between.high, p12) in
     then-err _ _ _ (Read bytes flag Fitting) (number-fault bytes flag at12) (number-reads bytes flag at12) (λ integer p13.
     then-err _ _ _ (Read bytes integer.1 (AreRows row_count.0 (unknowns.0 + 1 + params.0))) (block-fault bytes row_count.0 (unknowns.0 + 1 + params.0) integer.1 p13.between.high) (block-reads bytes row_count.0 (unknowns.0 + 1 + params.0) integer.1 p13.between.high) (λ tableau p14.

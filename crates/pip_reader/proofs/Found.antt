@@ -1,7 +1,5 @@
 -- A native text has no option words, and is found exactly where a `(` is left.
-use Rattle.pip_reader.proofs.Words.{Ok, ap, drop, Reads, ◌>>=◌, item_at, ◌≡◌, ℕ, refl, subst, List, Option, Some, None, Result, Err, IfErr, IfSome, IsTrue, ◌↔◌, ◌∙◌, sym, list_all, is_closed, Fault, ReadRefusal, read_fault, next_open, next_open-none, next_open-closed}
-use Rattle.pip_model.specs.Reading.{item}
-use Rattle.text_reading.proofs.Binds.{refused_by}
+use Rattle.pip_reader.proofs.Words.{Ok, ap, drop, Reads, ◌>>=◌, item_at, ◌≡◌, ℕ, refl, subst, List, Option, Some, None, Result, Err, IfErr, IfSome, IsTrue, ◌↔◌, ◌∙◌, sym, list_all, is_closed, Fault, ReadRefusal, read_fault, next_open, next_open-none, next_open-closed, item, refused_by}
 use Rattle.pip_problem.specs.declared.refusal.ReadRefusal.TheVariants as refusal
 use Rattle.pip_reader.specs.Refusals.{IsNoOption}
 use Rattle.pip_reader.proofs.FaultPlaces.{FaultWithin}

@@ -1,7 +1,5 @@
 -- The end of the first group of a text, piece by piece.
-use Rattle.pip_reader.proofs.Words.{◌≡◌, ◌≢◌, ◌∙◌, refl, sym, ap, ℕ, zero, suc, ◌+◌, ◌-◌, ◌<◌, ◌≤◌, false, ◌⊎◌, inl, inr, List, [], ◌∷◌, ◌++◌, length, drop, append_assoc, add-one, zero-add, drop-cons, take, arith, length_push, take_more, length-take-le, drop-drop, take-append-drop, Option, Some, None, IfNone, fold, slice_index, ◌==◌, All, open_after, closing, next_open, NoBracket, group_behind, first_group_end, group_end_from, IsScanned, place_behind}
-use Rattle.std.proofs.lemmas.Bool.{ne_eqb, cases_Bool, cases_eq}
-use Rattle.text_tokens.proofs.Closing.{other_byte}
+use Rattle.pip_reader.proofs.Words.{◌≡◌, ◌≢◌, ◌∙◌, refl, sym, ap, ℕ, zero, suc, ◌+◌, ◌-◌, ◌<◌, ◌≤◌, false, ◌⊎◌, inl, inr, List, [], ◌∷◌, ◌++◌, length, drop, append_assoc, add-one, zero-add, drop-cons, take, arith, length_push, take_more, length-take-le, drop-drop, take-append-drop, Option, Some, None, IfNone, fold, slice_index, ◌==◌, All, open_after, closing, next_open, NoBracket, group_behind, first_group_end, group_end_from, IsScanned, place_behind, ne_eqb, cases_Bool, cases_eq, other_byte}
 use Rattle.std.proofs.lemmas.List.{length-drop}
 use Rattle.std.proofs.Math.Seq.{take-add}
 use Rattle.std.proofs.lemmas.List.Sums.{fold-append}

@@ -1,8 +1,7 @@
 -- Reading a problem by steps is reading it at once.
-use Rattle.pip_reader.proofs.Words.{◌≡◌, ◌≤◌, length, ℕ, List, Ok, problem_at, IsGroup, problem_at-reads, problem_by_steps}
+use Rattle.pip_reader.proofs.Words.{◌≡◌, ◌≤◌, length, ℕ, List, Ok, problem_at, IsGroup, problem_at-reads, problem_by_steps, bind_assoc}
 use Rattle.pip_model.specs.Problem.{Problem}
 use Rattle.pip_model.specs.WellFormed.{IsProblem}
-use Rattle.text_reading.proofs.Binds.{bind_assoc}
 use Rattle.pip_reader.specs.Header.{size}
 
 pub problem_is_by_steps : (bytes : List ℕ) (place : ℕ) → problem_at bytes place ≡ problem_by_steps bytes place

@@ -9,11 +9,11 @@ pub use Rattle.pip_model.specs.declared.LimitKind.TheVariants.{Unknowns, Paramet
 pub use Rattle.pip_model.specs.Limits.{most_unknowns, most_params, most_rows, most_context_rows}
 pub use Rattle.pip_model.specs.Tokens.{token}
 pub use Rattle.pip_model.specs.Printed.{IsGroup}
-pub use Rattle.pip_model.specs.Reading.{Fault, Syntax, Wide, Limit, BigParameter, OptionWord, ◌>>=◌, same_bracket, expect, number, number_of, numbers, row, rows, block, closing, group, group_to, within, no_big_parameter, next_open, item_at, open_after, Reads}
+pub use Rattle.pip_model.specs.Reading.{Fault, Syntax, Wide, Limit, BigParameter, OptionWord, ◌>>=◌, same_bracket, expect, number, number_of, numbers, row, rows, block, closing, group, group_to, within, no_big_parameter, next_open, item_at, open_after, Reads, item}
 pub use Rattle.pip_model.specs.NativeText.{problem_at, read_native, form_of_row}
 pub use Rattle.text_laws.proofs.Items.{next_open-first, next_open-none, next_open-closed}
 pub use Rattle.text_laws.proofs.ReadProblems.{row-reads, AreRows, rows-reads, block-reads, InRange, within-reads, big-reads, group-reads, problem_at-reads}
-pub use Rattle.pip_model.specs.ContextText.{context_rows}
+pub use Rattle.pip_model.specs.ContextText.{context_rows, context_at}
 pub use Rattle.text_reading.proofs.Ends.{behind, list_by, full_by, list_end, list_more, list_refused}
 pub use Rattle.text_reading.proofs.Fronts.{one_more, read_as, step_more, refused_more}
 pub use Rattle.pip_problem.specs.declared.refusal.ReadRefusal.{ReadRefusal}
@@ -25,3 +25,6 @@ pub use Rattle.pip_reader.specs.Groups.{NoBracket, group_behind, first_group_end
 pub use Rattle.pip_reader.specs.Contexts.{next_row}
 pub use Rattle.pip_reader.specs.Rows.{form_row, form_rows}
 pub use Rattle.pip_reader.specs.Problems.{problem_by_steps, problem_of}
+pub use Rattle.text_reading.proofs.Binds.{refused_by, bind_assoc}
+pub use Rattle.std.proofs.lemmas.Bool.{ne_eqb, cases_Bool, cases_eq}
+pub use Rattle.text_tokens.proofs.Closing.{other_byte}

@@ -1,16 +1,12 @@
 -- A command among all gives what it gives alone, where its name stands behind the program's.
-use Rattle.pip_words.proofs.Words.{◌≡◌, ◌∙◌, refl, sym, subst, ap, ap₂, append_assoc, append-nil, true, false, Bool, List, [], ◌∷◌, ◌++◌, map, fold, Option, None, Some, option_map, if◌then◌else◌, App, Kinds, Text, fault_of, is_simple_and_free, subcommand_of, matches_of, pip_app, command_of, command_in, command_named, is_accepted, spellings, Spelling, arith, ℕ, suc, ◌-◌, ◌<◌, length, get_or, take, drop, find, cond, bytes_eq}
-use Rattle.std.specs.Prelude.{is_some, slice_get}
+use Rattle.pip_words.proofs.Words.{◌≡◌, ◌∙◌, refl, sym, subst, ap, ap₂, append_assoc, append-nil, true, false, Bool, List, [], ◌∷◌, ◌++◌, map, fold, Option, None, Some, option_map, if◌then◌else◌, App, Kinds, Text, fault_of, is_simple_and_free, subcommand_of, matches_of, pip_app, command_of, command_in, command_named, is_accepted, spellings, Spelling, arith, ℕ, suc, ◌-◌, ◌<◌, length, get_or, take, drop, find, cond, bytes_eq, is_some, slice_get, Shape, argument_words, built, entered, label_of, names_of, rows_at, app_given, app_alone, command_alone, spelling_named}
 use Rattle.std.specs.Option.{option_map_or}
 use Rattle.std.proofs.lemmas.Slice.Eq.{bytes_eq-Decides}
 use Rattle.std.proofs.Math.Seq.{take-length}
-use Rattle.clap.specs.Simple.{Shape, argument_words, built, entered, label_of, names_of, rows_at}
 use Rattle.clap.specs.Walk.{Names, Row, Rule, Walk, answers_to, finished, nothing_held, rows_after, settled, walk, walk_from, walked}
 use Rattle.clap.specs.Faults.{built_fault, check_fault, defaults_fault, entered_fault, level_fault, settle_fault, turn_fault, walk_fault}
 use Rattle.clap.specs.Kinds.{or_else}
-use Rattle.pip_words.specs.Arguments.{app_given}
 use Rattle.pip_words.specs.declared.arguments.Entry.{Entry}
-use Rattle.pip_words.specs.Alone.{app_alone, command_alone, spelling_named}
 
 abbrev start : Walk
 start = walk_from nothing_held

@@ -1,8 +1,6 @@
 -- From clap's clauses to the command that the words give.
-use Rattle.pip_words.proofs.Words.{◌≡◌, ◌∙◌, refl, sym, subst, ap, ap₂, true, cond, List, [], ◌∷◌, Option, None, inl, inr, App, HasKind, HasMatchesOf, IsAmong, Kinds, Text, fault_of, is_simple, is_simple_and_free, kind_of, subcommand_of, subcommand_rows_of, rows_of, found_of, matches_of, Bool, false, ◌&&◌, Command, pip_app, command_of, command_in, command_named, is_accepted}
+use Rattle.pip_words.proofs.Words.{◌≡◌, ◌∙◌, refl, sym, subst, ap, ap₂, true, cond, List, [], ◌∷◌, Option, None, inl, inr, App, HasKind, HasMatchesOf, IsAmong, Kinds, Text, fault_of, is_simple, is_simple_and_free, kind_of, subcommand_of, subcommand_rows_of, rows_of, found_of, matches_of, Bool, false, ◌&&◌, Command, pip_app, command_of, command_in, command_named, is_accepted, built, command_alone}
 use Rattle.clap.specs.Faults.{is_free_app}
-use Rattle.clap.specs.Simple.{built}
-use Rattle.pip_words.specs.Alone.{command_alone}
 use Rattle.clap.specs.declared.ArgMatches.{ArgMatches}
 use Rattle.clap.specs.declared.Error.{Error}
 use Rattle.clap.specs.declared.error.ErrorKind.{ErrorKind}

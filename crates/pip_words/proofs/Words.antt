@@ -9,4 +9,7 @@ pub use Rattle.pip_model.specs.Tokens.{is_digit, natural_of}
 pub use Rattle.pip_model.specs.Limits.{most_params}
 pub use Rattle.pip_words.specs.Words.{pip_app, command_of, command_in, command_named, is_accepted, spellings, Spelling, Gives, meaning_of, all_parameters, ◌>>=◌}
 pub use Rattle.pip_words.specs.Numbers.{number_of, parameter_of}
-pub use Rattle.pip_words.specs.Arguments.{with_argument, with_entry}
+pub use Rattle.pip_words.specs.Arguments.{with_argument, with_entry, app_given}
+pub use Rattle.std.specs.Prelude.{is_some, slice_get, ◌||◌}
+pub use Rattle.clap.specs.Simple.{Shape, argument_words, built, entered, label_of, names_of, rows_at}
+pub use Rattle.pip_words.specs.Alone.{app_alone, command_alone, spelling_named}

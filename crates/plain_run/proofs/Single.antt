@@ -1,6 +1,5 @@
 -- Lists of one number.
-use Rattle.plain_run.proofs.Words.{Component, reduced, Row, row_component, ◌∙◌, ap, ap₂, refl, List, [], ◌∷◌, length, ℤ, arith, slice_index_or}
-use Rattle.std.proofs.Common.{◌≡◌}
+use Rattle.plain_run.proofs.Words.{Component, reduced, Row, row_component, ◌∙◌, ap, ap₂, refl, List, [], ◌∷◌, length, ℤ, arith, slice_index_or, ◌≡◌}
 
 pub one_entry : (xs : List ℤ) (d : ℤ) → length xs ≡ 1 → slice_index_or xs 0 d ∷ [] ≡ xs
 one_entry [] d e = absurd (omega arith)

@@ -1,8 +1,6 @@
 -- The turns of rows without parameters, by the first row below 0.
-use Rattle.std.proofs.Common.{◌≡◌}
-use Rattle.plain_run.proofs.Words.{◌∙◌, ap, refl, ℕ, ◌+◌, Bool, true, false, List, [], ◌∷◌, Option, Some, None, if◌then◌else◌, Row, Work, Signs, AllPlus, MinusAt, turn, turn_by, negative_from, node_of, plain_setting}
+use Rattle.plain_run.proofs.Words.{◌∙◌, ap, refl, ℕ, ◌+◌, Bool, true, false, List, [], ◌∷◌, Option, Some, None, if◌then◌else◌, Row, Work, Signs, AllPlus, MinusAt, turn, turn_by, negative_from, node_of, plain_setting, ◌≡◌, constant}
 use Rattle.pip_model.specs.Numbers.{is_nonneg}
-use Rattle.pip_model.specs.Forms.{constant}
 use Rattle.plain_laws.proofs.Plain.{first_minus, plain_turn_is}
 
 abbrev pub signs_of : Option ℕ → Signs

@@ -1,5 +1,5 @@
 -- The words of other modules that the proofs of this crate cite, passed on from one place. Declares nothing.
-pub use Rattle.std.proofs.Common.{refl, ap, sym, ◌∙◌, ◌<◌, ◌≤◌, Bool, Option, Some, None, List, length, arith, ℕ, ◌+◌, true, false, [], ◌∷◌, ap₂, ℤ, slice_index_or, rules, pos}
+pub use Rattle.std.proofs.Common.{refl, ap, sym, ◌∙◌, ◌<◌, ◌≤◌, Bool, Option, Some, None, List, length, arith, ℕ, ◌+◌, true, false, [], ◌∷◌, ap₂, ℤ, slice_index_or, rules, pos, ◌≡◌}
 pub use Rattle.std.specs.Prelude.{IfSome, Ok, Err, if◌then◌else◌, map, take, All}
 pub use Rattle.pip_model.specs.Tree.{Tree, Component, reduced, Bottom}
 pub use Rattle.pip_model.specs.Rows.{Row, form_row, row_at}
@@ -9,3 +9,5 @@ pub use Rattle.point_turns.proofs.Leaving.{scope_none, scope_on}
 pub use Rattle.plain_laws.specs.Plain.{plain_setting}
 pub use Rattle.quast.specs.Components.{IsComponent}
 pub use Rattle.std.proofs.lemmas.Grind.{common_steps}
+pub use Rattle.pip_model.specs.Forms.{constant}
+pub use Rattle.point_turns.proofs.Pointing.{starts_run, run_goes_on, run_less, run_closed, run_refused, IsOneRun}

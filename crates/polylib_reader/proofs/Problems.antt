@@ -1,7 +1,5 @@
 -- Reading a problem in matrices by steps is reading it at once.
-use Rattle.polylib_reader.proofs.Words.{◌≡◌, ◌∙◌, refl, ap, ℕ, ℤ, Bool, true, List, length, Ok, Err, Result, Fault, ◌>>=◌, read_matrices, matrix_number, options, bind_assoc}
-use Rattle.std.specs.Prelude.{codes}
-use Rattle.pip_model.specs.Reading.{no_big_parameter}
+use Rattle.polylib_reader.proofs.Words.{◌≡◌, ◌∙◌, refl, ap, ℕ, ℤ, Bool, true, List, length, Ok, Err, Result, Fault, ◌>>=◌, read_matrices, matrix_number, options, bind_assoc, codes, no_big_parameter}
 use Rattle.pip_model.specs.Problem.{Problem}
 use Rattle.pip_model.specs.WellFormed.{IsProblem}
 use Rattle.text_laws.proofs.ReadMatrices.{read_matrices-reads}

@@ -19,15 +19,12 @@ from_one (negsuc n) h k = absurd (omega (arith, ints))
 product_positive : (x y : ℤ) → pos 1 ≤ℤ x → pos 1 ≤ℤ y → pos 1 ≤ℤ (x *ℤ y)
 product_positive x y h k = let p = mul_pp x y (omega (arith, ints)) (omega (arith, ints)) in omega (arith, ints)
 
-pub lcm_positive : (a b : ℤ) → pos 1 ≤ℤ a → pos 1 ≤ℤ b → pos 1 ≤ℤ lcm a b
-lcm_positive a b h k = product_positive a (floor_div b (gcd a b)) h (quotient_positive b (gcd a b) (gcd_positive a b k) (gcd_below a b k))
-
 -- the same of a number that is the divisor, or the multiple
 pub divisor_positive : (x c d : ℤ) → x ≡ gcd c d → pos 1 ≤ℤ d → pos 1 ≤ℤ x
 divisor_positive x c d is h = rw is (gcd_positive c d h)
 
 pub multiple_positive : (x a b : ℤ) → x ≡ lcm a b → pos 1 ≤ℤ a → pos 1 ≤ℤ b → pos 1 ≤ℤ x
-multiple_positive x a b is h k = rw is (lcm_positive a b h k)
+multiple_positive x a b is h k = rw is (product_positive a (floor_div b (gcd a b)) h (quotient_positive b (gcd a b) (gcd_positive a b k) (gcd_below a b k)))
 
 pub lowest_positive : (x n d : ℤ) → x ≡ floor_div d (gcd n d) → pos 1 ≤ℤ d → pos 1 ≤ℤ x
 lowest_positive x n d is h = rw is (quotient_positive d (gcd n d) (gcd_positive n d h) (gcd_below n d h))

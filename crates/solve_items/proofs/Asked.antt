@@ -1,15 +1,12 @@
 -- That the source is not called again once the group of a refused problem has ended.
-use Rattle.solve_items.proofs.Words.{◌≡◌, refl, sym, ap, subst, ◌∙◌, ℕ, ◌+◌, ◌-◌, ◌<◌, ◌≤◌, ◌↔◌, inl, inr, arith, Bool, true, false, List, [], ◌∷◌, length, length-drop, take, drop, IfSome, Result, Ok, Err, Takes, AsksOn, CallsWithin, takes-none, takes-then, asks-none, asks-then, Appends, AppendsFront, Appends-trans, concat, HeldBytes, most_input_bytes, Problem, Fault, moved, read_native, Ending, finished, ItemAt, Gives, FirstItemsTo, IsItself, or_ending, text_with, text_of_item, SolveOptions, Solve, text_of, read_native-ends, first_group_end, taken_by, AsksWhileOpen, AsksInTurns, CallsFor, if-map, if-some, ReadsNone, IsReady, Gained, StopsAtRefused, FailsInTime, AreAll, WritesByProblem}
+use Rattle.solve_items.proofs.Words.{◌≡◌, refl, sym, ap, subst, ◌∙◌, ℕ, ◌+◌, ◌-◌, ◌<◌, ◌≤◌, ◌↔◌, inl, inr, arith, Bool, true, false, List, [], ◌∷◌, length, length-drop, take, drop, IfSome, Result, Ok, Err, Takes, AsksOn, CallsWithin, takes-none, takes-then, asks-none, asks-then, Appends, AppendsFront, Appends-trans, concat, HeldBytes, most_input_bytes, Problem, Fault, moved, read_native, Ending, finished, ItemAt, Gives, FirstItemsTo, IsItself, or_ending, text_with, text_of_item, SolveOptions, Solve, text_of, read_native-ends, first_group_end, taken_by, AsksWhileOpen, AsksInTurns, CallsFor, if-map, if-some, ReadsNone, IsReady, Gained, StopsAtRefused, FailsInTime, AreAll, WritesByProblem, Answers, AnswersNext, CallsBy, err-same}
 use Rattle.std.specs.Prelude.{Option, Some, None}
 use Rattle.pip_stream.proofs.Groups.{group_end-ends}
 use Rattle.pip_stream.proofs.Taking.{ended-by}
 use Rattle.pip_stream.proofs.Asking.{turns-any}
 use Rattle.item_writing.specs.Ending.{Ending as Refused}
 use Rattle.item_writing.specs.Ending.TheVariants as ending
-use Rattle.solve_items.specs.Answered.{Answers, AnswersNext}
-use Rattle.item_writing.specs.ByProblem.{CallsBy}
 use Rattle.solve_items.proofs.ByProblem.{text, text-is, text-written, Follows, follows-start, follows-more, none-written, err-written}
-use Rattle.item_writing.proofs.Faults.{err-same}
 
 -- ---- items one after the other
 

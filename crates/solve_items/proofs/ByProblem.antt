@@ -1,5 +1,5 @@
 -- What the loop over the problems of an input has written so far, and what it is at each of its ends.
-use Rattle.solve_items.proofs.Words.{◌≡◌, refl, sym, ap, subst, ◌∙◌, ℕ, ◌+◌, ◌-◌, ◌<◌, ◌≤◌, inl, inr, arith, true, false, List, [], length, length-append, length-drop, take, drop, Appends-nil, drop-drop, drop-take, ◌⊎◌, ◌↔◌, IfSome, Result, Ok, Err, IsErrOf, if◌then◌else◌, list_all, Appends, AppendsFront, HeldBytes, most_input_bytes, Problem, Fault, moved, is_closed, read_native, Ending, finished, fault_ending, matrix_item, problem_item, ItemAt, or_ending, text_with, text_of_item, IsItself, NoEnd, Ends, SolveOptions, Solve, item_text, text_of, read_native-moved, first_items-end, group_behind, first_group_end, taken_by, bytes_from, ReadsNext, ReadsNone, IsSpared, StaysOpen, HoldsRest, FindsNext, IsReady, told, IsOfItem, Gained, GainedFront, counts-none, counts-as, EndsByFaults, AreEnded, AreBefore, AreAll, WritesTillEnd, WritesByProblem}
+use Rattle.solve_items.proofs.Words.{◌≡◌, refl, sym, ap, subst, ◌∙◌, ℕ, ◌+◌, ◌-◌, ◌<◌, ◌≤◌, inl, inr, arith, true, false, List, [], length, length-append, length-drop, take, drop, Appends-nil, drop-drop, drop-take, ◌⊎◌, ◌↔◌, IfSome, Result, Ok, Err, IsErrOf, if◌then◌else◌, list_all, Appends, AppendsFront, HeldBytes, most_input_bytes, Problem, Fault, moved, is_closed, read_native, Ending, finished, fault_ending, matrix_item, problem_item, ItemAt, or_ending, text_with, text_of_item, IsItself, NoEnd, Ends, SolveOptions, Solve, item_text, text_of, read_native-moved, first_items-end, group_behind, first_group_end, taken_by, bytes_from, ReadsNext, ReadsNone, IsSpared, StaysOpen, HoldsRest, FindsNext, IsReady, told, IsOfItem, Gained, GainedFront, counts-none, counts-as, EndsByFaults, AreEnded, AreBefore, AreAll, WritesTillEnd, WritesByProblem, Answers, IsUnread, IsUnanswered, AnswersNext, own-not, err-same, counts-failed, faults-by}
 use Rattle.std.specs.Prelude.{Option, Some, None}
 use Rattle.std.specs.Option.{option_map}
 use Rattle.program_model.specs.Output.{IsFirstOutput}
@@ -13,8 +13,6 @@ use Rattle.item_writing.specs.PipEndingsInputs.{next_ending}
 use Rattle.item_writing.specs.Ending.{Ending as Refused}
 use Rattle.item_writing.specs.Ending.TheVariants as ending
 use Rattle.pip_outside.specs.Faults.{HasRisen, CountsFaults}
-use Rattle.solve_items.specs.Answered.{Answers, IsUnread, IsUnanswered, AnswersNext}
-use Rattle.item_writing.proofs.Faults.{own-not, err-same, counts-failed, faults-by}
 use Rattle.item_writing.proofs.Written.{LeadTo, nothing, one_more, front_of_one}
 
 module _ (o : SolveOptions) (bytes : List ℕ) where

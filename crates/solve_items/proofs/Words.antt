@@ -34,5 +34,7 @@ pub use Rattle.pip_stream.specs.Next.{ReadsNext, ReadsNone, IsSpared, StaysOpen,
 pub use Rattle.pip_outside.proofs.Faults.{counts-none, counts-as}
 pub use Rattle.pip_words.specs.Words.{options_of}
 pub use Rattle.item_writing.specs.Items.{Gained, GainedFront}
-pub use Rattle.item_writing.specs.ByProblem.{StopsAtRefused, AreEnded, AreBefore, AreAll, WritesTillEnd, WritesByProblem, FailsInTime}
+pub use Rattle.item_writing.specs.ByProblem.{StopsAtRefused, AreEnded, AreBefore, AreAll, WritesTillEnd, WritesByProblem, FailsInTime, CallsBy}
 pub use Rattle.item_writing.specs.Outputs.{EndsByFaults}
+pub use Rattle.solve_items.specs.Answered.{Answers, AnswersNext, IsUnread, IsUnanswered}
+pub use Rattle.item_writing.proofs.Faults.{err-same, own-not, counts-failed, faults-by, err-not_ok}

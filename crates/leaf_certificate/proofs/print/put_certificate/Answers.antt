@@ -1,6 +1,5 @@
-use Rattle.leaf_certificate.proofs.Words.{rules, codes, spell_leaves, spell_head}
+use Rattle.leaf_certificate.proofs.Words.{rules, codes, spell_leaves, spell_head, begins_more}
 use Rattle.leaf_certificate.proofs.Spellings.{joined}
-use Rattle.text_printing.proofs.Spellings.{begins_more}
 use Rattle.leaf_certificate.proofs.print.put_certificate.Goals as goal
 
 pub returns-clause-ok : goal.returns-clause-ok

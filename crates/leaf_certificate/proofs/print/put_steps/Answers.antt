@@ -1,6 +1,4 @@
-use Rattle.leaf_certificate.proofs.Words.{◌≡◌, ◌∙◌, ap, append_assoc, ◌++◌, arith, flat_map, take, spell_step, spell_steps}
-use Rattle.std.proofs.Common.{get_or}
-use Rattle.text_printing.proofs.Spellings.{written, spelt_more}
+use Rattle.leaf_certificate.proofs.Words.{◌≡◌, ◌∙◌, ap, append_assoc, ◌++◌, arith, flat_map, take, spell_step, spell_steps, written, spelt_more, get_or}
 use Rattle.leaf_certificate.proofs.Spellings.{steps_flat}
 use Rattle.leaf_certificate.proofs.print.put_steps.Goals as goal
 

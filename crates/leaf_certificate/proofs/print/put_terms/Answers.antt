@@ -1,5 +1,4 @@
-use Rattle.leaf_certificate.proofs.Words.{◌∙◌, ap, append_assoc, ◌++◌, arith, flat_map, take, spell_term, spell_terms}
-use Rattle.text_printing.proofs.Spellings.{written}
+use Rattle.leaf_certificate.proofs.Words.{◌∙◌, ap, append_assoc, ◌++◌, arith, flat_map, take, spell_term, spell_terms, written}
 use Rattle.leaf_certificate.proofs.Spellings.{terms_flat}
 use Rattle.leaf_certificate.proofs.print.put_terms.Goals as goal
 

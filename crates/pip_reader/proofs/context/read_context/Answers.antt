@@ -1,5 +1,4 @@
-use Rattle.pip_reader.proofs.Words.{sym, ◌∙◌, drop, err_from_is_err_and, read_fault}
-use Rattle.pip_model.specs.ContextText.{context_at}
+use Rattle.pip_reader.proofs.Words.{sym, ◌∙◌, drop, err_from_is_err_and, read_fault, context_at}
 use Rattle.pip_reader.proofs.Found.{none_left, one_left, none_found, one_found, one_refused}
 use Rattle.pip_reader.proofs.context.read_context.Goals as goal
 

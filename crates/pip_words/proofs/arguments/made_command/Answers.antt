@@ -1,5 +1,4 @@
-use Rattle.pip_words.proofs.Words.{◌∙◌, sym, ap₂, Bool, fold, app_of, with_argument}
-use Rattle.std.specs.Prelude.{◌||◌}
+use Rattle.pip_words.proofs.Words.{◌∙◌, sym, ap₂, Bool, fold, app_of, with_argument, ◌||◌}
 use Rattle.std.proofs.lemmas.List.{at_drop_all}
 use Rattle.pip_words.proofs.Folds.{fold-step}
 use Rattle.pip_words.proofs.arguments.made_command.Goals as goal

@@ -1,5 +1,4 @@
-use Rattle.pip_words.proofs.Words.{◌≡◌, ◌∙◌, length, arith, string_bytes}
-use Rattle.pip_words.specs.Arguments.{app_given}
+use Rattle.pip_words.proofs.Words.{◌≡◌, ◌∙◌, length, arith, string_bytes, app_given}
 use Rattle.pip_words.proofs.Alone.{bare_alone, simple_alone}
 use Rattle.pip_words.proofs.reading.named.Goals as goal
 

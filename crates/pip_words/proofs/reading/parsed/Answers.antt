@@ -1,7 +1,6 @@
-use Rattle.pip_words.proofs.Words.{map, string_bytes}
+use Rattle.pip_words.proofs.Words.{map, string_bytes, app_given}
 use Rattle.pip_words.proofs.Giving.{given_at, given_refusal}
 use Rattle.pip_words.proofs.Parsed.{accepted_alone, refused_alone}
-use Rattle.pip_words.specs.Arguments.{app_given}
 use Rattle.pip_words.proofs.reading.parsed.Goals as goal
 
 pub returns-in-Ok : goal.returns-in-Ok

@@ -1,5 +1,4 @@
-use Rattle.pip_words.proofs.Words.{string_bytes}
-use Rattle.pip_words.specs.Arguments.{app_given}
+use Rattle.pip_words.proofs.Words.{string_bytes, app_given}
 use Rattle.pip_words.proofs.Alone.{read_alone}
 use Rattle.pip_words.proofs.Giving.{given_ok, given_usage}
 use Rattle.pip_words.proofs.reading.read_words.Goals as goal

@@ -1,6 +1,4 @@
-use Rattle.std.proofs.Common.{◌≡◌}
-use Rattle.plain_run.proofs.Words.{rules, ◌∙◌, ap, ℕ, map, take, arith, Component, row_component}
-use Rattle.pip_model.specs.Forms.{constant}
+use Rattle.plain_run.proofs.Words.{rules, ◌∙◌, ap, ℕ, map, take, arith, Component, row_component, ◌≡◌, constant}
 use Rattle.point_run.proofs.Values.{more_values}
 use Rattle.plain_run.proofs.point.values.Goals as goal
 

@@ -1,6 +1,4 @@
-use Rattle.std.proofs.Common.{◌≡◌}
-use Rattle.plain_run.proofs.Words.{map, take, Component, row_component}
-use Rattle.pip_model.specs.Forms.{constant}
+use Rattle.plain_run.proofs.Words.{map, take, Component, row_component, ◌≡◌, constant}
 use Rattle.plain_run.proofs.point.values.Given as goal
 
 abbrev pub invariant-loop-i : goal.invariant-loop-i

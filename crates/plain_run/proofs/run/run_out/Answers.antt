@@ -1,7 +1,5 @@
-use Rattle.std.proofs.Common.{◌≡◌}
-use Rattle.plain_run.proofs.Words.{rules, arith, true, false, common_steps, Bottom, Again, Closed, Done, turn, leaf, node_of, plain_setting, scope_on}
+use Rattle.plain_run.proofs.Words.{rules, arith, true, false, common_steps, Bottom, Again, Closed, Done, turn, leaf, node_of, plain_setting, scope_on, ◌≡◌, starts_run, run_goes_on, run_less, run_closed, run_refused}
 use Rattle.short_run.specs.Stops.{stop_fault}
-use Rattle.point_turns.proofs.Pointing.{starts_run, run_goes_on, run_less, run_closed, run_refused}
 use Rattle.plain_run.proofs.run.run_out.Goals as goal
 
 pub loop-init : goal.loop-init

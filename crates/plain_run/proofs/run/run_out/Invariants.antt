@@ -1,5 +1,4 @@
-use Rattle.plain_run.proofs.Words.{left}
-use Rattle.point_turns.proofs.Pointing.{IsOneRun}
+use Rattle.plain_run.proofs.Words.{left, IsOneRun}
 use Rattle.plain_run.proofs.run.run_out.Given as goal
 
 abbrev pub invariant-loop : goal.invariant-loop

@@ -1,6 +1,4 @@
-use Rattle.polylib_reader.proofs.Words.{rules, refl, length, true, err_from_is_err_and, read_matrices, matrix_number, options, read_fault, refused_by}
-use Rattle.pip_model.specs.Reading.{no_big_parameter}
-use Rattle.polylib_reader.specs.Matrices.{context_matrix, constraint_matrix}
+use Rattle.polylib_reader.proofs.Words.{rules, refl, length, true, err_from_is_err_and, read_matrices, matrix_number, options, read_fault, refused_by, no_big_parameter, context_matrix, constraint_matrix}
 use Rattle.polylib_reader.proofs.Problems.{within_limits, context_refused, number_refused, parameter_refused, constraints_refused, options_refused, problem_made}
 use Rattle.polylib_reader.proofs.problem.read_matrices.Goals as goal
 
@@ -32,21 +30,17 @@ returns-in_err-constraints-clause-agrees c =
     let p = err_from_is_err_and c.from_residual-in_err-constraints.result c.from_residual-in_err-constraints.ensures.1 in
     let bytes = c.args.bytes.now in
     let context = c.in_ok-context.context in
-    let big = c.in_ok-number.field-0 in
-    let place = c.in_ok-place.place in
-    rw (p.1, p.2) (refused_by (read_fault c.in_err-constraints.field-0.0) (constraint_matrix bytes context.size place) (read_matrices bytes)
-    (constraints_refused bytes ((context.size, context.forms.items), context.after) c.in_ok-context.ensures.agrees big c.in_ok-number.ensures.reads.0 place c.in_ok-place.ensures.agrees) c.in_err-constraints.ensures.agrees)
+    rw (p.1, p.2) (refused_by (read_fault c.in_err-constraints.field-0.0) (constraint_matrix bytes context.size _) (read_matrices bytes)
+    (constraints_refused bytes ((context.size, context.forms.items), context.after) c.in_ok-context.ensures.agrees _ c.in_ok-number.ensures.reads.0 _ c.in_ok-place.ensures.agrees) c.in_err-constraints.ensures.agrees)
 
 pub returns-in_err-integer-clause-agrees : goal.returns-in_err-integer-clause-agrees
 returns-in_err-integer-clause-agrees c =
     let p = err_from_is_err_and c.from_residual-in_err-integer.result c.from_residual-in_err-integer.ensures.1 in
     let bytes = c.args.bytes.now in
     let context = c.in_ok-context.context in
-    let big = c.in_ok-number.field-0 in
-    let place = c.in_ok-place.place in
     let constraints = c.in_ok-constraints.constraints in
     rw (p.1, p.2) (refused_by (read_fault c.in_err-integer.field-0.0) (options bytes (length bytes) true constraints.after) (read_matrices bytes)
-    (options_refused bytes ((context.size, context.forms.items), context.after) c.in_ok-context.ensures.agrees big c.in_ok-number.ensures.reads.0 place c.in_ok-place.ensures.agrees
+    (options_refused bytes ((context.size, context.forms.items), context.after) c.in_ok-context.ensures.agrees _ c.in_ok-number.ensures.reads.0 _ c.in_ok-place.ensures.agrees
     ((constraints.size, constraints.forms.items), constraints.after) c.in_ok-constraints.ensures.agrees) c.in_err-integer.ensures)
 
 pub from_parts-requires : goal.from_parts-requires
@@ -55,11 +49,9 @@ from_parts-requires c = rw c.in_ok-comment.ensures (within_limits c.args.bytes.n
 pub returns-clause-agrees : goal.returns-clause-agrees
 returns-clause-agrees c =
     let context = c.in_ok-context.context in
-    let big = c.in_ok-number.field-0 in
-    let place = c.in_ok-place.place in
     let constraints = c.in_ok-constraints.constraints in
     rw (c.from_parts.ensures, c.in_ok-comment.ensures)
-    (problem_made c.args.bytes.now ((context.size, context.forms.items), context.after) c.in_ok-context.ensures.agrees big c.in_ok-number.ensures.reads.0 place c.in_ok-place.ensures.agrees
+    (problem_made c.args.bytes.now ((context.size, context.forms.items), context.after) c.in_ok-context.ensures.agrees _ c.in_ok-number.ensures.reads.0 _ c.in_ok-place.ensures.agrees
     ((constraints.size, constraints.forms.items), constraints.after) c.in_ok-constraints.ensures.agrees c.in_ok-integer.integer c.in_ok-integer.ensures)
 
 pub returns-clause-group : goal.returns-clause-group

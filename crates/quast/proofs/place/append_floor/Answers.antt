@@ -1,5 +1,4 @@
-use Rattle.quast.proofs.Words.{◌≡◌, ◌++◌, ◌∷◌, [], rules, floor_div, Fits}
-use Rattle.std.proofs.lemmas.List.Elements.{All-push}
+use Rattle.quast.proofs.Words.{◌≡◌, ◌++◌, ◌∷◌, [], rules, floor_div, Fits, All-push}
 use Rattle.quast.proofs.place.append_floor.Goals as goal
 
 pub returns-clause-fits : goal.returns-clause-fits

@@ -1,6 +1,5 @@
-use Rattle.quast.proofs.Words.{◌≡◌, [], ◌∷◌, ◌++◌, refl, true, arith, rules, Fits, err_from_is_err_and, all_fit, value_listed}
+use Rattle.quast.proofs.Words.{◌≡◌, [], ◌∷◌, ◌++◌, refl, true, arith, rules, Fits, err_from_is_err_and, all_fit, value_listed, All-push}
 use Rattle.std.proofs.lemmas.Grind.{common_steps}
-use Rattle.std.proofs.lemmas.List.Elements.{All-push}
 use Rattle.quast.proofs.Numerators.{fit-step, fit-end, fit-refused}
 use Rattle.quast.proofs.place.put_numerators.Goals as goal
 

@@ -6,6 +6,5 @@ use Rattle.quast_text.proofs.print.print_answer.Goals as goal
 
 pub returns-clause-read_back : goal.returns-clause-read_back
 returns-clause-read_back c =
-    let answer = c.args.answer.now in
-    let printable = at_ok c.put_spoken.result ((np : ℕ) → np ≤ most_params → IsOver np answer → IsPrintableAnswer np (answer_of answer)) (sym c.is_err.ensures.value ∙ c.if-is_err.false) c.put_spoken.ensures.printable in
-    λ np few group over rest. read_answer-spell_first np c.args.comment.now (answer_of answer) rest group (printable np few over)
+    let printable = at_ok c.put_spoken.result ((np : ℕ) → np ≤ most_params → IsOver np _ → IsPrintableAnswer np (answer_of _)) (sym c.is_err.ensures.value ∙ c.if-is_err.false) c.put_spoken.ensures.printable in
+    λ np few group over rest. read_answer-spell_first np c.args.comment.now (answer_of _) rest group (printable np few over)

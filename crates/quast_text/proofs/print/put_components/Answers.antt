@@ -4,8 +4,7 @@ use Rattle.quast_text.proofs.print.put_components.Goals as goal
 
 pub returns-clause-ok : goal.returns-clause-ok
 returns-clause-ok c =
-    let components = c.args.components.now in
-    c.loop-component.invariant ∙ ap (λ t. c.args.out.now.items ++ t) (written spell_component components c.loop-component.component-index (spell_components components) (omega arith) (components_flat components))
+    c.loop-component.invariant ∙ ap (λ t. c.args.out.now.items ++ t) (written spell_component _ c.loop-component.component-index (spell_components _) (omega arith) (components_flat _))
 
 pub returns-clause-kept : goal.returns-clause-kept
 returns-clause-kept c = record {

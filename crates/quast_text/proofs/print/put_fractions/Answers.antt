@@ -19,10 +19,9 @@ loop-entry-preserved c =
 
 pub returns-clause-ok : goal.returns-clause-ok
 returns-clause-ok c =
-    let entries = c.as_slice-entry-items.result.now in
     let same = c.as_slice-entry-items.ensures.value ∙ c.form.ensures in
     let d = c.args.component.now.den in
-    c.loop-entry.invariant ∙ ap (λ t. c.args.out.now.items ++ t) (written (spell_term d) entries c.loop-entry.entry-index (spell_fractions d entries) (omega arith) (fractions_flat d entries) ∙ ap (spell_fractions d) same)
+    c.loop-entry.invariant ∙ ap (λ t. c.args.out.now.items ++ t) (written (spell_term d) _ c.loop-entry.entry-index (spell_fractions d _) (omega arith) (fractions_flat d _) ∙ ap (spell_fractions d) same)
 
 pub returns-clause-kept : goal.returns-clause-kept
 returns-clause-kept c = record {

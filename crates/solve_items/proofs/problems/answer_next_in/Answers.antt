@@ -1,6 +1,5 @@
-use Rattle.solve_items.proofs.Words.{refl, ap, arith, true, false, err_from_is_err_and, Ok, Appends, AppendsFront, options_of}
+use Rattle.solve_items.proofs.Words.{refl, ap, arith, true, false, err_from_is_err_and, Ok, Appends, AppendsFront, options_of, err-not_ok}
 use Rattle.solve_items.proofs.ByProblem.{unread-told, unanswered-told, answers-told, next-limit, own-limit, own-not_long, next-words, own-words, faults-none, faults-next, faults-own, faults-write}
-use Rattle.item_writing.proofs.Faults.{err-not_ok}
 use Rattle.solve_items.proofs.Asked.{calls-refused}
 use Rattle.solve_items.proofs.problems.answer_next_in.Goals as goal
 

@@ -1,6 +1,5 @@
-use Rattle.solve_items.proofs.Words.{◌-◌, refl, ap, ◌∙◌, arith, rules, length, true, err_from_is_err_and, HeldBytes, Solve, options_of, taken_by, is_found}
+use Rattle.solve_items.proofs.Words.{◌-◌, refl, ap, ◌∙◌, arith, rules, length, true, err_from_is_err_and, HeldBytes, Solve, options_of, taken_by, is_found, err-same, err-not_ok}
 use Rattle.std.proofs.Common.{Ok, Err}
-use Rattle.item_writing.proofs.Faults.{err-same, err-not_ok}
 use Rattle.solve_items.proofs.ByProblem.{unmade, faults-own, err-limit, faults-none, faults-ok, faults-after}
 use Rattle.item_writing.specs.Ending.TheVariants as ending
 use Rattle.item_writing.proofs.Calls.{stops-start, none-taken, in_time-not}

@@ -7,7 +7,6 @@ pub returns-clause-ok : goal.returns-clause-ok
 returns-clause-ok c =
     let s = c.self.inside in
     let i = c.args.i in
-    let f = c.deref-2.result.now in
     let lt : c.args.i < length c.self.inside.places.rows = omega (arith, c.requires, ap (λ (t : TableauRows). t.unknowns) c.self.view_is, c.self.invariant.0.basis.size) in
     let den : pos 1 ≤ℤ (row_at c.self.inside.places.rows c.args.i).den = (c.self.invariant.0.basis.rows c.args.i (form_row 0 []) lt).wide.den in
     let forms : c.push.new.self ≡ record c.self.inside.forms { lists = c.self.inside.forms.lists ++ c.deref-2.result.now ∷ [] } = search rules in
@@ -17,7 +16,7 @@ returns-clause-ok c =
     let row : row_of_numbers c.self.inside.places.unknowns c.row_numbers-row.result.now ≡ constant_cut (row_at c.self.inside.places.rows c.args.i)
     = ap (λ (k : ℕ). row_of_numbers k c.row_numbers-row.result.now) (sym n) ∙ c.row_numbers-row.ensures.value ∙ cut in
     ap (λ (l : NumberLists). all_rows s.places s.basis l.lists) forms
-    ∙ row_added s.places s.basis s.forms.lists f (constant_cut (row_at s.places.rows i)) (made ∙ ap divided row ∙ cut_divided (row_at s.places.rows i) den)
+    ∙ row_added s.places s.basis s.forms.lists _ (constant_cut (row_at s.places.rows i)) (made ∙ ap divided row ∙ cut_divided (row_at s.places.rows i) den)
     ∙ ap (λ (q : Row). with_row (all_rows s.places s.basis s.forms.lists) (constant_cut q)) (sym (row_at-front s.places.rows _ i lt))
     ∙ ap (λ (t : TableauRows). with_row t (constant_cut (row_at t.rows i))) c.self.view_is
 

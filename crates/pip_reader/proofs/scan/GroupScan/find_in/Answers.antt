@@ -1,14 +1,10 @@
-use Rattle.pip_reader.proofs.Words.{◌≡◌, ◌≢◌, ◌+◌, ◌≤◌, ◌∙◌, ◌⊎◌, inl, inr, sym, ap, arith, slice_index, open_after}
-use Rattle.std.proofs.lemmas.Bool.{cases_eq}
-use Rattle.text_tokens.proofs.Closing.{other_byte}
+use Rattle.pip_reader.proofs.Words.{◌≡◌, ◌≢◌, ◌+◌, ◌≤◌, ◌∙◌, ◌⊎◌, inl, inr, sym, ap, arith, slice_index, open_after, cases_eq, other_byte}
 use Rattle.pip_reader.proofs.Scanning.{end_more, fold_more}
 use Rattle.pip_reader.proofs.scan.GroupScan.find_in.Goals as goal
 use Rattle.pip_reader.proofs.scan.GroupScan.find_in.Goals.{then-byte-eq40+else-before-gt0, else-before-gt0-via-then-before-gt0+else-depth-eq0, else-before-gt0-via-else-before-gt0, else-byte-eq40+else-byte-eq41}
 
 pub loop-i-preserved : goal.loop-i-preserved
 loop-i-preserved c =
-    let before = c.loop-i.depth in
-    let now = c.if-byte-eq40.depth in
     let is : c.if-byte-eq40.depth ≡ open_after c.loop-i.depth (slice_index c.args.bytes.now c.loop-i.i) =
     elim c.if-byte-eq40.branch [
       | then-byte-eq40+else-before-gt0 w ↦ w.depth-is ∙ w.open_after-depth.ensures.value
@@ -28,7 +24,7 @@ loop-i-preserved c =
       | else-byte-eq40+else-byte-eq41 w ↦ omega (arith, w.depth-is)
     ] in
     record {
-      rest = sym (end_more before now c.loop-i.i c.args.bytes.now (omega arith) is goes_on) ∙ c.loop-i.invariant.rest;
-      depth = fold_more c.args.self.now now c.loop-i.i c.args.bytes.now (omega arith) (is ∙ ap (λ d. open_after d (slice_index c.args.bytes.now c.loop-i.i)) c.loop-i.invariant.depth);
+      rest = sym (end_more _ _ c.loop-i.i c.args.bytes.now (omega arith) is goes_on) ∙ c.loop-i.invariant.rest;
+      depth = fold_more c.args.self.now _ c.loop-i.i c.args.bytes.now (omega arith) (is ∙ ap (λ d. open_after d (slice_index c.args.bytes.now c.loop-i.i)) c.loop-i.invariant.depth);
       bound = omega arith;
     }

@@ -16,6 +16,5 @@ returns-clause-value c = rw (of_cut c.args.self.now.rows c.self.inside.places.it
 pub returns-clause-fits : goal.returns-clause-fits
 returns-clause-fits c =
     let now : to_z w128 (of_z w128 c.index-2.result.now) ≡ c.index-2.result.now = search rules in
-    let at = c.args.row - c.len-places.result - c.self.inside.forms in
     let read : c.index-2.result.now ≡ get_or c.self.inside.cuts.items (c.args.row - c.len-places.result - c.self.inside.forms) c.index-2.result.now = search rules in
-    rw (now, read) (All-get_or Fits c.self.inside.cuts.items at c.index-2.result.now (in_cuts c.args.self.now.rows c.self.inside.places.items c.self.inside.cuts.items c.self.inside.forms c.args.row c.len-places.result (search rules) (search rules) (omega (arith, c.if-row-places.false)) c.requires (omega (arith, c.if-form-self.false))) (search rules))
+    rw (now, read) (All-get_or Fits c.self.inside.cuts.items _ c.index-2.result.now (in_cuts c.args.self.now.rows c.self.inside.places.items c.self.inside.cuts.items c.self.inside.forms c.args.row c.len-places.result (search rules) (search rules) (omega (arith, c.if-row-places.false)) c.requires (omega (arith, c.if-form-self.false))) (search rules))
