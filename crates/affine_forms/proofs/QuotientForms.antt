@@ -17,15 +17,12 @@ rounding_is w q g d h lt free =
     let one : entry (negate wide) q +ℤ d ≡ d = ap (λ z. z +ℤ d) at ∙ from_zero d (entry wide q) (entry-widened w g h q lt free) in
     ap (λ z. slice_set (negate wide) q z) (sym one) ∙ sym (add_unit (negate wide) w q d (simp length-map long) (omega (arith, lt)))
 
-pub constant_plus : (c : List ℤ) (z : ℤ) → 0 < length c → constant (plus c z) ≡ entry c (length c - 1) +ℤ z
-constant_plus c z h = constant-plus c z (omega (arith, h))
-
 pub plus_made : (c : List ℤ) (z v : ℤ) → 0 < length c → v ≡ entry c (length c - 1) +ℤ z → slice_set c (length c - 1) v ≡ plus c z
 plus_made c z v h e = ap (λ x. slice_set c (length c - 1) x) e ∙ (sym (add_last c (width c) z (omega (arith, h))))
 
 pub constant_refused : (c : List ℤ) (z : ℤ) (r : Result ⊤ Overflow) → 0 < length c → IsErr r → IsFalse (fits (entry c (length c - 1) +ℤ z))
     → IsChecked is_overflow (constant (plus c z) ∷ []) r
-constant_refused c z r h e over = refused is_overflow r (constant (plus c z) ∷ []) e (rw (constant_plus c z h, over) refl)
+constant_refused c z r h e over = refused is_overflow r (constant (plus c z) ∷ []) e (rw (constant-plus c z (omega (arith, h)), over) refl)
 
 pub constant_fits : (c : List ℤ) (z : ℤ) → 0 < length c → IsTrue (fits (entry c (length c - 1) +ℤ z)) → IsTrue (all_fit (constant (plus c z) ∷ []))
-constant_fits c z h fit = rw (constant_plus c z h, fit) refl
+constant_fits c z h fit = rw (constant-plus c z (omega (arith, h)), fit) refl

@@ -20,9 +20,5 @@ module _ (d : ℤ) (xs : List ℤ) (i : ℕ) where
 pub raised_read : (d : ℤ) (old now : List ℤ) (i : ℕ) → now ≡ mapped (raised d) i old → i < length old → All (λ x. Fits (raised d x)) old → Fits (raised d (get_or now i (pos 0)))
 raised_read d old now i e h all = rw (e, mapped_read (raised d) old i (pos 0) h) (all i (pos 0) h)
 
--- the numbers of a rounding
-pub rounded_parts : (xs : List ℤ) (z : ℤ) → all_fit (xs ++ z ∷ []) ≡ (all_fit xs && (fits z && true))
-rounded_parts xs z = list_all-append fits xs (z ∷ [])
-
 pub rounded_refused : (xs : List ℤ) (z : ℤ) → IsFalse (all_fit xs) → IsFalse (all_fit (xs ++ z ∷ []))
-rounded_refused xs z e = rounded_parts xs z ∙ ap (λ (t : Bool). t && (fits z && true)) e
+rounded_refused xs z e = list_all-append fits xs (z ∷ []) ∙ ap (λ (t : Bool). t && (fits z && true)) e

@@ -12,9 +12,6 @@ short_fits a b x y = lt-ltb (unsigned_abs (a *ℤ b)) (2 ^ 127) (let small = pro
 
 -- ---- numbers as code holds them: in 128 bits, in 64, and in 128 again
 
-pub in_64 : (a : ℤ) → unsigned_abs a < 2 ^ 63 → FitsSigned w64 a
-in_64 a x = fits_signed_from_abs w64 a x
-
 pub in_128 : (a : ℤ) → unsigned_abs a < 2 ^ 126 → FitsSigned w128 a
 in_128 a x = fits_signed_from_abs w128 a (omega arith)
 
@@ -22,7 +19,7 @@ pub once : (a : ℤ) → unsigned_abs a < 2 ^ 63 → to_z w128 (of_z w128 a) ≡
 once a x = to_z-of_z w128 a (in_128 a (omega arith))
 
 pub twice : (a : ℤ) → unsigned_abs a < 2 ^ 63 → to_z w64 (of_z w64 (to_z w128 (of_z w128 a))) ≡ a
-twice a x = rw (once a x) (to_z-of_z w64 a (in_64 a x))
+twice a x = rw (once a x) (to_z-of_z w64 a (fits_signed_from_abs w64 a x))
 
 pub thrice : (a : ℤ) → unsigned_abs a < 2 ^ 63 → to_z w128 (of_z w128 (to_z w64 (of_z w64 (to_z w128 (of_z w128 a))))) ≡ a
 thrice a x = rw (twice a x) (once a x)

@@ -1,6 +1,5 @@
 -- Steps of a form's value, which is summed product by product.
-use Rattle.affine_forms.proofs.Words.{◌≡◌, ℕ, ◌+◌, ◌<◌, ℤ, pos, ◌+ℤ◌, ◌*ℤ◌, List, [], ◌∷◌, ◌++◌, length, drop, get_or, IsTrue, drop_more, dot, all_fit, dot_listed, fit_behind, IsChecked, Overflow, is_overflow, Result, IsErr, false}
-use Rattle.affine_forms.proofs.Words.{refl, ap, sym, ◌∙◌, Bool, true, ◌&&◌, arith, ints, IsFalse, fits, Fits, drop_all, fit_never, value, value_listed}
+use Rattle.affine_forms.proofs.Words.{refl, ap, sym, ◌∙◌, Bool, true, ◌&&◌, arith, ints, IsFalse, fits, Fits, drop_all, fit_never, value, value_listed, ◌≡◌, ℕ, ◌+◌, ◌<◌, ℤ, pos, ◌+ℤ◌, ◌*ℤ◌, List, [], ◌∷◌, ◌++◌, length, drop, get_or, IsTrue, drop_more, dot, all_fit, dot_listed, fit_behind, IsChecked, Overflow, is_overflow, Result, IsErr, false}
 use Rattle.std.proofs.Math.IntN.{+ℤ_assoc}
 use Rattle.affine_forms.proofs.Combined.{refused}
 
@@ -81,5 +80,4 @@ module _ (sum : ℤ) (form v : List ℤ) (i : ℕ) where
       → sum +ℤ dot (drop i form) (vector_from i v) ≡ value form v
       → sum +ℤ get_or form (length v) (pos 0) ≡ value form v
   value_end at long so_far =
-      let last = get_or form (length v) (pos 0) in
-      ap (λ z. sum +ℤ z) (sym (rw (form_end at long, drop_all i v (omega (arith, at)), times_one last) (zero_more last))) ∙ so_far
+      ap (λ z. sum +ℤ z) (sym (rw (form_end at long, drop_all i v (omega (arith, at)), times_one _) (zero_more _))) ∙ so_far

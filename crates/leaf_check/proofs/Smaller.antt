@@ -55,9 +55,6 @@ length-not_above w q c h k =
 pub length-smaller : (w q : ℕ) (c : Component) → q < w → length c.form ≤ q + 1 → length (plus (not_above w q c) (negsuc 0)) ≡ w + 1
 length-smaller w q c h k = let e = length-not_above w q c h k in length-plus (not_above w q c) (negsuc 0) (omega arith) ∙ e
 
-pub below_is : (w q : ℕ) (c : Component) → opposite (rounding w q (record { form = c.form; den = pos 1 })) ≡ plus (not_above w q c) (negsuc 0)
-below_is w q c = ap (λ (form : List ℤ). plus form (negsuc 0)) (not_above_is w q c)
-
 less_one : (x : ℤ) → neg_ℤ x -ℤ pos 1 ≡ neg_ℤ x +ℤ negsuc 0
 less_one x = omega (arith, ints)
 
@@ -73,7 +70,7 @@ below_listed w q c h k =
     let r = rounding w q (record { form = c.form; den = pos 1 }) in
     let back : length (negate r) ≡ length r = simp length-map refl in
     let long : length (negate r) ≡ w + 1 = ap length (not_above_is w q c) ∙ length-not_above w q c h k in
-    ap (λ (z : ℤ). z ∷ []) (constant-opposite r (omega arith) ∙ ap constant (below_is w q c))
+    ap (λ (z : ℤ). z ∷ []) (constant-opposite r (omega arith) ∙ ap constant (ap (λ (form : List ℤ). plus form (negsuc 0)) (not_above_is w q c)))
 
 pub length-smaller_from : (all place : ℕ) (cs : List Component) → length (smaller_from all place cs) ≡ length cs
 length-smaller_from all place (c ∷ e ∷ cs) = ap suc (length-smaller_from all (place + 1) (e ∷ cs))

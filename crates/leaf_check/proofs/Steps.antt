@@ -123,6 +123,3 @@ module _ (l r w : ℕ) (known : List (List ℤ)) (steps : List Step) where
   failed : (x : Checks (List (List ℤ))) (f : CheckFault) → (x >>= (λ (forms : List (List ℤ)). Ok (ends_absurd forms))) ≡ Err f → (x >>= (λ (forms : List (List ℤ)). holds (spot l r (length steps)) (ends_absurd forms))) ≡ Err f
   failed (Ok forms) f h = cc
   failed (Err e) f h = cc
-
-  pub refuted_by : (b : Bool) → absurd_by l r w known steps ≡ Ok b → by ≡ holds (spot l r (length steps)) b
-  refuted_by b h = decided (after_steps l r 0 w known steps) b h

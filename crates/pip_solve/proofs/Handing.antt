@@ -199,10 +199,6 @@ turned_on rows now path later pending T w u running e turned kept =
     ap (λ o. go_on o (λ t. finished path pending.frames t)) (by_turn rows path (turn_of now path T) w u e ∙ after_same rows now path later pending.most T u turned kept)
     ∙ same_after (after (setting_of now later) (turn_of now later T) u) (λ t. finished path pending.frames t) (λ t. finished later pending.frames t) (λ t v. sym (finished_grown pending.most rows.width path later pending.frames (grown_kept path later kept) running.waits t v))
 
--- a refused turn refuses the whole
-pub turned_refused : (rows : TableauRows) (path : Path) (frames : List Frame) (w u : Work) (f : Refusal) → turn (setting_of rows path) (node_of rows path) w ≡ Refused f u → whole_run rows path frames w ≡ Refused f u
-turned_refused rows path frames w u f e = ap (λ o. go_on o (λ t. finished path frames t)) (refused_run_from (setting_of rows path) falls-class (node_of rows path) w u f e)
-
 -- ---- the second tree of an if
 
 pub second_running : (most w : ℕ) (rows : TableauRows) (path mid now : Path) (frames : List Frame) (c : List ℤ) (mark : ContextMark) (quotients : ℕ) (first : ScopedTree)
@@ -317,4 +313,4 @@ module _ (start : TableauRows) (from : Path) (before : Waiting) (v : Work) (rows
 
   pub refused : (u : Work) (o : Option Refusal) → IfSome o (λ f. turn (setting_of rows path) (node_of rows path) w ≡ Refused f u) → IfSome o (λ f. whole_run start from before.frames v ≡ Refused f u)
   refused u None h = h
-  refused u (Some f) h = sym g.same ∙ turned_refused rows path pending.frames w u f h
+  refused u (Some f) h = sym g.same ∙ ap (λ o. go_on o (λ t. finished path pending.frames t)) (refused_run_from (setting_of rows path) falls-class (node_of rows path) w u f h)

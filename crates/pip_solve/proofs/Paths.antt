@@ -1,5 +1,5 @@
 -- The rows and the path below a new parameter.
-use Rattle.pip_solve.proofs.Words.{◌≡◌, sym, subst, ap, ℕ, ◌+◌, ◌-◌, ◌<◌, ◌≤◌, ℤ, pos, List, [], ◌∷◌, ◌++◌, length, map, true, append_assoc, arith, get_or-append_seam, get_or-map, All-from_recursion, tighten, Row, row_at, form_row, widened, started, start, Quotient, Problem, most_nesting, IsRow, IsProblem, TableauRows, Scope, size, quotient_at, Path, IsNode, Waiting, Waits, IsRunning, Frame, All}
+use Rattle.pip_solve.proofs.Words.{◌≡◌, sym, subst, ap, ◌+◌, ◌-◌, ◌≤◌, ℤ, pos, List, [], ◌∷◌, ◌++◌, length, map, true, append_assoc, arith, get_or-append_seam, All-from_recursion, tighten, started, start, Quotient, Problem, most_nesting, IsRow, IsProblem, TableauRows, Scope, size, quotient_at, Path, IsNode, Waiting, Waits, IsRunning, Frame, All}
 use Rattle.run_laws.proofs.Started.{started_formed}
 use Rattle.node_turn.proofs.Pointing.{length_start}
 use Rattle.pip_solve.specs.Starts.{IsFirstPath}
@@ -12,9 +12,6 @@ quotient_at-added q k =
 
 pub two_more : (ks : List (List ℤ)) (a b : List ℤ) → ks ++ a ∷ [] ++ b ∷ [] ≡ ks ++ a ∷ b ∷ []
 two_more ks a b = append_assoc ks (a ∷ []) (b ∷ [])
-
-pub row_at-widened : (rows : List Row) (i : ℕ) → i < length rows → row_at (map widened rows) i ≡ widened (row_at rows i)
-row_at-widened rows i h = get_or-map widened rows i (form_row 0 []) (form_row 0 []) h
 
 -- the first node of a problem
 pub starts : (P : Problem) (t : TableauRows) (path : Path) → IsProblem P → t ≡ record { unknowns = P.unknowns; width = P.params; rows = start P.unknowns P.params (started P.integer P.rows) } → IsFirstPath P path → IsNode t path

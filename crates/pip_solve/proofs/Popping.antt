@@ -1,5 +1,5 @@
 -- Frames that are closed over a tree.
-use Rattle.pip_solve.proofs.Words.{◌≡◌, refl, sym, ap, subst, ◌∙◌, ℕ, ◌+◌, ◌-◌, ◌≤◌, ◌∷◌, [], List, ℤ, length, arith, max, append-nil, length-append, opposite, If, NewParm, nesting, Work, TableauRows, ContextMark, Scope, ScopedTree, Path, Frame, IsBelow, IsBack, IsCondition, Waiting, finished, whole_run, HasRoom, AreMarks, Waits, IsClosing, IsNextNode, dues}
+use Rattle.pip_solve.proofs.Words.{◌≡◌, refl, sym, ap, subst, ◌∙◌, ℕ, ◌+◌, ◌-◌, ◌≤◌, ◌∷◌, [], List, ℤ, length, arith, max, append-nil, length-append, opposite, If, NewParm, nesting, Work, TableauRows, ContextMark, Scope, ScopedTree, Path, Frame, IsBelow, IsBack, Waiting, finished, whole_run, HasRoom, AreMarks, Waits, IsClosing, IsNextNode, dues}
 use Rattle.pip_solve.specs.declared.pending.Frame.TheVariants as frame
 use Rattle.pip_solve.proofs.Running.{Grown, finished_grown, waits_grown}
 use Rattle.pip_solve.proofs.Going.{second_on}
@@ -37,12 +37,6 @@ module _ (first : ScopedTree) (from : Path) (before : Waiting) (tree : ScopedTre
   module _ (now : Waiting) (depth : ℕ) where
     -- an if whose first tree is made
     module _ (c : List ℤ) (made : ScopedTree) (h : Closes first from before tree path (record now { frames = frame.FirstMade c made ∷ now.frames })) where
-      pub same_width : made.width ≡ tree.width
-      same_width = h.closing.waits.1
-
-      pub form_width : length c ≡ made.width + 1
-      form_width = omega (arith, h.closing.waits.0, h.closing.waits.1)
-
       pub selected : (both : ScopedTree) → both ≡ record { width = made.width; tree = If c made.tree tree.tree } → depth + 1 ≡ path.depth → Closes first from before both (at_depth path depth) now
       selected both e deep =
           let there = waits_grown now.most tree.width path (at_depth path depth) now.frames (grown_depth path depth) h.closing.waits.3 in
@@ -82,9 +76,6 @@ module _ (first : ScopedTree) (from : Path) (before : Waiting) (tree : ScopedTre
     module _ (c : List ℤ) (rows : TableauRows) (mark : ContextMark) (quotients : ℕ) (h : Closes first from before tree path (record now { frames = frame.SecondDue c rows mark quotients ∷ now.frames })) where
       pub marks : AreMarks path mark quotients
       marks = h.closing.waits.0
-
-      pub condition : IsCondition rows.width c
-      condition = h.closing.waits.2.condition
 
       pub over : mark.width ≡ rows.width
       over = h.closing.waits.2.node.context

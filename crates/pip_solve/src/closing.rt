@@ -49,12 +49,12 @@ pub(crate) fn close(
                 quotients,
             } => {
                 path.back_to(context, quotients);
+                take_rows(rows, due, pending);
                 path.enter_opposite(&condition)?;
                 pending.push(Frame::FirstMade {
                     condition,
                     first: tree,
                 });
-                take_rows(rows, due, pending);
                 return Ok(Next::Node);
             }
             Frame::FirstMade { condition, first } => {

@@ -114,10 +114,10 @@ fn split(
     ensures next { IfOk result (IsNext 2 path.old pending.old rows.now path.new pending.new) }
     ensures room { IfOk result (HasNextRoom pending.new.most path.new) }
 {
-    let later = copy_rows(rows, pending)?;
     let context = path.context.mark();
     let quotients = path.quotients.mark();
     path.enter_copy(&condition)?;
+    let later = copy_rows(rows, pending)?;
     pending.push(Frame::SecondDue {
         condition,
         rows: later,

@@ -1,5 +1,5 @@
 -- The class of a form by points, from what the questions for them answered.
-use Rattle.sign_split.proofs.Words.{◌≡◌, ap, refl, ℕ, ℤ, Bool, true, false, List, [], ◌∷◌, ◌++◌, Option, Some, None, is_some, IfSome, opposite, opposite_listed, all_fit, Work, Outcome, Done, Refused, Refusal, Class, go_on, give, point, class_by_points, has_point, class_if_below}
+use Rattle.sign_split.proofs.Words.{◌≡◌, ap, refl, ℕ, ℤ, true, List, [], ◌∷◌, ◌++◌, Option, Some, None, is_some, IfSome, opposite, opposite_listed, all_fit, Work, Outcome, Done, Refused, Refusal, go_on, give, point, class_by_points, has_point, class_if_below}
 
 some_point : (o : Outcome (Option (List ℤ))) (v : Work) → go_on o (λ p. give (is_some p)) ≡ Done true v → (p : List ℤ) × (o ≡ Done (Some p) v)
 some_point (Done (Some p) u) v e = let same : u ≡ v = cc in (p, ap (λ (x : Work). Done (Some p) x) same)
@@ -21,11 +21,3 @@ pub goes_above : (w : ℕ) (K : List (List ℤ)) (c : List ℤ) (before between 
 goes_above w K c before between fit first =
     let below = some_point (point w (K ++ opposite c ∷ []) before) between first in
     rw (fit, below.1) refl
-
--- a class by points is had where the opposite's listed number fits
-pub opposite_fits : (w : ℕ) (K : List (List ℤ)) (c : List ℤ) (before v : Work) (r : Class) → class_by_points w K c before ≡ Done r v → all_fit (opposite_listed c) ≡ true
-opposite_fits w K c before v r e = by (all_fit (opposite_listed c)) refl
-  where
-    by : (b : Bool) → all_fit (opposite_listed c) ≡ b → b ≡ true
-    by true is = refl
-    by false is = let refused = rw is at e in absurd cc

@@ -1,5 +1,5 @@
 -- The opposite of a form: its parts, its width, and its opposite.
-use Rattle.sign_split.proofs.Words.{rules, ◌≡◌, refl, ap, ap₂, sym, subst, ◌∙◌, ◌+◌, ◌≤◌, ℤ, pos, ◌-ℤ◌, neg_ℤ, arith, List, [], ◌∷◌, ◌++◌, length, length-append, slice_set, IsTrue, ints, map-append, coefficients, constant, width, negate, opposite, all_fit, opposite_listed, form-parts, length_map, length-opposite, entry_end, constant-end}
+use Rattle.sign_split.proofs.Words.{rules, ◌≡◌, refl, ap, ap₂, sym, subst, ◌∙◌, ◌≤◌, ℤ, pos, ◌-ℤ◌, neg_ℤ, arith, List, [], ◌∷◌, ◌++◌, length, length-append, slice_set, IsTrue, ints, map-append, coefficients, constant, width, negate, opposite, all_fit, opposite_listed, form-parts, length_map, length-opposite, entry_end, constant-end}
 use Rattle.std.proofs.lemmas.List.Elements.{All-get_or}
 use Rattle.std.proofs.Math.IntN.{neg_ℤ-neg_ℤ}
 use Rattle.std.proofs.Math.Seq.{set-append_seam}

@@ -57,10 +57,9 @@ tight_by : (g : ℤ) (e w : ℕ) (cs : List ℤ) (k : ℤ) → g ≡ pos e
 tight_by (pos zero) e w cs k is = sym (widen_form w cs k)
 tight_by (pos (suc m)) e w cs k is =
     let d = pos (suc m) in
-    let n = w - length cs in
     let over : ℤ → ℤ = λ x. floor_div x d in
-    map-append over (cs ++ zeros n) (k ∷ [])
-    ∙ ap (λ (xs : List ℤ). form_of xs (floor_div k d)) (map-append over cs (zeros n) ∙ ap (λ (xs : List ℤ). floor_divided d cs ++ xs) (divided_zeros m n))
+    map-append over (cs ++ zeros _) (k ∷ [])
+    ∙ ap (λ (xs : List ℤ). form_of xs (floor_div k d)) (map-append over cs (zeros _) ∙ ap (λ (xs : List ℤ). floor_divided d cs ++ xs) (divided_zeros m _))
     ∙ sym (
     ap (widen_to w) (map-append over cs (k ∷ []))
     ∙ widen_form w (floor_divided d cs) (floor_div k d)
@@ -76,10 +75,9 @@ tight_widened w cs k =
 opposite_widened : (w : ℕ) (cs : List ℤ) (k : ℤ) → opposite (widen_to w (form_of cs k)) ≡ widen_to w (opposite (form_of cs k))
 opposite_widened w cs k =
     let less = neg_ℤ k -ℤ pos 1 in
-    let n = w - length cs in
     ap opposite (widen_form w cs k)
-    ∙ opposite_form (cs ++ zeros n) k
-    ∙ ap (λ (xs : List ℤ). form_of xs less) (map-append neg_ℤ cs (zeros n) ∙ ap (λ (xs : List ℤ). negate cs ++ xs) (negate_zeros n))
+    ∙ opposite_form (cs ++ zeros _) k
+    ∙ ap (λ (xs : List ℤ). form_of xs less) (map-append neg_ℤ cs (zeros _) ∙ ap (λ (xs : List ℤ). negate cs ++ xs) (negate_zeros _))
     ∙ sym (
     ap (widen_to w) (opposite_form cs k)
     ∙ widen_form w (negate cs) less

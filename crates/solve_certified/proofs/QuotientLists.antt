@@ -1,5 +1,5 @@
 -- The quotients' steps, and the places that they read.
-use Rattle.solve_certified.proofs.Words.{◌≡◌, refl, ap, ap₂, sym, ◌∙◌, ℕ, zero, suc, ◌+◌, ◌<◌, ℤ, pos, List, [], ◌∷◌, ◌++◌, length, take, get_or, append_assoc, length-append, arith, take_at, length-map, indices, Refutation, PathQuotient, quotient_step, quotient_steps, steps_from, ReadsPlaces}
+use Rattle.solve_certified.proofs.Words.{◌≡◌, refl, ap, ap₂, sym, ◌∙◌, ℕ, zero, suc, ◌+◌, ◌<◌, ℤ, pos, List, [], ◌∷◌, ◌++◌, length, take, get_or, append_assoc, length-append, arith, take_at, length-map, indices, Refutation, PathQuotient, quotient_step, quotient_steps, steps_from, ReadsPlaces, length-count}
 use Rattle.pip_model.specs.Rows.{count_from}
 
 -- the quotient at a place reads the places before it
@@ -13,11 +13,7 @@ reads_more n [] k h l = (omega (arith, l), tt)
 reads_more n (j ∷ ks) k h l = (h.0, reads_more (n + 1) ks k h.1 (omega (arith, l)))
 
 pub length-indices : (i n : ℕ) → length (indices i n) ≡ n
-length-indices i n = length-map (count_from i n) pos ∙ counted i n
-  where
-    counted : (i n : ℕ) → length (count_from i n) ≡ n
-    counted i zero = refl
-    counted i (suc n) = ap suc (counted (i + 1) n)
+length-indices i n = length-map (count_from i n) pos ∙ length-count i n
 
 -- all steps, over the places of the definition
 pub steps_same : (front count : ℕ) (before after : List ℤ) (ks : List PathQuotient)

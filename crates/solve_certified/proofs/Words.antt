@@ -1,7 +1,7 @@
 -- The words of other modules that the proofs of this crate cite, passed on from one place. Declares nothing.
-pub use Rattle.std.proofs.Common.{◌≡◌, ◌∙◌, ap, sym, ℕ, zero, suc, ◌+◌, ◌-◌, ◌≤◌, ℤ, List, ◌++◌, length, map, take, Result, Ok, Err, arith, refl, subst, pos, true, ◌&&◌, [], ◌∷◌, length-append, append-nil, eqb-true, ap₂, ◌<◌, get_or, append_assoc, Bool, false, drop, All, rules, to_z, of_z}
+pub use Rattle.std.proofs.Common.{◌≡◌, ◌∙◌, ap, sym, ℕ, zero, suc, ◌+◌, ◌-◌, ◌≤◌, ℤ, List, ◌++◌, length, map, take, Result, Ok, Err, arith, refl, subst, pos, true, ◌&&◌, [], ◌∷◌, length-append, append-nil, eqb-true, ap₂, ◌<◌, get_or, append_assoc, Bool, false, drop, All, rules, to_z, of_z, add-one}
 pub use Rattle.std.specs.Prelude.{OnOk, Option, Some, None, IfSome, IsTrue, IsFalse, int_le, IfOk, ◌==◌, option_copied, slice_index_or}
-pub use Rattle.std.proofs.lemmas.List.{take-append-le, take-take, take_at, length-map, map-append, drop_more, drop_all, get_or-map, length-take-le}
+pub use Rattle.std.proofs.lemmas.List.{take-append-le, take-take, take_at, length-map, map-append, drop_more, drop_all, get_or-map, length-take-le, take-append-drop}
 pub use Rattle.std.proofs.lemmas.List.Elements.{All-weaker, All-push}
 pub use Rattle.std.proofs.lemmas.Result.{err_from_is_err_and}
 pub use Rattle.pip_model.specs.Made.{narrow_to, PathQuotient, solve_with_certificate, made_leaf, unshared, quotient_step, quotient_steps, path_quotients, made_refutation, made_refutations, made_leaves, steps_or_none}
@@ -36,3 +36,5 @@ pub use Rattle.solve_certified.specs.Walks.{made_below, are_whole, IsAt, is_whol
 pub use Rattle.solve_certified.specs.Quotients.{steps_from, ReadsPlaces}
 pub use Rattle.solve_certified.specs.Goals.{unknowns_at}
 pub use Rattle.solve_certified.specs.Refutations.{places_of, refuted_by}
+pub use Rattle.certificate_check.specs.Turned.{own_before, own_forms, staying, AreMore}
+pub use Rattle.pip_model.proofs.Forms.{length-count}

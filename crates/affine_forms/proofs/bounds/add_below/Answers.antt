@@ -4,21 +4,18 @@ use Rattle.affine_forms.proofs.bounds.add_below.Goals as goal
 
 pub returns-in_err-constant-clause-listed : goal.returns-in_err-constant-clause-listed
 returns-in_err-constant-clause-listed c =
-    let entries = c.args.entries.now in
-    constant_refused entries (c.args.d -ℤ pos 1) _ c.requires.form.some c.from_residual.ensures.0 (search rules)
+    constant_refused _ (c.args.d -ℤ pos 1) _ c.requires.form.some c.from_residual.ensures.0 (search rules)
 
 pub returns-in_err-constant-clause-form : goal.returns-in_err-constant-clause-form
 returns-in_err-constant-clause-form c = c.requires.form
 
 pub returns-clause-listed : goal.returns-clause-listed
 returns-clause-listed c =
-    let entries = c.args.entries.now in
-    constant_fits entries (c.args.d -ℤ pos 1) c.requires.form.some (search rules)
+    constant_fits _ (c.args.d -ℤ pos 1) c.requires.form.some (search rules)
 
 pub returns-clause-ok : goal.returns-clause-ok
 returns-clause-ok c =
-    let entries = c.args.entries.now in
-    plus_made entries (c.args.d -ℤ pos 1) _ c.requires.form.some (search rules)
+    plus_made _ (c.args.d -ℤ pos 1) _ c.requires.form.some (search rules)
 
 pub returns-clause-form : goal.returns-clause-form
 returns-clause-form c = record { some = search rules; fits = All-set Fits _ _ _ (search rules) c.requires.form.fits }

@@ -31,6 +31,4 @@ returns-clause-listed c =
 
 pub returns-clause-value : goal.returns-clause-value
 returns-clause-value c =
-    let form = c.args.form.now in
-    let v = c.args.v.now in
-    (search rules) ∙ value_end (to_z w128 c.loop-i.sum-bits) form v c.loop-i.i (omega arith) c.requires.lengths c.loop-i.invariant.1
+    (search rules) ∙ value_end (to_z w128 c.loop-i.sum-bits) _ _ c.loop-i.i (omega arith) c.requires.lengths c.loop-i.invariant.1

@@ -1,5 +1,6 @@
-use Rattle.affine_forms.proofs.Words.{arith, rules, refl, map, ◌∙◌, ◌-ℤ◌, to_z-of_z, common_steps, All-set, IsFalse, entry, all_fit, Fits, raised}
-use Rattle.affine_forms.proofs.Raising.{rounded_parts, rounded_refused}
+use Rattle.affine_forms.proofs.Words.{arith, rules, refl, map, ◌∙◌, ◌-ℤ◌, to_z-of_z, common_steps, All-set, IsFalse, entry, all_fit, Fits, raised, ◌∷◌, fits, []}
+use Rattle.std.proofs.lemmas.List.Folds.{list_all-append}
+use Rattle.affine_forms.proofs.Raising.{rounded_refused}
 use Rattle.affine_forms.proofs.multiples.round_form.Goals as goal
 
 pub returns-in_err-check_raised-clause-listed : goal.returns-in_err-check_raised-clause-listed
@@ -12,11 +13,11 @@ returns-in_err-check_raised-clause-listed c =
 
 pub returns-in_err-before-clause-listed : goal.returns-in_err-before-clause-listed
 returns-in_err-before-clause-listed c =
-    let parts = rounded_parts (map (raised c.args.d) c.args.entries.now) (raised c.args.d (entry c.args.entries.now c.args.q) -ℤ c.args.d) in
+    let parts = list_all-append fits (map (raised c.args.d) c.args.entries.now) ((raised c.args.d (entry c.args.entries.now c.args.q) -ℤ c.args.d) ∷ []) in
     grind (arith, common_steps, parts)
 
 pub returns-clause-listed : goal.returns-clause-listed
-returns-clause-listed c = rounded_parts (map (raised c.args.d) c.args.entries.now) (raised c.args.d (entry c.args.entries.now c.args.q) -ℤ c.args.d) ∙ search rules
+returns-clause-listed c = list_all-append fits (map (raised c.args.d) c.args.entries.now) ((raised c.args.d (entry c.args.entries.now c.args.q) -ℤ c.args.d) ∷ []) ∙ search rules
 
 pub returns-clause-fits : goal.returns-clause-fits
 returns-clause-fits c = All-set Fits _ _ _ (search rules) c.raise_all.ensures.fits

@@ -1,15 +1,15 @@
-use Rattle.affine_forms.proofs.Words.{arith, ◌*ℤ◌, to_z-of_z, w128}
-use Rattle.affine_forms.proofs.Short.{product_fits, in_64, in_128, once, twice, thrice}
+use Rattle.affine_forms.proofs.Words.{arith, ◌*ℤ◌, to_z-of_z, w128, fits_signed_from_abs, w64}
+use Rattle.affine_forms.proofs.Short.{product_fits, in_128, once, twice, thrice}
 use Rattle.affine_forms.proofs.numbers.exact_product.Goals as goal
 
 pub overflow_cast-result : goal.overflow_cast-result
-overflow_cast-result c = rw (once c.args.a c.requires.a) (in_64 c.args.a c.requires.a)
+overflow_cast-result c = rw (once c.args.a c.requires.a) (fits_signed_from_abs w64 c.args.a c.requires.a)
 
 pub overflow_cast-result-2 : goal.overflow_cast-result-2
 overflow_cast-result-2 c = rw (twice c.args.a c.requires.a) (in_128 c.args.a (omega (arith, c.requires.a)))
 
 pub overflow_cast-result-3 : goal.overflow_cast-result-3
-overflow_cast-result-3 c = rw (once c.args.b c.requires.b) (in_64 c.args.b c.requires.b)
+overflow_cast-result-3 c = rw (once c.args.b c.requires.b) (fits_signed_from_abs w64 c.args.b c.requires.b)
 
 pub overflow_cast-result-4 : goal.overflow_cast-result-4
 overflow_cast-result-4 c = rw (twice c.args.b c.requires.b) (in_128 c.args.b (omega (arith, c.requires.b)))

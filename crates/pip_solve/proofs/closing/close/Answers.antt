@@ -10,7 +10,8 @@ returns-in-SecondDue-clause-gives c =
     let h = popped c.args.tree c.args.path.now c.args.pending.now c.loop-frame.tree c.loop-frame.path c.loop-frame.pending c.pop.new.self due c.loop-frame.invariant e in
     let entered = c.in_ok-enter_opposite-in-SecondDue.ensures in
     let deep : c.loop-frame.path.depth - 1 + 1 ≡ c.loop-frame.path.depth = omega (arith, h.closing.depth) in
-    rw (c.take_rows.ensures.rows, c.take_rows.ensures.kept) (second_same c.args.tree c.args.path.now c.args.pending.now c.loop-frame.tree c.loop-frame.path c.pop.new.self (c.loop-frame.path.depth - 1) c.in-SecondDue.condition c.in-SecondDue.due c.in-SecondDue.context c.in-SecondDue.quotients h c.back_to.new.self c.enter_opposite.new.self c.push.new.self deep c.back_to.ensures entered c.push.ensures)
+    let pushed = rw c.take_rows.ensures.kept at c.push.ensures in
+    rw c.take_rows.ensures.rows (second_same c.args.tree c.args.path.now c.args.pending.now c.loop-frame.tree c.loop-frame.path c.pop.new.self (c.loop-frame.path.depth - 1) c.in-SecondDue.condition c.in-SecondDue.due c.in-SecondDue.context c.in-SecondDue.quotients h c.back_to.new.self c.enter_opposite.new.self c.push.new.self deep c.back_to.ensures entered pushed)
 
 pub enter_opposite-requires-clause-room : goal.enter_opposite-requires-clause-room
 enter_opposite-requires-clause-room c =
@@ -38,7 +39,8 @@ returns-in-SecondDue-clause-next c =
     let h = popped c.args.tree c.args.path.now c.args.pending.now c.loop-frame.tree c.loop-frame.path c.loop-frame.pending c.pop.new.self due c.loop-frame.invariant e in
     let entered = c.in_ok-enter_opposite-in-SecondDue.ensures in
     let deep : c.loop-frame.path.depth - 1 + 1 ≡ c.loop-frame.path.depth = omega (arith, h.closing.depth) in
-    rw (c.take_rows.ensures.rows, c.take_rows.ensures.kept) (second_next c.args.tree c.args.path.now c.args.pending.now c.loop-frame.tree c.loop-frame.path c.pop.new.self (c.loop-frame.path.depth - 1) c.in-SecondDue.condition c.in-SecondDue.due c.in-SecondDue.context c.in-SecondDue.quotients h c.back_to.new.self c.enter_opposite.new.self c.push.new.self deep c.back_to.ensures entered c.push.ensures)
+    let pushed = rw c.take_rows.ensures.kept at c.push.ensures in
+    rw c.take_rows.ensures.rows (second_next c.args.tree c.args.path.now c.args.pending.now c.loop-frame.tree c.loop-frame.path c.pop.new.self (c.loop-frame.path.depth - 1) c.in-SecondDue.condition c.in-SecondDue.due c.in-SecondDue.context c.in-SecondDue.quotients h c.back_to.new.self c.enter_opposite.new.self c.push.new.self deep c.back_to.ensures entered pushed)
 
 pub loop-frame-preserved-in-FirstMade : goal.loop-frame-preserved-in-FirstMade
 loop-frame-preserved-in-FirstMade c =
