@@ -85,6 +85,13 @@ module _ (n : ℕ) (rows : List (List ℤ)) (l : ℤ) (form sum : List ℤ) (j :
         ∙ ap (λ (z : ℤ). entry sum k +ℤ z) (entry-scale f row k) ∙ next k less;
   }
 
+  -- where the coefficient is 0 the sums stay
+  pub read_none : f ≡ pos 0 → ReadTo n rows l form sum (j + 1)
+  read_none e = record { lanes = h.lanes; sums = λ k less. kept (entry sum k) (entry row k) ∙ ap (λ (z : ℤ). entry sum k +ℤ z *ℤ entry row k) (sym e) ∙ next k less }
+    where
+      kept : (x y : ℤ) → x ≡ x +ℤ pos 0 *ℤ y
+      kept x y = omega (arith, ints)
+
 pub read_end : (n : ℕ) (rows : List (List ℤ)) (l : ℤ) (form sum : List ℤ) (j k : ℕ) → n ≤ j → ReadTo n rows l form sum j → k < 8 → entry sum k ≡ dot form (line n rows l k)
 read_end n rows l form sum j k le h lt = h.sums k lt ∙ ap (dot form) (take_all (j + 1) (line n rows l k) (let e = length_made (λ i. entry (get_or rows i []) k) 0 n in omega (arith, e, le)))
 

@@ -31,20 +31,20 @@ fn is_above(z: i32) -> bool
 
 // The product for column k at a row, which is compared with that for column b.
 #[inline(always)]
-fn product_at(row: Lanes, p: Lanes, k: usize, b: usize) -> i64
+fn product_at(row: &Lanes, p: &Lanes, k: usize, b: usize) -> i64
     requires k { k < 7 }
     requires b { b < 7 }
-    ensures { result ≡ entry row (k + 1) *ℤ entry p (b + 1) }
+    ensures { result ≡ entry row.now (k + 1) *ℤ entry p.now (b + 1) }
 {
     product(row.get(k + 1), p.get(b + 1))
 }
 
 // Whether the product for column k is the smaller at a row, none where it is the same as that for column b.
 #[inline(always)]
-fn compare_at(row: Lanes, p: Lanes, k: usize, b: usize) -> Option<bool>
+fn compare_at(row: &Lanes, p: &Lanes, k: usize, b: usize) -> Option<bool>
     requires k { k < 7 }
     requires b { b < 7 }
-    ensures { IsDecided (entry row (k + 1) *ℤ entry p (b + 1)) (entry row (b + 1) *ℤ entry p (k + 1)) result }
+    ensures { IsDecided (entry row.now (k + 1) *ℤ entry p.now (b + 1)) (entry row.now (b + 1) *ℤ entry p.now (k + 1)) result }
 {
     let of_k = product_at(row, p, k, b);
     let of_b = product_at(row, p, b, k);
@@ -57,17 +57,17 @@ fn compare_at(row: Lanes, p: Lanes, k: usize, b: usize) -> Option<bool>
 
 // Whether column k has the smaller list of quotients `a_ik / a_pk` over the first n rows than column b.
 #[inline(always)]
-fn is_better(rows: &[Lanes], n: usize, p: Lanes, k: usize, b: usize) -> bool
+fn is_better(rows: &[Lanes], n: usize, p: &Lanes, k: usize, b: usize) -> bool
     requires rows { All AreLanes rows.now }
-    requires pivot { AreLanes p }
+    requires pivot { AreLanes p.now }
     requires few { n ≤ 7 }
     requires enough { n ≤ length rows.now }
     requires k { k < n }
     requires b { b < n }
-    ensures { result ≡ model.is_better (undivided_in n (pos 1) n rows.now) (row_over n (pos 1) (numbers_of n p)) k b }
+    ensures { result ≡ model.is_better (undivided_in n (pos 1) n rows.now) (row_over n (pos 1) (numbers_of n p.now)) k b }
 {
     for i in 0..n {
-        match compare_at(rows[i], p, k, b) {
+        match compare_at(&rows[i], p, k, b) {
             Some(is_better) => return is_better,
             None => {}
         }
@@ -77,19 +77,19 @@ fn is_better(rows: &[Lanes], n: usize, p: Lanes, k: usize, b: usize) -> bool
 
 // The better of the best so far and column k.
 #[inline(always)]
-fn better_of(rows: &[Lanes], n: usize, p: Lanes, best: Option<usize>, k: usize) -> usize
+fn better_of(rows: &[Lanes], n: usize, p: &Lanes, best: Option<usize>, k: usize) -> usize
     requires rows { All AreLanes rows.now }
-    requires pivot { AreLanes p }
+    requires pivot { AreLanes p.now }
     requires few { n ≤ 7 }
     requires enough { n ≤ length rows.now }
-    requires k { IsCandidate n (row_over n (pos 1) (numbers_of n p)) k }
+    requires k { IsCandidate n (row_over n (pos 1) (numbers_of n p.now)) k }
     requires best { IfSome best (IsCandidate n
-        (row_over n (pos 1) (numbers_of n p))) }
+        (row_over n (pos 1) (numbers_of n p.now))) }
     requires before { IfSome best (λ b. b < k) }
     ensures value { result ≡ better (undivided_in n (pos 1) n rows.now)
-        (row_over n (pos 1) (numbers_of n p)) best k }
+        (row_over n (pos 1) (numbers_of n p.now)) best k }
     ensures candidate { IsCandidate n
-        (row_over n (pos 1) (numbers_of n p)) result }
+        (row_over n (pos 1) (numbers_of n p.now)) result }
     ensures before { result ≤ k }
 {
     match best {
@@ -100,23 +100,23 @@ fn better_of(rows: &[Lanes], n: usize, p: Lanes, best: Option<usize>, k: usize) 
 
 // The best so far, and then column k, where the row is positive in it.
 #[inline(always)]
-fn next_best(rows: &[Lanes], n: usize, p: Lanes, best: Option<usize>, k: usize) -> Option<usize>
+fn next_best(rows: &[Lanes], n: usize, p: &Lanes, best: Option<usize>, k: usize) -> Option<usize>
     requires rows { All AreLanes rows.now }
-    requires pivot { AreLanes p }
+    requires pivot { AreLanes p.now }
     requires few { n ≤ 7 }
     requires enough { n ≤ length rows.now }
     requires k { k < n }
     requires best { IfSome best (IsCandidate n
-        (row_over n (pos 1) (numbers_of n p))) }
+        (row_over n (pos 1) (numbers_of n p.now))) }
     requires before { IfSome best (λ b. b < k) }
     ensures value { choice (undivided_in n (pos 1) n rows.now)
-        (row_over n (pos 1) (numbers_of n p)) result
-        (candidates_from (row_over n (pos 1) (numbers_of n p)) (k + 1))
+        (row_over n (pos 1) (numbers_of n p.now)) result
+        (candidates_from (row_over n (pos 1) (numbers_of n p.now)) (k + 1))
         ≡ choice (undivided_in n (pos 1) n rows.now)
-        (row_over n (pos 1) (numbers_of n p)) best
-        (candidates_from (row_over n (pos 1) (numbers_of n p)) k) }
+        (row_over n (pos 1) (numbers_of n p.now)) best
+        (candidates_from (row_over n (pos 1) (numbers_of n p.now)) k) }
     ensures candidate { IfSome result (IsCandidate n
-        (row_over n (pos 1) (numbers_of n p))) }
+        (row_over n (pos 1) (numbers_of n p.now))) }
     ensures before { IfSome result (λ b. b < k + 1) }
 {
     if !is_above(p.get(k + 1)) {
@@ -127,16 +127,16 @@ fn next_best(rows: &[Lanes], n: usize, p: Lanes, best: Option<usize>, k: usize) 
 
 // The column that enters where the row of the numbers p is below 0; none, without a loop, where no number is above 0.
 #[inline(always)]
-pub(crate) fn entering_in(rows: &[Lanes], n: usize, p: Lanes) -> Option<usize>
+pub(crate) fn entering_in(rows: &[Lanes], n: usize, p: &Lanes) -> Option<usize>
     requires rows { All AreLanes rows.now }
-    requires pivot { AreLanes p }
+    requires pivot { AreLanes p.now }
     requires few { n ≤ 7 }
     requires enough { n ≤ length rows.now }
     ensures value { result ≡ model.entering_of (undivided_in n (pos 1) n rows.now)
-        (row_over n (pos 1) (numbers_of n p))
-        (model.candidates (row_over n (pos 1) (numbers_of n p))) }
+        (row_over n (pos 1) (numbers_of n p.now))
+        (model.candidates (row_over n (pos 1) (numbers_of n p.now))) }
     ensures candidate { IfSome result (IsCandidate n
-        (row_over n (pos 1) (numbers_of n p))) }
+        (row_over n (pos 1) (numbers_of n p.now))) }
 {
     if !p.minus().is_below() {
         return None;

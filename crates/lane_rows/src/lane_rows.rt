@@ -215,7 +215,7 @@ impl LaneRows {
             (divided (row_over self.now.unknowns self.now.scale (numbers_of self.now.unknowns p)))) }
         ensures positive { IfSome result (λ c. pos 1 ≤ℤ entry p (c + 1)) }
     {
-        entering_in(&self.rows, self.unknowns, p)
+        entering_in(&self.rows, self.unknowns, &p)
     }
 
     /// Puts the row of these numbers over the denominator, solved for the quantity of column c, into each row; the new

@@ -25,7 +25,10 @@ pub(crate) fn combined(rows: &[Lanes], n: usize, l: i32, form: Lanes) -> Lanes
 {
     let mut sum = unit(0, product(form.get(0), l));
     for k in 0..n {
-        sum = sum.plus_times(rows[k], form.get(k + 1));
+        let coefficient = form.get(k + 1);
+        if coefficient != 0 {
+            sum = sum.plus_times(rows[k], coefficient);
+        }
     }
     sum
 }

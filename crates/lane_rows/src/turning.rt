@@ -32,21 +32,21 @@ fn over_scale(numbers: Lanes, l: i32) -> Option<Lanes>
 // The row with the row of the numbers p over l, solved for a lane's column, put in; none where l does not divide all
 // numbers that are made. A row that stays is left alone.
 #[inline(always)]
-fn turned_row(row: &Lanes, p: Lanes, lane: usize, l: i32) -> Option<Lanes>
-    requires turnable { AreTurnable (entry p lane) row.now (entry row.now lane) p }
+fn turned_row(row: &Lanes, a: i32, p: &Lanes, lane: usize, l: i32) -> Option<Lanes>
+    requires number { a ≡ entry p.now lane }
+    requires turnable { AreTurnable (entry p.now lane) row.now (entry row.now lane) p.now }
     requires row { AreLanes row.now }
-    requires pivot { AreLanes p }
+    requires pivot { AreLanes p.now }
     requires lane { lane < 8 }
     requires scale { pos 1 ≤ℤ l }
-    ensures made { IfSome result (λ z. scale l z ≡ turned l p lane row.now) }
+    ensures made { IfSome result (λ z. scale l z ≡ turned l p.now lane row.now) }
     ensures lanes { IfSome result AreLanes }
 {
-    let a = p.get(lane);
     let b = row.get(lane);
     if b == 0 && a == l {
         return Some(*row);
     }
-    let z = over_scale(row.turned(a, p, b), l)?;
+    let z = over_scale(row.turned(a, *p, b), l)?;
     Some(z.with(lane, b))
 }
 
@@ -68,9 +68,10 @@ pub(crate) fn turn_rows(
     ensures start { IfSome result (λ m. start ≤ m) }
     ensures narrow { IfSome result (λ m. m < 2 ^ 31) }
 {
+    let a = p.get(lane);
     let mut sizes = start;
     for j in 0..rows.len() {
-        let row = turned_row(&rows[j], p, lane, l)?;
+        let row = turned_row(&rows[j], a, &p, lane, l)?;
         sizes = with_bits(sizes, row.size());
         rows[j] = row;
     }

@@ -175,6 +175,9 @@ impl Lanes {
         ensures some { IfSome result (IsFirstBelow self) }
         ensures none { IfNone result (list_all is_nonneg self ≡ true) }
     {
+        if !self.is_below() {
+            return None;
+        }
         place_below(&self.n)
     }
 

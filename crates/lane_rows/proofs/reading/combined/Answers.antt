@@ -1,6 +1,7 @@
-use Rattle.lane_rows.proofs.Words.{rules, arith, ◌≡◌, ◌∙◌, ◌+◌, ◌<◌, ◌^◌, ◌*ℤ◌, ap, sym, subst, unsigned_abs, ℤ, [], to_z, of_z, get_or_default, w32, entry}
-use Rattle.lane_rows.proofs.ReadLanes.{ReadTo, addable, constant_small, read_begun, read_end, read_step}
+use Rattle.lane_rows.proofs.Words.{rules, arith, refl, get_or, ◌≡◌, ◌∙◌, ◌+◌, ◌<◌, ◌^◌, ◌*ℤ◌, ap, sym, subst, unsigned_abs, ℤ, [], to_z, of_z, get_or_default, w32, entry}
+use Rattle.lane_rows.proofs.ReadLanes.{ReadTo, addable, constant_small, read_begun, read_end, read_none, read_step}
 use Rattle.lane_rows.proofs.reading.combined.Goals as goal
+use Rattle.lane_rows.proofs.reading.combined.Goals.{then-coefficient-ne0, else-coefficient-ne0}
 
 pub product-requires : goal.product-requires
 product-requires c =
@@ -20,9 +21,9 @@ unit-sum-requires-clause-narrow c =
 pub plus_times-sum-requires : goal.plus_times-sum-requires
 plus_times-sum-requires c =
     let b : to_z w32 (of_z w32 c.args.l) ≡ c.args.l = search rules in
-    let f : to_z w32 (of_z w32 c.get-in-loop-k.result) ≡ entry c.args.form (c.loop-k.k + 1) = search rules in
+    let f : to_z w32 (of_z w32 c.get-coefficient.result) ≡ entry c.args.form (c.loop-k.k + 1) = search rules in
     addable c.args.n c.args.rows.now c.args.l c.args.form c.loop-k.sum c.loop-k.k c.requires (subst (λ (z : ℤ). ReadTo c.args.n c.args.rows.now z c.args.form c.loop-k.sum c.loop-k.k) b c.loop-k.invariant) c.loop-k-test.true
-    c.index-rows-k.result (to_z w32 (of_z w32 c.get-in-loop-k.result)) (c.index-rows-k.is ∙ get_or_default c.args.rows.now c.loop-k.k c.index-rows-k.result [] (omega (arith, c.requires.enough))) f
+    c.index-rows-k.result (to_z w32 (of_z w32 c.get-coefficient.result)) (c.index-rows-k.is ∙ get_or_default c.args.rows.now c.loop-k.k c.index-rows-k.result [] (omega (arith, c.requires.enough))) f
 
 pub loop-k-init : goal.loop-k-init
 loop-k-init c =
@@ -36,11 +37,17 @@ loop-k-init c =
 pub loop-k-preserved : goal.loop-k-preserved
 loop-k-preserved c =
     let b : to_z w32 (of_z w32 c.args.l) ≡ c.args.l = search rules in
-    let f : to_z w32 (of_z w32 c.get-in-loop-k.result) ≡ entry c.args.form (c.loop-k.k + 1) = search rules in
-    subst (λ (z : ℤ). ReadTo c.args.n c.args.rows.now z c.args.form c.plus_times-sum.result (c.loop-k.k + 1)) (sym b)
-    (read_step c.args.n c.args.rows.now c.args.l c.args.form c.loop-k.sum c.loop-k.k c.requires (subst (λ (z : ℤ). ReadTo c.args.n c.args.rows.now z c.args.form c.loop-k.sum c.loop-k.k) b c.loop-k.invariant) c.loop-k-test.true
-    c.index-rows-k.result (to_z w32 (of_z w32 c.get-in-loop-k.result)) (c.index-rows-k.is ∙ get_or_default c.args.rows.now c.loop-k.k c.index-rows-k.result [] (omega (arith, c.requires.enough))) f
-    c.plus_times-sum.result c.plus_times-sum.ensures.value c.plus_times-sum.ensures.lanes)
+    let f : to_z w32 (of_z w32 c.get-coefficient.result) ≡ entry c.args.form (c.loop-k.k + 1) = search rules in
+    let before = subst (λ (z : ℤ). ReadTo c.args.n c.args.rows.now z c.args.form c.loop-k.sum c.loop-k.k) b c.loop-k.invariant in
+    elim c.if-coefficient-ne0.branch [
+      | then-coefficient-ne0 w ↦ rw w.sum-is (subst (λ (z : ℤ). ReadTo c.args.n c.args.rows.now z c.args.form w.plus_times-sum.result (c.loop-k.k + 1)) (sym b)
+        (read_step c.args.n c.args.rows.now c.args.l c.args.form c.loop-k.sum c.loop-k.k c.requires before c.loop-k-test.true
+        w.index-rows-k.result (to_z w32 (of_z w32 c.get-coefficient.result)) (w.index-rows-k.is ∙ get_or_default c.args.rows.now c.loop-k.k w.index-rows-k.result [] (omega (arith, c.requires.enough))) f
+        w.plus_times-sum.result w.plus_times-sum.ensures.value w.plus_times-sum.ensures.lanes))
+      | else-coefficient-ne0 w ↦ rw w.sum-is (subst (λ (z : ℤ). ReadTo c.args.n c.args.rows.now z c.args.form c.loop-k.sum (c.loop-k.k + 1)) (sym b)
+        (read_none c.args.n c.args.rows.now c.args.l c.args.form c.loop-k.sum c.loop-k.k c.requires before c.loop-k-test.true
+        (get_or c.args.rows.now c.loop-k.k []) (to_z w32 (of_z w32 c.get-coefficient.result)) refl f (search rules)))
+    ]
 
 pub returns-clause-value : goal.returns-clause-value
 returns-clause-value c = λ k lt.
