@@ -14,7 +14,7 @@ pub use Rattle.pip_model.specs.Cuts.{constant_cut}
 pub use Rattle.scaled_laws.specs.Scaled.{row_over, AreScaled}
 pub use Rattle.form_laws.proofs.Turning.{entry_first, length_counted}
 pub use Rattle.scaled_laws.specs.Cut.{cut_numbers, left_of}
-pub use Rattle.lanes.specs.Narrow.{AreLanes, AreTurnable, AreAddable, IsSummable, IsFirstBelow}
+pub use Rattle.lanes.specs.Narrow.{AreCovered, AreLanes, AreTurnable, AreAddable, IsSummable, IsFirstBelow}
 pub use Rattle.lane_rows.specs.Laned.{numbers_of, numbers_at, rows_in, table_of, AreLaned, IsLaned, undivided_in, AreUnused, IsVertex}
 pub use Rattle.std.specs.Prelude.{slice_set, IfSome, if◌then◌else◌, ◌&&◌, IfNone, int_lt}
 pub use Rattle.form_laws.proofs.Divided.{same_entries, same_row}

@@ -69,11 +69,11 @@ pub(crate) fn turn_rows(
     ensures narrow { IfSome result (λ m. m < 2 ^ 31) }
 {
     let a = p.get(lane);
-    let mut sizes = start;
+    let mut sizes = Lanes::zeros();
     for j in 0..rows.len() {
         let row = turned_row(&rows[j], a, &p, lane, l)?;
-        sizes = with_bits(sizes, row.size());
+        sizes = sizes.covering(&row);
         rows[j] = row;
     }
-    Some(sizes)
+    Some(with_bits(start, sizes.size()))
 }

@@ -6,6 +6,6 @@ pub use Rattle.std.proofs.lemmas.Int.{ints, unsigned_abs-mul, to_z-of_z}
 pub use Rattle.std.proofs.lemmas.List.{take_all, length-map, get_or_past}
 pub use Rattle.pip_model.specs.Numbers.{is_nonneg}
 pub use Rattle.pip_model.specs.Forms.{entry, dot, add, combine, negate, scale}
-pub use Rattle.lanes.specs.Narrow.{IsSummable, AreAddable, AreLanes, AreNarrowTimes, AreTurnable, IsNarrow, left_of}
+pub use Rattle.lanes.specs.Narrow.{IsSummable, AreAddable, AreCovered, AreLanes, AreNarrowTimes, AreTurnable, IsNarrow, left_of}
 pub use Rattle.std.proofs.lemmas.Nat.{mul-le, or_lt}
 pub use Rattle.std.specs.Int.{w32}

@@ -1,5 +1,5 @@
 -- Numbers that are written one after the other.
-use Rattle.lanes.proofs.Words.{◌≡◌, ◌∙◌, refl, ap, sym, subst, ℕ, zero, suc, ◌+◌, ◌^◌, ◌<◌, ◌≤◌, ℤ, pos, ◌+ℤ◌, ◌-ℤ◌, ◌*ℤ◌, ◌≤ℤ◌, neg_ℤ, unsigned_abs, arith, nat_lt, ◌*◌, ◌⊎◌, inl, inr, List, [], ◌∷◌, length, length-set, replicate, ints, unsigned_abs-mul, mul-le, length-map, get_or_past, slice_set, entry, add, combine, negate, scale, AreAddable, AreLanes, AreNarrowTimes, AreTurnable, IsNarrow, left_of}
+use Rattle.lanes.proofs.Words.{◌≡◌, ◌∙◌, refl, ap, sym, subst, ℕ, zero, suc, ◌+◌, ◌^◌, ◌<◌, ◌≤◌, ℤ, pos, ◌+ℤ◌, ◌-ℤ◌, ◌*ℤ◌, ◌≤ℤ◌, neg_ℤ, unsigned_abs, arith, nat_lt, ◌*◌, ◌⊎◌, inl, inr, List, [], ◌∷◌, length, length-set, replicate, ints, unsigned_abs-mul, mul-le, length-map, get_or_past, slice_set, entry, add, combine, negate, scale, AreAddable, AreCovered, AreLanes, AreNarrowTimes, AreTurnable, IsNarrow, left_of}
 use Rattle.std.proofs.lemmas.Bool.{cases_eq}
 use Rattle.pip_model.proofs.Forms.{length-add, length-combine, entry-combine, entry-negate, entry-scale, entry-zeros}
 use Rattle.run_laws.proofs.Sums.{entry-set_same, entry-set_other, length-scale}
@@ -117,6 +117,28 @@ narrow_opposite x z h e = omega (arith, ints, h, e)
 
 pub negated_lanes : (old now : List ℤ) (i : ℕ) → AreLanes old → length now ≤ i → Written (λ k z. z ≡ neg_ℤ (entry old k)) old now i → AreLanes now
 negated_lanes old now i h le w = narrow_end (λ k z. z ≡ neg_ℤ (entry old k)) old now i h le w (λ k z e. narrow_opposite (entry old k) z (h.narrow k) e)
+
+-- ---- numbers that cover others
+
+-- what is written of two lists, number by number
+abbrev pub Covers : List ℤ → List ℤ → ℕ → ℤ → Type 0
+Covers xs ys k z = (unsigned_abs (entry xs k) ≤ unsigned_abs z) × (unsigned_abs (entry ys k) ≤ unsigned_abs z) × (unsigned_abs z < 2 ^ 31)
+
+covered : (xs now : List ℤ) → length xs ≡ length now → ((k : ℕ) → k < length now → unsigned_abs (entry xs k) ≤ unsigned_abs (entry now k)) → AreCovered xs now
+covered xs now e f k = by (split_at k (length now))
+  where
+    none : (x z : ℤ) → x ≡ pos 0 → unsigned_abs x ≤ unsigned_abs z
+    none x z is = rw is (omega arith)
+
+    by : (k < length now) ⊎ (length now ≤ k) → unsigned_abs (entry xs k) ≤ unsigned_abs (entry now k)
+    by (inl lt) = f k lt
+    by (inr past) = none (entry xs k) (entry now k) (get_or_past xs k (pos 0) (omega (arith, past, e)))
+
+pub covered_end : (old ys now : List ℤ) (i : ℕ) → AreLanes old → AreLanes ys → length now ≤ i → Written (Covers old ys) old now i → AreCovered old now × AreCovered ys now × AreLanes now
+covered_end old ys now i own others le w = (
+    covered old now (sym w.long) (λ k lt. (w.done k (omega (arith, lt, le))).0),
+    covered ys now (others.long ∙ sym (w.long ∙ own.long)) (λ k lt. (w.done k (omega (arith, lt, le))).1),
+    narrow_end (Covers old ys) old now i own le w (λ k z h. h.2))
 
 -- ---- quotients, and what they leave
 

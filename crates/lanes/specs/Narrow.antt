@@ -1,5 +1,5 @@
 -- Lists of numbers of 32 bits, and what keeps sums and products of them so short.
-use Rattle.std.specs.Prelude.{◌≡◌, ℕ, ◌^◌, ◌<◌, ℤ, pos, ◌+ℤ◌, ◌*ℤ◌, ◌<ℤ◌, ◌≤ℤ◌, neg_ℤ, unsigned_abs, Bool, List, length, take, if◌then◌else◌}
+use Rattle.std.specs.Prelude.{◌≡◌, ℕ, ◌^◌, ◌<◌, ℤ, pos, ◌+ℤ◌, ◌*ℤ◌, ◌≤◌, ◌<ℤ◌, ◌≤ℤ◌, neg_ℤ, unsigned_abs, Bool, List, length, take, if◌then◌else◌}
 use Rattle.pip_model.specs.Numbers.{floor_mod}
 use Rattle.pip_model.specs.Forms.{entry, dot}
 
@@ -11,6 +11,10 @@ IsNarrow z = unsigned_abs z < 2 ^ 31
 pub record AreLanes (zs : List ℤ) : Type 0 where
   pub long : length zs ≡ 8
   pub narrow : (k : ℕ) → IsNarrow (entry zs k)
+
+-- no number is greater in size than that in its place
+abbrev pub AreCovered : List ℤ → List ℤ → Type 0
+AreCovered xs ys = (k : ℕ) → unsigned_abs (entry xs k) ≤ unsigned_abs (entry ys k)
 
 -- f times each number is narrow
 abbrev pub AreNarrowTimes : ℤ → List ℤ → Type 0

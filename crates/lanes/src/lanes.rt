@@ -2,10 +2,10 @@ ghost use Rattle.std.specs.Prelude.{◌≡◌, ◌≢◌, ℕ, ◌^◌, ◌<◌,
 ghost use Rattle.std.specs.List.{list_all};
 ghost use Rattle.pip_model.specs.Numbers.{is_nonneg};
 ghost use Rattle.pip_model.specs.Forms.{add, combine, dot, entry, negate, scale};
-ghost use Rattle.lanes.specs.Narrow.{AreAddable, AreLanes, AreNarrowTimes, AreTurnable, IsFirstBelow, IsNarrow, IsSummable, left_of};
+ghost use Rattle.lanes.specs.Narrow.{AreCovered, AreAddable, AreLanes, AreNarrowTimes, AreTurnable, IsFirstBelow, IsNarrow, IsSummable, left_of};
 
 use crate::rows::{
-    add_multiple, are_nowhere_below, divide, leave, multiply, oppose, place_below, size_of_all,
+    add_multiple, are_nowhere_below, cover, divide, leave, multiply, oppose, place_below, size_of_all,
     sum_products, turn,
 };
 use std::marker::Model;
@@ -110,6 +110,18 @@ impl Lanes {
     {
         let mut n = self.n;
         turn(&mut n, a, b, &p.n);
+        Lanes { n }
+    }
+
+    /// Numbers whose sizes are not less than those of these and of a row's.
+    #[inline(always)]
+    pub fn covering(self, row: &Lanes) -> Lanes
+        ensures own { AreCovered self result }
+        ensures row { AreCovered row.now result }
+        ensures lanes { AreLanes result }
+    {
+        let mut n = self.n;
+        cover(&mut n, &row.n);
         Lanes { n }
     }
 

@@ -114,6 +114,18 @@ pub(crate) fn with_size(all: u32, x: i32) -> u32
     with_bits(all, x.unsigned_abs())
 }
 
+// A number whose size is not less than those of two others.
+#[inline(always)]
+pub(crate) fn covering(x: i32, y: i32) -> i32
+    requires first { IsNarrow x }
+    requires second { IsNarrow y }
+    ensures first { unsigned_abs x ≤ unsigned_abs result }
+    ensures second { unsigned_abs y ≤ unsigned_abs result }
+    ensures narrow { IsNarrow result }
+{
+    with_bits(x.unsigned_abs(), y.unsigned_abs()) as i32
+}
+
 // The quotient, where nothing is left.
 #[inline(always)]
 pub(crate) fn quotient(z: i32, l: i32) -> Option<i32>

@@ -2,10 +2,10 @@ ghost use Rattle.std.specs.Prelude.{◌≡◌, ℕ, ◌^◌, ◌<◌, ◌≤◌,
 ghost use Rattle.std.specs.List.{list_all};
 ghost use Rattle.pip_model.specs.Numbers.{is_nonneg};
 ghost use Rattle.pip_model.specs.Forms.{add, combine, dot, entry, negate, scale};
-ghost use Rattle.lanes.specs.Narrow.{AreAddable, AreLanes, AreNarrowTimes, AreTurnable, IsFirstBelow, IsNarrow, IsSummable, left_of};
+ghost use Rattle.lanes.specs.Narrow.{AreCovered, AreAddable, AreLanes, AreNarrowTimes, AreTurnable, IsFirstBelow, IsNarrow, IsSummable, left_of};
 
 use crate::numbers::{
-    add_product, both, difference, is_at_least_zero, left, opposite, product, quotient, with_size,
+    add_product, both, covering, difference, is_at_least_zero, left, opposite, product, quotient, with_size,
 };
 
 // Makes f*x of the numbers x.
@@ -134,6 +134,21 @@ pub(crate) fn divide(row: &mut [i32], l: i32) -> bool
         row[k] = number;
     }
     true
+}
+
+// Makes of each number one whose size is not less than its own and that of a row's number.
+#[inline(always)]
+pub(crate) fn cover(row: &mut [i32], ys: &[i32])
+    requires lanes { AreLanes row.old }
+    requires others { AreLanes ys.now }
+    ensures own { AreCovered row.old row.new }
+    ensures others { AreCovered ys.now row.new }
+    ensures lanes { AreLanes row.new }
+{
+    for k in 0..row.len() {
+        let z = covering(row[k], ys[k]);
+        row[k] = z;
+    }
 }
 
 // Makes what the quotients by l leave: of the first number rounded up, of the others rounded down.

@@ -15,14 +15,13 @@ loop-j-preserved c =
     let here : row ≡ get_or c.args.rows.now c.loop-j.j [] = get_or_default c.loop-j.rows c.loop-j.j c.index-rows-j.result [] (omega arith) ∙ c.loop-j.invariant.turned.left c.loop-j.j (omega arith) in
     let made : scale c.args.l c.in_ok-row.row ≡ turned c.args.l c.args.p c.args.lane row = search (rules, c.in_ok-row.ensures.made) in
     record {
-      narrow = omega (arith, c.with_bits-sizes.ensures.narrow);
-      start = omega (arith, c.loop-j.invariant.start, c.with_bits-sizes.ensures.first);
-      turned = simp to_z-of_z (turned_step c.args.l c.args.p c.args.lane c.args.rows.now c.loop-j.rows _ c.loop-j.j _ c.loop-j.sizes c.size.result c.with_bits-sizes.result c.in_ok-row.row kept (omega arith) refl refl
-          (made ∙ ap (turned c.args.l c.args.p c.args.lane) here) c.in_ok-row.ensures.lanes c.size.ensures.within c.with_bits-sizes.ensures.second c.with_bits-sizes.ensures.first);
+      lanes = c.covering-sizes.ensures.lanes;
+      turned = simp to_z-of_z (turned_step c.args.l c.args.p c.args.lane c.args.rows.now c.loop-j.rows _ c.loop-j.j _ c.loop-j.sizes c.covering-sizes.result c.in_ok-row.row kept (omega arith) refl refl
+          (made ∙ ap (turned c.args.l c.args.p c.args.lane) here) c.in_ok-row.ensures.lanes c.covering-sizes.ensures.row c.covering-sizes.ensures.own);
     }
 
 pub returns-clause-made : goal.returns-clause-made
 returns-clause-made c =
     let l = c.ranges.l in
     let kept = simp to_z-of_z at c.loop-j.invariant.turned in
-    turned_end _ c.args.p c.args.lane c.args.rows.now c.loop-j.rows c.loop-j.j c.loop-j.sizes (omega arith) kept
+    turned_end _ c.args.p c.args.lane c.args.rows.now c.loop-j.rows c.loop-j.j c.size.result _ c.loop-j.sizes (omega arith) kept c.size.ensures.within c.with_bits.ensures.second
