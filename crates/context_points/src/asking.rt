@@ -8,7 +8,7 @@ ghost use Rattle.point_run.specs.Points.{finds_point, first_rows};
 
 use affine_forms::Form;
 use pip_problem::Refusal;
-use point_run::{push_form, run_on, start_rows};
+use point_run::{WideRows, push_form, run_on, start_rows};
 use run_counts::Work;
 use std::alloc::Global;
 
@@ -27,5 +27,5 @@ pub(crate) fn ask_plainly(
 {
     let mut t = start_rows(alloc, places, forms)?;
     push_form(alloc, &mut t, form)?;
-    run_on(&mut t, work)
+    run_on::<WideRows>(&mut t, true, usize::MAX, work)
 }

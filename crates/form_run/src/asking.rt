@@ -6,10 +6,11 @@ ghost use Rattle.short_run.specs.Stops.{stop_fault};
 ghost use Rattle.point_turns.specs.Points.{has_point};
 
 use crate::room::RowRoom;
-use crate::run::run;
+use crate::run::ReadRows;
 use crate::starting::start_by_forms;
 use affine_forms::Form;
 use pip_problem::Refusal;
+use point_turns::run_on;
 use run_counts::Work;
 use short_run::Stop;
 use std::alloc::Global;
@@ -28,8 +29,9 @@ fn ask(
         (has_point places (forms.now ++ further.now)) }
 {
     let mut room = RowRoom::new(alloc);
-    let mut rows = start_by_forms(alloc, places, forms, further, &mut room)?;
-    run(&mut rows, &mut room, work)
+    let rows = start_by_forms(alloc, places, forms, further, &mut room)?;
+    let mut read = ReadRows { rows, room };
+    run_on::<ReadRows>(&mut read, true, usize::MAX, work)
 }
 
 /// Whether these forms, which are those of a context and further ones, have a point; None where a number is not short, or

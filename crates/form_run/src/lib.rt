@@ -18,5 +18,5 @@ mod starting;
 pub use asking::ask_by_forms;
 pub use form_rows::FormRows;
 pub use room::RowRoom;
-pub use run::take_turn;
+pub use run::ReadRows;
 pub use starting::start_by_forms;

@@ -1,110 +1,56 @@
-ghost use Rattle.std.specs.Prelude.{◌≡◌, ◌<◌, ◌≤◌, None, Some, [], ◌∷◌, ◌++◌, length, IfOk, OnOk};
-ghost use Rattle.pip_model.specs.Cuts.{constant_cut};
-ghost use Rattle.pip_model.specs.Rows.{row_at};
-ghost use Rattle.pip_model.specs.Run as model;
-ghost use Rattle.pip_model.specs.Run.{turn_by, MinusAt, AllPlus, point_setting};
-ghost use Rattle.run_counts.specs.Counts.{IsCountedRun};
 ghost use Rattle.short_run.specs.Stops.{stop_fault};
-ghost use Rattle.point_turns.specs.TurnAt.{IsTurnAt};
-ghost use Rattle.point_turns.specs.Turns.{negative_from, node_of, made, counted_cut, HasSameScope};
-ghost use Rattle.point_turns.specs.Points.{finds_point};
 
 use crate::form_rows::FormRows;
 use crate::room::RowRoom;
-use point_turns::PointTurn;
+use point_turns::{PointRows, PointTurn};
 use run_counts::Work;
 use short_run::Stop;
 
-// At a row below 0: no point where no column enters, else a pivot.
-fn pivot_turn(
-    rows: &mut FormRows,
-    room: &mut RowRoom,
-    work: &mut Work,
-    r: usize,
-) -> Result<PointTurn, Stop>
-    requires rows { rows.old.unknowns ≤ length rows.old.rows }
-    requires row { r < length rows.old.rows }
-    requires first { negative_from 0 rows.old.rows ≡ Some r }
-    ensures gives { IsCountedRun (made rows.old.unknowns rows.new.rows) stop_fault result work.old work.new
-        (turn_by (point_setting rows.old.unknowns) (node_of rows.old.rows) (MinusAt r)) }
-    ensures place { IfOk result (IsTurnAt rows.old.unknowns rows.old.rows rows.new.rows) }
-    ensures scope { OnOk result (HasSameScope rows.old rows.new) }
-{
-    rows.read_row(r, room)?;
-    let Some(c) = rows.entering(&room.row, r) else {
-        return Ok(PointTurn::Bottom(r));
-    };
-    work.count_pivot()?;
-    if !rows.pivot(&room.row, r, c) {
-        return Err(Stop::Long);
+/// Rows that are read off their forms, with room for one that is read.
+#[derive(Drop)]
+pub struct ReadRows {
+    pub rows: FormRows,
+    pub room: RowRoom,
+}
+
+impl PointRows for ReadRows {
+    type Rows = ReadRows;
+
+    type Fault = Stop;
+
+    ghost table = { λ t. t.rows };
+
+    ghost is_width = { λ _. Unit {0} };
+
+    ghost fault = { stop_fault };
+
+    fn first_below(t: &mut ReadRows) -> Option<usize> {
+        t.rows.first_below()
     }
-    Ok(PointTurn::Pivot(r, c))
-}
 
-// A cut by row i is counted, and then added.
-fn count_and_cut(
-    rows: &mut FormRows,
-    room: &mut RowRoom,
-    work: &mut Work,
-    i: usize,
-) -> Result<(), Stop>
-    requires { i < rows.old.unknowns }
-    ensures gives { IsCountedRun (λ x. rows.new.rows) stop_fault result work.old work.new
-        (counted_cut rows.old.rows i) }
-    ensures row { OnOk result (rows.new.rows ≡ rows.old.rows ++ constant_cut (row_at rows.old.rows i) ∷ []) }
-    ensures scope { OnOk result (HasSameScope rows.old rows.new) }
-{
-    work.count_cut()?;
-    rows.push_cut(i, room)?;
-    Ok(())
-}
-
-// A cut at the first fraction, where there is one.
-fn last_turn(rows: &mut FormRows, room: &mut RowRoom, work: &mut Work) -> Result<PointTurn, Stop>
-    requires rows { rows.old.unknowns ≤ length rows.old.rows }
-    requires none { negative_from 0 rows.old.rows ≡ None }
-    ensures gives { IsCountedRun (made rows.old.unknowns rows.new.rows) stop_fault result work.old work.new
-        (turn_by (point_setting rows.old.unknowns) (node_of rows.old.rows) AllPlus) }
-    ensures place { IfOk result (IsTurnAt rows.old.unknowns rows.old.rows rows.new.rows) }
-    ensures scope { OnOk result (HasSameScope rows.old rows.new) }
-{
-    let Some(i) = rows.first_fraction() else {
-        return Ok(PointTurn::List);
-    };
-    count_and_cut(rows, room, work, i)?;
-    Ok(PointTurn::Cut(i))
-}
-
-/// One turn over rows that are read off their forms: a pivot at a row below 0, else a cut at a fraction.
-#[tactic(auto, using(point_turns::proofs::Turning::turn_is))]
-pub fn take_turn(
-    rows: &mut FormRows,
-    room: &mut RowRoom,
-    work: &mut Work,
-) -> Result<PointTurn, Stop>
-    requires { rows.old.unknowns ≤ length rows.old.rows }
-    ensures gives { IsCountedRun (made rows.old.unknowns rows.new.rows) stop_fault result work.old work.new
-        (model.turn (point_setting rows.old.unknowns) (node_of rows.old.rows)) }
-    ensures place { IfOk result (IsTurnAt rows.old.unknowns rows.old.rows rows.new.rows) }
-    ensures scope { OnOk result (HasSameScope rows.old rows.new) }
-{
-    match rows.first_below() {
-        Some(r) => pivot_turn(rows, room, work, r),
-        None => last_turn(rows, room, work),
-    }
-}
-
-// The run of a question to its end: whether it finds a point.
-pub(crate) fn run(rows: &mut FormRows, room: &mut RowRoom, work: &mut Work) -> Result<bool, Stop>
-    requires { rows.old.unknowns ≤ length rows.old.rows }
-    ensures gives { IsCountedRun (λ b. b) stop_fault result work.old work.new
-        (finds_point rows.old.unknowns rows.old.rows) }
-{
-    loop {
-        match take_turn(rows, room, work)? {
-            PointTurn::Bottom(_) => return Ok(false),
-            PointTurn::List => return Ok(true),
-            PointTurn::Pivot(_, _) | PointTurn::Cut(_) => {}
+    fn pivot_turn(t: &mut ReadRows, work: &mut Work, r: usize) -> Result<PointTurn, Stop> {
+        t.rows.read_row(r, &mut t.room)?;
+        let Some(c) = t.rows.entering(&t.room.row, r) else {
+            return Ok(PointTurn::Bottom(r));
+        };
+        work.count_pivot()?;
+        if !t.rows.pivot(&t.room.row, r, c) {
+            return Err(Stop::Long);
         }
+        Ok(PointTurn::Pivot(r, c))
+    }
+
+    fn first_fraction(t: &ReadRows) -> Option<usize> {
+        t.rows.first_fraction()
+    }
+
+    fn count_and_cut(t: &mut ReadRows, work: &mut Work, i: usize) -> Result<(), Stop> {
+        work.count_cut()?;
+        t.rows.push_cut(i, &mut t.room)?;
+        Ok(())
+    }
+
+    fn check_rows(_: &ReadRows, _: usize) -> Result<(), Stop> {
+        Ok(())
     }
 }

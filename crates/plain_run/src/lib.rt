@@ -2,9 +2,7 @@
 #![tactic(auto)]
 
 mod point;
-mod run;
 mod tree;
-mod turn;
 
 pub use point::point_shortly;
 pub use point_turns::ShortTableau;

@@ -9,14 +9,13 @@ ghost use Rattle.pip_problem.specs.Faults.{run_fault};
 ghost use Rattle.run_counts.specs.Counts.{IsCountedRun};
 ghost use Rattle.short_run.specs.Stops.{stop_fault};
 
-use crate::run::run_out;
 use crate::tree::{constant_of, wide};
 use affine_forms::{Form, WantOfMemory};
 use pip_problem::Refusal;
 use point_run::{Point, reduced_constant};
-use point_turns::ShortTableau;
+use point_turns::{ShortTableau, run_on};
 use run_counts::Work;
-use short_run::{Stop, start_short};
+use short_run::{ShortRows, Stop, start_short};
 use std::alloc::Global;
 use std::slice::from_ref;
 
@@ -57,7 +56,7 @@ fn plain_point(
     ensures gives { IsCountedRun (λ o. o) stop_fault result work.old work.new (model.point places forms.now) }
 {
     start_short(rows, places, forms)?;
-    if !run_out(rows, true, work)? {
+    if !run_on::<ShortRows>(rows, true, usize::MAX, work)? {
         return Ok(None);
     }
     Ok(Some(values(alloc, rows)?))

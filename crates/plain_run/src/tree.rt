@@ -13,13 +13,12 @@ ghost use Rattle.point_turns.specs.Turns.{node_of};
 ghost use Rattle.plain_laws.specs.Plain.{plain_setting};
 ghost use Rattle.plain_run.specs.Trees.{tree_in};
 
-use crate::run::run_out;
 use affine_forms::{Form, WantOfMemory};
 use pip_problem::Refusal;
-use point_turns::ShortTableau;
+use point_turns::{ShortTableau, run_on};
 use quast::{Component, Quast};
 use run_counts::Work;
-use short_run::{Stop, start_short};
+use short_run::{ShortRows, Stop, start_short};
 use std::alloc::Global;
 use std::slice::from_ref;
 
@@ -95,7 +94,7 @@ fn plain_tree(
     ensures width { IfOk result (λ tree. tree.width ≡ 0) }
 {
     start_short(rows, places, forms)?;
-    if run_out(rows, integer, work)? {
+    if run_on::<ShortRows>(rows, integer, usize::MAX, work)? {
         Ok(leaf(alloc, rows)?)
     } else {
         Ok(Quast::bottom(0))

@@ -9,8 +9,8 @@ mod steps;
 
 pub use gomory_cut::{RowView, Tableau, view_of};
 pub use point::{Point, reduced_constant};
-pub use point_run::{find_point, run_on};
-pub use point_turn::take_turn;
-pub use point_turns::PointTurn;
+pub use point_run::find_point;
+pub use point_turn::WideRows;
+pub use point_turns::{PointTurn, run_on, take_turn};
 pub use rows::{push_form, start_rows};
 pub use steps::{count_and_cut, enter, enter_and_pivot};

@@ -8,31 +8,14 @@ ghost use Rattle.point_turns.specs.Turns.{node_of, HasSameScope};
 ghost use Rattle.point_turns.specs.Points.{ended, point_of};
 
 use crate::point::{Point, values};
-use crate::point_turn::take_turn;
+use crate::point_turn::WideRows;
 use crate::rows::start_rows;
 use affine_forms::Form;
 use gomory_cut::Tableau;
 use pip_problem::Refusal;
-use point_turns::PointTurn;
+use point_turns::run_on;
 use run_counts::Work;
 use std::alloc::Global;
-
-/// The run without parameters to its end: whether it found a point, which the rows then show.
-pub fn run_on(rows: &mut Tableau, work: &mut Work) -> Result<bool, Refusal>
-    requires width { rows.old.width ≡ 0 }
-    requires rows { rows.old.unknowns ≤ length rows.old.rows }
-    ensures gives { IsCountedRun (ended rows.old.unknowns rows.new.rows) run_fault result work.old work.new
-        (run_from (point_setting rows.old.unknowns) (node_of rows.old.rows)) }
-    ensures scope { HasSameScope rows.old rows.new }
-{
-    loop {
-        match take_turn(rows, work)? {
-            PointTurn::Bottom(_) => return Ok(false),
-            PointTurn::List => return Ok(true),
-            PointTurn::Pivot(_, _) | PointTurn::Cut(_) => {}
-        }
-    }
-}
 
 // The run without parameters of these rows: the point that it finds.
 fn run_rows(alloc: Global, rows: &mut Tableau, work: &mut Work) -> Result<Option<Point>, Refusal>
@@ -41,7 +24,7 @@ fn run_rows(alloc: Global, rows: &mut Tableau, work: &mut Work) -> Result<Option
     ensures gives { IsCountedRun (λ o. o) run_fault result work.old work.new
         (point_of rows.old.unknowns rows.old.rows) }
 {
-    if !run_on(rows, work)? {
+    if !run_on::<WideRows>(rows, true, usize::MAX, work)? {
         return Ok(None);
     }
     Ok(Some(values(alloc, rows)?))

@@ -1,19 +1,15 @@
-ghost use Rattle.std.specs.Prelude.{◌≡◌, ◌<◌, ◌≤◌, None, Some, not, length, IfOk, IfSome};
+ghost use Rattle.std.specs.Prelude.{◌≡◌, ◌<◌, not, length, IfSome};
 ghost use Rattle.pip_model.specs.Forms.{constant};
 ghost use Rattle.pip_model.specs.Numbers.{is_nonneg};
 ghost use Rattle.pip_model.specs.Rows.{row_at};
-ghost use Rattle.pip_model.specs.Run as model;
-ghost use Rattle.pip_model.specs.Run.{turn_by, MinusAt, AllPlus, point_setting};
 ghost use Rattle.pip_problem.specs.Faults.{run_fault};
-ghost use Rattle.run_counts.specs.Counts.{IsCountedRun};
-ghost use Rattle.point_turns.specs.TurnAt.{IsTurnAt};
-ghost use Rattle.point_turns.specs.Turns.{negative_from, node_of, made, HasSameScope};
+ghost use Rattle.point_turns.specs.Turns.{negative_from};
 
 use crate::steps::{count_and_cut, enter};
 use affine_forms::nonnegative;
 use gomory_cut::{Tableau, first_fraction};
 use pip_problem::Refusal;
-use point_turns::PointTurn;
+use point_turns::{PointRows, PointTurn};
 use run_counts::Work;
 
 // Whether the constant of row i is below 0.
@@ -26,7 +22,7 @@ fn is_below(rows: &Tableau, i: usize) -> bool
 }
 
 // The first row whose constant is below 0.
-pub(crate) fn first_below(rows: &Tableau) -> Option<usize>
+fn first_below(rows: &Tableau) -> Option<usize>
     requires { rows.now.width ≡ 0 }
     ensures value { result ≡ negative_from 0 rows.now.rows }
     ensures bound { IfSome result (λ r. r < length rows.now.rows) }
@@ -39,52 +35,40 @@ pub(crate) fn first_below(rows: &Tableau) -> Option<usize>
     None
 }
 
-// At a row below 0: no point where no column enters, else a pivot.
-fn pivot_turn(rows: &mut Tableau, work: &mut Work, r: usize) -> Result<PointTurn, Refusal>
-    requires width { rows.old.width ≡ 0 }
-    requires rows { rows.old.unknowns ≤ length rows.old.rows }
-    requires row { r < length rows.old.rows }
-    requires first { negative_from 0 rows.old.rows ≡ Some r }
-    ensures gives { IsCountedRun (made rows.old.unknowns rows.new.rows) run_fault result work.old work.new
-        (turn_by (point_setting rows.old.unknowns) (node_of rows.old.rows) (MinusAt r)) }
-    ensures place { IfOk result (IsTurnAt rows.old.unknowns rows.old.rows rows.new.rows) }
-    ensures scope { HasSameScope rows.old rows.new }
-{
-    match enter(rows, r, work)? {
-        Some(c) => Ok(PointTurn::Pivot(r, c)),
-        None => Ok(PointTurn::Bottom(r)),
+/// Rows of 128 bits.
+pub struct WideRows;
+
+impl PointRows for WideRows {
+    type Rows = Tableau;
+
+    type Fault = Refusal;
+
+    ghost table = { λ rows. rows };
+
+    ghost is_width = { λ width. width ≡ 0 };
+
+    ghost fault = { run_fault };
+
+    fn first_below(rows: &mut Tableau) -> Option<usize> {
+        first_below(rows)
     }
-}
 
-// A cut at the first fraction, where there is one.
-fn last_turn(rows: &mut Tableau, work: &mut Work) -> Result<PointTurn, Refusal>
-    requires width { rows.old.width ≡ 0 }
-    requires rows { rows.old.unknowns ≤ length rows.old.rows }
-    requires none { negative_from 0 rows.old.rows ≡ None }
-    ensures gives { IsCountedRun (made rows.old.unknowns rows.new.rows) run_fault result work.old work.new
-        (turn_by (point_setting rows.old.unknowns) (node_of rows.old.rows) AllPlus) }
-    ensures place { IfOk result (IsTurnAt rows.old.unknowns rows.old.rows rows.new.rows) }
-    ensures scope { HasSameScope rows.old rows.new }
-{
-    let Some(i) = first_fraction(rows) else {
-        return Ok(PointTurn::List);
-    };
-    count_and_cut(rows, i, work)?;
-    Ok(PointTurn::Cut(i))
-}
+    fn pivot_turn(rows: &mut Tableau, work: &mut Work, r: usize) -> Result<PointTurn, Refusal> {
+        match enter(rows, r, work)? {
+            Some(c) => Ok(PointTurn::Pivot(r, c)),
+            None => Ok(PointTurn::Bottom(r)),
+        }
+    }
 
-/// One turn: a pivot at a row below 0, else a cut at a fraction.
-#[tactic(auto, using(point_turns::proofs::Turning::turn_is))]
-pub fn take_turn(rows: &mut Tableau, work: &mut Work) -> Result<PointTurn, Refusal>
-    requires width { rows.old.width ≡ 0 }
-    requires rows { rows.old.unknowns ≤ length rows.old.rows }
-    ensures gives { IsCountedRun (made rows.old.unknowns rows.new.rows) run_fault result work.old work.new
-        (model.turn (point_setting rows.old.unknowns) (node_of rows.old.rows)) }
-    ensures place { IfOk result (IsTurnAt rows.old.unknowns rows.old.rows rows.new.rows) }
-    ensures scope { HasSameScope rows.old rows.new }
-{
-    match first_below(rows) {
-        Some(r) => pivot_turn(rows, work, r),
-        None => last_turn(rows, work),
+    fn first_fraction(rows: &Tableau) -> Option<usize> {
+        first_fraction(rows)
+    }
+
+    fn count_and_cut(rows: &mut Tableau, work: &mut Work, i: usize) -> Result<(), Refusal> {
+        count_and_cut(rows, i, work)
+    }
+
+    fn check_rows(_: &Tableau, _: usize) -> Result<(), Refusal> {
+        Ok(())
     }
 }

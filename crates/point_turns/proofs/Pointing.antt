@@ -1,7 +1,7 @@
 -- The run without parameters, from one turn to the next, and what it answers.
-use Rattle.point_turns.proofs.Words.{◌≡◌, refl, ap, sym, ◌∙◌, ℕ, zero, suc, ◌<◌, ◌≤◌, ℤ, Bool, Option, Some, None, List, [], ◌∷◌, length, arith, length-append, IfSome, Ok, Err, length-map, Tree, Row, start, Work, Outcome, Done, Refused, Refusal, Counted, Turn, Again, Closed, left, turn, run_from, point, point_run, length-count, again_less, again_run, closed_run_from, refused_run_from, falls-constant_class, TableauRows, IsCountedRun, HasCounted, counted_none, counted_on, node_of, HasSameScope, ended}
+use Rattle.point_turns.proofs.Words.{Result, true, false, is_some, go_on, give, numbers_of, finds_point, ◌≡◌, refl, ap, sym, ◌∙◌, ℕ, zero, suc, ◌<◌, ◌≤◌, ℤ, Bool, Option, Some, None, List, [], ◌∷◌, length, arith, length-append, IfSome, Ok, Err, length-map, Tree, Row, start, Work, Outcome, Done, Refused, Refusal, Counted, Turn, Again, Closed, left, turn, run_from, point, point_run, length-count, again_less, again_run, closed_run_from, refused_run_from, falls-constant_class, TableauRows, IsCountedRun, HasCounted, counted_none, counted_on, node_of, HasSameScope, ended}
 use Rattle.plain_laws.specs.Plain.{plain_setting}
-use Rattle.point_turns.proofs.Leaving.{scope_none, scope_on}
+use Rattle.point_turns.proofs.Leaving.{scope_none, scope_on, passes_refusal}
 
 -- ---- the run from its first rows
 
@@ -60,3 +60,13 @@ module _ (b : Bool) (first rows : TableauRows) (before w v : Work) (is : IsOneRu
   pub run_refused : {E : Type 0} (fault : E → Option Refusal) (next : List Row) (f : E) → IfSome (fault f) (λ e. one_turn ≡ Refused e v)
       → IsCountedRun (ended first.unknowns next) fault (Err f) before v whole
   run_refused fault next f e = record { agrees = refused (fault f) e; counted = counted_on before w v is.counted counted }
+
+-- whether a run finds a point, by how it ends
+module _ {E : Type 0} (fault : E → Option Refusal) (n : ℕ) (rows now : List Row) (before w : Work) where
+  pub finds : (r : Result Bool E) → IsCountedRun (ended n now) fault r before w (run_from (plain_setting n true) (node_of rows)) → IsCountedRun (λ b. b) fault r before w (finds_point n rows)
+  finds (Ok true) told = record { agrees = ap (λ o. go_on o (λ t. give (is_some (numbers_of t)))) told.agrees; counted = told.counted }
+  finds (Ok false) told = record { agrees = ap (λ o. go_on o (λ t. give (is_some (numbers_of t)))) told.agrees; counted = told.counted }
+  finds (Err e) told = record {
+    agrees = passes_refusal (run_from (plain_setting n true) (node_of rows) before) (λ t. give (is_some (numbers_of t))) (finds_point n rows before) refl (fault e) w told.agrees;
+    counted = told.counted;
+  }

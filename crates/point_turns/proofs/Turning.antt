@@ -1,22 +1,27 @@
 -- The turns of the run without parameters.
-use Rattle.point_turns.proofs.Words.{◌≡◌, refl, ap, ℕ, ◌+◌, ℤ, Bool, true, false, Option, Some, None, List, [], ◌∷◌, ◌++◌, length, if◌then◌else◌, IfSome, is_nonneg, constant, coefficients, Row, row_at, first_fraction, is_whole, constant_cut, Work, Outcome, Done, Refused, Refusal, Node, Setting, Plus, Minus, Signs, AllPlus, MinusAt, go_on, scan, scan_on, turn, turn_by, last_turn, cut_turn, count_cut, give, Again, point_setting, negative_from, node_of, counted_cut}
+use Rattle.plain_laws.specs.Plain.{plain_setting}
+use Rattle.plain_laws.proofs.Plain.{first_minus, plain_turn_is}
+use Rattle.point_turns.proofs.Words.{◌∙◌, ◌≡◌, refl, ap, ℕ, ◌+◌, ℤ, Bool, true, false, Option, Some, None, List, [], ◌∷◌, ◌++◌, length, if◌then◌else◌, IfSome, is_nonneg, constant, coefficients, Row, row_at, first_fraction, is_whole, constant_cut, Work, Outcome, Done, Refused, Refusal, Node, Setting, Plus, Minus, Signs, AllPlus, MinusAt, go_on, scan, scan_on, turn, turn_by, last_turn, cut_turn, count_cut, give, Again, point_setting, negative_from, node_of, counted_cut}
 use Rattle.point_turns.proofs.Leaving.{passes_refusal}
 
 abbrev pub signs_of : Option ℕ → Signs
 signs_of None = AllPlus
 signs_of (Some r) = MinusAt r
 
-scan_is : (n : ℕ) (N : Node) (i : ℕ) (rows : List Row) (w : Work) → scan (point_setting n) N i AllPlus rows w ≡ Done (signs_of (negative_from i rows)) w
-scan_is n N i [] w = refl
-scan_is n N i (r ∷ rs) w = by (is_nonneg (constant r.constant)) (scan_is n N (i + 1) rs w)
+signs_are : (i : ℕ) (rows : List Row) → first_minus i rows ≡ signs_of (negative_from i rows)
+signs_are i [] = refl
+signs_are i (r ∷ rs) = by (is_nonneg (constant r.constant)) (signs_are (i + 1) rs)
   where
-    by : (t : Bool) → scan (point_setting n) N (i + 1) AllPlus rs w ≡ Done (signs_of (negative_from (i + 1) rs)) w → scan_on (if t then Plus else Minus) i AllPlus (λ now. scan (point_setting n) N (i + 1) now rs) w ≡ Done (signs_of (if t then negative_from (i + 1) rs else Some i)) w
+    by : (t : Bool) → first_minus (i + 1) rs ≡ signs_of (negative_from (i + 1) rs) → (if t then first_minus (i + 1) rs else MinusAt i) ≡ signs_of (if t then negative_from (i + 1) rs else Some i)
     by true e = e
     by false e = refl
 
--- a turn, by the first row below 0
+-- a turn in either mode, by the first row below 0
+pub turn_in : (n : ℕ) (b : Bool) (rows : List Row) (w : Work) → turn (plain_setting n b) (node_of rows) w ≡ turn_by (plain_setting n b) (node_of rows) (signs_of (negative_from 0 rows)) w
+turn_in n b rows w = plain_turn_is n b rows w ∙ ap (λ (s : Signs). turn_by (plain_setting n b) (node_of rows) s w) (signs_are 0 rows)
+
 pub turn_is : (n : ℕ) (rows : List Row) (w : Work) → turn (point_setting n) (node_of rows) w ≡ turn_by (point_setting n) (node_of rows) (signs_of (negative_from 0 rows)) w
-turn_is n rows w = ap (λ o. go_on o (λ signs. turn_by (point_setting n) (node_of rows) signs)) (scan_is n (node_of rows) 0 rows w)
+turn_is n rows w = turn_in n true rows w
 
 -- ---- a cut
 

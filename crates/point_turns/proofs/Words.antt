@@ -1,5 +1,5 @@
 -- The words of other modules that the proofs of this crate cite, passed on from one place. Declares nothing.
-pub use Rattle.std.proofs.Common.{◌≡◌, refl, ap, sym, ◌∙◌, ℕ, zero, suc, ◌<◌, ◌≤◌, ℤ, Bool, true, false, Option, Some, None, List, [], ◌∷◌, length, is_some, arith, length-append, subst, ◌+◌, ◌++◌}
+pub use Rattle.std.proofs.Common.{rules, ◌≡◌, refl, ap, sym, ◌∙◌, ℕ, zero, suc, ◌<◌, ◌≤◌, ℤ, Bool, true, false, Option, Some, None, List, [], ◌∷◌, length, is_some, arith, length-append, subst, ◌+◌, ◌++◌}
 pub use Rattle.std.specs.Prelude.{IfSome, Result, Ok, Err, if◌then◌else◌}
 pub use Rattle.std.proofs.lemmas.List.{length-map}
 pub use Rattle.pip_model.specs.Forms.{constant, coefficients}

@@ -1,9 +1,13 @@
-//! The turns of the run without parameters, which finds a whole point of forms: which turn it was, what it made of the
-//! rows, and where the run ends.
+//! The run without parameters, which finds a whole point of forms: the rows that it works on, however they are kept, its
+//! turns, and where it ends.
 #![tactic(auto)]
 
+mod rows;
+mod run;
 mod turns;
 
+pub use rows::PointRows;
+pub use run::{run_on, take_turn};
 pub use run_counts::Work;
 pub use short_tableau::ShortTableau;
 pub use turns::PointTurn;

@@ -15,7 +15,7 @@ ghost use Rattle.plain_run.specs.Trees.{tree_in};
 use affine_forms::Form;
 use pip_problem::Refusal;
 use plain_run::ShortTableau;
-use point_run::PointTurn;
+use point_run::{PointTurn, WideRows};
 use quast::Quast;
 use run_counts::Work;
 use std::alloc::Global;
@@ -29,7 +29,7 @@ pub fn take_turn(rows: &mut Tableau, work: &mut Work) -> Result<PointTurn, Refus
         (model.turn (point_setting rows.old.unknowns) (node_of rows.old.rows)) }
     ensures place { IfOk result (IsTurnAt rows.old.unknowns rows.old.rows rows.new.rows) }
 {
-    point_run::take_turn(rows, work)
+    point_run::take_turn::<WideRows>(rows, true, work)
 }
 
 /// The tree of a problem without parameters over rows of 64 bits; none where a number has more, and nothing is counted

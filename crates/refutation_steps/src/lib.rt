@@ -7,6 +7,7 @@ mod refute;
 mod room;
 mod short_refute;
 mod trace;
+mod traced_rows;
 
 pub use positive_terms::push_positive;
 pub use refute::refute_forms;

@@ -14,36 +14,33 @@ use crate::form_refute::refute_by_forms;
 use crate::room::RefutationRoom;
 use crate::short_refute::refute_shortly;
 use crate::trace::Trace;
+use crate::traced_rows::{TracedRows, refute_run};
 use affine_forms::Form;
 use certificate_parts::Refutation;
 use pip_problem::Refusal;
-use point_run::{PointTurn, Tableau, start_rows, take_turn};
+use point_run::{Tableau, WideRows, start_rows};
 use run_counts::Work;
 use std::alloc::Global;
 
-// The run without parameters to its end, with its trace: the steps, none where it found a point.
-fn refute_on(
-    alloc: Global,
-    rows: &mut Tableau,
-    trace: &mut Trace,
-    work: &mut Work,
-) -> Result<Option<Refutation>, Refusal>
-    requires width { rows.old.width ≡ 0 }
-    requires rows { rows.old.unknowns ≤ length rows.old.rows }
-    requires traced { IsTraced rows.old.unknowns rows.old.rows trace.old }
-    ensures gives { IsCountedRun (λ o. o) run_fault result work.old work.new
-        (refute_from rows.old.unknowns trace.old (node_of rows.old.rows)) }
-{
-    loop {
-        match take_turn(rows, work)? {
-            PointTurn::Bottom(r) => {
-                trace.close(alloc, r, &rows.row(r))?;
-                return Ok(Some(trace.take_steps()));
-            }
-            PointTurn::List => return Ok(None),
-            PointTurn::Pivot(r, c) => trace.exchange(r, c),
-            PointTurn::Cut(i) => trace.cut(alloc, &rows.row(i))?,
-        }
+impl TracedRows for WideRows {
+    fn trace_cut(
+        alloc: Global,
+        rows: &mut Tableau,
+        i: usize,
+        trace: &mut Trace,
+    ) -> Result<(), Refusal> {
+        trace.cut(alloc, &rows.row(i))?;
+        Ok(())
+    }
+
+    fn trace_last(
+        alloc: Global,
+        rows: &mut Tableau,
+        r: usize,
+        trace: &mut Trace,
+    ) -> Result<(), Refusal> {
+        trace.close(alloc, r, &rows.row(r))?;
+        Ok(())
     }
 }
 
@@ -64,7 +61,7 @@ fn run(
 {
     let mut rows = start_rows(room.alloc, places.len(), forms)?;
     room.trace.restart(places, forms.len(), first)?;
-    refute_on(room.alloc, &mut rows, &mut room.trace, work)
+    refute_run::<WideRows>(room.alloc, &mut rows, &mut room.trace, usize::MAX, work)
 }
 
 // The same in 64 bits: over short rows, and where they have many cuts over rows that are read off their forms. None where

@@ -11,30 +11,39 @@ ghost use Rattle.point_run.specs.Turns.{node_of};
 
 use crate::room::RefutationRoom;
 use crate::trace::Trace;
+use crate::traced_rows::{TracedRows, refute_run};
 use affine_forms::{Form, WantOfMemory};
 use certificate_parts::Refutation;
 use pip_problem::Refusal;
-use point_run::{PointTurn, view_of};
+use point_run::view_of;
 use run_counts::Work;
-use short_run::{ShortTableau, Stop, start_short, take_turn};
+use short_run::{ShortRows, ShortTableau, Stop, start_short};
 use std::alloc::Global;
 
 // How many cuts a run makes in short rows.
 const MOST_CUTS: usize = 32;
 
-// The step of the cut by row i.
-fn trace_cut(
-    alloc: Global,
-    rows: &ShortTableau,
-    i: usize,
-    trace: &mut Trace,
-) -> Result<(), WantOfMemory>
-    requires row { i < length rows.now.rows }
-    requires columns { length trace.old.columns ≡ rows.now.unknowns }
-    ensures { OnOk result (trace.new ≡ with_cut trace.old (row_at rows.now.rows i)) }
-{
-    let numbers = rows.wide_row(alloc, i)?;
-    trace.cut(alloc, &view_of(&numbers, rows.unknowns(), true))
+impl TracedRows for ShortRows {
+    fn trace_cut(
+        alloc: Global,
+        rows: &mut ShortTableau,
+        i: usize,
+        trace: &mut Trace,
+    ) -> Result<(), Stop> {
+        let numbers = rows.wide_row(alloc, i)?;
+        trace.cut(alloc, &view_of(&numbers, rows.unknowns(), true))?;
+        Ok(())
+    }
+
+    fn trace_last(
+        _: Global,
+        rows: &mut ShortTableau,
+        r: usize,
+        trace: &mut Trace,
+    ) -> Result<(), Stop> {
+        trace.close_short(r, rows, r)?;
+        Ok(())
+    }
 }
 
 /// The run over short rows to its end, with its trace: the steps, none where it found a point. It stops at its 33rd
@@ -51,20 +60,7 @@ pub fn refute_on(
         (refute_from rows.old.unknowns trace.old (node_of rows.old.rows)) }
 {
     let most = rows.rows().saturating_add(MOST_CUTS);
-    loop {
-        if rows.rows() > most {
-            return Err(Stop::Long);
-        }
-        match take_turn(rows, work)? {
-            PointTurn::Bottom(r) => {
-                trace.close_short(r, rows, r)?;
-                return Ok(Some(trace.take_steps()));
-            }
-            PointTurn::List => return Ok(None),
-            PointTurn::Pivot(r, c) => trace.exchange(r, c),
-            PointTurn::Cut(i) => trace_cut(alloc, rows, i, trace)?,
-        }
-    }
+    refute_run::<ShortRows>(alloc, rows, trace, most, work)
 }
 
 // The steps of the run without parameters over the forms as short rows, none where it finds a point.

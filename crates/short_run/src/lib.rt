@@ -1,11 +1,13 @@
 //! The run without parameters over rows of 64 bits.
 #![tactic(auto)]
 
+mod point_rows;
 mod short_rows;
 mod short_run;
 mod stop;
 
 pub use point_turns::ShortTableau;
+pub use point_rows::ShortRows;
 pub use short_rows::{push_short, start_short};
-pub use short_run::{pivot_turn, run_short, take_turn};
+pub use short_run::run_short;
 pub use stop::Stop;

@@ -6,8 +6,8 @@ use Rattle.refutation_steps.proofs.form_refute.run.Goals as goal
 first : (n : ℕ) (forms : List (List ℤ)) (t : TableauRows) → t ≡ record { unknowns = n; width = 0; rows = first_rows n (forms ++ []) } → t ≡ record { unknowns = n; width = 0; rows = first_rows n forms }
 first n forms t e = e ∙ ap (λ (K : List (List ℤ)). record { unknowns = n; width = 0; rows = first_rows n K }) (append-nil forms)
 
-pub refute_on-requires-clause-traced : goal.refute_on-requires-clause-traced
-refute_on-requires-clause-traced c =
+pub refute_run-requires-clause-traced : goal.refute_run-requires-clause-traced
+refute_run-requires-clause-traced c =
     let trace : c.restart.new.self ≡ first_trace c.args.places.now (length c.args.forms.now) c.args.first = search rules in
     first-traced c.args.forms.now c.args.places.now c.args.first c.in_ok-rows.rows c.restart.new.self (first (length c.args.places.now) c.args.forms.now c.in_ok-rows.rows (search rules)) trace
 
@@ -15,4 +15,4 @@ pub returns : goal.returns
 returns c =
     let trace : c.restart.new.self ≡ first_trace c.args.places.now (length c.args.forms.now) c.args.first = search rules in
     let run = first-run c.args.forms.now c.args.places.now c.args.first c.in_ok-rows.rows c.restart.new.self (first (length c.args.places.now) c.args.forms.now c.in_ok-rows.rows (search rules)) trace c.args.work.now in
-    record { gives = run_same c.refute_on.ensures.gives run }
+    record { gives = run_same c.refute_run.ensures.gives run }

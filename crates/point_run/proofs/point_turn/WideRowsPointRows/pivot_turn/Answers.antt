@@ -1,5 +1,5 @@
 use Rattle.point_run.proofs.Words.{rules, arith, ◌≡◌, subst, is_some, Some, None, common_steps, Done, turn_by, MinusAt, point_setting, node_of, pivoted}
-use Rattle.point_run.proofs.point_turn.pivot_turn.Goals as goal
+use Rattle.point_run.proofs.point_turn.WideRowsPointRows.pivot_turn.Goals as goal
 
 pub returns-in_err-c-clause-gives : goal.returns-in_err-c-clause-gives
 returns-in_err-c-clause-gives c =
