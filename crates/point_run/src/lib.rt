@@ -13,4 +13,4 @@ pub use point_run::find_point;
 pub use point_turn::WideRows;
 pub use point_turns::{PointTurn, run_on, take_turn};
 pub use rows::{push_form, start_rows};
-pub use steps::{count_and_cut, enter, enter_and_pivot};
+pub use steps::{count_and_cut, enter_and_pivot};

@@ -5,8 +5,9 @@ ghost use Rattle.pip_model.specs.Rows.{row_at};
 ghost use Rattle.pip_problem.specs.Faults.{run_fault};
 ghost use Rattle.point_turns.specs.Turns.{negative_from};
 
-use crate::steps::{count_and_cut, enter};
+use crate::steps::count_and_cut;
 use affine_forms::nonnegative;
+use dual_pivot::{entering, pivot};
 use gomory_cut::{Tableau, first_fraction};
 use pip_problem::Refusal;
 use point_turns::{PointRows, PointTurn};
@@ -54,10 +55,12 @@ impl PointRows for WideRows {
     }
 
     fn pivot_turn(rows: &mut Tableau, work: &mut Work, r: usize) -> Result<PointTurn, Refusal> {
-        match enter(rows, r, work)? {
-            Some(c) => Ok(PointTurn::Pivot(r, c)),
-            None => Ok(PointTurn::Bottom(r)),
-        }
+        let Some(c) = entering(rows, r)? else {
+            return Ok(PointTurn::Bottom(r));
+        };
+        work.count_pivot()?;
+        pivot(rows, r, c)?;
+        Ok(PointTurn::Pivot(r, c))
     }
 
     fn first_fraction(rows: &Tableau) -> Option<usize> {

@@ -5,32 +5,12 @@ ghost use Rattle.pip_model.specs.Rows.{row_at};
 ghost use Rattle.pip_model.specs.Run.{Setting, Node, turn_by, MinusAt};
 ghost use Rattle.pip_problem.specs.Faults.{run_fault};
 ghost use Rattle.run_counts.specs.Counts.{IsCountedRun};
-ghost use Rattle.point_turns.specs.Turns.{pivoted, counted_cut, HasSameScope, IsEntered};
+ghost use Rattle.point_turns.specs.Turns.{pivoted, counted_cut, HasSameScope};
 
 use dual_pivot::{entering, pivot};
 use gomory_cut::{Tableau, constant_cut};
 use pip_problem::Refusal;
 use run_counts::Work;
-
-/// The step at a row below 0: which column enters. Where one does, a pivot is counted and then made. A refusal leaves
-/// the rows as they were, and the counts at what was counted.
-pub fn enter(rows: &mut Tableau, r: usize, work: &mut Work) -> Result<Option<usize>, Refusal>
-    requires rows { rows.old.unknowns ≤ length rows.old.rows }
-    requires row { r < length rows.old.rows }
-    ensures gives { (S : Setting) (N : Node) → IsCountedRun (λ c. pivoted N rows.new.rows (is_some c)) run_fault result
-        work.old work.new (turn_by S (record N { rows = rows.old.rows }) (MinusAt r)) }
-    ensures column { IfOk result (IsEntered rows.old.unknowns r rows.old.rows rows.new.rows) }
-    ensures err { OnErr result (rows.new ≡ rows.old) }
-    ensures number { length rows.new.rows ≡ length rows.old.rows }
-    ensures scope { HasSameScope rows.old rows.new }
-{
-    let Some(c) = entering(rows, r)? else {
-        return Ok(None);
-    };
-    work.count_pivot()?;
-    pivot(rows, r, c)?;
-    Ok(Some(c))
-}
 
 /// The step at a row below 0, in a point's run as in a problem's: whether a column enters. Where one does, a pivot is
 /// counted and then made. A refusal leaves the rows as they were, and the counts at what was counted.
@@ -42,8 +22,12 @@ pub fn enter_and_pivot(rows: &mut Tableau, r: usize, work: &mut Work) -> Result<
     ensures err { OnErr result (rows.new ≡ rows.old) }
     ensures scope { HasSameScope rows.old rows.new }
 {
-    let column = enter(rows, r, work)?;
-    Ok(column.is_some())
+    let Some(c) = entering(rows, r)? else {
+        return Ok(false);
+    };
+    work.count_pivot()?;
+    pivot(rows, r, c)?;
+    Ok(true)
 }
 
 /// The cut of row i where its constant form is over no places, or whole but for its constant: it is counted, and then

@@ -1,6 +1,5 @@
 -- The run without parameters, from one turn to the next, and what it answers.
-use Rattle.point_turns.proofs.Words.{Result, true, false, is_some, go_on, give, numbers_of, finds_point, ◌≡◌, refl, ap, sym, ◌∙◌, ℕ, zero, suc, ◌<◌, ◌≤◌, ℤ, Bool, Option, Some, None, List, [], ◌∷◌, length, arith, length-append, IfSome, Ok, Err, length-map, Tree, Row, start, Work, Outcome, Done, Refused, Refusal, Counted, Turn, Again, Closed, left, turn, run_from, point, point_run, length-count, again_less, again_run, closed_run_from, refused_run_from, falls-constant_class, TableauRows, IsCountedRun, HasCounted, counted_none, counted_on, node_of, HasSameScope, ended}
-use Rattle.plain_laws.specs.Plain.{plain_setting}
+use Rattle.point_turns.proofs.Words.{plain_setting, Result, true, false, is_some, go_on, give, numbers_of, finds_point, ◌≡◌, refl, ap, sym, ◌∙◌, ℕ, zero, suc, ◌<◌, ◌≤◌, ℤ, Bool, Option, Some, None, List, [], ◌∷◌, length, arith, length-append, IfSome, Ok, Err, length-map, Tree, Row, start, Work, Outcome, Done, Refused, Refusal, Counted, Turn, Again, Closed, left, turn, run_from, point, point_run, length-count, again_less, again_run, closed_run_from, refused_run_from, falls-constant_class, TableauRows, IsCountedRun, HasCounted, counted_none, counted_on, node_of, HasSameScope, ended}
 use Rattle.point_turns.proofs.Leaving.{scope_none, scope_on, passes_refusal}
 
 -- ---- the run from its first rows

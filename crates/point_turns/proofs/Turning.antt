@@ -1,7 +1,6 @@
 -- The turns of the run without parameters.
-use Rattle.plain_laws.specs.Plain.{plain_setting}
 use Rattle.plain_laws.proofs.Plain.{first_minus, plain_turn_is}
-use Rattle.point_turns.proofs.Words.{◌∙◌, ◌≡◌, refl, ap, ℕ, ◌+◌, ℤ, Bool, true, false, Option, Some, None, List, [], ◌∷◌, ◌++◌, length, if◌then◌else◌, IfSome, is_nonneg, constant, coefficients, Row, row_at, first_fraction, is_whole, constant_cut, Work, Outcome, Done, Refused, Refusal, Node, Setting, Plus, Minus, Signs, AllPlus, MinusAt, go_on, scan, scan_on, turn, turn_by, last_turn, cut_turn, count_cut, give, Again, point_setting, negative_from, node_of, counted_cut}
+use Rattle.point_turns.proofs.Words.{plain_setting, ◌∙◌, ◌≡◌, refl, ap, ℕ, ◌+◌, ℤ, Bool, true, false, Option, Some, None, List, [], ◌∷◌, ◌++◌, length, if◌then◌else◌, IfSome, is_nonneg, constant, coefficients, Row, row_at, first_fraction, is_whole, constant_cut, Work, Outcome, Done, Refused, Refusal, Node, Setting, Signs, AllPlus, MinusAt, go_on, turn, turn_by, last_turn, cut_turn, count_cut, give, Again, point_setting, negative_from, node_of, counted_cut}
 use Rattle.point_turns.proofs.Leaving.{passes_refusal}
 
 abbrev pub signs_of : Option ℕ → Signs

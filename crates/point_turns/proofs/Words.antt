@@ -5,7 +5,7 @@ pub use Rattle.std.proofs.lemmas.List.{length-map}
 pub use Rattle.pip_model.specs.Forms.{constant, coefficients}
 pub use Rattle.pip_model.specs.Tree.{Tree}
 pub use Rattle.pip_model.specs.Rows.{Row, start, row_at, first_fraction, is_whole}
-pub use Rattle.pip_model.specs.Run.{Work, Outcome, Done, Refused, Refusal, Turn, Again, Closed, go_on, give, left, turn, run_from, numbers_of, point, point_run, point_setting, Node, Setting, Plus, Minus, Signs, AllPlus, MinusAt, scan, scan_on, turn_by, last_turn, cut_turn, count_cut, Counted}
+pub use Rattle.pip_model.specs.Run.{Work, Outcome, Done, Refused, Refusal, Turn, Again, Closed, go_on, give, left, turn, run_from, numbers_of, point, point_run, point_setting, Node, Setting, Signs, AllPlus, MinusAt, turn_by, last_turn, cut_turn, count_cut, Counted}
 pub use Rattle.pip_model.specs.Agreement.{AgreesCounted}
 pub use Rattle.pip_model.proofs.Forms.{length-count}
 pub use Rattle.pip_model.proofs.Fuel.{again_less, again_run, closed_run_from, refused_run_from, falls-constant_class}
@@ -16,3 +16,4 @@ pub use Rattle.short_tableau.specs.Tableaus.{TableauRows}
 pub use Rattle.run_counts.proofs.Counting.{counted_on, counted_none}
 pub use Rattle.point_turns.specs.Turns.{node_of, negative_from, counted_cut, HasSameScope}
 pub use Rattle.point_turns.specs.Points.{finds_point, ended}
+pub use Rattle.plain_laws.specs.Plain.{plain_setting}

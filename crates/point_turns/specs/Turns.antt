@@ -1,7 +1,7 @@
 -- Steps of a run, and the run without parameters, turn by turn.
-use Rattle.std.specs.Prelude.{◌≡◌, ℕ, ◌<◌, ◌≤◌, Bool, true, false, List, [], ◌∷◌, ◌++◌, length, Option, None, IfSome}
+use Rattle.std.specs.Prelude.{◌≡◌, ℕ, ◌≤◌, Bool, true, false, List, [], ◌∷◌, ◌++◌, length}
 use Rattle.pip_model.specs.Tree.{Bottom}
-use Rattle.pip_model.specs.Rows.{Row, row_at, entering}
+use Rattle.pip_model.specs.Rows.{Row, row_at}
 use Rattle.pip_model.specs.Cuts.{constant_cut}
 use Rattle.pip_model.specs.Run as run
 use Rattle.pip_model.specs.Run.{Counted, ◌>>◌, give, count_cut, Node, point_setting, leaf}
@@ -37,9 +37,3 @@ pub record HasSameScope (t now : TableauRows) : Type 0 where
   pub unknowns : now.unknowns ≡ t.unknowns
   pub width : now.width ≡ t.width
   pub rows : t.unknowns ≤ length t.rows → t.unknowns ≤ length now.rows
-
--- the column that enters at row r of n columns, where one does; else the rows stay
-pub record IsEntered (n r : ℕ) (rows now : List Row) (c : Option ℕ) : Type 0 where
-  pub column : c ≡ entering rows r
-  pub bound : IfSome c (λ k. k < n)
-  pub kept : c ≡ None → now ≡ rows

@@ -60,11 +60,7 @@ pub trait PointRows {
         ensures constant { IfSome result (λ i. length (row_at (table rows.now).rows i).constant ≡ 1) };
 
     /// A cut by a row of an unknown is counted, and then added.
-    fn count_and_cut(
-        rows: &mut Self::Rows,
-        work: &mut Work,
-        i: usize,
-    ) -> Result<(), Self::Fault>
+    fn count_and_cut(rows: &mut Self::Rows, work: &mut Work, i: usize) -> Result<(), Self::Fault>
         requires row { i < (table rows.old).unknowns }
         requires rows { (table rows.old).unknowns ≤ length (table rows.old).rows }
         ensures gives { IsCountedRun (λ x. (table rows.new).rows) fault result work.old work.new

@@ -23,24 +23,14 @@ use short_run::Stop;
 use std::alloc::Global;
 
 impl TracedRows for ReadRows {
-    fn trace_cut(
-        alloc: Global,
-        t: &mut ReadRows,
-        i: usize,
-        trace: &mut Trace,
-    ) -> Result<(), Stop> {
+    fn trace_cut(alloc: Global, t: &mut ReadRows, i: usize, trace: &mut Trace) -> Result<(), Stop> {
         t.rows.read_row(i, &mut t.room)?;
         let numbers = t.room.row.wide_row(alloc, 0)?;
         trace.cut(alloc, &view_of(&numbers, t.room.row.unknowns(), true))?;
         Ok(())
     }
 
-    fn trace_last(
-        _: Global,
-        t: &mut ReadRows,
-        r: usize,
-        trace: &mut Trace,
-    ) -> Result<(), Stop> {
+    fn trace_last(_: Global, t: &mut ReadRows, r: usize, trace: &mut Trace) -> Result<(), Stop> {
         t.rows.read_row(r, &mut t.room)?;
         trace.close_short(r, &t.room.row, 0)?;
         Ok(())
