@@ -1,11 +1,9 @@
 ghost use Rattle.std.specs.Prelude.{◌≡◌, ◌≤◌, length};
 ghost use Rattle.pip_model.specs.Contexts.{IsContext};
 ghost use Rattle.pip_model.specs.Run as model;
-ghost use Rattle.pip_model.specs.Run.{point_setting, run_from};
 ghost use Rattle.pip_problem.specs.Faults.{run_fault};
 ghost use Rattle.run_counts.specs.Counts.{IsCountedRun};
-ghost use Rattle.point_turns.specs.Turns.{node_of, HasSameScope};
-ghost use Rattle.point_turns.specs.Points.{ended, point_of};
+ghost use Rattle.point_turns.specs.Points.{point_of};
 
 use crate::point::{Point, values};
 use crate::point_turn::WideRows;

@@ -1,19 +1,15 @@
-ghost use Rattle.std.specs.Prelude.{◌≡◌, ◌^◌, ◌<◌, ◌≤◌, pos, ◌≤ℤ◌, ◌<ℤ◌, length, All, OnOk, IfSome, IfNone};
+ghost use Rattle.std.specs.Prelude.{◌≡◌, ◌^◌, ◌≤◌, pos, ◌≤ℤ◌, ◌<ℤ◌, length, All, IfSome, IfNone};
 ghost use Rattle.pip_model.specs.Contexts.{IsContext};
-ghost use Rattle.pip_model.specs.Forms.{entry};
-ghost use Rattle.pip_model.specs.Refuting.{refute_by, refute_from, with_step, last_step};
-ghost use Rattle.pip_model.specs.Rows.{row_at};
+ghost use Rattle.pip_model.specs.Refuting.{refute_by};
 ghost use Rattle.affine_forms.specs.Checks.{Fits};
 ghost use Rattle.pip_problem.specs.Faults.{run_fault};
 ghost use Rattle.run_counts.specs.Counts.{IsCountedRun};
 ghost use Rattle.short_run.specs.Stops.{stop_fault};
-ghost use Rattle.trace_laws.specs.Traces.{IsTraced, with_cut};
-ghost use Rattle.point_run.specs.Turns.{node_of};
 
 use crate::room::RefutationRoom;
 use crate::trace::Trace;
 use crate::traced_rows::{TracedRows, refute_run};
-use affine_forms::{Form, WantOfMemory};
+use affine_forms::Form;
 use certificate_parts::Refutation;
 use form_run::{ReadRows, RowRoom, start_by_forms};
 use pip_problem::Refusal;

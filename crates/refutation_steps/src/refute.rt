@@ -2,13 +2,11 @@ ghost use Rattle.std.specs.Prelude.{◌≡◌, ◌^◌, ◌≤◌, pos, ◌≤�
 ghost use Rattle.pip_model.specs.Contexts.{IsContext, IsPointRefusal};
 ghost use Rattle.pip_model.specs.RefutedPoint.{IsRefutedPoint};
 ghost use Rattle.pip_model.specs.Refuting as model;
-ghost use Rattle.pip_model.specs.Refuting.{refute_by, refute_from};
+ghost use Rattle.pip_model.specs.Refuting.{refute_by};
 ghost use Rattle.pip_model.specs.Run.{point};
 ghost use Rattle.affine_forms.specs.Checks.{Fits};
 ghost use Rattle.pip_problem.specs.Faults.{run_fault};
 ghost use Rattle.run_counts.specs.Counts.{IsCountedRun};
-ghost use Rattle.trace_laws.specs.Traces.{IsTraced};
-ghost use Rattle.point_run.specs.Turns.{node_of};
 
 use crate::form_refute::refute_by_forms;
 use crate::room::RefutationRoom;
