@@ -136,9 +136,10 @@ covered xs now e f k = by (split_at k (length now))
 
 pub covered_end : (old ys now : List ℤ) (i : ℕ) → AreLanes old → AreLanes ys → length now ≤ i → Written (Covers old ys) old now i → AreCovered old now × AreCovered ys now × AreLanes now
 covered_end old ys now i own others le w = (
-    covered old now (sym w.long) (λ k lt. (w.done k (omega (arith, lt, le))).0),
-    covered ys now (others.long ∙ sym (w.long ∙ own.long)) (λ k lt. (w.done k (omega (arith, lt, le))).1),
-    narrow_end (Covers old ys) old now i own le w (λ k z h. h.2))
+  covered old now (sym w.long) (λ k lt. (w.done k (omega (arith, lt, le))).0),
+  covered ys now (others.long ∙ sym (w.long ∙ own.long)) (λ k lt. (w.done k (omega (arith, lt, le))).1),
+  narrow_end (Covers old ys) old now i own le w (λ k z h. h.2),
+)
 
 -- ---- quotients, and what they leave
 

@@ -5,8 +5,8 @@ ghost use Rattle.pip_model.specs.Forms.{add, combine, dot, entry, negate, scale}
 ghost use Rattle.lanes.specs.Narrow.{AreCovered, AreAddable, AreLanes, AreNarrowTimes, AreTurnable, IsFirstBelow, IsNarrow, IsSummable, left_of};
 
 use crate::rows::{
-    add_multiple, are_nowhere_below, cover, divide, leave, multiply, oppose, place_below, size_of_all,
-    sum_products, turn,
+    add_multiple, are_nowhere_below, cover, divide, leave, multiply, oppose, place_below,
+    size_of_all, sum_products, turn,
 };
 use std::marker::Model;
 

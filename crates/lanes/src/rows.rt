@@ -5,7 +5,8 @@ ghost use Rattle.pip_model.specs.Forms.{add, combine, dot, entry, negate, scale}
 ghost use Rattle.lanes.specs.Narrow.{AreCovered, AreAddable, AreLanes, AreNarrowTimes, AreTurnable, IsFirstBelow, IsNarrow, IsSummable, left_of};
 
 use crate::numbers::{
-    add_product, both, covering, difference, is_at_least_zero, left, opposite, product, quotient, with_size,
+    add_product, both, covering, difference, is_at_least_zero, left, opposite, product, quotient,
+    with_size,
 };
 
 // Makes f*x of the numbers x.

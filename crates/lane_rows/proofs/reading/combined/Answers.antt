@@ -41,12 +41,12 @@ loop-k-preserved c =
     let before = subst (λ (z : ℤ). ReadTo c.args.n c.args.rows.now z c.args.form c.loop-k.sum c.loop-k.k) b c.loop-k.invariant in
     elim c.if-coefficient-ne0.branch [
       | then-coefficient-ne0 w ↦ rw w.sum-is (subst (λ (z : ℤ). ReadTo c.args.n c.args.rows.now z c.args.form w.plus_times-sum.result (c.loop-k.k + 1)) (sym b)
-        (read_step c.args.n c.args.rows.now c.args.l c.args.form c.loop-k.sum c.loop-k.k c.requires before c.loop-k-test.true
-        w.index-rows-k.result (to_z w32 (of_z w32 c.get-coefficient.result)) (w.index-rows-k.is ∙ get_or_default c.args.rows.now c.loop-k.k w.index-rows-k.result [] (omega (arith, c.requires.enough))) f
-        w.plus_times-sum.result w.plus_times-sum.ensures.value w.plus_times-sum.ensures.lanes))
+          (read_step c.args.n c.args.rows.now c.args.l c.args.form c.loop-k.sum c.loop-k.k c.requires before c.loop-k-test.true
+          w.index-rows-k.result (to_z w32 (of_z w32 c.get-coefficient.result)) (w.index-rows-k.is ∙ get_or_default c.args.rows.now c.loop-k.k w.index-rows-k.result [] (omega (arith, c.requires.enough))) f
+          w.plus_times-sum.result w.plus_times-sum.ensures.value w.plus_times-sum.ensures.lanes))
       | else-coefficient-ne0 w ↦ rw w.sum-is (subst (λ (z : ℤ). ReadTo c.args.n c.args.rows.now z c.args.form c.loop-k.sum (c.loop-k.k + 1)) (sym b)
-        (read_none c.args.n c.args.rows.now c.args.l c.args.form c.loop-k.sum c.loop-k.k c.requires before c.loop-k-test.true
-        (get_or c.args.rows.now c.loop-k.k []) (to_z w32 (of_z w32 c.get-coefficient.result)) refl f (search rules)))
+          (read_none c.args.n c.args.rows.now c.args.l c.args.form c.loop-k.sum c.loop-k.k c.requires before c.loop-k-test.true
+          (get_or c.args.rows.now c.loop-k.k []) (to_z w32 (of_z w32 c.get-coefficient.result)) refl f (search rules)))
     ]
 
 pub returns-clause-value : goal.returns-clause-value
