@@ -1,4 +1,5 @@
 mod Words
+mod Short
 pub mod Sums
 pub mod Steps
 pub mod Spreading

@@ -1,5 +1,5 @@
 -- Sums and forms whose last coefficients are left out where they are 0.
-use Rattle.derivation_steps.proofs.Words.{◌≡◌, refl, ap, ap₂, derived, length-add, sym, ◌∙◌, ℕ, zero, suc, ◌+◌, ◌-◌, ◌<◌, ◌≤◌, ℤ, ◌+ℤ◌, ◌*ℤ◌, pos, negsuc, Bool, true, false, ◌&&◌, List, [], ◌∷◌, ◌++◌, length, take, drop, replicate, append_assoc, arith, ints, length-append, length-map, length-take, length-drop, length-replicate, take_at, get_or_at, fits, scale, add, entry, constant, width, coefficients, widen_to, all_fit, plus_term, plus_term_listed, is_divisible, fit_behind, map-append, take-append-drop, take_more, take_all, list_all-append, ◌≤ℤ◌, Some, divides, floor_div, is_zero, is_negative, floor_divided, is_absurd, fit_zeros, fit_drop, fit_join, fit_cons, spread, total, PartSum, IsPartSum}
+use Rattle.derivation_steps.proofs.Words.{◌≡◌, refl, ap, ap₂, derived, length-add, sym, ◌∙◌, ℕ, zero, suc, ◌+◌, ◌-◌, ◌<◌, ◌≤◌, ℤ, ◌+ℤ◌, ◌*ℤ◌, pos, negsuc, Bool, true, false, ◌&&◌, List, [], ◌∷◌, ◌++◌, length, take, drop, replicate, append_assoc, arith, ints, length-append, length-map, length-take, length-drop, length-replicate, take_at, get_or_at, get_or, drop_more, fits, scale, add, entry, constant, width, coefficients, widen_to, all_fit, plus_term, plus_term_listed, is_divisible, fit_behind, map-append, take-append-drop, take_more, take_all, list_all-append, ◌≤ℤ◌, Some, divides, floor_div, is_zero, is_negative, floor_divided, is_absurd, fit_zeros, fit_drop, fit_join, fit_cons, spread, total, PartSum, IsPartSum}
 use Rattle.std.proofs.Math.Nat.{zero-div, zero-mod, mod-one}
 use Rattle.std.specs.List.{list_all}
 use Rattle.pip_model.specs.Rows.{is_whole}
@@ -12,14 +12,27 @@ replicate_add zero b n z e = ap (λ (k : ℕ). replicate k z) (omega arith)
 replicate_add (suc a) b zero z e = absurd (omega arith)
 replicate_add (suc a) b (suc n) z e = ap (λ (l : List ℤ). z ∷ l) (replicate_add a b n z (omega arith))
 
-plus_zero : (x : ℤ) → x +ℤ pos 0 ≡ x
+pub plus_zero : (x : ℤ) → x +ℤ pos 0 ≡ x
 plus_zero x = omega (arith, ints)
 
-times_zero : (m : ℤ) → m *ℤ pos 0 ≡ pos 0
+pub times_zero : (m : ℤ) → m *ℤ pos 0 ≡ pos 0
 times_zero m = omega (arith, ints)
 
 zero_times : (x : ℤ) → pos 0 *ℤ x ≡ pos 0
 zero_times x = omega (arith, ints)
+
+-- one of them more before others
+one_more : (xs : List ℤ) (k n : ℕ) → n ≡ k + 1 → k < length xs → get_or xs k (pos 0) ≡ pos 0 → drop n xs ≡ replicate (length xs - n) (pos 0) → drop k xs ≡ replicate (length xs - k) (pos 0)
+one_more xs k n e h none rest =
+    drop_more xs k (pos 0) h ∙ rw (none, ← e, rest) (replicate_add 1 (length xs - n) (length xs - k) (pos 0) (omega arith))
+
+pub four_more : (xs : List ℤ) (n : ℕ) → 4 ≤ n → n ≤ length xs → get_or xs (n - 1) (pos 0) ≡ pos 0 → get_or xs (n - 2) (pos 0) ≡ pos 0 → get_or xs (n - 3) (pos 0) ≡ pos 0 → get_or xs (n - 4) (pos 0) ≡ pos 0
+    → drop n xs ≡ replicate (length xs - n) (pos 0) → drop (n - 4) xs ≡ replicate (length xs - (n - 4)) (pos 0)
+four_more xs n four h a b c d rest =
+    one_more xs (n - 4) (n - 3) (omega arith) (omega arith) d
+    (one_more xs (n - 3) (n - 2) (omega arith) (omega arith) c
+    (one_more xs (n - 2) (n - 1) (omega arith) (omega arith) b
+    (one_more xs (n - 1) n (omega arith) (omega arith) a rest)))
 
 scale_zeros : (m : ℤ) (n : ℕ) → scale m (replicate n (pos 0)) ≡ replicate n (pos 0)
 scale_zeros m zero = refl

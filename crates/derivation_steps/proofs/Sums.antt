@@ -1,5 +1,7 @@
 -- Steps of a sum to which a multiple of a form is added in place, entry by entry, and of a sum of terms.
-use Rattle.derivation_steps.proofs.Words.{◌≡◌, refl, ap, sym, ◌∙◌, ℕ, ◌+◌, ◌<◌, ◌≤◌, ℤ, ◌+ℤ◌, ◌*ℤ◌, pos, Bool, true, false, ◌&&◌, List, [], ◌∷◌, ◌++◌, length, take, drop, set, get_or, append_assoc, arith, Ok, Err, IsTrue, IsFalse, nat_lt, unsigned_abs, slice_index_or, Option, Some, None, IfSome, drop_more, drop_all, take_more_set, drop-set-lt, fits, is_nonneg, scale, all_fit, ◌>>=◌, ◌>>◌, Spot, CheckFault, Checks, plus_term, plus_term_listed, sum_of, holds, fit, fit_behind, fit_never, list_all-append}
+use Rattle.derivation_steps.proofs.Words.{◌≡◌, refl, ap, sym, ◌∙◌, ℕ, ◌+◌, ◌<◌, ◌≤◌, ℤ, ◌+ℤ◌, ◌*ℤ◌, pos, Bool, true, false, ◌&&◌, List, [], ◌∷◌, ◌++◌, length, take, drop, set, get_or, append_assoc, arith, Ok, Err, IsTrue, IsFalse, nat_lt, unsigned_abs, slice_index_or, Option, Some, None, IfSome, drop_more, drop_all, take_more_set, drop-set-lt, fits, is_nonneg, scale, all_fit, ◌>>=◌, ◌>>◌, Spot, CheckFault, Checks, plus_term, plus_term_listed, Fits, sum_of, holds, fit, fit_behind, fit_never, list_all-append}
+use Rattle.std.proofs.lemmas.List.{set-get_or}
+use Rattle.derivation_steps.proofs.Spreading.{times_zero, plus_zero}
 
 -- ---- a multiple
 
@@ -41,6 +43,18 @@ module _ (now : List ℤ) (m : ℤ) (c : List ℤ) (i : ℕ) (x : ℤ) where
   multiple_step h k e =
       rw (drop-set-lt (i + 1) now i x (omega arith), take_more_set now i x h, drop_more now i (pos 0) h, drop_more c i (pos 0) k, e)
       (append_assoc (take i now) _ _)
+
+-- an entry of 0 adds nothing
+module _ (now : List ℤ) (m : ℤ) (c : List ℤ) (i : ℕ) (h : i < length now) (k : i < length c) (zero : get_or c i (pos 0) ≡ pos 0) where
+  same : get_or now i (pos 0) ≡ get_or now i (pos 0) +ℤ m *ℤ get_or c i (pos 0)
+  same = rw (zero, times_zero m) (sym (plus_zero (get_or now i (pos 0))))
+
+  pub entries_passed : Fits (get_or now i (pos 0)) → all_fit (entries_listed (drop i now) m (drop i c)) ≡ all_fit (entries_listed (drop (i + 1) now) m (drop (i + 1) c))
+  entries_passed fit =
+      rw (set-get_or now i (pos 0)) at (entries_step now m c i (get_or now i (pos 0)) h k (rw (← same, zero, times_zero m, fit) refl))
+
+  pub multiple_passed : take (i + 1) now ++ plus_term (drop (i + 1) now) m (drop (i + 1) c) ≡ take i now ++ plus_term (drop i now) m (drop i c)
+  multiple_passed = rw (set-get_or now i (pos 0)) at (multiple_step now m c i (get_or now i (pos 0)) h k same)
 
 pub entries_refused : (now : List ℤ) (m : ℤ) (c : List ℤ) (i : ℕ) → i < length now → i < length c → IsFalse (all_fit (listed_at (get_or now i (pos 0)) m (get_or c i (pos 0))))
     → IsFalse (all_fit (entries_listed (drop i now) m (drop i c)))

@@ -5,18 +5,41 @@ ghost use Rattle.affine_forms.specs.Checks.{Fits, is_overflow};
 
 use affine_forms::{Overflow, plus, times};
 
-// The next entry, `sum + m*c`.
-pub(crate) fn add_product(sum: i128, m: i128, c: i128) -> Result<i128, Overflow>
-    requires { Fits sum }
+// The next entry, `sum + m*c`, of numbers of 64 bits.
+fn short_sum(sum: i64, m: i64, c: i64) -> i128
+    ensures value { result ≡ sum +ℤ m *ℤ c }
+    ensures product { Fits (m *ℤ c) }
+    ensures fits { Fits (sum +ℤ m *ℤ c) }
+{
+    i128::from(sum) + i128::from(m) * i128::from(c)
+}
+
+// The next entry of any numbers.
+#[inline(never)]
+fn long_sum(sum: i128, m: i128, c: i128) -> Result<i128, Overflow>
     ensures listed { IsChecked is_overflow ((m *ℤ c) ∷ (sum +ℤ m *ℤ c) ∷ []) result }
     ensures value { IfOk result (λ z. z ≡ sum +ℤ m *ℤ c) }
     ensures fits { IfOk result Fits }
 {
-    if c == 0 {
-        return Ok(sum);
-    }
     let next = plus(sum, times(m, c)?)?;
     Ok(next)
+}
+
+// The next entry, `sum + m*c`.
+#[inline(always)]
+pub(crate) fn add_product(sum: i128, m: i128, c: i128) -> Result<i128, Overflow>
+    ensures listed { IsChecked is_overflow ((m *ℤ c) ∷ (sum +ℤ m *ℤ c) ∷ []) result }
+    ensures value { IfOk result (λ z. z ≡ sum +ℤ m *ℤ c) }
+    ensures fits { IfOk result Fits }
+{
+    match (i64::try_from(sum), i64::try_from(m), i64::try_from(c)) {
+        (Ok(sum), Ok(m), Ok(c)) => Ok(short_sum(sum, m, c)),
+        // Part by part, so that the result above need not stand in memory.
+        _ => match long_sum(sum, m, c) {
+            Ok(next) => Ok(next),
+            Err(overflow) => Err(overflow),
+        },
+    }
 }
 
 /// Adds m times a form to the sum, entry by entry. It overflows exactly where a product or a sum does not fit.
@@ -28,6 +51,9 @@ pub fn add_multiple(sum: &mut [i128], m: i128, c: &[i128]) -> Result<(), Overflo
     ensures fits { All Fits sum.new }
 {
     for i in 0..c.len() {
+        if c[i] == 0 {
+            continue;
+        }
         sum[i] = add_product(sum[i], m, c[i])?;
     }
     Ok(())

@@ -1,4 +1,4 @@
-ghost use Rattle.std.specs.Prelude.{◌≡◌, ◌+◌, ◌-◌, ◌≤◌, ◌<◌, ℕ, ◌++◌, pos, length, take, replicate, All, IfOk, IsFalse};
+ghost use Rattle.std.specs.Prelude.{◌≡◌, ◌+◌, ◌-◌, ◌≤◌, ◌<◌, ℕ, ◌++◌, pos, length, take, drop, replicate, All, IfOk, IsFalse};
 ghost use Rattle.pip_model.specs.Numbers.{is_zero};
 ghost use Rattle.pip_model.specs.Forms.{entry, widen_to};
 ghost use Rattle.affine_forms.specs.Checks.{Fits};
@@ -7,13 +7,31 @@ ghost use Rattle.derivation_steps.specs.Sums.{spread, EndsAtItsLast};
 use affine_forms::{Form, WantOfMemory};
 use std::alloc::Global;
 
+// How many numbers are left of which the last four are not all 0, or fewer than four, where fours of zeros are left out
+// at the end.
+fn without_fours(numbers: &[i128]) -> usize
+    ensures zeros { drop result numbers.now ≡ replicate (length numbers.now - result) (pos 0) }
+    ensures within { result ≤ length numbers.now }
+{
+    let mut count = numbers.len();
+    while count >= 4
+        && numbers[count - 1] == 0
+        && numbers[count - 2] == 0
+        && numbers[count - 3] == 0
+        && numbers[count - 4] == 0
+    {
+        count -= 4;
+    }
+    count
+}
+
 // How many numbers there are up to the last that is not 0.
 pub(crate) fn trimmed_len(numbers: &[i128]) -> usize
     ensures zeros { numbers.now ≡ take result numbers.now ++ replicate (length numbers.now - result) (pos 0) }
     ensures within { result ≤ length numbers.now }
     ensures ends { 0 < result → IsFalse (is_zero (entry numbers.now (result - 1))) }
 {
-    let mut count = numbers.len();
+    let mut count = without_fours(numbers);
     while count > 0 && numbers[count - 1] == 0 {
         count -= 1;
     }

@@ -1,5 +1,5 @@
 use Rattle.derivation_steps.proofs.Words.{arith, rules, sym, ◌∙◌, to_z-of_z, common_steps, Fits, All-set}
-use Rattle.derivation_steps.proofs.Sums.{entries_step, multiple_step, multiple_refused, multiple_fits}
+use Rattle.derivation_steps.proofs.Sums.{entries_step, multiple_step, entries_passed, multiple_passed, multiple_refused, multiple_fits}
 use Rattle.derivation_steps.proofs.sum.add_multiple.Goals as goal
 
 pub returns-in_err-sum-clause-listed : goal.returns-in_err-sum-clause-listed
@@ -15,3 +15,11 @@ loop-i-preserved c = (
 
 pub returns-clause-listed : goal.returns-clause-listed
 returns-clause-listed c = grind (arith, common_steps, to_z-of_z, multiple_fits)
+
+pub loop-i-preserved-then-c-i-eq0 : goal.loop-i-preserved-then-c-i-eq0
+loop-i-preserved-then-c-i-eq0 c = (
+  sym (entries_passed _ _ _ c.loop-i.i (omega arith) (omega arith) (search rules) (search rules)) ∙ c.loop-i.invariant.0,
+  multiple_passed _ _ _ c.loop-i.i (omega arith) (omega arith) (search rules) ∙ c.loop-i.invariant.1,
+  search rules,
+  search rules,
+)

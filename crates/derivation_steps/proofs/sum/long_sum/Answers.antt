@@ -1,6 +1,6 @@
 use Rattle.derivation_steps.proofs.Words.{rules}
 use Rattle.affine_forms.proofs.Values.{product_refused, sum_refused, both_made}
-use Rattle.derivation_steps.proofs.sum.add_product.Goals as goal
+use Rattle.derivation_steps.proofs.sum.long_sum.Goals as goal
 
 pub returns-in_err-times-clause-listed : goal.returns-in_err-times-clause-listed
 returns-in_err-times-clause-listed c = product_refused c.args.sum c.args.m c.args.c _ c.from_residual.ensures.0 (search rules)
