@@ -1,4 +1,5 @@
 mod Words
+mod Whole
 pub mod Spellings
 pub mod Fronts
 pub mod Lowest

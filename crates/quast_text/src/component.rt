@@ -14,7 +14,7 @@ use crate::refusal::TextRefusal;
 use affine_forms::{Form, FormRefusal};
 use quast::Component;
 use std::alloc::Global;
-use text_reading::{Reads, expect};
+use text_reading::{Reads, expect, row};
 use text_tokens::{Kind, token};
 
 // The fractions over their common denominator; Wide, at the place of the component, where that or a numerator does not
@@ -59,8 +59,9 @@ fn bracketed_fractions(
     Ok((fractions, after))
 }
 
-// A component over so many places between row brackets, and the place behind it.
-pub(crate) fn read_component(
+// A component over so many places between row brackets, of numbers or fractions, and the place behind it.
+#[inline(never)]
+fn fractional_component(
     alloc: Global,
     bytes: &[u8],
     width: usize,
@@ -76,4 +77,23 @@ pub(crate) fn read_component(
     let (denominator, entries) = over_one_denominator(alloc, start, &fractions)?;
     let component = Component::reduced(denominator, Form::from_entries(entries));
     Ok((component, after))
+}
+
+// A component over so many places between row brackets, and the place behind it: first it is read as a row of numbers,
+// as most are.
+pub(crate) fn read_component(
+    alloc: Global,
+    bytes: &[u8],
+    width: usize,
+    place: usize,
+) -> Reads<Component, TextRefusal>
+    requires place { place ≤ length bytes.now }
+    requires width { width ≤ most_params + most_nesting }
+    ensures reads { IsRead (λ c. c) text_fault bytes.now place result (component_at bytes.now width place) }
+    ensures component { IfOk result (λ x. IsComponent width x.0) }
+{
+    match row(alloc, bytes, width + 1, place) {
+        Ok((entries, after)) => Ok((Component::reduced(1, Form::from_entries(entries)), after)),
+        Err(_) => fractional_component(alloc, bytes, width, place),
+    }
 }

@@ -1,7 +1,7 @@
 use Rattle.quast_text.proofs.Words.{◌≡◌, ◌+◌, ◌∙◌, Ok, refl, rules, reduced, component, component_of, err_from_is_err_and, text_fault, token, refused_by, bracketed_fractions}
 use Rattle.quast_text.proofs.Grouped.{component_by}
 use Rattle.quast_text.proofs.Lowest.{read_reduced}
-use Rattle.quast_text.proofs.component.read_component.Goals as goal
+use Rattle.quast_text.proofs.component.fractional_component.Goals as goal
 
 pub returns-in_err-fractions-clause-reads : goal.returns-in_err-fractions-clause-reads
 returns-in_err-fractions-clause-reads c =
