@@ -1,4 +1,5 @@
 mod Words
+mod TwoDigits
 pub mod Spellings
 pub mod Sequences
 pub mod Certificates

@@ -2,6 +2,7 @@
 #![tactic(auto)]
 
 mod closing;
+mod next_number;
 mod print;
 mod read;
 mod read_leaf;

@@ -5,9 +5,10 @@ ghost use Rattle.text_reading.specs.Steps.{fault_of, AreRead, IsRead};
 ghost use Rattle.leaf_certificate.specs.Sequences.{terms_to_end, steps_to_end};
 
 use crate::closing::behind_close;
+use crate::next_number::next_number;
 use certificate_parts::{Refutation, Step, Terms};
 use std::alloc::Global;
-use text_reading::{Reads, TextFault, expect, number};
+use text_reading::{Reads, TextFault, expect};
 use text_tokens::Kind;
 
 // An index and its multiplier, and the place behind them.
@@ -17,8 +18,8 @@ fn read_term(bytes: &[u8], place: usize) -> Reads<(i128, i128), TextFault>
     ensures index { IfOk result (λ x. Fits x.0.0) }
     ensures multiplier { IfOk result (λ x. Fits x.0.1) }
 {
-    let (index, at) = number(bytes, place)?;
-    let (multiplier, after) = number(bytes, at)?;
+    let (index, at) = next_number(bytes, place)?;
+    let (multiplier, after) = next_number(bytes, at)?;
     Ok(((index, multiplier), after))
 }
 
@@ -46,7 +47,7 @@ fn read_step(alloc: Global, bytes: &[u8], place: usize) -> Reads<Step, TextFault
     ensures { IsRead (λ s. s) fault_of bytes.now place result (model.step bytes.now place) }
 {
     let first = expect(bytes, Kind::LeftParen, place)?;
-    let (divisor, at) = number(bytes, first)?;
+    let (divisor, at) = next_number(bytes, first)?;
     let (terms, after) = read_terms(alloc, bytes, at)?;
     Ok((Step { divisor, terms }, after))
 }
