@@ -1,7 +1,8 @@
 -- The goals of a list's refutations.
-use Rattle.leaf_check.proofs.Words.{◌≡◌, refl, ap, sym, ◌∙◌, ℕ, zero, suc, ◌+◌, ◌-◌, ◌<◌, ◌≤◌, ℤ, pos, negsuc, ◌+ℤ◌, ◌-ℤ◌, neg_ℤ, Bool, true, List, [], ◌∷◌, ◌++◌, length, drop, get_or, append_assoc, arith, Ok, Err, Result, IsTrue, IsFalse, slice_index_or, IfOk, ints, drop_more, drop_all, length-map, get_or-map, entry, constant, add, negate, plus, opposite, unit_form, widen_to, all_fit, opposite_listed, Component, plus_term, plus_term_listed, put_in, put_in_listed, not_above, smaller_from, IsChecked, fit_behind, fit_never, length-add, length-plus, constant-plus, length-widened}
-use Rattle.pip_model.specs.Cuts.{rounding, lower_bound}
-use Rattle.affine_forms.proofs.Units.{negate_unit}
+use Rattle.leaf_check.proofs.Words.{◌≡◌, refl, ap, sym, ◌∙◌, ℕ, zero, suc, ◌+◌, ◌-◌, ◌<◌, ◌≤◌, ℤ, pos, negsuc, ◌+ℤ◌, Bool, true, List, [], ◌∷◌, ◌++◌, length, drop, get_or, append_assoc, arith, Ok, Err, Result, IsTrue, IsFalse, slice_index_or, IfOk, drop_more, drop_all, entry, plus, unit_form, widen_to, all_fit, Component, plus_term, plus_term_listed, put_in, put_in_listed, not_above, smaller_from, IsChecked, fit_behind, fit_never, length-add, length-plus, length-widened}
+use Rattle.std.specs.Prelude.{slice_set}
+use Rattle.pip_model.proofs.Forms.{entry-widened}
+use Rattle.affine_forms.proofs.Units.{add_unit}
 use Rattle.leaf_check.proofs.Making.{length-unit}
 
 -- ---- a row at the components
@@ -37,15 +38,12 @@ put_listed_end sum first row cs i h e =
 
 -- ---- a smaller point
 
-turned_back : (x u : ℤ) → neg_ℤ (neg_ℤ x +ℤ u) ≡ x +ℤ neg_ℤ u
-turned_back x u = omega (arith, ints)
-
-difference : (xs us : List ℤ) → negate (add (negate xs) us) ≡ add xs (negate us)
-difference (x ∷ xs) (u ∷ us) = rw (turned_back x u, difference xs us) refl
-difference _ _ = refl
-
-pub not_above_is : (w q : ℕ) (c : Component) → lower_bound w q (record { form = c.form; den = pos 1 }) ≡ not_above w q c
-not_above_is w q c = difference (widen_to w c.form) (unit_form w q (pos 1)) ∙ ap (add (widen_to w c.form)) (negate_unit w q (pos 1))
+pub not_above_set : (w q : ℕ) (c : Component) → q < w → length c.form ≤ q + 1 → slice_set (widen_to w c.form) q (negsuc 0) ≡ not_above w q c
+not_above_set w q c h k =
+    let long : length (widen_to w c.form) ≡ w + 1 = length-widened w c.form (omega arith) in
+    let none : entry (widen_to w c.form) q ≡ pos 0 = entry-widened w c.form (omega arith) q h (λ inside. absurd (omega (arith, inside, k))) in
+    let one : entry (widen_to w c.form) q +ℤ negsuc 0 ≡ negsuc 0 = rw none refl in
+    ap (λ (z : ℤ). slice_set (widen_to w c.form) q z) (sym one) ∙ sym (add_unit (widen_to w c.form) w q (negsuc 0) long (omega arith))
 
 pub length-not_above : (w q : ℕ) (c : Component) → q < w → length c.form ≤ q + 1 → length (not_above w q c) ≡ w + 1
 length-not_above w q c h k =
@@ -54,23 +52,6 @@ length-not_above w q c h k =
 
 pub length-smaller : (w q : ℕ) (c : Component) → q < w → length c.form ≤ q + 1 → length (plus (not_above w q c) (negsuc 0)) ≡ w + 1
 length-smaller w q c h k = let e = length-not_above w q c h k in length-plus (not_above w q c) (negsuc 0) (omega arith) ∙ e
-
-less_one : (x : ℤ) → neg_ℤ x -ℤ pos 1 ≡ neg_ℤ x +ℤ negsuc 0
-less_one x = omega (arith, ints)
-
-pub constant-opposite : (c : List ℤ) → 1 ≤ length c → neg_ℤ (constant c) -ℤ pos 1 ≡ constant (opposite c)
-constant-opposite c h =
-    let long : length (negate c) ≡ length c = simp length-map refl in
-    let at : entry (negate c) (length c - 1) ≡ neg_ℤ (constant c) = get_or-map neg_ℤ c (length c - 1) (pos 0) (pos 0) (omega arith) in
-    let same : constant (negate c) ≡ neg_ℤ (constant c) = ap (λ (n : ℕ). entry (negate c) (n - 1)) long ∙ at in
-    less_one (constant c) ∙ ap (λ (z : ℤ). z +ℤ negsuc 0) (sym same) ∙ sym (constant-plus (negate c) (negsuc 0) (omega arith))
-
-pub below_listed : (w q : ℕ) (c : Component) → q < w → length c.form ≤ q + 1 → opposite_listed (rounding w q (record { form = c.form; den = pos 1 })) ≡ constant (plus (not_above w q c) (negsuc 0)) ∷ []
-below_listed w q c h k =
-    let r = rounding w q (record { form = c.form; den = pos 1 }) in
-    let back : length (negate r) ≡ length r = simp length-map refl in
-    let long : length (negate r) ≡ w + 1 = ap length (not_above_is w q c) ∙ length-not_above w q c h k in
-    ap (λ (z : ℤ). z ∷ []) (constant-opposite r (omega arith) ∙ ap constant (ap (λ (form : List ℤ). plus form (negsuc 0)) (not_above_is w q c)))
 
 pub length-smaller_from : (all place : ℕ) (cs : List Component) → length (smaller_from all place cs) ≡ length cs
 length-smaller_from all place (c ∷ e ∷ cs) = ap suc (length-smaller_from all (place + 1) (e ∷ cs))

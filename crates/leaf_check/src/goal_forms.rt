@@ -56,7 +56,7 @@ impl GoalForms {
     }
 
     // Turns those of the refutation before into those of refutation r, from 0.
-    fn turn_to(&mut self, alloc: Global, leaf: &Leaf<'_>, r: usize) -> Result<(), Fault>
+    fn turn_to(&mut self, leaf: &Leaf<'_>, r: usize) -> Result<(), Fault>
         requires leaf { IsLeaf leaf.now.problem.now (case_of leaf.now) }
         requires whole { IsTrue (model.is_whole_list leaf.now.problem.now.unknowns (option_copied leaf.now.list)) }
         requires over { AreOf leaf.now self.old }
@@ -69,7 +69,7 @@ impl GoalForms {
             → AreBehind front leaf.now (r + 1) self.new.kept) }
     {
         self.made.truncate(0);
-        match leaf.push_goal(alloc, &mut self.made, r) {
+        match leaf.push_goal(&mut self.made, r) {
             Ok(()) => {}
             Err(FormRefusal::Overflow) => {
                 return Err(Fault::Overflow(Spot {
@@ -109,7 +109,7 @@ impl GoalForms {
         ensures behind { OnOk result ((front : List (List ℤ)) → AreBehind front leaf.now r self.old.kept
             → AreBehind front leaf.now (r + 1) self.new.kept) }
     {
-        self.turn_to(alloc, leaf, r)?;
+        self.turn_to(leaf, r)?;
         let before = self.kept.len();
         self.kept.refute(alloc, leaf.number, r + 1, steps)?;
         self.kept.truncate(&mut self.made, before);

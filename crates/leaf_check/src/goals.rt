@@ -11,10 +11,9 @@ ghost use Rattle.leaf_check.specs.Known.{ArePushed};
 
 use crate::forms::widened_entries;
 use crate::known::Known;
-use affine_forms::{Form, FormRefusal, Overflow, WantOfMemory, lower_bound, rounding};
+use affine_forms::{Form, FormRefusal, Overflow, WantOfMemory, plus};
 use derivation_steps::add_multiple;
 use quast::Component;
-use std::alloc::Global;
 
 // Adds a multiple of a component's form to the sum.
 fn add_component(sum: &mut [i128], a: i128, component: &Component) -> Result<(), Overflow>
@@ -130,48 +129,46 @@ pub(crate) fn sign_goal(
     opposite_over(width, Form::from_entries(entries))
 }
 
-// That the unknown at a place is not above a component.
+// The entries of that the unknown at a place is not above a component, in a room.
 fn not_above(
-    alloc: Global,
+    room: Vec<i128>,
     width: usize,
     place: usize,
     component: &Component,
-) -> Result<Form, WantOfMemory>
+) -> Result<Vec<i128>, WantOfMemory>
+    requires empty { room.items ≡ [] }
     requires place { place < width }
     requires within { length component.now.form ≤ place + 1 }
-    ensures value { IfOk result (λ form. form ≡ model.not_above width place component.now) }
-    ensures long { IfOk result (λ form. length form ≡ width + 1) }
+    ensures value { IfOk result (λ made. made.items ≡ model.not_above width place component.now) }
+    ensures long { IfOk result (λ made. length made.items ≡ width + 1) }
+    ensures fits { IfOk result (λ made. All Fits made.items) }
 {
-    lower_bound(alloc, width, place, component.form().as_slice(), 1)
+    let mut made = widened_entries(room, width, component.form().as_slice(), width)?;
+    made[place] = -1;
+    Ok(made)
 }
 
-// The opposite of `q - g`, where q stands at a place that g has not.
-fn opposite_difference(
-    alloc: Global,
-    width: usize,
-    place: usize,
-    g: &[i128],
-) -> Result<Form, FormRefusal>
-    requires form { IsForm g.now }
-    requires place { place < width }
-    requires within { length g.now ≤ place + 1 }
-    ensures listed { IsChecked is_form_overflow
-        (opposite_listed (rounding_of width place (record { form = g.now; den = pos 1 }))) result }
-    ensures value { IfOk result (λ form. form
-        ≡ opposite (rounding_of width place (record { form = g.now; den = pos 1 }))) }
+// The form less 1.
+fn less_one(entries: &mut [i128]) -> Result<(), Overflow>
+    requires form { IsForm entries.old }
+    ensures listed { IsChecked is_overflow (constant (plus_of entries.old (negsuc 0)) ∷ []) result }
+    ensures ok { OnOk result (entries.new ≡ plus_of entries.old (negsuc 0)) }
+    ensures form { IsForm entries.new }
 {
-    let mut form = rounding(alloc, width, place, g, 1)?;
-    form.opposite()?;
-    Ok(form)
+    let last = entries.len() - 1;
+    let constant = plus(entries[last], -1)?;
+    entries[last] = constant;
+    Ok(())
 }
 
-// That the unknown at a place is below a component.
+// That the unknown at a place is below a component, in a room.
 fn form_below(
-    alloc: Global,
+    room: Vec<i128>,
     width: usize,
     place: usize,
     component: &Component,
 ) -> Result<Form, FormRefusal>
+    requires empty { room.items ≡ [] }
     requires place { place < width }
     requires within { length component.now.form ≤ place + 1 }
     ensures listed { IsChecked is_form_overflow
@@ -179,7 +176,9 @@ fn form_below(
     ensures value { IfOk result (λ form. form ≡ plus_of (model.not_above width place component.now) (negsuc 0)) }
     ensures long { IfOk result (λ form. length form ≡ width + 1) }
 {
-    opposite_difference(alloc, width, place, component.form().as_slice())
+    let mut made = not_above(room, width, place, component)?;
+    less_one(&mut made)?;
+    Ok(Form::from_entries(made))
 }
 
 impl Known {
@@ -187,7 +186,6 @@ impl Known {
     // smaller: all of these forms from so many on.
     pub(crate) fn push_smaller(
         &mut self,
-        alloc: Global,
         scope: usize,
         front: &[Component],
         first: usize,
@@ -203,10 +201,10 @@ impl Known {
         let width = self.width();
         let last = front.len() - 1;
         for i in first..last {
-            let form = not_above(alloc, width, scope + i, &front[i])?;
-            self.push(form)?;
+            let made = not_above(self.room(), width, scope + i, &front[i])?;
+            self.push(Form::from_entries(made))?;
         }
-        let form = form_below(alloc, width, scope + last, &front[last])?;
+        let form = form_below(self.room(), width, scope + last, &front[last])?;
         self.push(form)?;
         Ok(())
     }

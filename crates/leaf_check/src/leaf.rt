@@ -174,12 +174,7 @@ impl Leaf<'_> {
 
     // Puts the unknowns, the tableau's rows and the goal of a smaller point behind the forms: it agrees with the
     // components but for the last, which is smaller.
-    fn push_least_goal(
-        &self,
-        alloc: Global,
-        known: &mut Known,
-        front: &[Component],
-    ) -> Result<(), FormRefusal>
+    fn push_least_goal(&self, known: &mut Known, front: &[Component]) -> Result<(), FormRefusal>
         requires leaf { IsLeaf self.now.problem.now (case_of self.now) }
         requires width { known.old.width ≡ self.now.scope + self.now.problem.now.unknowns }
         requires some { 0 < length front.now }
@@ -192,14 +187,13 @@ impl Leaf<'_> {
             known.old known.new }
     {
         self.push_unknowns(known)?;
-        known.push_smaller(alloc, self.scope, front, 0)?;
+        known.push_smaller(self.scope, front, 0)?;
         Ok(())
     }
 
     // Puts the forms of a list's refutation, from 0, behind the others: of a row, of a sign, or of a smaller point.
     fn push_list_goal(
         &self,
-        alloc: Global,
         known: &mut Known,
         components: &[Component],
         r: usize,
@@ -225,12 +219,12 @@ impl Leaf<'_> {
             return self.push_sign_goal(known, &components[sign]);
         }
         let (front, _) = components.split_at(sign - components.len() + 1);
-        self.push_least_goal(alloc, known, front)
+        self.push_least_goal(known, front)
     }
 
     // Puts the forms of a refutation, from 0, behind the others.
     #[tactic(auto, using(crate::proofs::Owned::own_place))]
-    fn push_own_goal(&self, alloc: Global, known: &mut Known, r: usize) -> Result<(), FormRefusal>
+    fn push_own_goal(&self, known: &mut Known, r: usize) -> Result<(), FormRefusal>
         requires leaf { IsLeaf self.now.problem.now (case_of self.now) }
         requires whole { IsTrue (model.is_whole_list self.now.problem.now.unknowns (option_copied self.now.list)) }
         requires width { known.old.width ≡ self.now.scope + self.now.problem.now.unknowns }
@@ -241,7 +235,7 @@ impl Leaf<'_> {
             (slice_index_or (own_premises self.now) r nothing).known known.old known.new }
     {
         match self.list {
-            Some(components) => self.push_list_goal(alloc, known, components, r),
+            Some(components) => self.push_list_goal(known, components, r),
             None => {
                 self.push_unknowns(known)?;
                 Ok(())
@@ -252,7 +246,6 @@ impl Leaf<'_> {
     // Puts behind the forms what the next refutation of a list has behind all but the last form of this one, from 0.
     fn push_next_list_goal(
         &self,
-        alloc: Global,
         known: &mut Known,
         components: &[Component],
         r: usize,
@@ -268,16 +261,16 @@ impl Leaf<'_> {
     {
         let single = self.problem.rows().len() + components.len();
         if r < single {
-            return self.push_list_goal(alloc, known, components, r + 1);
+            return self.push_list_goal(known, components, r + 1);
         }
         let (front, _) = components.split_at(r - single + 2);
-        known.push_smaller(alloc, self.scope, front, r - single)
+        known.push_smaller(self.scope, front, r - single)
     }
 
     /// Puts behind the forms what refutation r, from 0, has behind all but the last form of the one before; of the first
     /// one all of its own. It overflows exactly where a number of the refutation's own forms does not fit. After a refusal
     /// some of them may stand behind the others, which stay.
-    pub fn push_goal(&self, alloc: Global, known: &mut Known, r: usize) -> Result<(), FormRefusal>
+    pub fn push_goal(&self, known: &mut Known, r: usize) -> Result<(), FormRefusal>
         requires leaf { IsLeaf self.now.problem.now (case_of self.now) }
         requires whole { IsTrue (model.is_whole_list self.now.problem.now.unknowns (option_copied self.now.list)) }
         requires width { known.old.width ≡ self.now.scope + self.now.problem.now.unknowns }
@@ -286,11 +279,11 @@ impl Leaf<'_> {
         ensures pushed { IsPushedTo result self.now r known.old known.new }
     {
         if r == 0 {
-            return self.push_own_goal(alloc, known, r);
+            return self.push_own_goal(known, r);
         }
         match self.list {
             None => unreachable!(),
-            Some(components) => self.push_next_list_goal(alloc, known, components, r - 1),
+            Some(components) => self.push_next_list_goal(known, components, r - 1),
         }
     }
 

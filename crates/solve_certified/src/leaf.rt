@@ -66,7 +66,7 @@ impl LeafMaking<'_> {
             known.drop_last();
         }
         let same = known.len();
-        self.leaf.push_goal(self.scope.alloc, known, r)?;
+        self.leaf.push_goal(known, r)?;
         Ok(same)
     }
 
