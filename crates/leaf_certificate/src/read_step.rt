@@ -11,6 +11,9 @@ use std::alloc::Global;
 use text_reading::{Reads, TextFault, expect};
 use text_tokens::Kind;
 
+// The pairs that the first room of a step is for.
+const FIRST_ROOM: usize = 3;
+
 // An index and its multiplier, and the place behind them.
 fn read_term(bytes: &[u8], place: usize) -> Reads<(i128, i128), TextFault>
     requires { place ≤ length bytes.now }
@@ -23,13 +26,14 @@ fn read_term(bytes: &[u8], place: usize) -> Reads<(i128, i128), TextFault>
     Ok(((index, multiplier), after))
 }
 
-// The terms up to the `)`, and the place behind that.
-fn read_terms(alloc: Global, bytes: &[u8], place: usize) -> Reads<Terms, TextFault>
+// The terms up to the `)`, and the place behind that. Most steps have a few: a room for three is one that the C library
+// takes back and hands out quickly.
+fn read_some_terms(alloc: Global, bytes: &[u8], place: usize) -> Reads<Terms, TextFault>
     requires some { 0 < place }
     requires place { place ≤ length bytes.now }
     ensures { AreRead (λ t. t) fault_of bytes.now place result (terms_to_end bytes.now place) }
 {
-    let mut read = Terms::new(alloc);
+    let mut read = Terms::with_capacity(alloc, FIRST_ROOM)?;
     let mut at = place;
     loop {
         if let Some(after) = behind_close(bytes, at) {
@@ -38,6 +42,18 @@ fn read_terms(alloc: Global, bytes: &[u8], place: usize) -> Reads<Terms, TextFau
         let (term, after) = read_term(bytes, at)?;
         read.push(term)?;
         at = after;
+    }
+}
+
+// The same where there may be none, which take no memory.
+fn read_terms(alloc: Global, bytes: &[u8], place: usize) -> Reads<Terms, TextFault>
+    requires some { 0 < place }
+    requires place { place ≤ length bytes.now }
+    ensures { AreRead (λ t. t) fault_of bytes.now place result (terms_to_end bytes.now place) }
+{
+    match behind_close(bytes, place) {
+        Some(after) => Ok((Terms::new(alloc), after)),
+        None => read_some_terms(alloc, bytes, place),
     }
 }
 
