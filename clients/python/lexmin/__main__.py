@@ -20,24 +20,35 @@ USAGE = """usage: lexmin draw [--parameters NAMES] [--unknowns NAMES] [--mermaid
 
 def main(words: Optional[Sequence[str]] = None) -> int:
     words = sys.argv[1:] if words is None else words
-    if words[:1] == ["--version"]:
-        print(__version__)
-        return 0
-    if words[:1] in (["--help"], ["-h"]):
-        print(USAGE)
-        return 0
-    if not words or words[0] not in COMMANDS:
-        print(USAGE, file=sys.stderr)
-        return 2
+    if sys.stdin is None:  # closed: there is nothing to read
+        sys.stdin = open(os.devnull)
+    if sys.stdout is None:
+        print("lexmin: standard output is closed", file=sys.stderr)
+        return 1
     try:
-        status = COMMANDS[words[0]](words[1:])
+        status = command(words)
         sys.stdout.flush()
         return status
-    except BrokenPipeError:  # who reads has read enough
-        os.dup2(os.open(os.devnull, os.O_WRONLY), sys.stdout.fileno())
-        return 1
     except KeyboardInterrupt:  # as a shell says of what Ctrl-C ended
         return 128 + signal.SIGINT
+    except OSError as error:  # of what is written
+        if not isinstance(error, BrokenPipeError):  # (there who reads has read enough)
+            print(f"lexmin: {error}", file=sys.stderr)
+        os.dup2(os.open(os.devnull, os.O_WRONLY), sys.stdout.fileno())
+        return 1
+
+
+def command(words: Sequence[str]) -> int:
+    if words[:1] == ["--version"]:
+        print(__version__)
+    elif words[:1] in (["--help"], ["-h"]):
+        print(USAGE)
+    elif words and words[0] in COMMANDS:
+        return COMMANDS[words[0]](words[1:])
+    else:
+        print(USAGE, file=sys.stderr)
+        return 2
+    return 0
 
 
 if __name__ == "__main__":
