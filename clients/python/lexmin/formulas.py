@@ -23,6 +23,10 @@ class Fault(ValueError):
     """What can't be read, and where it stands."""
 
 
+def is_name(word: str) -> bool:
+    return re.fullmatch(_NAME, word) is not None and word not in _WORDS
+
+
 class Part(NamedTuple):
     """Relations that all hold, and the names of what has to exist."""
 
@@ -88,7 +92,7 @@ class Reader:
         return Fault(f"{words} at `{rest[:20]}`" if rest else f"{words} at the end")
 
     def is_name(self) -> bool:
-        return bool(re.match(r"[A-Za-z_]", self.peek())) and self.peek() not in _WORDS
+        return is_name(self.peek())
 
     def name(self) -> str:
         if not self.is_name():

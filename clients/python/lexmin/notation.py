@@ -26,7 +26,7 @@ import re
 from typing import Iterator, List, Mapping, Optional, Sequence, Set, Tuple
 
 from .answers import Answer
-from .formulas import Fault, Part, Reader
+from .formulas import Fault, Part, Reader, is_name
 from .forms import Atom, Floor, Form, Relation
 from .problems import Problem
 from .solver import Solver
@@ -121,8 +121,10 @@ def solved(solver: Solver, text: str, *, greatest: bool = False, low: Mapping[st
 
 def written(answer: Answer, name: str = "") -> str:
     """The answer as isl writes a piecewise quasi-affine function: a piece for each leaf that is a point. Of a map the names
-    of its first tuple are parameters."""
+    of its first tuple are parameters. A ValueError where isl has no such names."""
     names = list(answer.posed.parameters)
+    if other := [own for own in (*names, *([name] if name else [])) if not is_name(own)]:
+        raise ValueError(f"no names in isl's notation: {', '.join(other)}")
     held = [f"{it} {own}" for it, own in answer.posed.parameters.items()]
     held += [f"{_text(it.form, {})} {'=' if it.kind == '==' else it.kind} 0" for it in answer.posed.conditions]
     pieces = [f"{name}[{', '.join(f'({it})' for it in point)}]" + (f" : {' and '.join(where)}" if where else "")
@@ -138,7 +140,7 @@ def _pieces(answer: Answer, tree: Tree, scope: List[Form], held: List[str],
         yield from _pieces(answer, tree.yes, scope, [*held, f"{form} >= 0"], floors)
         yield from _pieces(answer, tree.no, scope, [*held, f"{form} < 0"], floors)
     elif isinstance(tree, NewParameter):
-        own = f"new.{tree.number}"
+        own = f"new.{tree.number}"  # (no name in isl's notation)
         text = f"floor(({_text(form_of(tree.form, scope), floors)})/{tree.divisor})"
         yield from _pieces(answer, tree.below, [*scope, Form({own: 1})], held, {**floors, own: text})
     elif isinstance(tree, Point):
