@@ -3,7 +3,8 @@
     functions = read(text)
 
 `int` parameters are sizes, `double` ones data. Loop variables are ints that only their loop changes. Comments and lines that
-begin with `#` are passed over, but for those of `#if`: which lines it takes isn't known.
+begin with `#` are passed over, but for those of `#if`, since which lines it takes isn't known, and those of macros that are used,
+other than `min` and `max`: they may stand for elements.
 """
 from __future__ import annotations
 
@@ -139,28 +140,37 @@ def assignments(block: Block) -> Iterator[Assignment]:
 
 # ---- Reading -------------------------------------------------------------------------------------------------------
 
-# (behind a backslash a line goes on with the next one)
-_PASSED = re.compile(r"/\*.*?\*/|//(?:\\.|[^\\\n])*|^[ \t]*#(?:\\.|[^\\\n])*", re.DOTALL | re.MULTILINE)
+# (behind a backslash a line goes on with the next one; so does one that begins with `#`, through a comment)
+_COMMENT = r"/\*.*?\*/|//(?:\\.|[^\\\n])*"
+_PASSED = re.compile(rf"{_COMMENT}|^[ \t]*#(?:{_COMMENT}|\\.|[^\\\n])*", re.DOTALL | re.MULTILINE)
 _TOKEN = re.compile(r"\s*(\d+\.\d*(?:[eE][-+]?\d+)?|\d+|[A-Za-z_]\w*|[<>=!]=|&&|\|\||\+\+|--|[-+*/]=|[-+*/%<>=!;,(){}\[\]])")
-_CHOICE = re.compile(r"^[ \t]*#[ \t]*(if|ifdef|ifndef|elif|else)\b", re.MULTILINE)
+_CHOICE = re.compile(r"\s*#\s*(if|ifdef|ifndef|elif|else)\b")
+_MACRO = re.compile(r"\s*#\s*define\s+(\w+)")
 _WEIGHTS = {"||": 1, "&&": 2, "==": 3, "!=": 3, "<": 4, "<=": 4, ">": 4, ">=": 4, "+": 5, "-": 5, "*": 6, "/": 6, "%": 6}
 _WORDS = frozenset("int double void for if else assert const while do return break continue goto switch".split())
 
 
 def read(text: str) -> List[Function]:
     """The functions of a text; a Fault where something in it is not read."""
-    blanked = _PASSED.sub(_blanked, text)
-    reader = _Reader(blanked)
+    macros: Dict[str, int] = {}  # with their lines
+
+    def blanked(passed: re.Match[str]) -> str:
+        bare = re.sub(_COMMENT, " ", passed.group().replace("\\\n", ""), flags=re.DOTALL)
+        line = text.count("\n", 0, passed.start()) + 1
+        if _CHOICE.match(bare):
+            raise Fault(line, "`#if` and the like are not read")
+        if macro := _MACRO.match(bare):
+            macros[macro.group(1)] = line
+        return re.sub(r"[^\n]", " ", passed.group())
+
+    reader = _Reader(_PASSED.sub(blanked, text))
+    for name in re.findall(r"\w+", reader.text):
+        if name in macros and name not in ("min", "max"):
+            raise Fault(macros[name], f"the macro {name} is not read")
     functions: List[Function] = []
     while reader.peek():
         functions.append(reader.function())
     return functions
-
-
-def _blanked(passed: re.Match[str]) -> str:
-    if _CHOICE.match(passed.group()):
-        raise Fault(passed.string.count("\n", 0, passed.start()) + 1, "`#if` and the like are not read")
-    return re.sub(r"[^\n]", " ", passed.group())
 
 
 class _Reader:
