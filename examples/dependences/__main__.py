@@ -44,17 +44,17 @@ def main(given: Sequence[str]) -> int:
     parser.add_argument("file", type=pathlib.Path)
     chosen = parser.parse_args(given)
     try:
-        functions = read(chosen.file.read_text())
+        functions = [function for function in read(chosen.file.read_text()) if chosen.only in ("", function.name)]
+        if not functions:
+            raise ValueError(f"{chosen.file} has no function" + (f" {chosen.only}" if chosen.only else ""))
         with Solver(chosen.program, simplify=True) as solver:
             for function in functions:
-                if chosen.only in ("", function.name):
-                    for line in described(Kernel(function), solver, chosen.shorten):
-                        print(line, flush=True)
-    except BrokenPipeError:  # who reads has read enough
-        os.dup2(os.open(os.devnull, os.O_WRONLY), sys.stdout.fileno())
-        return 1
+                for line in described(Kernel(function), solver, chosen.shorten):
+                    print(line, flush=True)
     except (OSError, ValueError, Refused) as error:
-        print(f"examples/dependences: {error}", file=sys.stderr)
+        if not isinstance(error, BrokenPipeError):  # (there who reads has read enough)
+            print(f"examples/dependences: {error}", file=sys.stderr)
+        os.dup2(os.open(os.devnull, os.O_WRONLY), 1)
         return 1
     return 0
 
