@@ -4,7 +4,7 @@ from __future__ import annotations
 import os
 import signal
 import sys
-from typing import Optional, Sequence
+from typing import NoReturn, Optional, Sequence
 
 from . import __version__, asking, drawing, explain, sources
 
@@ -19,7 +19,9 @@ USAGE = """usage: lexmin draw [--parameters NAMES] [--unknowns NAMES] [--mermaid
 
 
 def main(words: Optional[Sequence[str]] = None) -> int:
-    words = sys.argv[1:] if words is None else words
+    if words is None:
+        words = sys.argv[1:]
+        signal.signal(signal.SIGTERM, _left)
     if sys.stdin is None:  # closed: there is nothing to read
         sys.stdin = open(os.devnull)
     if sys.stdout is None:
@@ -36,6 +38,11 @@ def main(words: Optional[Sequence[str]] = None) -> int:
             print(f"lexmin: {error}", file=sys.stderr)
         os.dup2(os.open(os.devnull, os.O_WRONLY), sys.stdout.fileno())
         return 1
+
+
+def _left(number: int, _: object) -> NoReturn:
+    """Ends the program too, where it is under way."""
+    sys.exit(128 + number)
 
 
 def command(words: Sequence[str]) -> int:
