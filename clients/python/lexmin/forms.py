@@ -228,7 +228,8 @@ def checked_name(name: object) -> str:
     if not isinstance(name, str):
         raise TypeError(f"a name is wanted, not {name!r}")
     if not _NAME.fullmatch(name) or name in _WORDS:
-        raise ValueError(f"{name!r} can't be a name: a letter or `_` begins it, letters, digits and any of _.'[] follow")
+        raise ValueError(f"{name!r} can't be a name: a letter or `_` begins it, letters, digits and any of _.'[] follow; "
+                         f"{', '.join(_WORDS)} are none")
     return name
 
 
