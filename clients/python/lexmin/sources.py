@@ -27,11 +27,11 @@ from .trees import Choice, NewParameter, Point, Tree, form_of, leaves, parameter
 
 MOST_INDENTS = 90  # of lines in Python, which takes 100
 MOST_IN_C = 2**63 - 1
-_PLAIN = re.compile(r"[A-Za-z_][A-Za-z0-9_]*")
+_PLAIN = re.compile(r"(?!_[A-Z_])[A-Za-z_][A-Za-z0-9_]*")  # (`_Bool`, `__debug__` are words of C, of Python)
 _TAKEN = frozenset("""alignas alignof and as asm assert async await auto bool break case char class const constexpr continue def default del do
 double elif else enum except extern false finally float for from global goto if import in inline int is lambda long None nonlocal not nullptr or
 pass raise register restrict return short signed sizeof static static_assert struct switch thread_local True False true try typedef typeof
-typeof_unqual union unsigned void volatile while with yield __debug__ floor_of point lexmin""".split())
+typeof_unqual union unsigned void volatile while with yield linux unix floor_of point lexmin""".split())
 
 
 def python_source(answer: Answer, name: str = "lexmin") -> str:
