@@ -205,15 +205,18 @@ class Reader:
             return []
         if self.has("exists"):
             return self.exists(known)
-        if self.peek() == "(":  # a bracket of constraints, or of a form
+        if self.peek() == "(":  # a bracket of a form, or of constraints
             before = self.place
             try:
                 return self.chain(known)
-            except Fault:
-                self.place = before
-            self.take()
-            found = self.formula(known)
-            self.expect(")")
+            except Fault as fault:
+                as_form, place, self.place = fault, self.place, before
+            try:
+                self.take()
+                found = self.formula(known)
+                self.expect(")")
+            except Fault as fault:  # what was read further says what is wrong
+                raise (as_form if place > self.place else fault) from None
             return found
         return self.chain(known)
 
