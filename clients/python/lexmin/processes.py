@@ -123,7 +123,8 @@ class Child:
         self._owner = os.getpid()
         self.go_on()
         _STARTED.add(weakref.ref(self, _STARTED.discard))
-        self.process = subprocess.Popen(self.command, stdin=pipe, stdout=pipe, stderr=pipe, bufsize=0)
+        with _STARTING:
+            self.process = subprocess.Popen(self.command, stdin=pipe, stdout=pipe, stderr=pipe, bufsize=0)
         for end in self.pipes():
             os.set_blocking(end, False)
         if self.closed:  # meanwhile, when there was no process to end
@@ -166,12 +167,29 @@ class Child:
             except subprocess.TimeoutExpired:
                 process.kill()
                 process.wait()
-            for end in (process.stdin, process.stdout, process.stderr):
-                if end is not None:
-                    end.close()
+            close_pipes(process)
+
+
+def close_pipes(process: subprocess.Popen[bytes]) -> None:
+    for end in (process.stdin, process.stdout, process.stderr):
+        if end is not None:
+            end.close()
 
 
 _STARTED: Set[weakref.ref[Child]] = set()
+_STARTING = threading.RLock()  # held while a process is begun: a fork waits, until it is known which pipes are whose
+
+
+def _in_fork() -> None:
+    """Leaves the pipes to the first process. What reads up to the end of a pipe waits until no process holds its other end."""
+    _STARTING.release()
+    for found in list(_STARTED):
+        child = found()
+        if child is not None and child.process is not None:
+            close_pipes(child.process)
+
+
+os.register_at_fork(before=_STARTING.acquire, after_in_parent=_STARTING.release, after_in_child=_in_fork)
 
 
 @atexit.register
