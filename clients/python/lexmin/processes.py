@@ -123,7 +123,7 @@ class Child:
         self._owner = os.getpid()
         self.go_on()
         _STARTED.add(weakref.ref(self, _STARTED.discard))
-        with _STARTING:
+        with _BEGUN:
             self.process = subprocess.Popen(self.command, stdin=pipe, stdout=pipe, stderr=pipe, bufsize=0)
         for end in self.pipes():
             os.set_blocking(end, False)
@@ -177,19 +177,24 @@ def close_pipes(process: subprocess.Popen[bytes]) -> None:
 
 
 _STARTED: Set[weakref.ref[Child]] = set()
-_STARTING = threading.RLock()  # held while a process is begun: a fork waits, until it is known which pipes are whose
+# Held while a process is begun or taken: a fork waits, until it is known which one is whose. A call that was left ends where Python
+# collects it, which may be inside of what holds the lock: so the same thread may take it again.
+_BEGUN = threading.RLock()
 
 
 def _in_fork() -> None:
-    """Leaves the pipes to the first process. What reads up to the end of a pipe waits until no process holds its other end."""
-    _STARTING.release()
+    """Leaves what was begun before a fork to the first process, the pipes too: what reads up to the end of a pipe waits until no
+    process holds its other end."""
+    _BEGUN.release()
     for found in list(_STARTED):
         child = found()
-        if child is not None and child.process is not None:
-            close_pipes(child.process)
+        process = None if child is None else child.process
+        if child is not None and process is not None:
+            child.process, process.returncode = None, 0  # (nothing here waits for it)
+            close_pipes(process)
 
 
-os.register_at_fork(before=_STARTING.acquire, after_in_parent=_STARTING.release, after_in_child=_in_fork)
+os.register_at_fork(before=_BEGUN.acquire, after_in_parent=_BEGUN.release, after_in_child=_in_fork)
 
 
 @atexit.register
@@ -442,9 +447,6 @@ class Pool:
         self.command, self.groups, self.timeout = list(command), groups, timeout
         self._idle: List[Coprocess] = []
         self._used: List[Coprocess] = []
-        # A call that was left ends where Python collects it, which may be inside of what holds the lock: so the same thread
-        # may take it again.
-        self._lock = threading.RLock()
 
     def answers(self, texts: Iterable[str], timeout: Optional[float] = None) -> Iterator[Union[List[str], Refused]]:
         own = self._take()
@@ -456,14 +458,14 @@ class Pool:
             self._give_back(own)
 
     def _take(self) -> Coprocess:
-        with self._lock:
+        with _BEGUN:
             own = self._idle.pop() if self._idle else Coprocess(self.command, self.groups, self.timeout)
             own.timeout = self.timeout
             self._used.append(own)
             return own
 
     def _give_back(self, own: Coprocess) -> None:
-        with self._lock:
+        with _BEGUN:
             self._used.remove(own)
             if len(self._idle) < MOST_IDLE and not own.closed:
                 self._idle.append(own)
@@ -477,12 +479,12 @@ class Pool:
 
     def counts(self) -> Tuple[int, int]:
         """How many processes are in use, and how many wait for a call."""
-        with self._lock:
+        with _BEGUN:
             return len(self._used), sum(own.process is not None for own in self._idle)
 
     def stop(self) -> None:
         """Ends all processes; a call that is under way fails. A later call begins another one."""
-        with self._lock:
+        with _BEGUN:
             idle, self._idle = self._idle, []
             used = list(self._used)
         for own in idle:
