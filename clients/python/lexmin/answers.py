@@ -21,7 +21,7 @@ class OutsideContext(ValueError):
     """An answer was valued at parameters of which it says nothing."""
 
 
-@dataclass(frozen=True)
+@dataclass(frozen=True, eq=False)
 class Piece:
     """A part of an answer: where all `conditions` hold, with each quotient the floor of its form over its divisor, the value
     is `point`, or there is none. Quotients stand in the order in which they use each other."""
@@ -29,6 +29,17 @@ class Piece:
     conditions: Tuple[Form, ...]  # each at least 0
     quotients: Tuple[Tuple[str, Form, int], ...]
     point: Optional[Tuple[Tuple[str, Form], ...]]
+
+    def _key(self) -> Tuple[object, ...]:
+        quotients = tuple((name, form.key(), divisor) for name, form, divisor in self.quotients)
+        point = None if self.point is None else tuple((name, form.key()) for name, form in self.point)
+        return tuple(form.key() for form in self.conditions), quotients, point
+
+    def __eq__(self, other: object) -> bool:
+        return isinstance(other, Piece) and self._key() == other._key()
+
+    def __hash__(self) -> int:
+        return hash(self._key())
 
     def __str__(self) -> str:
         held = [f"{name} = floor(({form})/{divisor})" for name, form, divisor in self.quotients]

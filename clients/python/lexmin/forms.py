@@ -112,6 +112,10 @@ class Form:
             return as_form(names[atom]) if isinstance(atom, str) and atom in names else Form({atom: 1})
         return self.put(value)
 
+    def key(self) -> Tuple[object, ...]:
+        """What tells it from other forms. (`==` makes a relation.)"""
+        return tuple(sorted(self.terms.items(), key=str)), self.constant
+
     def numbers(self, names: Sequence[Column]) -> List[Number]:
         """The numbers of these names."""
         return [self.terms.get(name, 0) for name in names]

@@ -234,7 +234,7 @@ class Space:
 
     def points_key(self) -> Tuple[object, ...]:
         """What tells one choice of unknowns from another."""
-        return tuple((name, tuple(sorted(form.terms.items(), key=str)), form.constant) for name, form in self.points.items())
+        return tuple((name, form.key()) for name, form in self.points.items())
 
     def holds_at(self, parameters: Mapping[str, int]) -> bool:
         """Whether the parameters are in their ranges and satisfy the context."""
