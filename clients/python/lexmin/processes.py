@@ -27,9 +27,9 @@ END_SECONDS = 3.0  # how long a process has to end by itself
 
 
 class Refused(Exception):
-    """The program refused a text. `status` is its status (below 0: the signal that ended it), `line` what it wrote to
-    standard error last. The place of a `syntax at byte B` counts from the first byte that its process was given, which
-    `bytes_before` says the number of."""
+    """The program refused a text. `status` is its status (below 0: the signal that ended it; 0 where SIGCHLD is ignored, since
+    the system then keeps none), `line` what it wrote to standard error last. The place of a `syntax at byte B` counts from the
+    first byte that its process was given, which `bytes_before` says the number of."""
 
     def __init__(self, status: int, line: str, text: str, bytes_before: int = 0) -> None:
         super().__init__(f"status {status}: {line}")

@@ -3,6 +3,7 @@ from __future__ import annotations
 
 import functools
 import os
+import signal
 from collections import deque
 from typing import Any, Deque, Dict, Iterable, Iterator, List, Optional, Sequence, Tuple, TypeVar, Union
 
@@ -296,7 +297,7 @@ class Solver:
     def run(self, words: Sequence[str], text: str) -> str:
         """What another command writes over a text, by a process of its own: `run(["pieces", "2"], answer.text)`."""
         status, output, line = self._runs.run([self.program, *words], text, self.timeout)
-        if status != 0:
+        if status != 0 or (line and signal.getsignal(signal.SIGCHLD) == signal.SIG_IGN):  # (then the system keeps no status)
             raise Refused(status, line, text)
         return output.decode()
 
