@@ -13,7 +13,7 @@ from .forms import Column, Form, Relation
 from .problems import Range, Space
 from .processes import Refused
 from .shorten import QUESTIONS, SECONDS
-from .solver import Solver
+from .solver import Solver, standing
 from .texts import Fault, ReadProblem, native
 from .trees import groups
 
@@ -46,6 +46,12 @@ def space_of(problem: ReadProblem) -> Space:
     return Space(problem.comment, {name: Range(0) for name in names}, context, points)
 
 
+def words_of(error: Exception, program: str) -> str:
+    """What an error says; of a program that is not there also how another one is named."""
+    is_missing = isinstance(error, FileNotFoundError) and error.filename == standing(program)
+    return f"{error}; --program names the program" if is_missing else str(error)
+
+
 def shorten(words: Sequence[str]) -> int:
     parser = argparse.ArgumentParser(prog="lexmin shorten", description=SHORTEN, formatter_class=argparse.RawDescriptionHelpFormatter)
     parser.add_argument("--program", default="./pip", help="the program, ./pip where none is named")
@@ -76,7 +82,7 @@ def shorten(words: Sequence[str]) -> int:
     except BrokenPipeError:
         raise
     except (OSError, ValueError) as error:
-        print(f"lexmin shorten: {error}", file=sys.stderr)
+        print(f"lexmin shorten: {words_of(error, chosen.program)}", file=sys.stderr)
         return 1
     return status
 
@@ -105,6 +111,6 @@ def isl(words: Sequence[str]) -> int:
     except BrokenPipeError:
         raise
     except (OSError, ValueError, Refused) as error:
-        print(f"lexmin isl: {error}", file=sys.stderr)
+        print(f"lexmin isl: {words_of(error, chosen.program)}", file=sys.stderr)
         return 1
     return 0
