@@ -51,7 +51,7 @@ def main(given: Sequence[str]) -> int:
             for function in functions:
                 for line in described(Kernel(function), solver, chosen.shorten):
                     print(line, flush=True)
-    except (OSError, ValueError, Refused) as error:
+    except (OSError, ValueError, RecursionError, Refused) as error:
         if not isinstance(error, BrokenPipeError):  # (there who reads has read enough)
             print(f"examples/dependences: {error}", file=sys.stderr)
         os.dup2(os.open(os.devnull, os.O_WRONLY), 1)

@@ -5,7 +5,7 @@ from __future__ import annotations
 import itertools
 import math
 import re
-from typing import Callable, Collection, Dict, List, Mapping, NamedTuple, Sequence, Set, Tuple
+from typing import Callable, Collection, Dict, List, Mapping, NamedTuple, Sequence, Set, Tuple, TypeVar
 
 from .forms import Form, Relation, congruent
 
@@ -49,6 +49,16 @@ class Tuples(NamedTuple):
     domain: List[str]  # of a map
     unknowns: List[str]
     parts: List[Part]
+
+
+_Read = TypeVar("_Read")
+
+
+def _not_too_deep(read: Callable[[], _Read]) -> _Read:
+    try:
+        return read()
+    except RecursionError:
+        raise Fault("the text is nested too deep") from None
 
 
 class Reader:
@@ -109,10 +119,14 @@ class Reader:
     # Sets.
 
     def whole(self) -> Tuple[List[str], List[Tuples]]:
-        try:
-            return self.set()
-        except RecursionError:
-            raise Fault("the text is nested too deep") from None
+        return _not_too_deep(self.set)
+
+    def conditions(self, names: Sequence[str]) -> List[Part]:
+        """The parts of a text of constraints alone."""
+        found = _not_too_deep(lambda: self.formula({name: name for name in names}))
+        if self.peek():
+            raise self.fault("more than constraints")
+        return found
 
     def set(self) -> Tuple[List[str], List[Tuples]]:
         parameters: List[str] = []

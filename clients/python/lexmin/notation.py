@@ -44,9 +44,8 @@ def problems(text: str, *, greatest: bool = False, low: Mapping[str, int] = {}, 
         raise Fault(f"{', '.join(other)}: low is for a parameter or an unknown of the first tuple")
     known: List[Relation] = []
     if context:
-        reader = Reader(context)
-        chosen = reader.formula({name: name for name in names})
-        if len(chosen) != 1 or chosen[0].further or reader.peek():
+        chosen = Reader(context).conditions(names)
+        if len(chosen) != 1 or chosen[0].further:
             raise Fault("a context is one conjunction, without `exists`")
         known = list(chosen[0].relations)
     return [_problem(text, names, asked, it.unknowns, part, greatest, low, known) for it in tuples for part in it.parts]
