@@ -34,7 +34,7 @@ from .trees import Choice, NewParameter, Point, Tree, form_of
 
 
 def problems(text: str, *, greatest: bool = False, low: Mapping[str, int] = {}, context: str = "") -> List[Problem]:
-    """The problems of a set or a map: one for each part of its `or`."""
+    """The problems of a set or a map: one for each part of its `or`, and where it has none one without a point."""
     parameters, tuples = Reader(text).whole()
     if len({(it.named, tuple(it.domain), len(it.unknowns)) for it in tuples}) > 1:
         raise Fault("the parts of the set have tuples of different names or lengths, or of a map other names in the first one")
@@ -48,7 +48,10 @@ def problems(text: str, *, greatest: bool = False, low: Mapping[str, int] = {}, 
         if len(chosen) != 1 or chosen[0].further:
             raise Fault("a context is one conjunction, without `exists`")
         known = list(chosen[0].relations)
-    return [_problem(text, names, asked, it.unknowns, part, greatest, low, known) for it in tuples for part in it.parts]
+    made = [_problem(text, names, asked, it.unknowns, part, greatest, low, known) for it in tuples for part in it.parts]
+    if tuples and not made:  # nothing can hold: a problem without a point says so
+        made.append(_problem(text, names, asked, asked, Part((Form({}, -1) >= 0,), ()), False, {**dict.fromkeys(asked, 0), **low}, known))
+    return made
 
 
 def _problem(text: str, parameters: Sequence[str], asked: Sequence[str], unknowns: Sequence[str], part: Part, greatest: bool,
@@ -108,10 +111,10 @@ def _bound(relations: Sequence[Relation], name: str, before: Sequence[str], sign
 
 
 def solved(solver: Solver, text: str, *, greatest: bool = False, low: Mapping[str, int] = {}, context: str = "") -> Answer:
-    """The lexmin of a set or a map, or its lexmax: the answers of its parts, put together. A Fault where it has no part."""
+    """The lexmin of a set or a map, or its lexmax: the answers of its parts, put together. A Fault where it has no tuple."""
     answers = [solver.solve(problem) for problem in problems(text, greatest=greatest, low=low, context=context)]
     if not answers:
-        raise Fault("the set has no part")
+        raise Fault("the set has no tuple")
     return answers[0] if len(answers) == 1 else solver.last_of(*answers) if greatest else solver.first_of(*answers)
 
 
