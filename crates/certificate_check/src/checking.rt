@@ -33,6 +33,7 @@ fn check_vector(problem: &Problem, vector: &[i128]) -> Result<(), Fault>
 // Checks a tree's leaves, of which there are as many as the certificate has.
 fn check_leaves(
     alloc: Global,
+    forms: &mut GoalForms,
     problem: &Problem,
     tree: &Quast,
     certificate: &Certificate,
@@ -53,11 +54,9 @@ fn check_leaves(
         shares: certificate.shares(),
         proofs,
     };
-    let mut forms = GoalForms::new(alloc);
     let mut path = NodePath::new(alloc, problem.params());
-    let checked = walk.check_node(alloc, &mut forms, &mut path, tree.root(), 0);
+    let checked = walk.check_node(alloc, forms, &mut path, tree.root(), 0);
     drop(path);
-    drop(forms);
     checked?;
     Ok(())
 }
@@ -65,6 +64,7 @@ fn check_leaves(
 // Checks a tree: the vector, and then the leaves.
 fn check_tree(
     alloc: Global,
+    forms: &mut GoalForms,
     problem: &Problem,
     tree: &Quast,
     vector: &[i128],
@@ -77,12 +77,13 @@ fn check_tree(
     ensures quast { OnOk result (IsQuast tree.now) }
 {
     check_vector(problem, vector)?;
-    check_leaves(alloc, problem, tree, certificate)
+    check_leaves(alloc, forms, problem, tree, certificate)
 }
 
 // Checks all conditions in order. The word `void` stands exactly with the answer `void`.
 fn check_answer(
     alloc: Global,
+    forms: &mut GoalForms,
     problem: &Problem,
     answer: &Answer,
     certificate: &Certificate,
@@ -93,8 +94,38 @@ fn check_answer(
 {
     match (answer, certificate.vector()) {
         (Answer::Void, None) => check_void(alloc, problem, certificate.as_slice()),
-        (Answer::Tree(tree), Some(vector)) => check_tree(alloc, problem, tree, vector, certificate),
+        (Answer::Tree(tree), Some(vector)) => check_tree(
+            alloc,
+            forms,
+            problem,
+            tree,
+            vector,
+            certificate,
+        ),
         _ => Err(Fault::Rejected(START)),
+    }
+}
+
+/// Checks as `check` does, and makes its forms in the rooms of those of earlier checks.
+pub fn check_in(
+    alloc: Global,
+    forms: &mut GoalForms,
+    problem: &Problem,
+    answer: &Answer,
+    certificate: &Certificate,
+) -> Result<Verdict, CheckRefusal>
+    requires integer { problem.now.integer ≡ true }
+    requires width { IsOver problem.now.params answer.now }
+    ensures gives { IsVerdict result (model.check problem.now (answer_of answer.now) certificate.now) }
+    ensures right { result ≡ Ok Verdict.Accepted → IsRight problem.now (answer_of answer.now) }
+{
+    // Reading it tells that the problem is within the limits.
+    let _unknowns = problem.unknowns();
+    match check_answer(alloc, forms, problem, answer, certificate) {
+        Ok(()) => Ok(Verdict::Accepted),
+        Err(Fault::Rejected(spot)) => Ok(Verdict::Rejected(spot)),
+        Err(Fault::Overflow(spot)) => Err(CheckRefusal::Overflow(spot)),
+        Err(Fault::WantOfMemory) => Err(CheckRefusal::WantOfMemory),
     }
 }
 
@@ -112,12 +143,8 @@ pub fn check(
     ensures gives { IsVerdict result (model.check problem.now (answer_of answer.now) certificate.now) }
     ensures right { result ≡ Ok Verdict.Accepted → IsRight problem.now (answer_of answer.now) }
 {
-    // Reading it tells that the problem is within the limits.
-    let _unknowns = problem.unknowns();
-    match check_answer(alloc, problem, answer, certificate) {
-        Ok(()) => Ok(Verdict::Accepted),
-        Err(Fault::Rejected(spot)) => Ok(Verdict::Rejected(spot)),
-        Err(Fault::Overflow(spot)) => Err(CheckRefusal::Overflow(spot)),
-        Err(Fault::WantOfMemory) => Err(CheckRefusal::WantOfMemory),
-    }
+    let mut forms = GoalForms::new(alloc);
+    let verdict = check_in(alloc, &mut forms, problem, answer, certificate);
+    drop(forms);
+    verdict
 }

@@ -11,8 +11,8 @@ mod vector;
 mod verdict;
 mod walk;
 
-pub use checking::check;
-pub use leaf_check::{Known, Leaf, Spot, refutation_count, void_forms};
+pub use checking::{check, check_in};
+pub use leaf_check::{GoalForms, Known, Leaf, Spot, refutation_count, void_forms};
 pub use path::NodePath;
 pub use sharing::share;
 pub use verdict::{CheckRefusal, Verdict};

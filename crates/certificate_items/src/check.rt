@@ -3,6 +3,7 @@ ghost use Rattle.program_model.specs.Commands.{CheckAll};
 ghost use Rattle.certificate_items.specs.Triples.{IsTriple, triple_of};
 
 use crate::triple::{Triple, accept, triple_at};
+use certificate_check::GoalForms;
 use item_writing::{Ending, Items};
 use std::alloc::Global;
 
@@ -11,6 +12,8 @@ pub struct Check;
 
 impl Items for Check {
     type Read = Triple;
+
+    type Room = GoalForms;
 
     ghost meaning = { λ _. CheckAll };
 
@@ -29,8 +32,18 @@ impl Items for Check {
         triple_at(alloc, bytes, at)
     }
 
-    fn put(&self, alloc: Global, triple: &mut Triple, text: &mut Vec<u8>) -> Result<(), Ending> {
-        accept(alloc, triple)?;
+    fn room(&self, alloc: Global) -> GoalForms {
+        GoalForms::new(alloc)
+    }
+
+    fn put(
+        &self,
+        alloc: Global,
+        forms: &mut GoalForms,
+        triple: &mut Triple,
+        text: &mut Vec<u8>,
+    ) -> Result<(), Ending> {
+        accept(alloc, forms, triple)?;
         text.extend_from_slice(b"accepted\n")?;
         Ok(())
     }

@@ -3,7 +3,7 @@ ghost use Rattle.program_model.specs.Commands.{ShareAll};
 ghost use Rattle.certificate_items.specs.Triples.{IsTriple, triple_of};
 
 use crate::triple::{Triple, accept, triple_at};
-use certificate_check::share;
+use certificate_check::{GoalForms, share};
 use item_writing::{Ending, Items};
 use leaf_certificate::print_certificate;
 use std::alloc::Global;
@@ -13,6 +13,8 @@ pub struct Share;
 
 impl Items for Share {
     type Read = Triple;
+
+    type Room = GoalForms;
 
     ghost meaning = { λ _. ShareAll };
 
@@ -31,8 +33,18 @@ impl Items for Share {
         triple_at(alloc, bytes, at)
     }
 
-    fn put(&self, alloc: Global, triple: &mut Triple, text: &mut Vec<u8>) -> Result<(), Ending> {
-        accept(alloc, triple)?;
+    fn room(&self, alloc: Global) -> GoalForms {
+        GoalForms::new(alloc)
+    }
+
+    fn put(
+        &self,
+        alloc: Global,
+        forms: &mut GoalForms,
+        triple: &mut Triple,
+        text: &mut Vec<u8>,
+    ) -> Result<(), Ending> {
+        accept(alloc, forms, triple)?;
         let shared = share(alloc, &triple.problem, &triple.answer, &triple.certificate)?;
         print_certificate(&shared, text)?;
         Ok(())

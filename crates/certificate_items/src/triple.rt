@@ -7,7 +7,7 @@ ghost use Rattle.item_writing.specs.Items.{Finds, FindsItem};
 ghost use Rattle.certificate_items.specs.Triples.{IsTriple, triple_of, IsFound};
 
 use crate::needed::needed_certificate;
-use certificate_check::{CheckRefusal, Verdict, check};
+use certificate_check::{CheckRefusal, GoalForms, Verdict, check_in};
 use certificate_parts::Certificate;
 use item_writing::{Ending, needed_answer};
 use pip_problem::Problem;
@@ -63,14 +63,20 @@ pub(crate) fn triple_at(
     }
 }
 
-/// Nothing where the certificate is accepted, else its first fault.
-pub(crate) fn accept(alloc: Global, triple: &Triple) -> Result<(), Ending>
+/// Nothing where the certificate is accepted, else its first fault. Its forms are made in the rooms of earlier ones.
+pub(crate) fn accept(alloc: Global, forms: &mut GoalForms, triple: &Triple) -> Result<(), Ending>
     requires { IsTriple triple.now }
     ensures own { IfErr result IsOfItem }
     ensures found { IsFound result
         (model.check triple.now.problem (answer_of triple.now.answer) triple.now.certificate) }
 {
-    match check(alloc, &triple.problem, &triple.answer, &triple.certificate) {
+    match check_in(
+        alloc,
+        forms,
+        &triple.problem,
+        &triple.answer,
+        &triple.certificate,
+    ) {
         Ok(Verdict::Accepted) => Ok(()),
         Ok(Verdict::Rejected(spot)) => Err(Ending::Rejected(spot)),
         Err(CheckRefusal::Overflow(spot)) => Err(Ending::OverflowAt(spot)),

@@ -13,6 +13,9 @@ pub trait Items {
     /// An item that was read.
     type Read: Drop;
 
+    /// Room that is kept from item to item. No text depends on it.
+    type Room: Drop;
+
     /// The command that it is.
     ghost meaning: { Self → Command };
 
@@ -36,8 +39,17 @@ pub trait Items {
         ensures { FindsItem (seen self.now) (is_item self.now) (item_at (meaning self.now) bytes.now at) at
             (last_place self.now bytes.now) result };
 
+    /// No room yet. It takes no memory.
+    fn room(&self, alloc: Global) -> Self::Room;
+
     /// Puts the text of an item into `text`. The item may be used up.
-    fn put(&self, alloc: Global, item: &mut Self::Read, text: &mut Vec<u8>) -> Result<(), Ending>
+    fn put(
+        &self,
+        alloc: Global,
+        room: &mut Self::Room,
+        item: &mut Self::Read,
+        text: &mut Vec<u8>,
+    ) -> Result<(), Ending>
         requires item { is_item self.now item.old }
         requires empty { text.old.items ≡ [] }
         ensures own { IfErr result IsOfItem }
@@ -48,6 +60,7 @@ pub trait Items {
 fn write_text<C: Items>(
     alloc: Global,
     command: &C,
+    room: &mut C::Room,
     bytes: &[u8],
     at: usize,
     text: &mut Vec<u8>,
@@ -60,7 +73,7 @@ fn write_text<C: Items>(
 {
     match command.read(alloc, bytes, at)? {
         Some((mut item, after)) => {
-            command.put(alloc, &mut item, text)?;
+            command.put(alloc, room, &mut item, text)?;
             Ok(Some(after))
         }
         None => Ok(None),
@@ -80,8 +93,9 @@ pub fn write_items<C: Items, K: Sink>(
     ensures faults { CountsFaults (IsErrOf result Ending.WriteFault) (K.faults sink.old) (K.faults sink.new) }
 {
     let mut text = Vec::new(alloc);
+    let mut room = command.room(alloc);
     let mut at = 0;
-    while let Some(after) = write_text(alloc, command, bytes, at, &mut text)? {
+    while let Some(after) = write_text(alloc, command, &mut room, bytes, at, &mut text)? {
         write_all(sink, &text)?;
         text.clear();
         at = after;

@@ -76,6 +76,8 @@ pub struct Matrices<'a> {
 impl Items for Matrices<'_> {
     type Read = Problem;
 
+    type Room = ();
+
     ghost meaning = { λ m. Solve (options_of m.options.now) };
 
     ghost seen = { λ _ p. p };
@@ -97,7 +99,15 @@ impl Items for Matrices<'_> {
         Ok(Some((problem, 1)))
     }
 
-    fn put(&self, alloc: Global, problem: &mut Problem, text: &mut Vec<u8>) -> Result<(), Ending> {
+    fn room(&self, _alloc: Global) {}
+
+    fn put(
+        &self,
+        alloc: Global,
+        _room: &mut (),
+        problem: &mut Problem,
+        text: &mut Vec<u8>,
+    ) -> Result<(), Ending> {
         let mut certifier = Certifier::new(alloc);
         let written = write_solution(&mut certifier, self.options, problem, text);
         drop(certifier);

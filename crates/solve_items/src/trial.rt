@@ -13,6 +13,8 @@ pub struct Trial<'a>(pub &'a TrialOptions);
 impl Items for Trial<'_> {
     type Read = ();
 
+    type Room = ();
+
     ghost meaning = { λ t. model_trial t.0.now.seed t.0.now.count };
 
     ghost seen = { λ _ _. tt };
@@ -33,7 +35,15 @@ impl Items for Trial<'_> {
         Ok(Some(((), 1)))
     }
 
-    fn put(&self, alloc: Global, _item: &mut (), text: &mut Vec<u8>) -> Result<(), Ending> {
+    fn room(&self, _alloc: Global) {}
+
+    fn put(
+        &self,
+        alloc: Global,
+        _room: &mut (),
+        _item: &mut (),
+        text: &mut Vec<u8>,
+    ) -> Result<(), Ending> {
         print_trial(alloc, self.0.seed, self.0.count, text)?;
         Ok(())
     }

@@ -16,6 +16,8 @@ pub struct Least<'a>(pub &'a WalkOptions);
 impl Items for Least<'_> {
     type Read = Trio;
 
+    type Room = ();
+
     ghost meaning = { λ l. model_least l.0.now.params l.0.now.limits };
 
     ghost seen = { λ _ t. trio_of t };
@@ -34,7 +36,15 @@ impl Items for Least<'_> {
     }
 
     #[tactic(auto, using(crate::proofs::Walked::made_ok, crate::proofs::Walked::made_refused))]
-    fn put(&self, alloc: Global, trio: &mut Trio, text: &mut Vec<u8>) -> Result<(), Ending> {
+    fn room(&self, _alloc: Global) {}
+
+    fn put(
+        &self,
+        alloc: Global,
+        _room: &mut (),
+        trio: &mut Trio,
+        text: &mut Vec<u8>,
+    ) -> Result<(), Ending> {
         let answer = least(
             alloc,
             &trio.rows,

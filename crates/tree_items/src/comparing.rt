@@ -33,6 +33,8 @@ fn put_sameness(sameness: &Sameness, text: &mut Vec<u8>) -> Result<(), AllocErro
 impl Items for Same<'_> {
     type Read = Trio;
 
+    type Room = ();
+
     ghost meaning = { λ s. model_same s.0.now.params s.0.now.limits };
 
     ghost seen = { λ _ t. trio_of t };
@@ -51,7 +53,15 @@ impl Items for Same<'_> {
     }
 
     #[tactic(auto, using(crate::proofs::Walked::line_ok, crate::proofs::Walked::line_refused))]
-    fn put(&self, alloc: Global, trio: &mut Trio, text: &mut Vec<u8>) -> Result<(), Ending> {
+    fn room(&self, _alloc: Global) {}
+
+    fn put(
+        &self,
+        alloc: Global,
+        _room: &mut (),
+        trio: &mut Trio,
+        text: &mut Vec<u8>,
+    ) -> Result<(), Ending> {
         let sameness = same(
             alloc,
             &trio.rows,

@@ -16,6 +16,8 @@ pub struct Eval<'a>(pub &'a ParameterVector);
 impl Items for Eval<'_> {
     type Read = Spoken;
 
+    type Room = ();
+
     ghost meaning = { λ e. model_eval e.0.now };
 
     ghost seen = { λ _ s. spoken_of s };
@@ -33,7 +35,15 @@ impl Items for Eval<'_> {
         Ok(read_answer(alloc, bytes, at, self.0.as_slice().len())?)
     }
 
-    fn put(&self, alloc: Global, spoken: &mut Spoken, text: &mut Vec<u8>) -> Result<(), Ending> {
+    fn room(&self, _alloc: Global) {}
+
+    fn put(
+        &self,
+        alloc: Global,
+        _room: &mut (),
+        spoken: &mut Spoken,
+        text: &mut Vec<u8>,
+    ) -> Result<(), Ending> {
         let value = value_of(alloc, &spoken.answer, self.0.as_slice())?;
         print_answer(&spoken.comment, &value, text)?;
         Ok(())

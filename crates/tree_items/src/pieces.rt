@@ -16,6 +16,8 @@ pub struct Pieces<'a>(pub &'a PiecesOptions);
 impl Items for Pieces<'_> {
     type Read = Spoken;
 
+    type Room = ();
+
     ghost meaning = { λ p. model_pieces p.0.now.params };
 
     ghost seen = { λ _ s. spoken_of s };
@@ -34,7 +36,15 @@ impl Items for Pieces<'_> {
     }
 
     #[tactic(auto, using(crate::proofs::PieceTexts::pieces_refused))]
-    fn put(&self, _alloc: Global, spoken: &mut Spoken, text: &mut Vec<u8>) -> Result<(), Ending> {
+    fn room(&self, _alloc: Global) {}
+
+    fn put(
+        &self,
+        _alloc: Global,
+        _room: &mut (),
+        spoken: &mut Spoken,
+        text: &mut Vec<u8>,
+    ) -> Result<(), Ending> {
         print_pieces(&spoken.comment, &spoken.answer, text)?;
         Ok(())
     }

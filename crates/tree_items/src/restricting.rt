@@ -24,6 +24,8 @@ pub struct Restrict<'a>(pub &'a WalkOptions);
 impl Items for Restrict<'_> {
     type Read = Pair;
 
+    type Room = ();
+
     ghost meaning = { λ r. model_restrict r.0.now.params r.0.now.limits };
 
     ghost seen = { λ _ p. pair_of p };
@@ -48,7 +50,15 @@ impl Items for Restrict<'_> {
     }
 
     #[tactic(auto, using(crate::proofs::Walked::made_ok, crate::proofs::Walked::made_refused))]
-    fn put(&self, alloc: Global, pair: &mut Pair, text: &mut Vec<u8>) -> Result<(), Ending> {
+    fn room(&self, _alloc: Global) {}
+
+    fn put(
+        &self,
+        alloc: Global,
+        _room: &mut (),
+        pair: &mut Pair,
+        text: &mut Vec<u8>,
+    ) -> Result<(), Ending> {
         let answer = restrict(alloc, &pair.rows, &pair.first.answer, &self.0.limits)?;
         print_answer(&pair.first.comment, &answer, text)?;
         Ok(())

@@ -18,6 +18,8 @@ pub struct Simplify<'a>(pub &'a SimplifyOptions);
 impl Items for Simplify<'_> {
     type Read = Spoken;
 
+    type Room = ();
+
     ghost meaning = { λ s. model_simplify s.0.now.params };
 
     ghost seen = { λ _ s. spoken_of s };
@@ -35,7 +37,15 @@ impl Items for Simplify<'_> {
         Ok(read_answer(alloc, bytes, at, self.0.params)?)
     }
 
-    fn put(&self, _alloc: Global, spoken: &mut Spoken, text: &mut Vec<u8>) -> Result<(), Ending> {
+    fn room(&self, _alloc: Global) {}
+
+    fn put(
+        &self,
+        _alloc: Global,
+        _room: &mut (),
+        spoken: &mut Spoken,
+        text: &mut Vec<u8>,
+    ) -> Result<(), Ending> {
         let answer = simplify_answer(replace(&mut spoken.answer, Answer::Void));
         print_answer(&spoken.comment, &answer, text)?;
         Ok(())
