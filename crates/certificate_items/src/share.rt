@@ -2,8 +2,8 @@ ghost use Rattle.std.specs.Prelude.{length};
 ghost use Rattle.program_model.specs.Commands.{ShareAll};
 ghost use Rattle.certificate_items.specs.Triples.{IsTriple, triple_of};
 
-use crate::triple::{Triple, accept, triple_at};
-use certificate_check::{GoalForms, share};
+use crate::triple::{Triple, accept_alone, triple_at};
+use certificate_check::share;
 use item_writing::{Ending, Items};
 use leaf_certificate::print_certificate;
 use std::alloc::Global;
@@ -14,7 +14,7 @@ pub struct Share;
 impl Items for Share {
     type Read = Triple;
 
-    type Room = GoalForms;
+    type Room = ();
 
     ghost meaning = { λ _. ShareAll };
 
@@ -33,18 +33,16 @@ impl Items for Share {
         triple_at(alloc, bytes, at)
     }
 
-    fn room(&self, alloc: Global) -> GoalForms {
-        GoalForms::new(alloc)
-    }
+    fn room(&self, _alloc: Global) {}
 
     fn put(
         &self,
         alloc: Global,
-        forms: &mut GoalForms,
+        _room: &mut (),
         triple: &mut Triple,
         text: &mut Vec<u8>,
     ) -> Result<(), Ending> {
-        accept(alloc, forms, triple)?;
+        accept_alone(alloc, triple)?;
         let shared = share(alloc, &triple.problem, &triple.answer, &triple.certificate)?;
         print_certificate(&shared, text)?;
         Ok(())

@@ -83,3 +83,16 @@ pub(crate) fn accept(alloc: Global, forms: &mut GoalForms, triple: &Triple) -> R
         Err(CheckRefusal::WantOfMemory) => Err(Ending::WantOfMemory),
     }
 }
+
+/// The same, in rooms of its own, which are given back.
+pub(crate) fn accept_alone(alloc: Global, triple: &Triple) -> Result<(), Ending>
+    requires { IsTriple triple.now }
+    ensures own { IfErr result IsOfItem }
+    ensures found { IsFound result
+        (model.check triple.now.problem (answer_of triple.now.answer) triple.now.certificate) }
+{
+    let mut forms = GoalForms::new(alloc);
+    let accepted = accept(alloc, &mut forms, triple);
+    drop(forms);
+    accepted
+}
