@@ -15,4 +15,4 @@ pub use Rattle.quast.specs.Trees.{tree_of}
 pub use Rattle.quast_walk.specs.Readings.{answer_nesting, leaf_tree}
 pub use Rattle.walk_laws.proofs.Printing.{least-printable}
 pub use Rattle.least.specs.Choices.{left, rest_chosen}
-pub use Rattle.made_nodes.specs.Nodes.{node_answer}
+pub use Rattle.quast_walk.specs.Nodes.{node_answer}

@@ -5,7 +5,7 @@ use Rattle.pip_model.specs.Tree as model
 use Rattle.pip_model.specs.Tree.{Tree, If, Component}
 use Rattle.pip_model.specs.Walks.{Walking, ◌>>=◌, ◌>>◌, make, by_run, Visit, where_holds, by_class}
 use Rattle.pip_model.specs.Tools.{count_if, not_below, least_lists}
-use Rattle.made_nodes.specs.Pairs.{AreLists}
+use Rattle.quast_walk.specs.Pairs.{AreLists}
 use Rattle.least.specs.declared.rest.Asked.{Asked}
 use Rattle.least.specs.declared.rest.Asked.TheVariants as asked
 use Rattle.least.specs.declared.rest.Rest.{Rest}

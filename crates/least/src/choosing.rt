@@ -8,15 +8,14 @@ ghost use Rattle.pip_model.specs.Tools as model;
 ghost use Rattle.quast.specs.Answers.{answer_of, IsOver};
 ghost use Rattle.quast_walk.specs.Faults.{tool_fault};
 ghost use Rattle.quast_walk.specs.Readings.{answer_nesting, HasRoom};
-ghost use Rattle.made_nodes.specs.Nodes.{node_answer};
+ghost use Rattle.quast_walk.specs.Nodes.{node_answer};
 ghost use Rattle.least.specs.Kept.{IsWithinLimits};
 
 use crate::choosing_walk::choose_answers;
 use affine_forms::{Forms, MOST_COMPONENTS};
-use made_nodes::{as_answer, given};
 use pip_problem::Limits;
 use quast::{Answer, Node};
-use quast_walk::{Context, ToolRefusal, Work, context_of, levels, point};
+use quast_walk::{Context, ToolRefusal, Work, as_answer, context_of, given, levels, point};
 use std::alloc::Global;
 
 // The lesser of two answers on the context, after what was counted; none is `void`.

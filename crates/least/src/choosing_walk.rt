@@ -14,9 +14,8 @@ ghost use Rattle.quast_walk.specs.Visits.{visit_of};
 use crate::lesser_leaves::choose_at_leaves;
 use crate::lesser_lists::{count_if, raise};
 use affine_forms::{Form, WantOfMemory};
-use made_nodes::{choice, definition};
 use quast::{Answer, Node};
-use quast_walk::{Context, Reading, ToolRefusal, TreeLeaf, Walker, Work, walk};
+use quast_walk::{Context, Reading, ToolRefusal, TreeLeaf, Walker, Work, choice, definition, walk};
 use std::alloc::Global;
 
 // The first answer's walk: the lesser is made along the second one's walk from each leaf.

@@ -9,14 +9,15 @@ ghost use Rattle.quast.specs.Trees.{tree_of};
 ghost use Rattle.quast_walk.specs.Faults.{tool_fault};
 ghost use Rattle.quast_walk.specs.Readings.{leaf_tree, HasRoom};
 ghost use Rattle.quast_walk.specs.Visits.{visit_of};
-ghost use Rattle.made_nodes.specs.Pairs.{AreMet};
+ghost use Rattle.quast_walk.specs.Pairs.{AreMet};
 
 use crate::lesser_lists::choose_rest;
 use crate::rest::{Asked, Rest};
 use affine_forms::WantOfMemory;
-use made_nodes::{first_list, leaf_node, list};
 use quast::{Component, Node};
-use quast_walk::{Context, Reading, ToolRefusal, TreeLeaf, Work, spread_list};
+use quast_walk::{
+    Context, Reading, ToolRefusal, TreeLeaf, Work, first_list, leaf_node, list, spread_list,
+};
 
 // A list of the first tree as a node over so many places, of which its own are the first.
 fn first_node(

@@ -14,10 +14,10 @@ ghost use Rattle.least.specs.Choices.{chosen_by, left, rest_chosen, IsRest};
 
 use crate::rest::{Asked, Rest};
 use affine_forms::Form;
-use made_nodes::{choice, list_again};
 use quast::{Component, Node};
 use quast_walk::{
-    Class, Context, ToolRefusal, Work, difference, enter, leave, mark, negated, sign,
+    Class, Context, ToolRefusal, Work, choice, difference, enter, leave, list_again, mark, negated,
+    sign,
 };
 use std::alloc::Global;
 

@@ -5,4 +5,4 @@ pub use Rattle.quast_walk.proofs.Placing.{spread_tree-none}
 pub use Rattle.quast.specs.Answers.{answer_of}
 pub use Rattle.quast.specs.Trees.{tree_of}
 pub use Rattle.walk_laws.proofs.Printing.{restrict-printable}
-pub use Rattle.made_nodes.specs.Nodes.{node_answer}
+pub use Rattle.quast_walk.specs.Nodes.{node_answer}

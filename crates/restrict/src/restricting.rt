@@ -12,14 +12,14 @@ ghost use Rattle.quast.specs.Answers.{answer_of, IsOver};
 ghost use Rattle.quast.specs.Trees.{tree_of};
 ghost use Rattle.quast_walk.specs.Faults.{tool_fault};
 ghost use Rattle.quast_walk.specs.Readings.{answer_nesting};
-ghost use Rattle.made_nodes.specs.Nodes.{node_answer};
+ghost use Rattle.quast_walk.specs.Nodes.{node_answer};
 
 use affine_forms::{Form, Forms, WantOfMemory};
-use made_nodes::{as_answer, choice, definition, given, leaf_node};
 use pip_problem::Limits;
 use quast::{Answer, Node, Quast};
 use quast_walk::{
-    Context, Reading, ToolRefusal, TreeLeaf, Walker, Work, context_of, levels, point, walk,
+    Context, Reading, ToolRefusal, TreeLeaf, Walker, Work, as_answer, choice, context_of,
+    definition, given, leaf_node, levels, point, walk,
 };
 use std::alloc::Global;
 

@@ -12,10 +12,9 @@ ghost use Rattle.same.specs.Samenesses.{sameness_of, DiffersOver};
 use crate::sameness::Sameness;
 use crate::searching::search_answers;
 use affine_forms::Forms;
-use made_nodes::given;
 use pip_problem::Limits;
 use quast::Answer;
-use quast_walk::{Context, ToolRefusal, Work, context_of, levels, point};
+use quast_walk::{Context, ToolRefusal, Work, context_of, given, levels, point};
 use std::alloc::Global;
 
 // Whether two answers agree on the context, after what was counted.

@@ -7,7 +7,7 @@ ghost use Rattle.affine_forms.specs.Checks.{is_form_overflow};
 ghost use Rattle.quast_walk.specs.Scoped.{IsKeptContext};
 ghost use Rattle.quast_walk.specs.Faults.{tool_fault};
 ghost use Rattle.quast_walk.specs.Visits.{visit_of};
-ghost use Rattle.made_nodes.specs.Pairs.{AreLists};
+ghost use Rattle.quast_walk.specs.Pairs.{AreLists};
 ghost use Rattle.same.specs.Searches.{point_or, component_or, Finds};
 
 use affine_forms::{Form, FormRefusal};

@@ -6,12 +6,11 @@ ghost use Rattle.quast_walk.specs.Scoped.{IsKeptContext};
 ghost use Rattle.quast_walk.specs.Faults.{tool_fault};
 ghost use Rattle.quast_walk.specs.Readings.{leaf_answer, leaf_tree, spread_answer};
 ghost use Rattle.quast_walk.specs.Visits.{visit_of};
-ghost use Rattle.made_nodes.specs.Pairs.{AreMet};
+ghost use Rattle.quast_walk.specs.Pairs.{AreMet};
 
 use crate::finding::{find_here, find_in_lists};
-use made_nodes::first_list;
 use quast::Component;
-use quast_walk::{Context, Point, Reading, ToolRefusal, TreeLeaf, Work, spread_list};
+use quast_walk::{Context, Point, Reading, ToolRefusal, TreeLeaf, Work, first_list, spread_list};
 
 // The first point at which two lists differ: a list of the first tree, over no more places, and one of the second.
 fn find_between(

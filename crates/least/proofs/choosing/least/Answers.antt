@@ -1,7 +1,7 @@
 use Rattle.std.proofs.lemmas.Option.{IfSome_then}
 use Rattle.least.proofs.Words.{sym, arith, err_from_is_err_and, least-printable, answer_of, tool_fault, node_answer}
 use Rattle.walk_laws.proofs.Choosing.{least-gives, least-refuses}
-use Rattle.made_nodes.proofs.GivenRows.{quast_of}
+use Rattle.quast_walk.proofs.GivenRows.{quast_of}
 use Rattle.least.proofs.Given.{nested_in}
 use Rattle.least.proofs.choosing.least.Goals as goal
 

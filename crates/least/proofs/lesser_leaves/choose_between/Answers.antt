@@ -1,5 +1,5 @@
 use Rattle.least.proofs.Words.{rules, arith, ◌∙◌, ap, ℕ, widened_components}
-use Rattle.made_nodes.proofs.Lists.{lists_met}
+use Rattle.quast_walk.proofs.Lists.{lists_met}
 use Rattle.least.proofs.lesser_leaves.choose_between.Goals as goal
 
 pub choose_rest-requires-clause-rest : goal.choose_rest-requires-clause-rest

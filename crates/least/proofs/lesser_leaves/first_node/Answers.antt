@@ -1,5 +1,5 @@
 use Rattle.least.proofs.Words.{◌∙◌, ap, List, ◌+◌, Component, Leaf}
-use Rattle.made_nodes.proofs.Lists.{first_same, first_scoped}
+use Rattle.quast_walk.proofs.Lists.{first_same, first_scoped}
 use Rattle.least.proofs.lesser_leaves.first_node.Goals as goal
 
 pub list-requires : goal.list-requires

@@ -1,7 +1,7 @@
 use Rattle.std.proofs.lemmas.Option.{IfSome_then}
 use Rattle.restrict.proofs.Words.{err_from_is_err_and, restrict-printable, answer_of, tool_fault, node_answer}
 use Rattle.walk_laws.proofs.Restricting.{restrict-gives, restrict-refuses}
-use Rattle.made_nodes.proofs.GivenRows.{quast_of}
+use Rattle.quast_walk.proofs.GivenRows.{quast_of}
 use Rattle.restrict.proofs.restricting.restrict.Goals as goal
 
 pub as_answer-requires : goal.as_answer-requires

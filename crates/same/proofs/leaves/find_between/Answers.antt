@@ -1,5 +1,5 @@
 use Rattle.same.proofs.Words.{rules, ◌∙◌, ap, ℕ, widened_components}
-use Rattle.made_nodes.proofs.Lists.{lists_met}
+use Rattle.quast_walk.proofs.Lists.{lists_met}
 use Rattle.same.proofs.leaves.find_between.Goals as goal
 
 pub find_in_lists-requires-clause-lists : goal.find_in_lists-requires-clause-lists

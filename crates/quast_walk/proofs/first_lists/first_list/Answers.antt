@@ -1,6 +1,6 @@
-use Rattle.made_nodes.proofs.Words.{◌∙◌, ◌+◌}
-use Rattle.made_nodes.proofs.Lists.{first_same, first_scoped}
-use Rattle.made_nodes.proofs.first_lists.first_list.Goals as goal
+use Rattle.quast_walk.proofs.Words.{◌∙◌, ◌+◌}
+use Rattle.quast_walk.proofs.Lists.{first_same, first_scoped}
+use Rattle.quast_walk.proofs.first_lists.first_list.Goals as goal
 
 pub returns : goal.returns
 returns c =

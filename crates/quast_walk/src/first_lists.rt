@@ -3,9 +3,10 @@ ghost use Rattle.pip_model.specs.Tools.{widened_components};
 ghost use Rattle.pip_model.specs.Tree as model;
 ghost use Rattle.pip_model.specs.Tree.{is_scoped};
 
+use crate::reading::Reading;
+use crate::spreading::spread_list;
 use affine_forms::WantOfMemory;
 use quast::Component;
-use quast_walk::{Reading, spread_list};
 
 /// A list of the first tree over so many places, of which its own are the first.
 pub fn first_list(

@@ -1,5 +1,5 @@
 -- What is known of rows, of answers over them and of what is made.
-use Rattle.made_nodes.proofs.Words.{◌≡◌, subst, arith, ℕ, suc, ◌+◌, List, [], ◌∷◌, length, All, ℤ, Option, Some, None, IfSome, tree_of, IsQuast, node_answer}
+use Rattle.quast_walk.proofs.Words.{◌≡◌, subst, arith, ℕ, suc, ◌+◌, List, [], ◌∷◌, length, All, ℤ, Option, Some, None, IfSome, tree_of, IsQuast, node_answer}
 use Rattle.pip_model.specs.Contexts.{IsContext}
 use Rattle.pip_model.specs.Printed.{IsPrintableAnswer}
 use Rattle.pip_model.specs.Tree as model

@@ -1,10 +1,11 @@
 -- Lists where they are read over further places.
-use Rattle.made_nodes.proofs.Words.{◌≡◌, ◌∙◌, ap, ap₂, sym, subst, refl, ℕ, suc, ◌+◌, ◌-◌, ◌≤◌, arith, true, List, [], ◌∷◌, ◌++◌, length, take, drop, replicate, map, ℤ, pos, IsTrue, drop-append_seam, width, coefficients, constant, widen_to, Leaf, Component, is_component, is_scoped, spread, spread_component, spread_tree, widened_component, widened_components, length_map, scoped_of, component_wide}
+use Rattle.quast_walk.proofs.Words.{◌≡◌, ◌∙◌, ap, ap₂, sym, subst, refl, ℕ, suc, ◌+◌, ◌-◌, ◌≤◌, arith, true, List, [], ◌∷◌, ◌++◌, length, take, drop, replicate, map, ℤ, pos, IsTrue, drop-append_seam, width, coefficients, constant, widen_to, Leaf, Component, is_component, is_scoped, spread, spread_component, spread_tree, widened_component, widened_components, length_map}
+use Rattle.quast_walk.proofs.Placing.{scoped_of, component_wide}
 use Rattle.std.specs.List.{list_all}
 use Rattle.pip_model.proofs.Division.{form-parts}
 use Rattle.pip_model.proofs.Tests.{both}
 use Rattle.walk_laws.proofs.Spread.{widened-scoped}
-use Rattle.made_nodes.specs.Pairs.{AreMet, AreLists}
+use Rattle.quast_walk.specs.Pairs.{AreMet, AreLists}
 
 -- ---- a list of the first tree
 

@@ -6,11 +6,13 @@ ghost use Rattle.pip_model.specs.WellFormed.{IsWellFormedAnswer};
 ghost use Rattle.quast.specs.Answers.{answer_of, IsOver};
 ghost use Rattle.quast.specs.Trees.{tree_of, IsQuast};
 ghost use Rattle.quast_walk.specs.Readings.{leaf_tree};
-ghost use Rattle.made_nodes.specs.Nodes.{node_answer, AreGiven};
+ghost use Rattle.quast_walk.specs.Nodes.{node_answer, AreGiven};
 
+use crate::reading::{Reading, TreeLeaf};
+use crate::spreading::spread_list;
+use crate::starting::levels;
 use affine_forms::{Form, Forms, WantOfMemory};
 use quast::{Answer, Component, Node, Quast};
-use quast_walk::{Reading, TreeLeaf, levels, spread_list};
 use std::alloc::Global;
 
 /// A node that chooses by the sign of a form.

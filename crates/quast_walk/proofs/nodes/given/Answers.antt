@@ -1,7 +1,7 @@
-use Rattle.made_nodes.proofs.Words.{arith, ◌<◌, ◌+◌, ◌^◌, answer_of}
+use Rattle.quast_walk.proofs.Words.{arith, ◌<◌, ◌+◌, ◌^◌, answer_of}
 use Rattle.pip_model.specs.Limits.{most_nesting}
-use Rattle.made_nodes.proofs.GivenRows.{rows_context, formed_of}
-use Rattle.made_nodes.proofs.nodes.given.Goals as goal
+use Rattle.quast_walk.proofs.GivenRows.{rows_context, formed_of}
+use Rattle.quast_walk.proofs.nodes.given.Goals as goal
 
 pub returns : goal.returns
 returns c =

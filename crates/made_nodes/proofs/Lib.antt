@@ -1,3 +1,0 @@
-mod Words
-pub mod Lists
-pub mod GivenRows
