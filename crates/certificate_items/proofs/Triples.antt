@@ -2,7 +2,7 @@
 use Rattle.certificate_items.proofs.Words.{◌≡◌, Ok, Err, IfSome, Certificate, verdict_text, certificate_text, told, if-map}
 use Rattle.pip_model.specs.Check.{Checks}
 use Rattle.program_model.specs.Endings as model
-use Rattle.item_writing.specs.Ending.{Ending}
+use Rattle.item_writing.specs.declared.ending.Ending.{Ending}
 use Rattle.certificate_items.specs.Triples.{verdict, IsFound}
 
 verdict_err : (found : Checks (Unit {0})) (e : model.Ending) → verdict found ≡ Err e → verdict_text found ≡ Err e

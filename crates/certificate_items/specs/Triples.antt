@@ -5,7 +5,7 @@ use Rattle.program_model.specs.Endings as model
 use Rattle.program_model.specs.ItemKinds as kinds
 use Rattle.quast.specs.Answers.{answer_of, IsOver}
 use Rattle.item_writing.specs.Endings.{told}
-use Rattle.item_writing.specs.Ending.{Ending}
+use Rattle.item_writing.specs.declared.ending.Ending.{Ending}
 use Rattle.certificate_items.specs.declared.triple.Triple.{Triple}
 
 abbrev pub triple_of : Triple → kinds.Triple

@@ -1,7 +1,7 @@
 -- When the source is called by a command that reads its input whole, and where no write fails.
 use Rattle.item_writing.proofs.Words.{◌≡◌, refl, sym, ◌∙◌, ℕ, inl, arith, true, false, List, Option, Some, None, IfSome, IsErrOf, Result, Command, reads_by_problem, StopsAtRefused, FailsInTime, TakesInputAtMost}
-use Rattle.pip_endings.specs.declared.ending.Ending.{Ending as Refused}
-use Rattle.pip_endings.specs.declared.ending.Ending.TheVariants as ending
+use Rattle.item_writing.specs.declared.ending.Ending.{Ending as Refused}
+use Rattle.item_writing.specs.declared.ending.Ending.TheVariants as ending
 
 pub none-taken : (o : Option (List ℕ)) (i : ℕ) → TakesInputAtMost o i i
 none-taken None i = tt

@@ -1,8 +1,8 @@
 -- What the refusals of items and of an input are not, and how the faults of a run are counted.
 use Rattle.item_writing.proofs.Words.{◌≡◌, subst, ◌∙◌, ℕ, refl, sym, Result, Ok, Err, IfErr, IsErrOf, Vec, Global, IsOfInput, IsOfItem, counts-none, counts-as, counts-refused, EndsByFaults}
 use Rattle.pip_outside.specs.Faults.{CountsFaults}
-use Rattle.pip_endings.specs.declared.ending.Ending.{Ending as Refused}
-use Rattle.pip_endings.specs.declared.ending.Ending.TheVariants as ending
+use Rattle.item_writing.specs.declared.ending.Ending.{Ending as Refused}
+use Rattle.item_writing.specs.declared.ending.Ending.TheVariants as ending
 
 -- a refusal of an item is none of the outside
 pub own-not : (e : Refused) → IsOfItem e → (¬ (e ≡ ending.Usage)) × (¬ (e ≡ ending.ReadFault)) × (¬ (e ≡ ending.WriteFault)) × (¬ (e ≡ ending.InputTooLong))

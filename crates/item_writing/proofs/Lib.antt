@@ -4,3 +4,4 @@ pub mod Outputs
 pub mod Faults
 pub mod Calls
 pub mod Turns
+pub mod Lines

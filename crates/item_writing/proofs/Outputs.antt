@@ -1,7 +1,7 @@
 -- What is written of the items of an input that was read is its output.
 use Rattle.item_writing.proofs.Words.{◌≡◌, refl, sym, subst, inl, inr, ℕ, ◌≤◌, Bool, true, false, List, [], length, Option, Some, None, Result, Ok, Err, IfSome, IfErr, MatchBool, Vec, ⊤, if◌then◌else◌, Global, Keeps, most_input_bytes, Command, way, item_text, IsOfItem, ReadsInput, IsOfInput, WritesItems, WritesOutput, TakesInput, bytes_read, reads_by_problem, WritesOf}
-use Rattle.pip_endings.specs.declared.ending.Ending.{Ending}
-use Rattle.pip_endings.specs.declared.ending.Ending.TheVariants as ending
+use Rattle.item_writing.specs.declared.ending.Ending.{Ending}
+use Rattle.item_writing.specs.declared.ending.Ending.TheVariants as ending
 
 -- an item's refusal, or a failed write
 abbrev pub IsOwn : Result (Unit {0}) Ending → Type 0

@@ -7,7 +7,7 @@ pub use Rattle.std.specs.List.{concat}
 pub use Rattle.std.specs.Io.KnownBytes.{Appends, Consumes, Keeps}
 pub use Rattle.std.specs.declared.alloc.Global.{Global}
 pub use Rattle.std.proofs.lemmas.Result.{err_from_is_err_and}
-pub use Rattle.pip_endings.specs.Endings.{told, IsOfItem}
+pub use Rattle.item_writing.specs.Endings.{told, IsOfItem}
 pub use Rattle.pip_outside.specs.Bytes.{AppendsFront}
 pub use Rattle.program_model.specs.Endings.{Ending, finished}
 pub use Rattle.program_model.specs.Items.{ItemAt, Ends, FirstItems, FirstItemsTo, Items, IsItself, NoEnd}

@@ -2,8 +2,8 @@
 use Rattle.item_writing.proofs.Words.{◌≡◌, refl, sym, subst, ◌∙◌, ap, ℕ, List, [], ◌∷◌, ◌++◌, Option, Some, None, Appends-nil, Appends-trans, append-nil, Ok, Err, IfSome, concat, Appends, AppendsFront, Ending, finished, ItemAt, Ends, FirstItems, FirstItemsTo, Items, IsItself, NoEnd, first_items-more, first_items-first, first_items-end, told, IsOfItem, Gained, GainedFront, WritesTill, Writes}
 use Rattle.std.proofs.lemmas.List.Folds.{concat-append}
 use Rattle.pip_outside.proofs.Parts.{front_after}
-use Rattle.pip_endings.specs.declared.ending.Ending.{Ending as Refused}
-use Rattle.pip_endings.specs.declared.ending.Ending.TheVariants as ending
+use Rattle.item_writing.specs.declared.ending.Ending.{Ending as Refused}
+use Rattle.item_writing.specs.declared.ending.Ending.TheVariants as ending
 
 concat-more : (ts : List (List ℕ)) (t : List ℕ) → concat (ts ++ t ∷ []) ≡ concat ts ++ t
 concat-more ts t = concat-append ts (t ∷ []) ∙ ap (λ s. concat ts ++ s) (append-nil t)

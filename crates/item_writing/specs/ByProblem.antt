@@ -9,9 +9,9 @@ use Rattle.program_model.specs.Endings as model
 use Rattle.program_model.specs.Items.{FirstItemsTo, IsItself}
 use Rattle.program_model.specs.Output.{IsOutput, IsFirstOutput}
 use Rattle.pip_reader.specs.Groups.{first_group_end}
-use Rattle.pip_endings.specs.Endings.{told}
-use Rattle.pip_endings.specs.declared.ending.Ending.{Ending}
-use Rattle.pip_endings.specs.declared.ending.Ending.TheVariants as ending
+use Rattle.item_writing.specs.Endings.{told}
+use Rattle.item_writing.specs.declared.ending.Ending.{Ending}
+use Rattle.item_writing.specs.declared.ending.Ending.TheVariants as ending
 use Rattle.item_writing.specs.Items.{Gained, GainedFront}
 use Rattle.item_writing.specs.Outputs.{TakesInput, TakesInputAtMost, bytes_read, WritesOutput}
 

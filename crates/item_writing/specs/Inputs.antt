@@ -2,8 +2,8 @@
 use Rattle.std.specs.Prelude.{◌≡◌, ℕ, ◌<◌, ◌≤◌, List, length, Result, Ok, Err, Vec, ⊤}
 use Rattle.std.specs.declared.alloc.Global.{Global}
 use Rattle.pip_model.specs.Limits.{most_input_bytes}
-use Rattle.pip_endings.specs.declared.ending.Ending.{Ending}
-use Rattle.pip_endings.specs.declared.ending.Ending.TheVariants as ending
+use Rattle.item_writing.specs.declared.ending.Ending.{Ending}
+use Rattle.item_writing.specs.declared.ending.Ending.TheVariants as ending
 
 -- the whole input, within its limit, or it is too long
 abbrev pub ReadsInput : Result (Vec ℕ Global) Ending → List ℕ → Type 0

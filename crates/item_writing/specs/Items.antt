@@ -6,9 +6,9 @@ use Rattle.pip_outside.specs.Bytes.{AppendsFront}
 use Rattle.program_model.specs.Endings as model
 use Rattle.program_model.specs.Items.{ItemAt, FirstItems, Items, IsItself, NoEnd}
 use Rattle.pip_model.specs.Agreement.{Agrees}
-use Rattle.pip_endings.specs.Endings.{told, IsOfItem}
-use Rattle.pip_endings.specs.declared.ending.Ending.{Ending}
-use Rattle.pip_endings.specs.declared.ending.Ending.TheVariants as ending
+use Rattle.item_writing.specs.Endings.{told, IsOfItem}
+use Rattle.item_writing.specs.declared.ending.Ending.{Ending}
+use Rattle.item_writing.specs.declared.ending.Ending.TheVariants as ending
 
 -- what is found, as the definitions see it, with the place after it, or none
 abbrev pub found_by : {A B : Type 0} → (A → B) → Option (A × ℕ) → Option (B × ℕ)

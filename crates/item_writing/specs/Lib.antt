@@ -3,6 +3,8 @@ pub mod Items
 pub mod Outputs
 pub mod ByProblem
 pub mod Needed
-pub use Rattle.pip_endings.specs.Endings
-pub use Rattle.pip_endings.specs.declared.ending.Ending
-pub use Rattle.pip_endings.specs.Inputs as PipEndingsInputs
+pub mod Statuses
+pub mod Endings
+pub mod InputEndings
+pub mod LineWords
+pub mod Lines

@@ -5,8 +5,8 @@ use Rattle.pip_outside.specs.Faults.{HasRisen}
 use Rattle.pip_model.specs.Limits.{most_input_bytes}
 use Rattle.program_model.specs.Commands.{Command, way}
 use Rattle.program_model.specs.Output.{IsOutput, IsFirstOutput}
-use Rattle.pip_endings.specs.declared.ending.Ending.{Ending}
-use Rattle.pip_endings.specs.declared.ending.Ending.TheVariants as ending
+use Rattle.item_writing.specs.declared.ending.Ending.{Ending}
+use Rattle.item_writing.specs.declared.ending.Ending.TheVariants as ending
 use Rattle.item_writing.specs.Items.{Writes}
 
 -- the command takes an input: every one but the trial

@@ -5,8 +5,9 @@ ghost use Rattle.pip_outside.specs.Faults.{CountsFaults};
 ghost use Rattle.item_writing.specs.Inputs.{ReadsInput, IsOfInput};
 ghost use Rattle.item_writing.specs.Outputs.{TakesInputAtMost};
 
-use pip_endings::{Ending, MOST_INPUT_BYTES};
+use crate::ending::Ending;
 use pip_outside::Source;
+use pip_stream::MOST_INPUT_BYTES;
 use std::alloc::Global;
 
 // All bytes that a source has left, up to the most that an input may have. No more is asked for than one byte past

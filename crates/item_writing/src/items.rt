@@ -1,10 +1,10 @@
 ghost use Rattle.std.specs.Prelude.{◌≡◌, ◌≤◌, ℕ, List, [], IfOk, IfErr, IfSome, IsErrOf};
 ghost use Rattle.pip_outside.specs.Faults.{CountsFaults};
 ghost use Rattle.program_model.specs.Commands.{Command, Item, item_at, item_text, text_of};
-ghost use Rattle.pip_endings.specs.Endings.{IsOfItem};
+ghost use Rattle.item_writing.specs.Endings.{IsOfItem};
 ghost use Rattle.item_writing.specs.Items.{FindsItem, IsTextOfItem, IsTextAt, IsBehind, WritesItems};
 
-use pip_endings::Ending;
+use crate::ending::Ending;
 use pip_outside::{Sink, write_all};
 use std::alloc::Global;
 

@@ -5,7 +5,7 @@ ghost use Rattle.quast.specs.Answers.{IsOver};
 ghost use Rattle.item_writing.specs.Items.{Finds};
 ghost use Rattle.item_writing.specs.Needed.{spoken_found};
 
-use pip_endings::Ending;
+use crate::ending::Ending;
 use quast_text::{Spoken, TextRefusal, read_answer};
 use std::alloc::Global;
 

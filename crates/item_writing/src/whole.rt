@@ -3,9 +3,9 @@ ghost use Rattle.std.specs.Io.KnownBytes.{IsAtEnd};
 ghost use Rattle.item_writing.specs.Outputs.{IsRead, EndsByFaults, bytes_read};
 ghost use Rattle.item_writing.specs.ByProblem.{WritesOf, ReadsWhole, FailsInTime, CallsBy};
 
+use crate::ending::Ending;
 use crate::input::read_input;
 use crate::items::{Items, write_items};
-use pip_endings::Ending;
 use pip_outside::{Sink, Source};
 use std::alloc::Global;
 

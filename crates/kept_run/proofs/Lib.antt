@@ -9,4 +9,4 @@ pub mod Replaying
 pub mod Retracing
 pub use Rattle.short_run.proofs.Leaving
 pub use Rattle.short_run.proofs.Ending
-pub use Rattle.trace_laws.proofs.NextTraces
+pub use Rattle.point_turns.proofs.NextTraces

@@ -1,7 +1,7 @@
 -- The run that keeps a trace, with further rows behind those whose pivots are remembered.
 use Rattle.kept_run.proofs.Words.{◌≡◌, ◌∙◌, refl, ap, sym, subst, ℕ, zero, suc, ◌+◌, ◌<◌, arith, List, [], ◌∷◌, ◌++◌, length, length-append, get_or, map, flat_map, Row, row_at, pivot, eliminated, eliminated_listed, Work, Outcome, Done, Refused, Refusal, Counted, Again, go_on, give, listed, count_pivot, turn, point_setting, again_run, refused_run_from, falls-constant_class, Node, Trace, refute_from, next_trace, refute-again, refute-refused, node_of, turned, replayed, traced_point, RetracesTo, exchanged, exchanges, IsStep, negative-front, entering-front, turn-behind}
 use Rattle.kept_run.proofs.Replaying.{replayed-append, given}
-use Rattle.trace_laws.proofs.NextTraces.{next-pivot}
+use Rattle.point_turns.proofs.NextTraces.{next-pivot}
 
 -- a run with a trace goes on from turn to turn
 pub record IsTurnwise {Y : Type 0} (n : ℕ) (run : Trace → Node → Counted Y) : Type 0 where

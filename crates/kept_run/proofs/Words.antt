@@ -22,7 +22,7 @@ pub use Rattle.run_counts.proofs.Counting.{counted_on}
 pub use Rattle.short_run.specs.Turns.{node_of, negative_from}
 pub use Rattle.short_run.specs.Points.{form_rows, first_rows, finds_point, is_end, has_point, EndsWith}
 pub use Rattle.kept_run.specs.Remembered.{turned, replayed, traced_point, RetracesTo, asked, IsReplay, IsRemembered, IsFormed, IsTurned, IsStopped, IsPivotBehind}
-pub use Rattle.trace_laws.specs.Traces.{exchanged, exchanges, IsClosing}
+pub use Rattle.point_turns.specs.Traces.{exchanged, exchanges, IsClosing}
 pub use Rattle.kept_run.specs.declared.remembered.Remembered.{Remembered}
 pub use Rattle.short_run.specs.Stops.{stop_fault}
 pub use Rattle.short_run.proofs.FurtherRows.{IsStep, negative-front, entering-front, turn-behind, all_fit-append}

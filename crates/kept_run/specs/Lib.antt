@@ -1,4 +1,4 @@
 pub mod Remembered
 pub use Rattle.short_run.specs.Points
 pub use Rattle.short_run.specs.Turns
-pub use Rattle.trace_laws.specs.Traces
+pub use Rattle.point_turns.specs.Traces

@@ -9,7 +9,7 @@ use Rattle.pip_model.specs.Run.{Work, Counted, Node, ◌>>=◌, ◌>>◌, go_on,
 use Rattle.pip_model.specs.Refuting.{Trace, refute_from}
 use Rattle.row_laws.specs.Choices.{IsCandidate}
 use Rattle.row_laws.specs.Tableaus.{IsRow}
-use Rattle.trace_laws.specs.Traces.{exchanges}
+use Rattle.point_turns.specs.Traces.{exchanges}
 use Rattle.short_run.specs.Turns.{node_of}
 use Rattle.kept_run.specs.declared.remembered.Replay.{Replay}
 use Rattle.kept_run.specs.declared.remembered.Remembered.{Remembered}

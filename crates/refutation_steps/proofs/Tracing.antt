@@ -1,6 +1,6 @@
 -- The trace of the run without parameters, from one turn to the next, and what it gives.
 use Rattle.refutation_steps.proofs.Words.{◌≡◌, refl, ap, sym, ◌∙◌, ℕ, zero, suc, ◌+◌, ◌<◌, ◌≤◌, ℤ, Option, Some, List, [], ◌∷◌, ◌++◌, length, length-append, arith, get_or_append_left, length-map, Ok, entry, widen_to, Bottom, Row, row_at, form_row, start, constant_cut, Refutation, Work, Outcome, Done, Refusal, Counted, Turn, Again, Closed, left, turn, point_setting, Trace, traced, with_step, last_step, refute_from, refute_by, refute, first_trace, indices, length-count, again_less, falls-constant_class, length_slice_set, next_trace, refute-again, refute-closed, TableauRows, IsCountedRun, HasCounted, counted_none, counted_on, node_of, HasSameScope, exchanged, with_cut, IsTraced, map, IsTurnAt, scope_none, scope_on}
-use Rattle.trace_laws.proofs.NextTraces.{next-bottom, next-pivot, next-cut}
+use Rattle.point_turns.proofs.NextTraces.{next-bottom, next-pivot, next-cut}
 use Rattle.short_run.specs.PointTurn.TheVariants as code
 
 -- ---- the run, turn by turn

@@ -22,7 +22,7 @@ pub use Rattle.run_laws.proofs.RowsAt.{length_slice_set}
 pub use Rattle.affine_forms.specs.Checks.{Fits}
 pub use Rattle.run_counts.proofs.Counting.{counted_on, counted_none}
 pub use Rattle.point_run.specs.Turns.{node_of, HasSameScope}
-pub use Rattle.trace_laws.specs.Traces.{exchanged, with_cut, IsTraced}
+pub use Rattle.point_turns.specs.Traces.{exchanged, with_cut, IsTraced}
 pub use Rattle.point_run.specs.TurnAt.{IsTurnAt}
 pub use Rattle.point_run.proofs.Leaving.{scope_none, scope_on, run_same}
 pub use Rattle.std.specs.Int.{w128}

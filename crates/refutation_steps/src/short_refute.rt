@@ -5,7 +5,7 @@ ghost use Rattle.affine_forms.specs.Checks.{Fits};
 ghost use Rattle.pip_problem.specs.Faults.{run_fault};
 ghost use Rattle.run_counts.specs.Counts.{IsCountedRun};
 ghost use Rattle.short_run.specs.Stops.{stop_fault};
-ghost use Rattle.trace_laws.specs.Traces.{IsTraced};
+ghost use Rattle.point_turns.specs.Traces.{IsTraced};
 ghost use Rattle.point_run.specs.Turns.{node_of};
 
 use crate::room::RefutationRoom;

@@ -5,7 +5,7 @@ ghost use Rattle.pip_model.specs.Rows.{row_at};
 ghost use Rattle.affine_forms.specs.Checks.{Fits};
 ghost use Rattle.point_run.specs.Tableaus.{IsRow};
 ghost use Rattle.point_run.specs.Views.{row_of};
-ghost use Rattle.trace_laws.specs.Traces.{with_cut};
+ghost use Rattle.point_turns.specs.Traces.{with_cut};
 
 use crate::positive_terms::{count_negative, push_opposites, push_positive};
 use affine_forms::{WantOfMemory, negate_all, remainders};

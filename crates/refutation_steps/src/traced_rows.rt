@@ -3,7 +3,7 @@ ghost use Rattle.pip_model.specs.Forms.{entry};
 ghost use Rattle.pip_model.specs.Refuting.{refute_from, with_step, last_step};
 ghost use Rattle.pip_model.specs.Rows.{row_at};
 ghost use Rattle.run_counts.specs.Counts.{IsCountedRun};
-ghost use Rattle.trace_laws.specs.Traces.{IsTraced, with_cut};
+ghost use Rattle.point_turns.specs.Traces.{IsTraced, with_cut};
 ghost use Rattle.point_run.specs.Turns.{node_of};
 
 use crate::trace::Trace;

@@ -4,8 +4,8 @@ use Rattle.std.specs.Prelude.{Option, Some, None}
 use Rattle.pip_stream.proofs.Groups.{group_end-ends}
 use Rattle.pip_stream.proofs.Taking.{ended-by}
 use Rattle.pip_stream.proofs.Asking.{turns-any}
-use Rattle.item_writing.specs.Ending.{Ending as Refused}
-use Rattle.item_writing.specs.Ending.TheVariants as ending
+use Rattle.item_writing.specs.declared.ending.Ending.{Ending as Refused}
+use Rattle.item_writing.specs.declared.ending.Ending.TheVariants as ending
 use Rattle.solve_items.proofs.ByProblem.{text, text-is, text-written, Follows, follows-start, follows-more, none-written, err-written}
 
 -- ---- items one after the other

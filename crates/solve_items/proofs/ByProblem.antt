@@ -9,9 +9,9 @@ use Rattle.pip_problem.specs.Faults.{read_fault}
 use Rattle.pip_problem.specs.declared.refusal.ReadRefusal.{ReadRefusal}
 use Rattle.pip_stream.specs.declared.refusal.NextRefusal.{NextRefusal}
 use Rattle.pip_stream.specs.declared.refusal.NextRefusal.TheVariants as next
-use Rattle.item_writing.specs.PipEndingsInputs.{next_ending}
-use Rattle.item_writing.specs.Ending.{Ending as Refused}
-use Rattle.item_writing.specs.Ending.TheVariants as ending
+use Rattle.item_writing.specs.InputEndings.{next_ending}
+use Rattle.item_writing.specs.declared.ending.Ending.{Ending as Refused}
+use Rattle.item_writing.specs.declared.ending.Ending.TheVariants as ending
 use Rattle.pip_outside.specs.Faults.{HasRisen, CountsFaults}
 use Rattle.item_writing.proofs.Written.{LeadTo, nothing, one_more, front_of_one}
 

@@ -8,9 +8,9 @@ use Rattle.program_model.specs.Commands.{SolveOptions, Solve, text_of}
 use Rattle.pip_stream.specs.Next.{ReadsNext, ReadsNone, FindsNext, IsReady}
 use Rattle.pip_stream.specs.declared.refusal.NextRefusal.{NextRefusal}
 use Rattle.item_writing.specs.Endings.{told, IsOfItem}
-use Rattle.item_writing.specs.PipEndingsInputs.{next_ending}
-use Rattle.item_writing.specs.Ending.{Ending}
-use Rattle.item_writing.specs.Ending.TheVariants as ending
+use Rattle.item_writing.specs.InputEndings.{next_ending}
+use Rattle.item_writing.specs.declared.ending.Ending.{Ending}
+use Rattle.item_writing.specs.declared.ending.Ending.TheVariants as ending
 
 module _ (o : SolveOptions) (old : HeldBytes) (left : List ℕ) (new : HeldBytes) (now : Option (List ℕ)) where
   -- The problem is read, and the sink gained such bytes of the text of its answer.

@@ -1,7 +1,7 @@
 use Rattle.solve_items.proofs.Words.{◌-◌, refl, ap, ◌∙◌, arith, rules, length, true, err_from_is_err_and, HeldBytes, Solve, options_of, taken_by, is_found, err-same, err-not_ok}
 use Rattle.std.proofs.Common.{Ok, Err}
 use Rattle.solve_items.proofs.ByProblem.{unmade, faults-own, err-limit, faults-none, faults-ok, faults-after}
-use Rattle.item_writing.specs.Ending.TheVariants as ending
+use Rattle.item_writing.specs.declared.ending.Ending.TheVariants as ending
 use Rattle.item_writing.proofs.Calls.{stops-start, none-taken, in_time-not}
 use Rattle.solve_items.proofs.Asked.{starts, calls-by, err-output, err-in_time, none-output, reaches}
 use Rattle.item_writing.proofs.Turns.{asks-start}

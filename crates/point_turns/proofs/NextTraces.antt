@@ -9,7 +9,7 @@ use Rattle.pip_model.specs.Run.{MinusAt}
 use Rattle.refutation_laws.proofs.RefuteSteps.{next_trace, signs_from}
 use Rattle.point_turns.specs.Turns.{node_of, negative_from}
 use Rattle.point_turns.proofs.Turning.{signs_of}
-use Rattle.trace_laws.specs.Traces.{with_cut}
+use Rattle.point_turns.specs.Traces.{with_cut}
 
 signs-same : (i : ℕ) (rows : List Row) → signs_from i rows ≡ signs_of (negative_from i rows)
 signs-same i [] = refl

@@ -1,8 +1,8 @@
 use Rattle.std.proofs.Common.{sym, subst, arith}
 use Rattle.pip_outside.specs.Bytes.{WritesBytes}
 use Rattle.pip_outside.proofs.Parts.{writes-then}
-use Rattle.pip_endings.proofs.Lines.{parts_split}
-use Rattle.pip_endings.proofs.told.+write_parts.Goals as goal
+use Rattle.item_writing.proofs.Lines.{parts_split}
+use Rattle.item_writing.proofs.told.+write_parts.Goals as goal
 
 pub returns-in_ok-write_part-in-len1-up : goal.returns-in_ok-write_part-in-len1-up
 returns-in_ok-write_part-in-len1-up g t c =

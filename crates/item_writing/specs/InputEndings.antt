@@ -3,8 +3,8 @@ use Rattle.pip_words.specs.declared.refusal.WordsRefusal.{WordsRefusal}
 use Rattle.pip_words.specs.declared.refusal.WordsRefusal.TheVariants as words
 use Rattle.pip_stream.specs.declared.refusal.NextRefusal.{NextRefusal}
 use Rattle.pip_stream.specs.declared.refusal.NextRefusal.TheVariants as next
-use Rattle.pip_endings.specs.declared.ending.Ending.{Ending}
-use Rattle.pip_endings.specs.declared.ending.Ending.TheVariants as ending
+use Rattle.item_writing.specs.declared.ending.Ending.{Ending}
+use Rattle.item_writing.specs.declared.ending.Ending.TheVariants as ending
 
 abbrev pub words_ending : WordsRefusal → Ending
 words_ending words.Usage = ending.Usage

@@ -15,8 +15,8 @@ use Rattle.quast_pieces.specs.declared.refusal.PiecesRefusal.{PiecesRefusal}
 use Rattle.quast_pieces.specs.declared.refusal.PiecesRefusal.TheVariants as pieces
 use Rattle.quast_walk.specs.Faults.{tool_fault}
 use Rattle.quast_walk.specs.declared.refusal.ToolRefusal.{ToolRefusal}
-use Rattle.pip_endings.specs.declared.ending.Ending.{Ending}
-use Rattle.pip_endings.specs.declared.ending.Ending.TheVariants as ending
+use Rattle.item_writing.specs.declared.ending.Ending.{Ending}
+use Rattle.item_writing.specs.declared.ending.Ending.TheVariants as ending
 
 -- the ending of a refusal, none where memory was refused
 abbrev pub read_ending : ReadRefusal → Option model.Ending

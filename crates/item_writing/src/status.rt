@@ -1,5 +1,5 @@
 ghost use Rattle.std.specs.Prelude.{◌≡◌};
-ghost use Rattle.pip_endings.specs.Statuses.{number_of};
+ghost use Rattle.item_writing.specs.Statuses.{number_of};
 
 /// The statuses of the program.
 #[derive(Clone, Copy, Debug, PartialEq, Eq)]

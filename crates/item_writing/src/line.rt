@@ -1,5 +1,5 @@
 ghost use Rattle.std.specs.Prelude.{◌<◌, length};
-ghost use Rattle.pip_endings.specs.LineWords.{words_of};
+ghost use Rattle.item_writing.specs.LineWords.{words_of};
 
 use crate::status::Status;
 use certificate_check::Spot;

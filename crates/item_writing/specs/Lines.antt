@@ -3,12 +3,12 @@ use Rattle.std.specs.Prelude.{ℤ, List, [], ◌∷◌, ◌++◌, ℕ, codes, de
 use Rattle.std.specs.Fmt.{signed_decimal}
 use Rattle.program_model.specs.Endings.{Ending, spot_text}
 use Rattle.certificate_check.specs.Faults.{spot_of}
-use Rattle.pip_endings.specs.Statuses.{number_of}
-use Rattle.pip_endings.specs.declared.line.Told.{Told}
-use Rattle.pip_endings.specs.declared.line.Line.{Line}
-use Rattle.pip_endings.specs.declared.line.Line.TheVariants as line
-use Rattle.pip_endings.specs.declared.line.Part.{Part}
-use Rattle.pip_endings.specs.declared.line.Part.TheVariants as part
+use Rattle.item_writing.specs.Statuses.{number_of}
+use Rattle.item_writing.specs.declared.line.Told.{Told}
+use Rattle.item_writing.specs.declared.line.Line.{Line}
+use Rattle.item_writing.specs.declared.line.Line.TheVariants as line
+use Rattle.item_writing.specs.declared.line.Part.{Part}
+use Rattle.item_writing.specs.declared.line.Part.TheVariants as part
 
 abbrev pub part_text : Part → List ℕ
 part_text (part.Words words) = words.now

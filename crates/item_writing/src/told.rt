@@ -2,11 +2,10 @@ ghost use Rattle.std.specs.Prelude.{◌≡◌, ◌++◌, ◌<◌, Some, None, po
 ghost use Rattle.pip_outside.specs.Bytes.{WritesBytes};
 ghost use Rattle.program_model.specs.Endings.{ending, budget_spent, spot_text, memory_ending, kind_name, option_name, fault_ending, notes_of};
 ghost use Rattle.pip_model.specs.Reading.{Syntax, Wide};
-ghost use Rattle.pip_endings.specs.Statuses.{number_of};
-ghost use Rattle.pip_endings.specs.Endings.{walk_ending};
+ghost use Rattle.item_writing.specs.Statuses.{number_of};
+ghost use Rattle.item_writing.specs.Endings.{walk_ending, or_memory, read_ending, text_ending, certificate_ending, run_ending, ending_of};
 ghost use Rattle.certificate_check.specs.Faults.{spot_of};
-ghost use Rattle.pip_endings.specs.Endings.{or_memory, read_ending, text_ending, certificate_ending, run_ending, ending_of};
-ghost use Rattle.pip_endings.specs.Lines.{part_text, parts_text, numbered, ending_told};
+ghost use Rattle.item_writing.specs.Lines.{part_text, parts_text, numbered, ending_told};
 
 use crate::ending::Ending;
 use crate::line::{Line, Part, Told};

@@ -1,8 +1,8 @@
 -- The numbers of the statuses.
 use Rattle.std.specs.Prelude.{ℕ}
 use Rattle.program_model.specs.Endings as model
-use Rattle.pip_endings.specs.declared.status.Status.{Status}
-use Rattle.pip_endings.specs.declared.status.Status.TheVariants as status
+use Rattle.item_writing.specs.declared.status.Status.{Status}
+use Rattle.item_writing.specs.declared.status.Status.TheVariants as status
 
 abbrev pub number_of : Status → ℕ
 number_of status.AllDone = model.all_done

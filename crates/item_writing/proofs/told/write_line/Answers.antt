@@ -1,6 +1,6 @@
 use Rattle.std.proofs.Common.{append_assoc}
-use Rattle.pip_endings.proofs.Lines.{line_written}
-use Rattle.pip_endings.proofs.told.write_line.Goals as goal
+use Rattle.item_writing.proofs.Lines.{line_written}
+use Rattle.item_writing.proofs.told.write_line.Goals as goal
 
 pub returns-in-Place : goal.returns-in-Place
 returns-in-Place g c =

@@ -1,11 +1,11 @@
 ghost use Rattle.std.specs.Prelude.{◌≡◌};
-ghost use Rattle.pip_endings.specs.Statuses.{number_of};
+ghost use Rattle.item_writing.specs.Statuses.{number_of};
 ghost use Rattle.pip_outside.specs.Bytes.{WritesBytes};
 ghost use Rattle.program_model.specs.Endings.{notes_of};
-ghost use Rattle.pip_endings.specs.Endings.{ending_of, pieces_ending};
+ghost use Rattle.item_writing.specs.Endings.{ending_of, pieces_ending};
 ghost use Rattle.pip_problem.specs.declared.refusal.Refusal.TheVariants as run;
-ghost use Rattle.pip_endings.specs.declared.ending.Ending.TheVariants as ending;
-ghost use Rattle.pip_endings.specs.Inputs.{words_ending, next_ending};
+ghost use Rattle.item_writing.specs.declared.ending.Ending.TheVariants as ending;
+ghost use Rattle.item_writing.specs.InputEndings.{words_ending, next_ending};
 ghost use Rattle.pip_stream.specs.Refusals.{not_filled};
 
 use crate::status::Status;

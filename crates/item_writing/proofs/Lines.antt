@@ -7,12 +7,12 @@ use Rattle.std.specs.Fmt.{signed_decimal}
 use Rattle.pip_outside.specs.Bytes.{WritesBytes}
 use Rattle.program_model.specs.Endings.{Ending, notes_of, spot_text}
 use Rattle.certificate_check.specs.Faults.{spot_of}
-use Rattle.pip_endings.specs.Lines.{part_text, parts_text, line_of, ending_told}
-use Rattle.pip_endings.specs.LineWords.{words_of}
-use Rattle.pip_endings.specs.declared.line.Told.{Told}
-use Rattle.pip_endings.specs.declared.line.Line.{Line}
-use Rattle.pip_endings.specs.declared.line.Line.TheVariants as line
-use Rattle.pip_endings.specs.declared.line.Part.{Part}
+use Rattle.item_writing.specs.Lines.{part_text, parts_text, line_of, ending_told}
+use Rattle.item_writing.specs.LineWords.{words_of}
+use Rattle.item_writing.specs.declared.line.Told.{Told}
+use Rattle.item_writing.specs.declared.line.Line.{Line}
+use Rattle.item_writing.specs.declared.line.Line.TheVariants as line
+use Rattle.item_writing.specs.declared.line.Part.{Part}
 
 -- the first part, and the others
 pub parts_split : (ps : List Part) (d : Part) → 0 < length ps → parts_text ps ≡ part_text (get_or ps 0 d) ++ parts_text (take (length ps - 1) (drop 1 ps))
