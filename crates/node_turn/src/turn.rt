@@ -7,6 +7,7 @@ ghost use Rattle.pip_model.specs.Tree.{Leaf};
 ghost use Rattle.pip_problem.specs.Faults.{run_fault};
 ghost use Rattle.run_counts.specs.Counts.{IsCountedRun};
 ghost use Rattle.gomory_cut.specs.Fractions.{IsFractionOf};
+ghost use Rattle.sign_split.specs.Scoped.{IsKeptContext};
 ghost use Rattle.quast.specs.Components.{IsComponent};
 ghost use Rattle.node_turn.specs.Known.{AreKnown};
 ghost use Rattle.node_turn.specs.Nodes.{node_of, setting_of, IsNode, IsKept};
@@ -23,8 +24,7 @@ use new_parameters::Quotient;
 use node_rows::{NodeRows, enter_and_pivot};
 use pip_problem::Refusal;
 use quast::{Component, Quast};
-use sign_split::Work;
-use std::alloc::Global;
+use sign_split::{Context, Work};
 use tableau::Tableau;
 
 /// What a turn makes of a node: its tree, a node to go on from, an if of a condition, or a new parameter by the row at
@@ -64,40 +64,43 @@ fn split_turn(condition: Form, depth: u64, work: &mut Work) -> Result<Turn, Refu
     Ok(Turn::Split(condition))
 }
 
-// The component of row i: its constant form over the denominator, in lowest terms.
-fn component(alloc: Global, rows: &Tableau, i: usize) -> Result<Component, WantOfMemory>
+// The component of row i: its constant form over the denominator, in lowest terms, in a room that the context kept.
+fn component(context: &mut Context, rows: &Tableau, i: usize) -> Result<Component, WantOfMemory>
     requires { i < length rows.now.rows }
     ensures value { IfOk result (λ c. c ≡ row_component (row_at rows.now.rows i)) }
     ensures component { IfOk result (IsComponent rows.now.width) }
+    ensures kept { IsKeptContext context.old context.new }
 {
     let row = rows.row(i);
-    let constant = Form::try_new(alloc, row.constant)?;
+    let constant = context.copy_form(row.constant)?;
     Ok(Component::reduced(row.den, constant))
 }
 
 // The components of the unknowns' rows.
-fn components(alloc: Global, rows: &Tableau) -> Result<Vec<Component>, WantOfMemory>
+fn components(context: &mut Context, rows: &Tableau) -> Result<Vec<Component>, WantOfMemory>
     requires { rows.now.unknowns ≤ length rows.now.rows }
     ensures value { IfOk result (λ v. v.items ≡ map row_component (take rows.now.unknowns rows.now.rows)) }
     ensures components { IfOk result (λ v. All (IsComponent rows.now.width) v.items) }
+    ensures kept { IsKeptContext context.old context.new }
 {
-    let mut made = Vec::with_capacity(alloc, rows.unknowns())?;
+    let mut made = Vec::with_capacity(rows.allocator(), rows.unknowns())?;
     for i in 0..rows.unknowns() {
-        let component = component(alloc, rows, i)?;
+        let component = component(context, rows, i)?;
         made.push(component)?;
     }
     Ok(made)
 }
 
 // The list of the unknowns' values.
-fn leaf(alloc: Global, rows: &Tableau) -> Result<Quast, WantOfMemory>
+fn leaf(context: &mut Context, rows: &Tableau) -> Result<Quast, WantOfMemory>
     requires rows { rows.now.unknowns ≤ length rows.now.rows }
     requires some { 1 ≤ rows.now.unknowns }
     requires few { rows.now.unknowns ≤ most_unknowns }
     ensures tree { IfOk result (λ tree. tree.tree ≡ Leaf (map row_component (take rows.now.unknowns rows.now.rows))) }
     ensures width { IfOk result (λ tree. tree.width ≡ rows.now.width) }
+    ensures kept { IsKeptContext context.old context.new }
 {
-    Ok(Quast::list(components(alloc, rows)?))
+    Ok(Quast::list(components(context, rows)?))
 }
 
 // The fraction of the first of the unknowns' rows that is not whole. It matters in integer mode alone.
@@ -144,7 +147,7 @@ fn last_turn(rows: &mut NodeRows, path: &mut Path, work: &mut Work) -> Result<Tu
     match fraction(rows.made(), path.integer) {
         Some(fraction) => cut_made(rows, fraction, path, work),
         None => {
-            let leaf = leaf(rows.allocator(), rows.made())?;
+            let leaf = leaf(&mut path.context, rows.made())?;
             Ok(Turn::Closed(leaf))
         }
     }

@@ -2,6 +2,7 @@
 #![tactic(auto)]
 
 mod closing;
+mod keeping;
 mod node;
 mod pending;
 mod plain;

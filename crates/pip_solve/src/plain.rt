@@ -10,14 +10,13 @@ use crate::starting::{are_tight, tighten_rows};
 use affine_forms::Form;
 use node_turn::{Work, are_read_off};
 use pip_problem::{Problem, Refusal};
-use plain_run::{ShortTableau, tree_shortly};
+use plain_run::{ShortTableau, Spares, tree_shortly};
 use quast::Quast;
-use std::alloc::Global;
 
 // The tree of a problem without parameters whose first rows are these, where all numbers on the way have 64 bits. None
 // else, and nothing is counted then.
 fn tree_of_rows(
-    alloc: Global,
+    spares: &mut Spares,
     room: &mut ShortTableau,
     problem: &Problem,
     forms: &[Form],
@@ -31,13 +30,13 @@ fn tree_of_rows(
     ensures none { IfNone result (work.new ≡ work.old) }
 {
     let integer = problem.integer();
-    tree_shortly(alloc, room, problem.unknowns(), forms, integer, work)
+    tree_shortly(spares, room, problem.unknowns(), forms, integer, work)
 }
 
 // The tree of a problem without parameters, where all numbers on the way have 64 bits; its rows are copied where they
 // are tightened. None else, and where its rows are so many that they are read off faster; nothing is counted then.
 pub(crate) fn plain_tree(
-    alloc: Global,
+    spares: &mut Spares,
     room: &mut ShortTableau,
     problem: &Problem,
     work: &mut Work,
@@ -52,10 +51,10 @@ pub(crate) fn plain_tree(
         return None;
     }
     if problem.integer() && !are_tight(problem.rows()) {
-        let Ok(forms) = tighten_rows(alloc, problem.rows()) else {
+        let Ok(forms) = tighten_rows(spares.allocator(), problem.rows()) else {
             return None;
         };
-        return tree_of_rows(alloc, room, problem, &forms, work);
+        return tree_of_rows(spares, room, problem, &forms, work);
     }
-    tree_of_rows(alloc, room, problem, problem.rows(), work)
+    tree_of_rows(spares, room, problem, problem.rows(), work)
 }

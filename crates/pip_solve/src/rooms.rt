@@ -1,6 +1,6 @@
 use crate::pending::Pending;
 use node_turn::KnownForms;
-use plain_run::ShortTableau;
+use plain_run::{ShortTableau, Spares};
 use std::alloc::Global;
 
 // What a run keeps beside its rows and its path: the forms that are known, the frames that wait, and the rows of a
@@ -10,6 +10,7 @@ pub(crate) struct Rooms {
     pub known: KnownForms,
     pub pending: Pending,
     pub plain: ShortTableau,
+    pub spares: Spares,
 }
 
 impl Rooms {
@@ -19,6 +20,7 @@ impl Rooms {
             known: KnownForms::new(alloc),
             pending: Pending::new(alloc),
             plain: ShortTableau::new(alloc, 0),
+            spares: Spares::new(alloc),
         }
     }
 }

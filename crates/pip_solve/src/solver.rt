@@ -28,8 +28,8 @@ use std::alloc::Global;
 #[derive(Drop)]
 pub struct Solver {
     rows: NodeRows,
-    path: Path,
-    rooms: Rooms,
+    pub(crate) path: Path,
+    pub(crate) rooms: Rooms,
 }
 
 impl Solver {
@@ -81,9 +81,9 @@ impl Solver {
             (run_from (setting problem.now) (first_node problem.now) work.old) }
         ensures width { IfOk result (λ tree. tree.width ≡ problem.now.params) }
     {
-        let alloc = self.rows.allocator();
         if problem.params() == 0 {
-            if let Some(made) = plain_tree(alloc, &mut self.rooms.plain, problem, work) {
+            let rooms = &mut self.rooms;
+            if let Some(made) = plain_tree(&mut rooms.spares, &mut rooms.plain, problem, work) {
                 return made;
             }
         }

@@ -6,4 +6,5 @@ mod tree;
 
 pub use point::point_shortly;
 pub use point_turns::ShortTableau;
+pub use spare_forms::Spares;
 pub use tree::tree_shortly;

@@ -5,6 +5,7 @@ ghost use Rattle.pip_model.specs.Limits.{most_unknowns};
 ghost use Rattle.pip_model.specs.Rows.{row_at, start};
 ghost use Rattle.pip_model.specs.Run.{row_component, run_from};
 ghost use Rattle.pip_model.specs.Tree.{Leaf};
+ghost use Rattle.affine_forms.specs.Checks.{Fits};
 ghost use Rattle.quast.specs.Components.{IsComponent};
 ghost use Rattle.pip_problem.specs.Faults.{run_fault};
 ghost use Rattle.run_counts.specs.Counts.{IsCountedRun};
@@ -19,8 +20,7 @@ use point_turns::{ShortTableau, run_on};
 use quast::{Component, Quast};
 use run_counts::Work;
 use short_run::{ShortRows, Stop, start_short};
-use std::alloc::Global;
-use std::slice::from_ref;
+use spare_forms::Spares;
 
 // The same number.
 #[inline(always)]
@@ -34,52 +34,62 @@ pub(crate) fn wide(x: i64) -> i128
 #[inline(always)]
 pub(crate) fn constant_of(constant: &[i64]) -> i128
     requires { length constant.now ≡ 1 }
-    ensures { result ∷ [] ≡ constant.now }
+    ensures value { result ∷ [] ≡ constant.now }
+    ensures fits { Fits result }
 {
     wide(constant[0])
 }
 
+// The form of a constant alone, in a spare room.
+fn constant_form(spares: &mut Spares, number: i128) -> Result<Form, WantOfMemory>
+    requires { Fits number }
+    ensures { IfOk result (λ form. form ≡ number ∷ []) }
+{
+    let mut entries = spares.take();
+    entries.push(number)?;
+    Ok(Form::from_entries(entries))
+}
+
 // The component of row i: its constant over the denominator, in lowest terms.
-fn component(alloc: Global, rows: &ShortTableau, i: usize) -> Result<Component, WantOfMemory>
+fn component(spares: &mut Spares, rows: &ShortTableau, i: usize) -> Result<Component, WantOfMemory>
     requires { i < length rows.now.rows }
     ensures value { IfOk result (λ c. c ≡ row_component (row_at rows.now.rows i)) }
     ensures component { IfOk result (IsComponent 0) }
 {
     let row = rows.row(i);
-    let number = constant_of(row.constant);
-    let constant = Form::try_new(alloc, from_ref(&number))?;
+    let constant = constant_form(spares, constant_of(row.constant))?;
     Ok(Component::reduced(wide(row.den), constant))
 }
 
 // The components of the unknowns' rows.
-fn components(alloc: Global, rows: &ShortTableau) -> Result<Vec<Component>, WantOfMemory>
+fn components(spares: &mut Spares, rows: &ShortTableau) -> Result<Vec<Component>, WantOfMemory>
     requires { rows.now.unknowns ≤ length rows.now.rows }
     ensures value { IfOk result (λ v. v.items ≡ map row_component (take rows.now.unknowns rows.now.rows)) }
     ensures components { IfOk result (λ v. All (IsComponent 0) v.items) }
 {
-    let mut made = Vec::with_capacity(alloc, rows.unknowns())?;
+    let mut made = Vec::with_capacity(spares.allocator(), rows.unknowns())?;
     for i in 0..rows.unknowns() {
-        let component = component(alloc, rows, i)?;
+        let component = component(spares, rows, i)?;
         made.push(component)?;
     }
     Ok(made)
 }
 
 // The list of the unknowns' values.
-fn leaf(alloc: Global, rows: &ShortTableau) -> Result<Quast, WantOfMemory>
+fn leaf(spares: &mut Spares, rows: &ShortTableau) -> Result<Quast, WantOfMemory>
     requires rows { rows.now.unknowns ≤ length rows.now.rows }
     requires some { 1 ≤ rows.now.unknowns }
     requires few { rows.now.unknowns ≤ most_unknowns }
     ensures tree { IfOk result (λ tree. tree.tree ≡ Leaf (map row_component (take rows.now.unknowns rows.now.rows))) }
     ensures width { IfOk result (λ tree. tree.width ≡ 0) }
 {
-    Ok(Quast::list(components(alloc, rows)?))
+    Ok(Quast::list(components(spares, rows)?))
 }
 
 // The tree of the run of these forms as rows over so many unknowns, in the room of other rows: the list of the values
 // found, or bottom.
 fn plain_tree(
-    alloc: Global,
+    spares: &mut Spares,
     rows: &mut ShortTableau,
     places: usize,
     forms: &[Form],
@@ -95,7 +105,7 @@ fn plain_tree(
 {
     start_short(rows, places, forms)?;
     if run_on::<ShortRows>(rows, integer, usize::MAX, work)? {
-        Ok(leaf(alloc, rows)?)
+        Ok(leaf(spares, rows)?)
     } else {
         Ok(Quast::bottom(0))
     }
@@ -105,7 +115,7 @@ fn plain_tree(
 /// list of the values found, or bottom, with the counts and the refusals of that run. None where a number on the way has
 /// more than 64 bits, and nothing is counted then.
 pub fn tree_shortly(
-    alloc: Global,
+    spares: &mut Spares,
     rows: &mut ShortTableau,
     places: usize,
     forms: &[Form],
@@ -121,7 +131,7 @@ pub fn tree_shortly(
     ensures none { IfNone result (work.new ≡ work.old) }
 {
     let before = work.counts();
-    match plain_tree(alloc, rows, places, forms, integer, work) {
+    match plain_tree(spares, rows, places, forms, integer, work) {
         Ok(tree) => Some(Ok(tree)),
         Err(Stop::Refused(refusal)) => Some(Err(refusal)),
         Err(Stop::Long) => {

@@ -14,11 +14,10 @@ ghost use Rattle.plain_run.specs.Trees.{tree_in};
 
 use affine_forms::Form;
 use pip_problem::Refusal;
-use plain_run::ShortTableau;
+use plain_run::{ShortTableau, Spares};
 use point_run::{PointTurn, WideRows};
 use quast::Quast;
 use run_counts::Work;
-use std::alloc::Global;
 use tableau::Tableau;
 
 /// One turn of the run of a point.
@@ -35,7 +34,7 @@ pub fn take_turn(rows: &mut Tableau, work: &mut Work) -> Result<PointTurn, Refus
 /// The tree of a problem without parameters over rows of 64 bits; none where a number has more, and nothing is counted
 /// then.
 pub fn tree_shortly(
-    alloc: Global,
+    spares: &mut Spares,
     rows: &mut ShortTableau,
     places: usize,
     forms: &[Form],
@@ -49,5 +48,5 @@ pub fn tree_shortly(
         (run_from (plain_setting places integer) (node_of (start places 0 (map (widen_to places) forms.now))))) }
     ensures none { IfNone result (work.new ≡ work.old) }
 {
-    plain_run::tree_shortly(alloc, rows, places, forms, integer, work)
+    plain_run::tree_shortly(spares, rows, places, forms, integer, work)
 }

@@ -63,6 +63,13 @@ impl Component {
         &self.form
     }
 
+    /// The form over the denominator, taken out.
+    pub fn into_form(self) -> Form
+        ensures { result ≡ self.form }
+    {
+        self.form
+    }
+
     fn remove(&mut self, i: usize)
         requires { LacksPlace i self.old }
         ensures { self.new ≡ component_without i self.old }
@@ -102,6 +109,13 @@ impl Components {
         ensures { result.now ≡ self.now }
     {
         self.items.as_slice()
+    }
+
+    /// The components in order, taken out.
+    pub fn into_items(self) -> Vec<Component>
+        ensures { result.items ≡ self }
+    {
+        self.items
     }
 
     /// Drops coefficient `i`, which is 0, from each form.

@@ -1,4 +1,5 @@
 mod Words
 pub mod ByProblem
 pub mod Certifying
+pub mod Solving
 pub mod Asked

@@ -63,7 +63,7 @@ pub(crate) fn write_certified(
 {
     let (answer, certificate) = certify(certifier, limits, problem)?;
     let printed = print_certified(problem.comment(), &answer, &certificate, text);
-    drop(answer);
+    certifier.solver.keep(answer);
     drop(certificate);
     printed?;
     Ok(())

@@ -45,6 +45,7 @@ fn write_answer(
     let answer = solver.solve(problem, &options.limits)?;
     let answer = simplify_if(options.simplify, answer);
     print_answer(problem.comment(), &answer, text)?;
+    solver.keep(answer);
     Ok(())
 }
 

@@ -20,6 +20,11 @@ impl Spares {
         }
     }
 
+    /// The allocator that the forms' room is taken from.
+    pub fn allocator(&self) -> Global {
+        *self.forms.allocator()
+    }
+
     /// No numbers, in the room of a form where one is kept.
     pub fn take(&mut self) -> Vec<i128>
         ensures { result.items ≡ [] }
