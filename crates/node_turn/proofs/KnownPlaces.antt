@@ -16,24 +16,24 @@ module _ (ns es : List ℤ) where
   forms_on (p ∷ ps) h = rw (form_on p (All-head (IsPlaceIn ns) p ps h), forms_on ps (All-tail (IsPlaceIn ns) p ps h)) refl
 
 -- the place of entries behind the numbers
-abbrev pub place_of : List ℤ → List ℤ → ℤ → Counts → KnownPlace
-place_of ns es last counts = record { start = length ns; end = length ns + length es; last = last; counts = counts }
+abbrev pub place_of : List ℤ → List ℤ → ℕ → Counts → KnownPlace
+place_of ns es key counts = record { start = length ns; end = length ns + length es; key = key; counts = counts }
 
-module _ (ns es : List ℤ) (last : ℤ) (counts : Counts) where
-  form_behind : form_at (ns ++ es) (place_of ns es last counts) ≡ record { form = es; counts = counts }
+module _ (ns es : List ℤ) (key : ℕ) (counts : Counts) where
+  form_behind : form_at (ns ++ es) (place_of ns es key counts) ≡ record { form = es; counts = counts }
   form_behind =
       let size : length ns + length es - length ns ≡ length es = omega arith in
       ap (λ (f : List ℤ). record { form = f; counts = counts }) (ap (λ (xs : List ℤ). take (length ns + length es - length ns) xs) (drop-append_seam ns es) ∙ take_all (length ns + length es - length ns) es (omega (arith, size)))
 
-  pub forms_more : (ps : List KnownPlace) → All (IsPlaceIn ns) ps → map (form_at (ns ++ es)) (ps ++ place_of ns es last counts ∷ []) ≡ map (form_at ns) ps ++ record { form = es; counts = counts } ∷ []
-  forms_more ps h = rw (map-append (form_at (ns ++ es)) ps (place_of ns es last counts ∷ []), forms_on ns es ps h, form_behind) refl
+  pub forms_more : (ps : List KnownPlace) → All (IsPlaceIn ns) ps → map (form_at (ns ++ es)) (ps ++ place_of ns es key counts ∷ []) ≡ map (form_at ns) ps ++ record { form = es; counts = counts } ∷ []
+  forms_more ps h = rw (map-append (form_at (ns ++ es)) ps (place_of ns es key counts ∷ []), forms_on ns es ps h, form_behind) refl
 
 -- what is known once the entries are appended, and their place is pushed or not
-module _ (ns es : List ℤ) (last : ℤ) (counts : Counts) (ps : List KnownPlace) (h : All (IsPlaceIn ns) ps) (ms : List ℤ) (qs : List KnownPlace) (start end : ℕ) where
+module _ (ns es : List ℤ) (key : ℕ) (counts : Counts) (ps : List KnownPlace) (h : All (IsPlaceIn ns) ps) (ms : List ℤ) (qs : List KnownPlace) (start end : ℕ) where
   pub forms_after : (pushed : Bool) → ms ≡ ns ++ es → start ≡ length ns → end ≡ length ns + length es
-      → qs ≡ (if pushed then ps ++ record { start = start; end = end; last = last; counts = counts } ∷ [] else ps)
+      → qs ≡ (if pushed then ps ++ record { start = start; end = end; key = key; counts = counts } ∷ [] else ps)
       → (map (form_at ms) qs ≡ map (form_at ns) ps ++ record { form = es; counts = counts } ∷ []) ⊎ (map (form_at ms) qs ≡ map (form_at ns) ps)
-  forms_after true m a b q = inl (rw (m, q, a, b) (forms_more ns es last counts ps h))
+  forms_after true m a b q = inl (rw (m, q, a, b) (forms_more ns es key counts ps h))
   forms_after false m a b q = inr (rw (m, q) (forms_on ns es ps h))
 
 -- the form of a place in the list is in the list of forms

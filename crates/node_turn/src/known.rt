@@ -10,21 +10,28 @@ const MOST_KNOWN: usize = 64;
 // How many have room from the first on.
 const FIRST_ROOM: usize = 8;
 
-// Where the entries of a form that was found at least 0 on a context stand among the numbers, the last of them, by which
-// most others are told from it, and what was counted for that.
+// Where the entries of a form that was found at least 0 on a context stand among the numbers, the key, by which most others
+// are told from it, and what was counted for that.
 #[derive(Clone, Copy)]
 struct KnownPlace {
     start: usize,
     end: usize,
-    last: i128,
+    key: u64,
     counts: Counts,
 }
 
-// The last entry, 0 where there is none.
-fn last_of(entries: &[i128]) -> i128 {
-    match entries.last() {
-        Some(entry) => *entry,
-        None => 0,
+// The low bits of a number.
+#[inline(always)]
+fn low_bits(x: i128) -> u64 {
+    (x & 0x7fff_ffff_ffff_ffff) as u64
+}
+
+// A number of the first entry and the last, by which forms are told apart.
+#[inline(always)]
+fn key_of(entries: &[i128]) -> u64 {
+    match (entries.first(), entries.last()) {
+        (Some(first), Some(last)) => low_bits(*first).rotate_left(32) ^ low_bits(*last),
+        _ => 0,
     }
 }
 
@@ -93,9 +100,9 @@ impl KnownForms {
     pub(crate) fn find(&self, entries: &[i128]) -> Option<Counts>
         ensures { IfSome result (λ counts. Contains self.now (record { form = entries.now; counts = counts })) }
     {
-        let last = last_of(entries);
+        let key = key_of(entries);
         for place in &self.places {
-            if place.last == last && are_same(&self.numbers[place.start..place.end], entries) {
+            if place.key == key && are_same(&self.numbers[place.start..place.end], entries) {
                 return Some(place.counts);
             }
         }
@@ -117,7 +124,7 @@ impl KnownForms {
             let _ = self.places.push(KnownPlace {
                 start,
                 end,
-                last: last_of(entries),
+                key: key_of(entries),
                 counts,
             });
         }
