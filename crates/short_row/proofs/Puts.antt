@@ -1,5 +1,5 @@
 -- A row that the pivot's row is put into, number after number.
-use Rattle.short_row.proofs.Words.{rules, All-cons, get_or-take, All-same, take-append-drop, length-map, length-set, take_at, drop_at, set, true, false, content-divided, IsShortRow, is_short_row, IsDenominatorOf, Some, None, begun_coefs, begun_constant, begun_row, IsBegun, floor_div, floor_divided, gcd_assoc, ◌≡◌, refl, ap, sym, ◌∙◌, subst, ℕ, zero, suc, ◌+◌, ◌-◌, ◌<◌, ◌≤◌, ℤ, pos, ◌≤ℤ◌, ◌*ℤ◌, ◌-ℤ◌, Bool, List, [], ◌∷◌, ◌++◌, length, take, drop, get_or, arith, ints, All, All-drop, All-take, All-append, length-append, length-take, length-drop, slice_set, gcd, gcd_of, combine, entry, Row, divided, eliminated, entry-combine, row_of_numbers, row_from, IsShort, places_of, IsShortReduced, IsTurned, IsShortDivisor, finished, combined, combined_step, set-get_or, content, AreLowest, substituted_by, eliminated-lowest, divisor-lowest, take_combine, drop_combine, take-map, drop-map, divided_row, divided_one, *ℤ_left_comm, AreTerms, Begun, some_product, own_row, drop-set-lt, take-set-lt}
+use Rattle.short_row.proofs.Words.{rules, All-cons, get_or-take, All-same, take-append-drop, length-map, length-set, take_at, drop_at, true, false, content-divided, IsShortRow, is_short_row, IsDenominatorOf, Some, None, begun_coefs, begun_constant, begun_row, IsBegun, floor_div, floor_divided, gcd_assoc, ◌≡◌, refl, ap, sym, ◌∙◌, subst, ℕ, zero, suc, ◌+◌, ◌-◌, ◌<◌, ◌≤◌, ℤ, pos, ◌≤ℤ◌, ◌*ℤ◌, ◌-ℤ◌, Bool, List, [], ◌∷◌, ◌++◌, length, take, drop, get_or, arith, ints, All, All-drop, All-take, All-append, length-append, length-take, length-drop, slice_set, gcd, gcd_of, combine, entry, Row, divided, eliminated, entry-combine, row_of_numbers, row_from, IsShort, places_of, IsShortReduced, IsTurned, IsShortDivisor, finished, combined, combined_step, set-get_or, content, AreLowest, substituted_by, eliminated-lowest, divisor-lowest, take_combine, drop_combine, take-map, drop-map, divided_row, divided_one, *ℤ_left_comm, AreTerms, Begun, some_product, own_row, drop-set-lt, take-set-lt}
 use Rattle.std.proofs.Math.IntN.{*ℤ_comm}
 use Rattle.affine_forms.specs.Checks.{Fits}
 use Rattle.row_laws.specs.Steps.{IsElimination}

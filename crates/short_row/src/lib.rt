@@ -12,6 +12,6 @@ mod whole;
 mod wide;
 
 pub use numbers::{floor_mod, narrow, product, wide_entry};
-pub use row::{ShortRow, divide_parts, make_unit, view_of};
+pub use row::{ShortRow, divide_parts, make_unit, put_unit, view_of};
 pub use turning::turn;
 pub use wide::widen_numbers;

@@ -61,6 +61,18 @@ fn clear_all(numbers: &mut [i64])
     }
 }
 
+/// Makes of zeros the numbers of the row of column c.
+#[inline(always)]
+pub fn put_unit(row: &mut [i64], unknowns: usize, c: usize)
+    requires size { unknowns + 2 ≤ length row.old }
+    requires column { c < unknowns }
+    requires zeros { row.old ≡ replicate (length row.old) (pos 0) }
+    ensures { row_of_numbers unknowns row.new ≡ model.unit_row unknowns (places_of unknowns row.old) c }
+{
+    row[0] = 1;
+    row[c + 1] = 1;
+}
+
 /// Makes of the numbers of a row those of the row of column c.
 pub fn make_unit(row: &mut [i64], unknowns: usize, c: usize)
     requires size { unknowns + 2 ≤ length row.old }
@@ -68,6 +80,5 @@ pub fn make_unit(row: &mut [i64], unknowns: usize, c: usize)
     ensures { row_of_numbers unknowns row.new ≡ model.unit_row unknowns (places_of unknowns row.old) c }
 {
     clear_all(row);
-    row[0] = 1;
-    row[c + 1] = 1;
+    put_unit(row, unknowns, c);
 }

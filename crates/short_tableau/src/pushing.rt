@@ -7,10 +7,10 @@ ghost use Rattle.row_laws.specs.Flat.{numbers_of, row_of_numbers};
 ghost use Rattle.row_laws.specs.Short.{is_short, IsShortRow};
 ghost use Rattle.short_row.specs.Sized.{IsShortReduced, row_size};
 ghost use Rattle.short_row.specs.Rows.{row_of};
-ghost use Rattle.short_row.specs.Terms.{AreNarrowed};
+ghost use Rattle.short_row.specs.Terms.{AreNarrowed, IsNarrowed};
 
 use affine_forms::WantOfMemory;
-use short_row::{ShortRow, divide_parts, make_unit, narrow};
+use short_row::{ShortRow, divide_parts, narrow, put_unit};
 
 // Appends the numbers of a row, or some of them.
 fn append_row(numbers: &mut Vec<i64>, row: &ShortRow<'_>) -> Result<(), WantOfMemory>
@@ -51,7 +51,7 @@ pub(crate) fn push_unit_row(
     let size = before.checked_add(more).ok_or(WantOfMemory)?;
     numbers.resize(size, 0)?;
     let (_, row) = numbers.split_at_mut(before);
-    make_unit(row, unknowns, c);
+    put_unit(row, unknowns, c);
     Ok(())
 }
 
@@ -89,13 +89,21 @@ pub(crate) fn push_divided_row(
     Ok(())
 }
 
+// The same number, where it is short; most are 0.
+#[inline(always)]
+fn narrow_entry(z: i128) -> Option<i64>
+    ensures { IsNarrowed z result }
+{
+    if z == 0 { Some(0) } else { narrow(z) }
+}
+
 // Makes the numbers of as many entries, up to the first that is not short; whether all are.
 fn narrow_all(numbers: &mut [i64], entries: &[i128]) -> bool
     requires { length numbers.old ≡ length entries.now }
     ensures { AreNarrowed entries.now result numbers.new }
 {
     for i in 0..entries.len() {
-        let Some(short) = narrow(entries[i]) else {
+        let Some(short) = narrow_entry(entries[i]) else {
             return false;
         };
         numbers[i] = short;
