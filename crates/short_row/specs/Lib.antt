@@ -1,4 +1,5 @@
 pub mod Begun
+pub mod Nonzeros
 pub mod Put
 pub mod Rows
 pub mod Sized

@@ -1,9 +1,11 @@
-ghost use Rattle.std.specs.Prelude.{◌≡◌, ◌≤◌, pos, length, All};
+ghost use Rattle.std.specs.Prelude.{◌≡◌, ◌≤◌, pos, length, All, IfSome};
 ghost use Rattle.pip_model.specs.Forms.{combine as combine_of};
 ghost use Rattle.short_numbers.specs.Short.{IsShort, IsHalf, AreHalf};
 ghost use Rattle.short_row.specs.Begun.{finished};
+ghost use Rattle.short_row.specs.Nonzeros.{AreNonzeros};
 ghost use Rattle.short_row.specs.Terms.{AreTerms};
 
+use crate::nonzeros::Nonzeros;
 use crate::wide::Factors;
 use short_numbers::{half_difference, is_half};
 
@@ -43,10 +45,36 @@ fn reduce_half(r: &mut [i64], b: i64, s: &[i64]) -> usize
     r.len()
 }
 
+// The same by the list of the places at which s is not 0.
+#[tactic(auto, using(crate::proofs::Reached::listed_within))]
+fn reduce_listed(r: &mut [i64], b: i64, s: &[i64], nonzeros: &Nonzeros) -> usize
+    requires terms { AreTerms (pos 1) r.old b s.now }
+    requires half { IsHalf b }
+    requires nonzeros { AreNonzeros s.now nonzeros.now }
+    ensures count { result ≤ length r.old }
+    ensures value { finished (pos 1) r.new b s.now result ≡ combine_of (pos 1) r.old b s.now }
+    ensures short { All IsShort r.new }
+{
+    for k in 0..nonzeros.len() {
+        let i = nonzeros.place(k);
+        if !is_half(r[i]) {
+            return i;
+        }
+        r[i] = half_difference(1, r[i], b, s[i]);
+    }
+    r.len()
+}
+
 // Makes `a*r - b*s` of r, entry by entry, by 64 bits, as long as the numbers have 32; how many are made.
 #[inline(always)]
-pub(crate) fn combine_halves(by: Factors, r: &mut [i64], s: &[i64]) -> usize
+pub(crate) fn combine_halves(
+    by: Factors,
+    r: &mut [i64],
+    s: &[i64],
+    nonzeros: &Option<Nonzeros>,
+) -> usize
     requires terms { AreTerms by.of_row r.old by.of_pivot s.now }
+    requires nonzeros { IfSome nonzeros.now (AreNonzeros s.now) }
     ensures count { result ≤ length r.old }
     ensures value { finished by.of_row r.new by.of_pivot s.now result ≡ combine_of by.of_row r.old by.of_pivot s.now }
     ensures short { All IsShort r.new }
@@ -55,6 +83,9 @@ pub(crate) fn combine_halves(by: Factors, r: &mut [i64], s: &[i64]) -> usize
         return 0;
     }
     if by.of_row == 1 {
+        if let Some(nonzeros) = nonzeros {
+            return reduce_listed(r, by.of_pivot, s, nonzeros);
+        }
         return reduce_half(r, by.of_pivot, s);
     }
     combine_half(by.of_row, r, by.of_pivot, s)

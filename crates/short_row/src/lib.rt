@@ -4,6 +4,7 @@
 mod begun;
 mod divisors;
 mod halves;
+mod nonzeros;
 mod numbers;
 mod put;
 mod row;
@@ -11,6 +12,7 @@ mod turning;
 mod whole;
 mod wide;
 
+pub use nonzeros::{Nonzeros, nonzeros_of};
 pub use numbers::{floor_mod, narrow, product, wide_entry};
 pub use row::{ShortRow, divide_parts, make_unit, put_unit, view_of};
 pub use turning::turn;

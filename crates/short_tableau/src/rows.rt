@@ -1,4 +1,5 @@
-ghost use Rattle.std.specs.Prelude.{◌≡◌, ◌+◌, ◌*◌, ◌<◌, ◌≤◌, false, length, map, slice_set, IsTrue, IsFalse, IfSome};
+ghost use Rattle.std.proofs.Props.{props};
+ghost use Rattle.std.specs.Prelude.{◌≡◌, ◌+◌, ◌*◌, ◌<◌, ◌≤◌, false, length, drop, map, slice_set, IsTrue, IsFalse, IfSome};
 ghost use Rattle.pip_model.specs.Forms.{constant, entry};
 ghost use Rattle.pip_model.specs.Rows as model;
 ghost use Rattle.row_laws.specs.Flat.{row_of_numbers};
@@ -6,12 +7,13 @@ ghost use Rattle.row_laws.specs.Short.{IsShort};
 ghost use Rattle.row_laws.specs.Choices.{IsCandidate};
 ghost use Rattle.short_tableau.specs.Below.{negative_from};
 ghost use Rattle.short_tableau.specs.Dense.{IsDense, rows_in};
+ghost use Rattle.short_row.specs.Nonzeros.{AreNonzeros};
 ghost use Rattle.short_row.specs.Sized.{IsPivot, row_size};
 ghost use Rattle.short_row.specs.Rows.{row_of};
 ghost use Rattle.short_row.specs.Turned.{is_short_row};
 ghost use Rattle.short_tableau.specs.Turned.{AreTurned};
 
-use short_row::{ShortRow, make_unit, turn, view_of};
+use short_row::{Nonzeros, ShortRow, make_unit, nonzeros_of, turn, view_of};
 
 // Where the numbers of row i begin.
 pub(crate) fn place_of(unknowns: usize, rows: usize, i: usize, numbers: &[i64]) -> usize
@@ -78,49 +80,54 @@ pub(crate) fn coef_at(numbers: &[i64], unknowns: usize, rows: usize, i: usize, k
     numbers[place_of(unknowns, rows, i, numbers) + (1 + k)]
 }
 
-// Makes of row i of so many what it is after the pivot on row p and column c; whether its numbers are short. A row that
-// is 0 in the column stays.
+// A pivot on the row of these numbers over so many columns and a column, with the list of the places at which the row
+// is not 0.
+#[derive(Drop)]
+pub(crate) struct Pivot<'p> {
+    pub row: &'p [i64],
+    pub unknowns: usize,
+    pub column: usize,
+    pub nonzeros: Option<Nonzeros>,
+    ghost size: { length row.now ≡ row_size unknowns },
+    ghost solvable: { IsPivot unknowns 0 (row_of_numbers unknowns row.now) column },
+    ghost listed: { IfSome nonzeros (AreNonzeros (drop 1 row.now)) } by { Prim.hlevel props },
+}
+
+// Makes of row i of so many what it is after the pivot; whether its numbers are short. A row that is 0 in the column
+// stays.
 #[inline(always)]
-fn turn_at(numbers: &mut [i64], unknowns: usize, rows: usize, i: usize, p: &[i64], c: usize) -> bool
-    requires dense { IsDense unknowns rows numbers.old }
+fn turn_at(numbers: &mut [i64], rows: usize, i: usize, pivot: &Pivot<'_>) -> bool
+    requires dense { IsDense pivot.now.unknowns rows numbers.old }
     requires row { i < rows }
-    requires size { length p.now ≡ row_size unknowns }
-    requires pivot { IsPivot unknowns 0 (row_of_numbers unknowns p.now) c }
-    ensures dense { IsTrue result → IsDense unknowns rows numbers.new }
-    ensures rows { IsTrue result → rows_in unknowns rows numbers.new
-        ≡ slice_set (rows_in unknowns rows numbers.old) i
-        (model.eliminated (row_of_numbers unknowns p.now) c (model.row_at (rows_in unknowns rows numbers.old) i)) }
-    ensures long { IsFalse result → is_short_row (model.eliminated (row_of_numbers unknowns p.now) c
-        (model.row_at (rows_in unknowns rows numbers.old) i)) ≡ false }
+    ensures dense { IsTrue result → IsDense pivot.now.unknowns rows numbers.new }
+    ensures rows { IsTrue result → rows_in pivot.now.unknowns rows numbers.new
+        ≡ slice_set (rows_in pivot.now.unknowns rows numbers.old) i
+        (model.eliminated (row_of_numbers pivot.now.unknowns pivot.now.row.now) pivot.now.column
+        (model.row_at (rows_in pivot.now.unknowns rows numbers.old) i)) }
+    ensures long { IsFalse result → is_short_row
+        (model.eliminated (row_of_numbers pivot.now.unknowns pivot.now.row.now) pivot.now.column
+        (model.row_at (rows_in pivot.now.unknowns rows numbers.old) i)) ≡ false }
 {
-    if coef_at(numbers, unknowns, rows, i, c) == 0 {
+    let unknowns = pivot.unknowns;
+    if coef_at(numbers, unknowns, rows, i, pivot.column) == 0 {
         return true;
     }
     let place = place_of(unknowns, rows, i, numbers);
     let (_, behind) = numbers.split_at_mut(place);
     let (row, _) = behind.split_at_mut(unknowns + 2);
-    turn(row, unknowns, p, c)
+    turn(row, unknowns, pivot.row, pivot.column, &pivot.nonzeros)
 }
 
-// Makes of so many rows what they are after the pivot on the row of these numbers and column c; whether their numbers
-// are short.
+// Makes of so many rows what they are after the pivot; whether their numbers are short.
 #[inline(always)]
-pub(crate) fn turn_rows(
-    numbers: &mut [i64],
-    unknowns: usize,
-    rows: usize,
-    p: &[i64],
-    c: usize,
-) -> bool
-    requires dense { IsDense unknowns rows numbers.old }
-    requires size { length p.now ≡ row_size unknowns }
-    requires pivot { IsPivot unknowns 0 (row_of_numbers unknowns p.now) c }
-    ensures { AreTurned unknowns rows
-        (map (model.eliminated (row_of_numbers unknowns p.now) c) (rows_in unknowns rows numbers.old))
-        result numbers.new }
+pub(crate) fn turn_rows(numbers: &mut [i64], rows: usize, pivot: &Pivot<'_>) -> bool
+    requires { IsDense pivot.now.unknowns rows numbers.old }
+    ensures { AreTurned pivot.now.unknowns rows
+        (map (model.eliminated (row_of_numbers pivot.now.unknowns pivot.now.row.now) pivot.now.column)
+        (rows_in pivot.now.unknowns rows numbers.old)) result numbers.new }
 {
     for i in 0..rows {
-        if !turn_at(numbers, unknowns, rows, i, p, c) {
+        if !turn_at(numbers, rows, i, pivot) {
             return false;
         }
     }
@@ -143,10 +150,17 @@ pub(crate) fn pivot_rows(
     let place = place_of(unknowns, rows, r, numbers);
     let (front, behind) = numbers.split_at_mut(place);
     let (row, back) = behind.split_at_mut(unknowns + 2);
-    if !turn_rows(front, unknowns, r, row, c) {
+    let nonzeros = nonzeros_of(row);
+    let pivot = Pivot {
+        row,
+        unknowns,
+        column: c,
+        nonzeros,
+    };
+    if !turn_rows(front, r, &pivot) {
         return false;
     }
-    if !turn_rows(back, unknowns, rows - (r + 1), row, c) {
+    if !turn_rows(back, rows - (r + 1), &pivot) {
         return false;
     }
     make_unit(row, unknowns, c);

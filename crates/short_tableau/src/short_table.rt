@@ -18,10 +18,10 @@ ghost use Rattle.short_row.specs.Turned.{is_short_row};
 use crate::cuts::push_cut_row;
 use crate::pushing::{append_form, push_divided_row, push_row, push_unit_row};
 use crate::rows::{
-    coef_at, constant_at, first_below_in, numbers_in, pivot_rows, row_in, turn_rows,
+    Pivot, coef_at, constant_at, first_below_in, numbers_in, pivot_rows, row_in, turn_rows,
 };
 use affine_forms::WantOfMemory;
-use short_row::{ShortRow, widen_numbers};
+use short_row::{ShortRow, nonzeros_of, widen_numbers};
 use std::alloc::Global;
 use std::marker::Model;
 
@@ -297,7 +297,13 @@ impl ShortTableau {
         ensures none { IsFalse result → self.new ≡ record self.old { rows = [] } }
     {
         let row = t.row_numbers(i);
-        if !turn_rows(&mut self.numbers, self.unknowns, self.count, row, c) {
+        let pivot = Pivot {
+            row,
+            unknowns: self.unknowns,
+            column: c,
+            nonzeros: nonzeros_of(row),
+        };
+        if !turn_rows(&mut self.numbers, self.count, &pivot) {
             self.count = 0;
             self.numbers.clear();
             return false;

@@ -3,17 +3,23 @@ use Rattle.short_tableau.proofs.Places.{split_twice, split_front, split_back, sp
 use Rattle.short_tableau.proofs.OneRow.{unit_made}
 use Rattle.short_tableau.proofs.rows.pivot_rows.Goals as goal
 
+pub invariant_of-pivot : goal.invariant_of-pivot
+invariant_of-pivot c =
+    let split = split_twice c.args.unknowns c.args.rows c.args.r c.place_of-place.result c.args.numbers.now c.split_at_mut-front.result.0.now c.split_at_mut-front.result.1.now c.split_at_mut-row.result.0.now c.split_at_mut-row.result.1.now
+    c.requires.dense c.requires.row (search rules) (search rules) c.split_at_mut-front.ensures.front c.split_at_mut-front.ensures.back c.split_at_mut-row.ensures.front c.split_at_mut-row.ensures.back in
+    record { size = split.parts.mid_size; solvable = split_pivot _ _ _ c.args.c _ _ _ _ split c.requires.candidate; listed = c.nonzeros_of-nonzeros.ensures }
+
 pub turn_rows-requires : goal.turn_rows-requires
 turn_rows-requires c =
     let split = split_twice c.args.unknowns c.args.rows c.args.r c.place_of-place.result c.args.numbers.now c.split_at_mut-front.result.0.now c.split_at_mut-front.result.1.now c.split_at_mut-row.result.0.now c.split_at_mut-row.result.1.now
     c.requires.dense c.requires.row (search rules) (search rules) c.split_at_mut-front.ensures.front c.split_at_mut-front.ensures.back c.split_at_mut-row.ensures.front c.split_at_mut-row.ensures.back in
-    record { dense = split_front _ _ _ _ _ _ _ split; size = split.parts.mid_size; pivot = split_pivot _ _ _ c.args.c _ _ _ _ split c.requires.candidate }
+    split_front _ _ _ _ _ _ _ split
 
 pub turn_rows-requires-2 : goal.turn_rows-requires-2
 turn_rows-requires-2 c =
     let split = split_twice c.args.unknowns c.args.rows c.args.r c.place_of-place.result c.args.numbers.now c.split_at_mut-front.result.0.now c.split_at_mut-front.result.1.now c.split_at_mut-row.result.0.now c.split_at_mut-row.result.1.now
     c.requires.dense c.requires.row (search rules) (search rules) c.split_at_mut-front.ensures.front c.split_at_mut-front.ensures.back c.split_at_mut-row.ensures.front c.split_at_mut-row.ensures.back in
-    record { dense = split_back _ _ _ _ _ _ _ split; size = split.parts.mid_size; pivot = split_pivot _ _ _ c.args.c _ _ _ _ split c.requires.candidate }
+    split_back _ _ _ _ _ _ _ split
 
 pub returns-then-not-turn_rows : goal.returns-then-not-turn_rows
 returns-then-not-turn_rows c =

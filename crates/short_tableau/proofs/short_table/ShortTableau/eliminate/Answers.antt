@@ -2,13 +2,13 @@ use Rattle.short_tableau.proofs.Words.{◌≡◌, ◌∙◌, ap, sym, subst, ari
 use Rattle.short_tableau.proofs.Fitting.{flat_fit}
 use Rattle.short_tableau.proofs.short_table.ShortTableau.eliminate.Goals as goal
 
-pub turn_rows-requires-clause-size : goal.turn_rows-requires-clause-size
-turn_rows-requires-clause-size c =
+pub invariant_of-pivot-clause-size : goal.invariant_of-pivot-clause-size
+invariant_of-pivot-clause-size c =
     let n : c.args.t.now.unknowns ≡ c.self.inside.unknowns = c.requires.unknowns ∙ sym (ap (λ (t : TableauRows). t.unknowns) c.self.view_is) in
     subst (λ (k : ℕ). length c.row_numbers-row.result.now ≡ row_size k) n c.row_numbers-row.ensures.length
 
-pub turn_rows-requires-clause-pivot : goal.turn_rows-requires-clause-pivot
-turn_rows-requires-clause-pivot c =
+pub invariant_of-pivot-clause-solvable : goal.invariant_of-pivot-clause-solvable
+invariant_of-pivot-clause-solvable c =
     let n : c.args.t.now.unknowns ≡ c.self.inside.unknowns = c.requires.unknowns ∙ sym (ap (λ (t : TableauRows). t.unknowns) c.self.view_is) in
     subst (λ (k : ℕ). IsPivot k 0 (row_of_numbers k c.row_numbers-row.result.now) c.args.c) n (record {
       row = c.row_numbers-row.ensures.row;
