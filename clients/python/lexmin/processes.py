@@ -3,7 +3,6 @@ from __future__ import annotations
 
 import atexit
 import itertools
-import math
 import numbers
 import os
 import re
@@ -95,14 +94,14 @@ def late(seconds: Optional[float], notes: Notes, text: str, what: str = "answer"
 
 
 def checked_seconds(seconds: Optional[float]) -> Optional[float]:
-    """The seconds of a timeout; none where there is no limit, as of infinity."""
+    """The seconds of a timeout; none where there is no limit, as of infinity and of what is past all floats."""
     if seconds is None:
         return None
     if not isinstance(seconds, numbers.Real) or isinstance(seconds, bool):
         raise TypeError(f"a timeout is a number of seconds, or None, not {seconds!r}")
     if not seconds > 0:  # (that of NaN too)
         raise ValueError(f"a timeout is above 0, or None for no limit, not {seconds!r}")
-    return None if math.isinf(seconds) else seconds
+    return None if seconds > sys.float_info.max else seconds
 
 
 # ---- A process -----------------------------------------------------------------------------------------------------

@@ -7,6 +7,7 @@ anything is asked. All this is advice: what is handed on is compared with the gi
 from __future__ import annotations
 
 import math
+import sys
 import time
 from dataclasses import dataclass
 from fractions import Fraction
@@ -93,10 +94,10 @@ class Shortener:
     """Shortens one tree. When a limit is reached it goes on without questions: what it has made so far is as right as before."""
 
     def __init__(self, ask: Ask, questions: Optional[int] = QUESTIONS, seconds: Optional[float] = SECONDS) -> None:
-        if seconds is not None and math.isnan(seconds):
+        if seconds is not None and seconds != seconds:
             raise ValueError("the seconds of an answer are a number")
         self._ask, self._most = ask, questions
-        self._end = None if seconds is None else time.monotonic() + seconds
+        self._end = None if seconds is None or seconds > sys.float_info.max else time.monotonic() + max(0, seconds)
         self.asked = 0
 
     def tree(self, context: Sequence[Vector], count: int, tree: Tree) -> Tree:
