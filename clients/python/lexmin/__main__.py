@@ -1,6 +1,7 @@
 """The commands of the package: `python -m lexmin COMMAND ..`, or `lexmin COMMAND ..` where it is installed."""
 from __future__ import annotations
 
+import io
 import os
 import signal
 import sys
@@ -27,8 +28,13 @@ def main(words: Optional[Sequence[str]] = None) -> int:
     if sys.stdout is None:
         print("lexmin: standard output is closed", file=sys.stderr)
         return 1
+    if isinstance(sys.stdout, io.TextIOWrapper):
+        sys.stdout.reconfigure(write_through=False)  # what can't be written of a help argparse would not say
     try:
-        status = command(words)
+        try:
+            status = command(words)
+        except SystemExit as end:  # of the words, which argparse reads, and of `_left`
+            status = end.code if isinstance(end.code, int) else 0
         sys.stdout.flush()
         return status
     except KeyboardInterrupt:  # as a shell says of what Ctrl-C ended
