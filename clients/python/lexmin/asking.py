@@ -2,6 +2,7 @@
 from __future__ import annotations
 
 import argparse
+import io
 import pathlib
 import sys
 from typing import Dict, List, Sequence
@@ -15,7 +16,7 @@ from .processes import Refused
 from .shorten import QUESTIONS, SECONDS
 from .solver import Solver, standing
 from .texts import Fault, ReadProblem, native
-from .trees import groups
+from .trees import as_text, groups
 
 SHORTEN = """Solves the problems of a text, and writes their answers with fewer leaves.
 
@@ -61,6 +62,8 @@ def shorten(words: Sequence[str]) -> int:
     parser.add_argument("file", nargs="?", type=pathlib.Path, help="the problems; standard input where none is named")
     chosen = parser.parse_args(words)
     status, data = 0, b""
+    if isinstance(sys.stdout, io.TextIOWrapper):  # comments stay as they are, byte for byte
+        sys.stdout.reconfigure(encoding="utf-8", errors="surrogateescape")
     try:
         data = chosen.file.read_bytes() if chosen.file else sys.stdin.buffer.read()
         problems = list(native(data))
@@ -68,7 +71,7 @@ def shorten(words: Sequence[str]) -> int:
             raise ValueError("no problem in the text")
         with Solver(chosen.program, timeout=chosen.timeout) as solver:
             answers: List[Answer] = []
-            for number, text in enumerate(groups(data.decode(errors="replace"))):
+            for number, text in enumerate(groups(as_text(data))):
                 try:
                     answers.append(Answer(space_of(problems[number]), solver.ask(text) + "\n", solver=solver))
                 except Refused as refused:

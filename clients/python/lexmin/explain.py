@@ -26,7 +26,7 @@ from typing import Iterator, List, Optional, Sequence
 from .drawing import names_of, told_apart
 from .forms import Form
 from .texts import Fault, ReadProblem, likely_matrices, native, polylib
-from .trees import form_of
+from .trees import as_bytes, form_of
 
 
 def position(data: bytes, place: int) -> str:
@@ -78,7 +78,7 @@ def explained(problem: ReadProblem, parameters: Optional[Sequence[str]] = None, 
     given = names_for(parameters, problem.parameters, "p", "parameters")
     told_apart([*given, *own])
     if problem.comment:
-        yield problem.comment
+        yield as_bytes(problem.comment).decode(errors="replace")
     kind = "whole " if problem.integer else "fractional "
     for_all = f", for all whole {', '.join(given)} from 0 on" if given else ", without parameters"
     yield f"the lexicographically least {kind}({', '.join(own)}), from 0 on{for_all}{':' if problem.rows else ''}"

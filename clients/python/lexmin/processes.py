@@ -16,7 +16,7 @@ from collections import deque
 from dataclasses import dataclass
 from typing import Deque, Iterable, Iterator, List, Optional, Sequence, Set, Tuple, Union
 
-from .trees import is_one_group
+from .trees import as_bytes, as_text, is_one_group
 
 MOST_INPUT_BYTES = 16_777_216  # what one run of the program takes
 MOST_IDLE = 8  # processes that are kept for later calls
@@ -229,7 +229,7 @@ class Runs:
 
 
 def _run(child: Child, text: str, timeout: Optional[float]) -> Tuple[int, bytes, str]:
-    outgoing, found, notes = memoryview(text.encode()), bytearray(), Notes()
+    outgoing, found, notes = memoryview(as_bytes(text)), bytearray(), Notes()
     end = None if timeout is None else time.monotonic() + timeout
     child.start()
     assert child.process and child.process.stdin
@@ -496,7 +496,7 @@ def _asked(text: str) -> _Asked:
     """A text that is to be given: one group, since the answers are told apart by their number."""
     if not is_one_group(text):
         raise ValueError("a text of one group of balanced brackets is wanted")
-    return _Asked(text, (text.strip() + "\n").encode())
+    return _Asked(text, as_bytes(text.strip() + "\n"))
 
 
 def _wait_again(given: Deque[_Asked], waiting: Deque[_Asked]) -> None:
@@ -517,6 +517,6 @@ class _Groups:
             if self.depth == 0:
                 self.held += piece[start:match.end()]
                 start = match.end()
-                yield self.held.decode().strip()
+                yield as_text(self.held).strip()
                 self.held = bytearray()
         self.held += piece[start:]

@@ -15,7 +15,7 @@ from .prepare import prepared
 from .refutations import NotCertified, Obligations, steps_of
 from .shorten import QUESTIONS, SECONDS, Shortener
 from .texts import Fault, native
-from .trees import Bottom, Point, Void, answer_text, is_one_group, parse_answer
+from .trees import Bottom, Point, Void, answer_text, as_bytes, as_text, is_one_group, parse_answer
 
 
 MOST_BATCH_BYTES = 4_000_000  # of the texts that one `same` reads
@@ -117,7 +117,7 @@ class Solver:
         """The answer to a native text of one problem, by the problem made smaller: put back, and not checked. None where nothing
         can be taken out, or the program does not read the text or refuses the smaller one."""
         try:
-            problem, = native(text.encode())
+            problem, = native(as_bytes(text))
         except Fault:
             return None
         made = prepared(problem)
@@ -139,7 +139,7 @@ class Solver:
         """A certificate of an answer to a problem, given as texts, whoever made the answer; NotCertified where none is found.
         What it is worth `check` says."""
         joined([text, answer, "()"], "a problem and an answer")
-        problem, = native(text.encode())
+        problem, = native(as_bytes(text))
         tree = parse_answer(answer)[1]
         needed = Obligations(problem, tree)
         steps = []
@@ -225,7 +225,7 @@ class Solver:
         verdicts: List[bool] = []
         while waiting:
             count, batch, size = waiting[0][0], [waiting.popleft()[1]], 0
-            while waiting and waiting[0][0] == count and (size := size + len(batch[-1].encode())) < MOST_BATCH_BYTES:
+            while waiting and waiting[0][0] == count and (size := size + len(as_bytes(batch[-1]))) < MOST_BATCH_BYTES:
                 batch.append(waiting.popleft()[1])
             words = ["same", str(count), *self.budget_words(["pivots", "cuts", "splits"])]
             verdicts += [found == "same" for found in self._lines(words, batch)]
@@ -244,12 +244,12 @@ class Solver:
                     return [*found, late]
                 half = len(rest) // 2
                 return [*found, *self._lines(words, rest[:half]), *self._lines(words, rest[half:])]
-            said = output.decode().split("\n")[:-1]  # (of a process that was ended the last line may be a part of one)
+            said = as_text(output).split("\n")[:-1]  # (of a process that was ended the last line may be a part of one)
             if len(said) > len(rest):
                 raise RuntimeError(f"{words[0]} wrote {len(said)} lines for {len(rest)} texts")
             found += said
             if len(said) < len(rest):
-                found.append(Refused(status, line, rest[len(said)], sum(len(text.encode()) for text in rest[:len(said)])))
+                found.append(Refused(status, line, rest[len(said)], sum(len(as_bytes(text)) for text in rest[:len(said)])))
         return found
 
     # Certificates.
@@ -286,7 +286,7 @@ class Solver:
         verdicts: List[Optional[Refused]] = []
         while waiting:
             batch, size = [waiting.popleft()], 0
-            while waiting and (size := size + len(batch[-1].encode())) + len(waiting[0].encode()) <= MOST_INPUT_BYTES:
+            while waiting and (size := size + len(as_bytes(batch[-1]))) + len(as_bytes(waiting[0])) <= MOST_INPUT_BYTES:
                 batch.append(waiting.popleft())
             for found in self._lines(["check"], batch):
                 if isinstance(found, str) and found != "accepted":
@@ -299,7 +299,7 @@ class Solver:
         status, output, line = self._runs.run([self.program, *words], text, self.timeout)
         if status != 0 or (line and signal.getsignal(signal.SIGCHLD) == signal.SIG_IGN):  # (then the system keeps no status)
             raise Refused(status, line, text)
-        return output.decode()
+        return as_text(output)
 
 
 def standing(program: Union[str, os.PathLike[str]]) -> str:

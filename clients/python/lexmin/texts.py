@@ -6,6 +6,8 @@ import unicodedata
 from dataclasses import dataclass
 from typing import Iterator, List, NamedTuple, NoReturn, Tuple
 
+from .trees import as_text
+
 MOST_NUMBER = (1 << 127) - 1
 MOST_BYTES = 16_777_216
 _BLANKS = b" \t\n\f\r"
@@ -159,7 +161,7 @@ class _Reader:
             depth += 1 if match.group() == b"(" else -1
             if depth == 0:
                 self.place = match.end()
-                return self.data[start:match.start()].decode(errors="replace")
+                return as_text(self.data[start:match.start()])
         raise Fault(len(self.data), "the comment does not end: its brackets have to balance, those of `1)` and `:(` too")
 
     def problem(self) -> ReadProblem:

@@ -52,6 +52,15 @@ _TOKEN = re.compile(r"[ \t\n\f\r]*(#\[|[()\]]|[-+]?\d+(?:/\d+)?|[A-Za-z]+)")
 _BRACKET = re.compile(r"[()]")
 
 
+def as_text(data: bytes) -> str:
+    """The text of bytes. A comment may hold any: those that are no UTF-8 stand as surrogates."""
+    return data.decode(errors="surrogateescape")
+
+
+def as_bytes(text: str) -> bytes:
+    return text.encode(errors="surrogateescape")
+
+
 def groups(text: str) -> List[str]:
     """The groups of balanced brackets of a text, one after the other. What stands between them is dropped."""
     found, depth, start = [], 0, 0
