@@ -296,6 +296,7 @@ class Posed(Space):
             if own.low is None and own.high is None:
                 raise ValueError(f"the parameter {name} has either sign: the problem is solved by parts, with solve_by_signs")
         super().__init__(problem.comment, problem._parameters, problem._context, {})
+        self.integer = problem.integer
         self._count = 0
         self._rows: List[Form] = []
         self._floors: Dict[Floor, Form] = {}

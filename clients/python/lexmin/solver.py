@@ -38,7 +38,8 @@ class Solver:
 
     `prepare=True` takes equalities out of each problem before it is solved, `prepare="when refused"` out of those that were
     refused or late. The answer is put back here, in Python, and then `check` is asked whether it is right: its `checked` says
-    what came of that."""
+    what came of that. `check` knows whole problems alone: a rational one is prepared only where it is refused or late, and
+    `checked` is then False."""
 
     def __init__(self, program: Union[str, os.PathLike[str]], *, simplify: bool = False, pivots: Optional[int] = None,
                  cuts: Optional[int] = None, splits: Optional[int] = None, nesting: Optional[int] = None,
@@ -102,11 +103,14 @@ class Solver:
         source.end()
 
     def _solve_prepared(self, posed: Posed) -> Union[Answer, Refused]:
-        made = self._prepared(posed)
+        made = self._prepared(posed) if posed.integer else None
         if made is not None:
             return made
         found, = self._plain.answers([posed.text])
-        return found if isinstance(found, Refused) else Answer(posed, found[0] + "\n", solver=self)
+        if not isinstance(found, Refused):
+            return Answer(posed, found[0] + "\n", solver=self)
+        made = None if posed.integer else self._prepared(posed)
+        return found if made is None else made
 
     def _prepared(self, posed: Posed) -> Optional[Answer]:
         """The answer by the problem made smaller; none where nothing can be taken out, or that is refused too."""
