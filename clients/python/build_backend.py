@@ -11,7 +11,7 @@ import re
 import tarfile
 import time
 import zipfile
-from typing import Any, Dict, Optional
+from typing import Any, Dict, List, Optional
 
 HERE = pathlib.Path(__file__).resolve().parent
 PACKAGE = "lexmin"
@@ -25,6 +25,12 @@ def _said(name: str) -> str:
     return found.group(1)
 
 
+def _classifiers() -> List[str]:
+    found = re.search(r"^classifiers = \[\n(.*?)^\]", (HERE / "pyproject.toml").read_text(), re.MULTILINE | re.DOTALL)
+    assert found
+    return re.findall('"(.*)"', found.group(1))
+
+
 def _version() -> str:
     found = re.search(r'^__version__ = "(.*)"$', (HERE / PACKAGE / "__init__.py").read_text(), re.MULTILINE)
     assert found
@@ -34,7 +40,8 @@ def _version() -> str:
 def _metadata() -> str:
     return "\n".join([
         "Metadata-Version: 2.1", f"Name: {PACKAGE}", f"Version: {_version()}", f"Summary: {_said('description')}",
-        f"Requires-Python: {_said('requires-python')}", "Description-Content-Type: text/markdown", "",
+        f"Requires-Python: {_said('requires-python')}", *(f"Classifier: {it}" for it in _classifiers()),
+        "Description-Content-Type: text/markdown", "",
         (HERE / "README.md").read_text()])
 
 
