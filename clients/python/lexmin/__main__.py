@@ -5,9 +5,10 @@ import io
 import os
 import signal
 import sys
-from typing import NoReturn, Optional, Sequence
+from typing import Optional, Sequence
 
 from . import __version__, asking, drawing, explain, sources
+from .processes import when_begun
 
 # Of each command its module, whose `main` takes the words behind the command and gives the status.
 COMMANDS = {"draw": drawing.main, "explain": explain.main, "isl": asking.isl, "shorten": asking.shorten, "source": sources.main}
@@ -46,9 +47,9 @@ def main(words: Optional[Sequence[str]] = None) -> int:
         return 1
 
 
-def _left(number: int, _: object) -> NoReturn:
+def _left(number: int, _: object) -> None:
     """Ends the program too, where it is under way."""
-    sys.exit(128 + number)
+    when_begun(lambda: sys.exit(128 + number))
 
 
 def command(words: Sequence[str]) -> int:

@@ -2,6 +2,7 @@
 from __future__ import annotations
 
 import atexit
+import contextlib
 import itertools
 import numbers
 import os
@@ -14,7 +15,7 @@ import time
 import weakref
 from collections import deque
 from dataclasses import dataclass
-from typing import Deque, Iterable, Iterator, List, Optional, Sequence, Set, Tuple, Union
+from typing import Callable, Deque, Iterable, Iterator, List, Optional, Sequence, Set, Tuple, Union
 
 from .trees import as_bytes, as_text, is_one_group
 
@@ -122,7 +123,7 @@ class Child:
         self._owner = os.getpid()
         self.go_on()
         _STARTED.add(weakref.ref(self, _STARTED.discard))
-        with _BEGUN:
+        with _BEGUN, _beginning():
             self.process = subprocess.Popen(self.command, stdin=pipe, stdout=pipe, stderr=pipe, bufsize=0)
         for end in self.pipes():
             os.set_blocking(end, False)
@@ -181,6 +182,31 @@ _STARTED: Set[weakref.ref[Child]] = set()
 _BEGUN = threading.RLock()
 
 
+_LATER: List[Callable[[], object]] = []  # what signals asked for while a process was begun
+_begins = False
+
+
+@contextlib.contextmanager
+def _beginning() -> Iterator[None]:
+    global _begins
+    _begins = True
+    try:
+        yield
+    finally:
+        _begins = False
+        while _LATER:
+            _LATER.pop()()
+
+
+def when_begun(action: Callable[[], object]) -> None:
+    """Does what the handler of a signal is to do. Where a process is just being begun, it waits until that one is known: an exception
+    would leave it to itself."""
+    if _begins:
+        _LATER.append(action)
+    else:
+        action()
+
+
 def _in_fork() -> None:
     """Leaves what was begun before a fork to the first process, the pipes too: what reads up to the end of a pipe waits until no
     process holds its other end."""
@@ -198,10 +224,13 @@ os.register_at_fork(before=_BEGUN.acquire, after_in_parent=_BEGUN.release, after
 
 @atexit.register
 def _end_all() -> None:
+    is_known = _BEGUN.acquire(timeout=END_SECONDS)  # (else a thread is still beginning one)
     for found in list(_STARTED):
         child = found()
         if child is not None:
             child.left()
+    if is_known:
+        _BEGUN.release()
 
 
 # ---- A run of its own ----------------------------------------------------------------------------------------------
