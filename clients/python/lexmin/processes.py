@@ -143,6 +143,19 @@ class Child:
         if self._owner != os.getpid():
             raise RuntimeError("this call was begun before a fork, and belongs to the other process")
 
+    def ended(self, end: Optional[float]) -> Optional[int]:
+        """The status of the process, which has closed its output; none where it lives on at the end of the time."""
+        assert self.process is not None
+        while True:
+            self.go_on()
+            left = LOOK_SECONDS if end is None else min(LOOK_SECONDS, end - time.monotonic())
+            if left <= 0:
+                return None
+            try:
+                return self.process.wait(left)
+            except subprocess.TimeoutExpired:
+                pass
+
     def interrupt(self) -> None:
         """Ends the process of a call that is under way, perhaps in another thread: the call fails. It does so at the latest when it
         looks again, since what the process has below it may keep the pipes."""
@@ -287,8 +300,10 @@ def _run(child: Child, text: str, timeout: Optional[float]) -> Tuple[int, bytes,
                     notes.add(piece)
                 else:
                     found += piece
-    status = child.process.wait()
+    status = child.ended(end)
     child.go_on()
+    if status is None:
+        raise late(timeout, notes, text, "end")
     if status == 0:
         notes.pass_on()
     return status, bytes(found), notes.end()
@@ -402,7 +417,7 @@ class Coprocess(Child):
                     yield self._late(given, waiting)
                     return
                 if not ready:
-                    yield self._ended(given, waiting)
+                    yield self._ended(given, waiting, end)
                     return
                 for key, _ in ready:
                     if key.fd == sink:
@@ -417,7 +432,7 @@ class Coprocess(Child):
                             selector.unregister(errors)
                         continue
                     if not piece:
-                        yield self._ended(given, waiting)
+                        yield self._ended(given, waiting, end)
                         return
                     for group in made.add(piece):
                         if not given:
@@ -430,23 +445,24 @@ class Coprocess(Child):
                             found = []
                             end = self._deadline()
 
-    def _ended(self, given: Deque[_Asked], waiting: Deque[_Asked]) -> Refused:
+    def _ended(self, given: Deque[_Asked], waiting: Deque[_Asked], end: Optional[float]) -> Refused:
         """The refusal of the first text that has no answer. The texts behind it wait again."""
-        self._read_errors()
-        assert self.process is not None
-        status = self.process.wait()
+        self._read_errors(end)
+        status = self.ended(end)
+        if status is None:
+            return self._late(given, waiting)
         line = self.notes.end()
         self.stop()
         refused = given.popleft()
         _wait_again(given, waiting)
         return Refused(status, line, refused.text, refused.bytes_before)
 
-    def _read_errors(self) -> None:
+    def _read_errors(self, end: Optional[float]) -> None:
         """Reads what is left of standard error, up to its end or that of the process."""
         errors = self.pipes()[2]
         with selectors.DefaultSelector() as selector:
             selector.register(errors, selectors.EVENT_READ)
-            while _select(selector, None, self.notes, self):
+            while _select(selector, end, self.notes, self):
                 piece = os.read(errors, 1 << 16)
                 if not piece:
                     return

@@ -48,7 +48,7 @@ class NewParameter:
 
 Tree = Union[Bottom, Void, Point, Choice, NewParameter]
 
-_TOKEN = re.compile(r"[ \t\n\f\r]*(#\[|[()\]]|[-+]?\d+(?:/\d+)?|[A-Za-z]+)")
+_TOKEN = re.compile(r"[ \t\n\f\r]*(#\[|[()\]]|[-+]?\d+(?:/\d+)?|[A-Za-z]+)", re.ASCII)
 _BRACKET = re.compile(r"[()]")
 
 
@@ -276,6 +276,8 @@ class _Reader:
                 raise ValueError(f"no answer: `#[` is missing at character {self.place - len(token)}")
             components.append(self.scoped(self.numbers(), new))
             token = self.token()
+        if not components:
+            raise ValueError(f"no answer: a list without components before character {self.place}")
         return Point(tuple(components))
 
 
