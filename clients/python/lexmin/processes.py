@@ -151,10 +151,10 @@ class Child:
             left = LOOK_SECONDS if end is None else min(LOOK_SECONDS, end - time.monotonic())
             if left <= 0:
                 return None
-            try:
-                return self.process.wait(left)
-            except subprocess.TimeoutExpired:
-                pass
+            with contextlib.suppress(subprocess.TimeoutExpired):
+                status = self.process.wait(left)
+                self.go_on()
+                return status
 
     def interrupt(self) -> None:
         """Ends the process of a call that is under way, perhaps in another thread: the call fails. It does so at the latest when it
@@ -301,7 +301,6 @@ def _run(child: Child, text: str, timeout: Optional[float]) -> Tuple[int, bytes,
                 else:
                     found += piece
     status = child.ended(end)
-    child.go_on()
     if status is None:
         raise late(timeout, notes, text, "end")
     if status == 0:
