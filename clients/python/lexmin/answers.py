@@ -204,9 +204,7 @@ class Answer:
 
     def _with(self, other: Answer) -> Space:
         """What both answers are about: under both contexts."""
-        if not isinstance(other, Answer):
-            raise TypeError(f"not an answer: {other!r}" + ("; take each of its parts" if isinstance(other, AnswerBySigns) else ""))
-        own, others = self.posed, other.posed
+        own, others = self.posed, checked_answer(other).posed
         if list(own.parameters.items()) != list(others.parameters.items()) or own.asked != others.asked:
             raise ValueError("the answers are not about the same parameters and unknowns, in the same order: {} over {}, {} over {}".format(
                 own.asked, list(own.parameters), others.asked, list(others.parameters)))
@@ -256,6 +254,12 @@ class Answer:
         """The same line by line. `point` gives the words of a point, `none` is what stands where there is none, and `names` has
         forms that stand in the place of parameters."""
         return _Words(self, point, none, names).lines()
+
+
+def checked_answer(answer: object) -> Answer:
+    if not isinstance(answer, Answer):
+        raise TypeError(f"not an answer: {answer!r}" + ("; take each of its parts" if isinstance(answer, AnswerBySigns) else ""))
+    return answer
 
 
 class _Words:

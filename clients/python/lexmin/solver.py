@@ -7,7 +7,7 @@ import signal
 from collections import deque
 from typing import Any, Deque, Dict, Iterable, Iterator, List, Optional, Sequence, Tuple, TypeVar, Union
 
-from .answers import Answer, AnswerBySigns
+from .answers import Answer, AnswerBySigns, checked_answer
 from .forms import whole_number
 from .problems import Posed, Problem, numbers_over
 from .processes import MOST_INPUT_BYTES, Pool, Refused, Runs, TimedOut, checked_seconds
@@ -181,7 +181,7 @@ class Solver:
     def _together(self, answers: Sequence[Answer], greatest: bool) -> Answer:
         if not answers:
             raise ValueError("no answers")
-        made = list(answers)
+        made = list(map(checked_answer, answers))
         while len(made) > 1:  # by pairs, each simplified: what chooses nothing would be asked for again and again
             pairs = zip(made[::2], made[1::2])
             made = [*(one.least(other, greatest=greatest).simplify() for one, other in pairs), *made[len(made) // 2 * 2:]]
@@ -323,12 +323,6 @@ def checked_budget(name: str, most: Optional[int]) -> Optional[int]:
     if not 0 <= number <= MOST_BUDGETS[name]:
         raise ValueError(f"{name} is from 0 to {MOST_BUDGETS[name]}, not {number}")
     return number
-
-
-def checked_answer(answer: object) -> Answer:
-    if not isinstance(answer, Answer):
-        raise TypeError(f"not an answer: {answer!r}")
-    return answer
 
 
 class _Source:
