@@ -131,6 +131,13 @@ class Child:
             self.stop()
         self.go_on()
 
+    def __del__(self) -> None:
+        """Ends the process of a Solver that nobody has any more."""
+        process = self.process
+        if process is not None and not self.closed and self._owner == os.getpid():
+            process.terminate()
+            close_pipes(process)
+
     def pipes(self) -> Tuple[int, int, int]:
         process = self.process
         assert process and process.stdin and process.stdout and process.stderr
