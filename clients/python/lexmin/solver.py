@@ -71,6 +71,7 @@ class Solver:
         return functools.partial(Solver, self.program, **words), ()
 
     def close(self) -> None:
+        """Ends the processes. A later call begins others."""
         self._plain.stop()
         self._certified.stop()
         self._questions.stop()
