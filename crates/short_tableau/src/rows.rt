@@ -81,16 +81,16 @@ pub(crate) fn coef_at(numbers: &[i64], unknowns: usize, rows: usize, i: usize, k
 }
 
 // A pivot on the row of these numbers over so many columns and a column, with the list of the places at which the row
-// is not 0.
-#[derive(Drop)]
+// is not 0, where one is made.
+#[derive(Clone, Copy)]
 pub(crate) struct Pivot<'p> {
     pub row: &'p [i64],
     pub unknowns: usize,
     pub column: usize,
-    pub nonzeros: Option<Nonzeros>,
+    pub nonzeros: &'p Option<Nonzeros>,
     ghost size: { length row.now ≡ row_size unknowns },
     ghost solvable: { IsPivot unknowns 0 (row_of_numbers unknowns row.now) column },
-    ghost listed: { IfSome nonzeros (AreNonzeros (drop 1 row.now)) } by { Prim.hlevel props },
+    ghost listed: { IfSome nonzeros.now (AreNonzeros (drop 1 row.now)) } by { Prim.hlevel props },
 }
 
 // Makes of row i of so many what it is after the pivot; whether its numbers are short. A row that is 0 in the column
@@ -115,7 +115,7 @@ fn turn_at(numbers: &mut [i64], rows: usize, i: usize, pivot: &Pivot<'_>) -> boo
     let place = place_of(unknowns, rows, i, numbers);
     let (_, behind) = numbers.split_at_mut(place);
     let (row, _) = behind.split_at_mut(unknowns + 2);
-    turn(row, unknowns, pivot.row, pivot.column, &pivot.nonzeros)
+    turn(row, unknowns, pivot.row, pivot.column, pivot.nonzeros)
 }
 
 // Makes of so many rows what they are after the pivot; whether their numbers are short.
@@ -155,7 +155,7 @@ pub(crate) fn pivot_rows(
         row,
         unknowns,
         column: c,
-        nonzeros,
+        nonzeros: &nonzeros,
     };
     if !turn_rows(front, r, &pivot) {
         return false;

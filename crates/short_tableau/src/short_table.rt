@@ -21,7 +21,7 @@ use crate::rows::{
     Pivot, coef_at, constant_at, first_below_in, numbers_in, pivot_rows, row_in, turn_rows,
 };
 use affine_forms::WantOfMemory;
-use short_row::{ShortRow, nonzeros_of, widen_numbers};
+use short_row::{ShortRow, widen_numbers};
 use std::alloc::Global;
 use std::marker::Model;
 
@@ -296,12 +296,11 @@ impl ShortTableau {
             (map (model.eliminated (model.row_at t.now.rows i) c) self.old.rows) ≡ false }
         ensures none { IsFalse result → self.new ≡ record self.old { rows = [] } }
     {
-        let row = t.row_numbers(i);
         let pivot = Pivot {
-            row,
+            row: t.row_numbers(i),
             unknowns: self.unknowns,
             column: c,
-            nonzeros: nonzeros_of(row),
+            nonzeros: &None,
         };
         if !turn_rows(&mut self.numbers, self.count, &pivot) {
             self.count = 0;
