@@ -60,11 +60,13 @@ impl Nonzeros {
     }
 }
 
-// The list of all places, where there are at most 64 and the numbers have 32 bits.
-#[inline(always)]
-fn nonzeros_in(numbers: &[i64]) -> Option<Nonzeros>
-    ensures { IfSome result (AreNonzeros numbers.now) }
+/// The list of the places behind the denominator of a row, where there are at most 64 and the numbers have 32 bits.
+#[inline(never)]
+pub fn nonzeros_of(row: &[i64]) -> Option<Nonzeros>
+    requires { 1 ≤ length row.now }
+    ensures { IfSome result (AreNonzeros (drop 1 row.now)) }
 {
+    let (_, numbers) = row.split_at(1);
     if numbers.len() > 64 {
         return None;
     }
@@ -78,14 +80,4 @@ fn nonzeros_in(numbers: &[i64]) -> Option<Nonzeros>
         }
     }
     Some(found)
-}
-
-/// The list of the places behind the denominator of a row, where there are at most 64 and the numbers have 32 bits.
-#[inline(never)]
-pub fn nonzeros_of(row: &[i64]) -> Option<Nonzeros>
-    requires { 1 ≤ length row.now }
-    ensures { IfSome result (AreNonzeros (drop 1 row.now)) }
-{
-    let (_, numbers) = row.split_at(1);
-    nonzeros_in(numbers)
 }
