@@ -1,5 +1,8 @@
 -- The kept run of some forms with others behind them.
-use Rattle.refuter.proofs.Words.{◌≡◌, ◌∙◌, refl, ap, ap₂, sym, subst, ℕ, zero, suc, ◌+◌, ◌<◌, ◌≤◌, arith, ℤ, List, [], ◌∷◌, ◌++◌, All, length, length-append, map, get_or, take, drop, Option, IfSome, map-append, length-map, length-take-le, take-append-drop, All-head, All-tail, IsContext, narrow_to, Refutation, constant, width, form-parts, widen_to, Row, form_row, Work, Outcome, Done, Refused, Refusal, go_on, Trace, refute, refute_from, first_trace, length_slice_set, node_of, replayed, form_rows, first_rows, IsRemembered, exchanged, exchanges, IsTraced, Remembered, KeptForms, AreFirst, AreFirstOver, passes_refusal}
+use Rattle.refuter.proofs.Words.{◌≡◌, ◌∙◌, refl, ap, ap₂, sym, subst, ℕ, zero, suc, ◌+◌, ◌<◌, ◌≤◌, arith, ℤ, List, [], ◌∷◌, ◌++◌, All, length, length-append, map, get_or, take, drop, Option, IfSome, map-append, length-map, length-take-le, take-append-drop, All-head, All-tail, IsContext, narrow_to, Refutation, constant, width, form-parts, widen_to, Row, form_row, Work, Outcome, Done, Refused, Refusal, go_on, Trace, refute, refute_from, first_trace, length_slice_set, node_of, replayed, form_rows, first_rows, IsRemembered, exchanged, exchanges, IsTraced, Remembered, passes_refusal}
+use Rattle.std.specs.Prelude.{slice_index_or}
+use Rattle.std.proofs.lemmas.List.Elements.{All-drop}
+use Rattle.std.proofs.lemmas.List.{drop_more, map_more}
 use Rattle.kept_run.proofs.OneFormMore.{rows-more}
 use Rattle.refutation_steps.proofs.Tracing.{first-traced, refute_by_run}
 
@@ -89,36 +92,82 @@ same-context w (c ∷ forms) long over =
     (record { some = omega (arith, here); most = omega (arith, here, place) }, same-context w forms (All-tail (λ c. w < length c) c forms long) (All-tail (λ c. width c ≡ w) c forms over))
 
 -- kept forms are those of the front, and the others come behind them
-pub kept-further : (n : ℕ) (k : KeptForms) (known M : List (List ℤ)) → k.width ≡ n → AreFirst k known → M ≡ map (narrow_to n) (drop (length k.forms) known)
-    → k.forms ++ M ≡ map (narrow_to n) known
-kept-further n k known M wide is rests =
-    ap₂ (λ (X Y : List (List ℤ)). X ++ Y) (is.first ∙ ap (λ (v : ℕ). map (narrow_to v) (take (length k.forms) known)) wide) rests
-    ∙ sym (map-append (narrow_to n) (take (length k.forms) known) (drop (length k.forms) known))
-    ∙ ap (λ (X : List (List ℤ)). map (narrow_to n) X) (take-append-drop (length k.forms) known)
+pub front-and-rest : (n i : ℕ) (known : List (List ℤ)) → map (narrow_to n) (take i known) ++ map (narrow_to n) (drop i known) ≡ map (narrow_to n) known
+front-and-rest n i known =
+    sym (map-append (narrow_to n) (take i known) (drop i known))
+    ∙ ap (λ (X : List (List ℤ)). map (narrow_to n) X) (take-append-drop i known)
 
-module _ (places : List ℤ) (known : List (List ℤ)) (first : ℤ) (k : KeptForms) (M : List (List ℤ)) (T : Trace)
-    (is : AreFirstOver (length places) k known) (rests : M ≡ map (narrow_to (length places)) (drop (length k.forms) known)) (trace : T ≡ first_trace places (length known) first) where
+-- one form more
+module _ (w j n : ℕ) (known forms : List (List ℤ)) (form : List ℤ) (lt : j < length known) (one : n ≡ 1) (is : forms ≡ map (narrow_to w) (take n (drop j known))) (at : form ≡ slice_index_or forms 0 form) where
+  here : form ≡ narrow_to w (get_or known j [])
+  here =
+      let single : forms ≡ narrow_to w (get_or known j []) ∷ [] = is ∙ ap₂ (λ (i : ℕ) (X : List (List ℤ)). map (narrow_to w) (take i X)) one (drop_more known j [] lt) in
+      at ∙ ap (λ (X : List (List ℤ)). slice_index_or X 0 form) single
+
+  pub next-form : map (narrow_to w) (take (j + 1) known) ≡ map (narrow_to w) (take j known) ++ form ∷ []
+  next-form = map_more (narrow_to w) known j [] lt ∙ ap (λ (x : List ℤ). map (narrow_to w) (take j known) ++ x ∷ []) (sym here)
+
+  pub form-length : All (λ c. w < length c) known → length form ≡ w + 1
+  form-length all =
+      let wide : All (λ c. w < length c) (drop j known) = All-drop (λ c. w < length c) j known all in
+      ap length here
+      ∙ narrow-length w (get_or known j []) (All-head (λ c. w < length c) (get_or known j []) (drop (j + 1) known) (subst (All (λ c. w < length c)) (drop_more known j [] lt) wide))
+
+-- the run of the first of known forms, with the others behind them
+module _ (w i : ℕ) (known M : List (List ℤ)) (m : Remembered) (is : IsRemembered w (map (narrow_to w) (take i known)) m) (rest : M ≡ map (narrow_to w) (drop i known)) (T : Trace) (v : Work) where
+  abbrev K : List (List ℤ)
+  K = map (narrow_to w) (take i known)
+
+  joined : K ++ M ≡ map (narrow_to w) known
+  joined = ap (λ (X : List (List ℤ)). K ++ X) rest ∙ front-and-rest w i known
+
+  abbrev pub whole-run : Outcome (Option Refutation)
+  whole-run = refute_from w T (node_of (first_rows w (map (narrow_to w) known))) v
+
+  same-run : whole-run ≡ whole w K M m is T v
+  same-run = ap (λ (X : List (List ℤ)). refute_from w T (node_of (first_rows w X)) v) (sym joined)
+
+  module _ (traced : IsTraced w (first_rows w (map (narrow_to w) known)) T) where
+    traced-parts : IsTraced w (first_rows w (K ++ M)) T
+    traced-parts = subst (λ (X : List (List ℤ)). IsTraced w (first_rows w X) T) (sym joined) traced
+
+    pub known-row : (j : ℕ) → j < length m.run.columns.items → get_or m.run.rows.items j 0 < length T.rows
+    known-row = row-within w K M m is T v traced-parts
+
+    pub known-column : (j : ℕ) → j < length m.run.columns.items → get_or m.run.columns.items j 0 < length T.columns
+    known-column = column-within w K M m is T v traced-parts
+
+    pub known-traced : (now : List Row) → length now ≡ length M
+        → IsTraced m.run.end.unknowns (m.run.end.rows ++ now) (exchanges m.run.rows.items m.run.columns.items T)
+    known-traced now e = traced-end w K M m is T v traced-parts now e
+
+  abbrev made-behind : Outcome (List Row)
+  made-behind = replayed m.run.pivots.rows m.run.columns.items (form_rows m.run.end.unknowns M) v
+
+  pub known-made : (now : List Row) (u : Work) → made-behind ≡ Done now u
+      → whole-run ≡ refute_from m.run.end.unknowns (exchanges m.run.rows.items m.run.columns.items T) (node_of (m.run.end.rows ++ now)) u
+  known-made now u e = same-run ∙ behind-made w K M m is T v now u e
+
+  pub known-refused : (o : Option Refusal) (u : Work) → IfSome o (λ f. made-behind ≡ Refused f u) → IfSome o (λ f. whole-run ≡ Refused f u)
+  known-refused o u h = subst (λ (X : Outcome (Option Refutation)). IfSome o (λ f. X ≡ Refused f u)) (sym same-run) (behind-refused w K M m is T v o u h)
+
+module _ (places : List ℤ) (known : List (List ℤ)) (first : ℤ) (w : ℕ) (T : Trace) (wide : w ≡ length places) (trace : T ≡ first_trace places (length known) first) where
   abbrev n : ℕ
   n = length places
 
   abbrev forms : List (List ℤ)
   forms = map (narrow_to n) known
 
-  whole-forms : k.forms ++ M ≡ forms
-  whole-forms = kept-further n k known M is.width is.first rests
-
   whole-trace : T ≡ first_trace places (length forms) first
   whole-trace = trace ∙ ap (λ j. first_trace places j first) (sym (length-map known (narrow_to n)))
 
-  pub kept-traced : IsTraced k.width (first_rows k.width (k.forms ++ M)) T
+  pub kept-traced : IsTraced w (first_rows w (map (narrow_to w) known)) T
   kept-traced =
-      subst (λ w. IsTraced w (first_rows w (k.forms ++ M)) T) (sym is.width)
-      (subst (λ (K : List (List ℤ)). IsTraced n (first_rows n K) T) (sym whole-forms)
-      (first-traced forms places first (record { unknowns = n; width = 0; rows = first_rows n forms }) T refl whole-trace))
+      subst (λ (v : ℕ). IsTraced v (first_rows v (map (narrow_to v) known)) T) (sym wide)
+      (first-traced forms places first (record { unknowns = n; width = 0; rows = first_rows n forms }) T refl whole-trace)
 
-  pub kept-run : (w : Work) → 1 ≤ length known → refute_from k.width T (node_of (first_rows k.width (k.forms ++ M))) w ≡ refute n forms places first w
-  kept-run w some =
-      ap (λ j. refute_from j T (node_of (first_rows j (k.forms ++ M))) w) is.width
-      ∙ ap (λ (K : List (List ℤ)). refute_from n T (node_of (first_rows n K)) w) whole-forms
-      ∙ ap (λ (U : Trace). refute_from n U (node_of (first_rows n forms)) w) whole-trace
-      ∙ sym (refute_by_run n forms places first w (λ z e. absurd (omega (arith, some, ap length e, length-map known (narrow_to n)))))
+  pub kept-run : (v : Work) → 1 ≤ length known → refute_from w T (node_of (first_rows w (map (narrow_to w) known))) v ≡ refute n forms places first v
+  kept-run v some =
+      ap (λ j. refute_from j T (node_of (first_rows j (map (narrow_to j) known))) v) wide
+      ∙ ap (λ (U : Trace). refute_from n U (node_of (first_rows n forms)) v) whole-trace
+      ∙ sym (refute_by_run n forms places first v (λ z e. absurd (omega (arith, some, ap length e, length-map known (narrow_to n)))))

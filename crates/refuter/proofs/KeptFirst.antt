@@ -1,28 +1,22 @@
 -- Kept forms that are the first of known ones.
-use Rattle.refuter.proofs.Words.{◌≡◌, ◌∙◌, ap, sym, ℕ, ◌≤◌, ℤ, List, length, map, take, arith, OnOk, length-map, length-take, length-take-le, take-take, narrow_to, KeptForms, AreFirst, AreFirstWithin, Result, Ok, Err}
+use Rattle.refuter.proofs.Words.{◌≡◌, ◌∙◌, ap, sym, subst, ℕ, ◌<◌, ◌≤◌, false, ℤ, List, length, map, take, arith, OnOk, All, length-take, take-take, narrow_to, KeptRun, IsRunOf, KeepsNone, AreFirst, AreFirstWithin, IsContext, IsRemembered, Result, Ok, Err}
 
-pub first-within : (k : KeptForms) (known : List (List ℤ)) → AreFirst k known → length k.forms ≤ length known
-first-within k known h =
-    let same : length k.forms ≡ length (take (length k.forms) known) = ap length h.first ∙ length-map (take (length k.forms) known) (narrow_to k.width) in
-    let short : length (take (length k.forms) known) ≤ length known = simp length-take (omega arith) in
-    omega (arith, same, short)
+-- those of one list are those of another that begins with as many of the same
+pub first-same : (k : KeptRun) (old now : List (List ℤ)) (n : ℕ) → AreFirst k old → take n now ≡ take n old → AreFirstWithin k now n
+first-same k old now n h e = λ within.
+    let least : length (take n now) ≡ length (take n old) = ap length e in
+    let long : k.count ≤ length now = omega (arith, within, h.few, least, length-take n now, length-take n old) in
+    let same : take k.count now ≡ take k.count old = sym (take-take k.count n now within) ∙ ap (take k.count) e ∙ take-take k.count n old within in
+    record { few = long; run = subst (λ (X : List (List ℤ)). IsRunOf (map (narrow_to k.width) X) k) (sym same) h.run }
 
--- they are the first of a front too, which is no shorter
-pub first-front : (k : KeptForms) (known front : List (List ℤ)) (n : ℕ) → AreFirst k known → front ≡ take n known → AreFirstWithin k front (length front)
-first-front k known front n h e = λ few.
-    let short : length (take n known) ≤ n = simp length-take (omega arith) in
-    let same : take (length k.forms) front ≡ take (length k.forms) known = ap (take (length k.forms)) e ∙ take-take (length k.forms) n known (omega (arith, short, few, ap length e)) in
-    record { first = h.first ∙ ap (λ (X : List (List ℤ)). map (narrow_to k.width) X) (sym same) }
-
--- those that are made of a front
-pub first-made : (k : KeptForms) (known front : List (List ℤ)) (w n : ℕ) → n ≤ length known → front ≡ take n known → k.width ≡ w → k.forms ≡ map (narrow_to w) front → AreFirst k known
-first-made k known front w n few e wide forms =
-    let long : length k.forms ≡ n = ap length forms ∙ length-map front (narrow_to w) ∙ ap length e ∙ length-take-le n known few in
-    record {
-      first = forms
-          ∙ ap (λ (X : List (List ℤ)). map (narrow_to w) X) (e ∙ ap (λ (j : ℕ). take j known) (sym long))
-          ∙ ap (λ (v : ℕ). map (narrow_to v) (take (length k.forms) known)) (sym wide);
-    }
+pub none-first : (k : KeptRun) (known : List (List ℤ)) → KeepsNone k → AreFirst k known
+none-first k known is = record {
+  few = omega (arith, is.count);
+  run = record {
+    context = rw is.count tt;
+    remembered = λ h. let unknown : k.is_known ≡ false = is.unknown in absurd cc;
+  };
+}
 
 pub on_ok : {T E : Type 0} (r : Result T E) (Q : Type 0) → Q → OnOk r Q
 on_ok (Ok x) Q h = h

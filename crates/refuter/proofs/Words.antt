@@ -21,6 +21,6 @@ pub use Rattle.point_run.specs.Points.{form_rows, first_rows, is_end}
 pub use Rattle.kept_run.specs.Remembered.{replayed, IsRemembered}
 pub use Rattle.kept_run.specs.Traces.{exchanged, exchanges, IsTraced, IsClosing}
 pub use Rattle.kept_run.specs.declared.remembered.Remembered.{Remembered}
-pub use Rattle.refuter.specs.KeptForms.{KeptForms, AreFirst, AreFirstWithin, AreFirstOver}
+pub use Rattle.refuter.specs.Kept.{KeptRun, IsRunOf, KeepsNone, AreFirst, AreFirstWithin, AreFirstOver}
 pub use Rattle.short_run.specs.Stops.{stop_fault}
 pub use Rattle.point_run.proofs.Leaving.{passes_refusal, run_same}

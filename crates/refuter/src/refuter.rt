@@ -4,7 +4,7 @@ ghost use Rattle.pip_model.specs.Refuting as model;
 ghost use Rattle.affine_forms.specs.Checks.{Fits};
 ghost use Rattle.pip_problem.specs.Faults.{run_fault};
 ghost use Rattle.run_counts.specs.Counts.{IsCountedRun};
-ghost use Rattle.refuter.specs.KeptForms.{AreFirst, AreFirstWithin, AreFirstOver};
+ghost use Rattle.refuter.specs.Kept.{KeepsNone, AreFirst, AreFirstWithin, AreFirstOver};
 ghost use Rattle.short_run.specs.Stops.{stop_fault};
 
 use crate::kept_front::KeptFront;
@@ -30,9 +30,9 @@ pub struct Refuter {
 }
 
 impl Model for Refuter {
-    ghost use Rattle.refuter.specs.KeptForms.{KeptForms};
+    ghost use Rattle.refuter.specs.Kept.{KeptRun};
 
-    ghost Value = { KeptForms };
+    ghost Value = { KeptRun };
 
     ghost view = { λ k. k.front };
 }
@@ -40,7 +40,7 @@ impl Model for Refuter {
 impl Refuter {
     /// It keeps no forms. Takes no memory.
     pub fn new(alloc: Global) -> Refuter
-        ensures { result ≡ record { width = 0; forms = [] } }
+        ensures { KeepsNone result }
     {
         Refuter {
             kept: 0,
@@ -91,11 +91,9 @@ impl Refuter {
             (model.refute (length places.now) (map (narrow_to (length places.now)) known.now) places.now first) }
         ensures kept { self.new ≡ self.old }
     {
-        let (_, more) = known.split_at(self.front.len());
-        let further = self.narrowed.narrow(more, places.len())?;
         self.room.trace.restart(places, known.len(), first)?;
         self.front
-            .refute_behind(further, &mut self.room.trace, work)
+            .refute_behind(&mut self.narrowed, known, &mut self.room.trace, work)
     }
 
     // The same by the run of all of them.
@@ -152,9 +150,9 @@ impl Refuter {
 
     /// Keeps no forms from here on, but their rooms for others.
     pub fn forget(&mut self)
-        ensures { self.new.forms ≡ [] }
+        ensures { KeepsNone self.new }
     {
-        self.front.forget(&mut self.narrowed.spares);
+        self.front.forget();
     }
 
     // The steps by which the known forms have no point, where those that it keeps are the first of them.
@@ -199,9 +197,9 @@ impl Refuter {
         ensures gives { IsCountedRun (λ o. o) run_fault result work.old work.new
             (model.refute (length places.now) (map (narrow_to (length places.now)) known.now) places.now first) }
         ensures first { OnOk result (AreFirst self.new known.now) }
-        ensures refused { OnErr result (self.new.forms ≡ []) }
+        ensures refused { OnErr result (KeepsNone self.new) }
     {
-        self.front.keep_within(&mut self.narrowed.spares, same);
+        self.front.keep_within(same);
         match self.refute_known(known, places, first, work) {
             Ok(found) => Ok(found),
             Err(refusal) => {

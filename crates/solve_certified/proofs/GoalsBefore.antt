@@ -1,5 +1,5 @@
 -- What stays from one refutation to the next.
-use Rattle.solve_certified.proofs.Words.{◌≡◌, ◌∙◌, ap, sym, ◌+◌, ℕ, ℤ, List, zero, suc, ◌<◌, ◌++◌, length, map, take, drop, take-take, append-nil, arith, without_last, narrow_to, KeptForms, AreFirst, AreFirstWithin, add-one, take-append-drop, own_before, own_forms, staying, AreMore}
+use Rattle.solve_certified.proofs.Words.{◌≡◌, ◌∙◌, ap, sym, ◌+◌, ℕ, ℤ, List, zero, suc, ◌<◌, ◌++◌, length, map, take, drop, take-take, append-nil, arith, without_last, add-one, take-append-drop, own_before, own_forms, staying, AreMore}
 use Rattle.solve_certified.specs.declared.leaf.LeafMaking.{LeafMaking}
 
 pub own_next : (m : LeafMaking) (r : ℕ) → own_before m.leaf (r + 1) ≡ own_forms m.leaf r
@@ -20,10 +20,3 @@ all_turned m r F kept now e stay more =
     ∙ ap (λ (xs : List (List ℤ)). xs ++ drop (length kept) now) (stay ∙ e)
     ∙ more F
     ∙ ap (λ (own : List (List ℤ)). F ++ own) (sym (own_next m r))
-
--- the forms that are kept are the first of the next ones too
-pub first_still : (k : KeptForms) (old now : List (List ℤ)) (n : ℕ) → AreFirst k old → take n now ≡ take n old → AreFirstWithin k now n
-first_still k old now n h e = λ few.
-    let same : take (length k.forms) old ≡ take (length k.forms) now
-    = sym (take-take (length k.forms) n old few) ∙ ap (take (length k.forms)) (sym e) ∙ take-take (length k.forms) n now few in
-    record { first = h.first ∙ ap (λ (X : List (List ℤ)). map (narrow_to k.width) X) same }

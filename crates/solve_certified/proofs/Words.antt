@@ -7,7 +7,7 @@ pub use Rattle.std.proofs.lemmas.Result.{err_from_is_err_and}
 pub use Rattle.pip_model.specs.Made.{narrow_to, PathQuotient, solve_with_certificate, made_leaf, unshared, quotient_step, quotient_steps, path_quotients, made_refutation, made_refutations, made_leaves, steps_or_none}
 pub use Rattle.certificate_check.specs.Goals.{without_last}
 pub use Rattle.certificate_check.specs.Known.{KnownForms}
-pub use Rattle.refuter.specs.KeptForms.{KeptForms, AreFirst, AreFirstWithin}
+pub use Rattle.refuter.specs.Kept.{AreFirst}
 pub use Rattle.certificate_check.specs.Leaves.{nothing, case_of, own_premises}
 pub use Rattle.pip_model.specs.Forms.{opposite, constant}
 pub use Rattle.pip_model.specs.Listed.{all_fit, opposite_listed}

@@ -4,7 +4,7 @@ ghost use Rattle.pip_model.specs.Check.{is_whole_list};
 ghost use Rattle.affine_forms.specs.Checks.{is_form_overflow};
 ghost use Rattle.pip_problem.specs.Faults.{run_fault};
 ghost use Rattle.certificate_check.specs.Leaves.{case_of, own_premises, nothing};
-ghost use Rattle.refuter.specs.KeptForms.{AreFirst};
+ghost use Rattle.refuter.specs.Kept.{AreFirst};
 ghost use Rattle.solve_certified.specs.Leaves.{made_at, made_proofs, IsBefore, IsMaking};
 ghost use Rattle.solve_certified.specs.Goals.{unknowns_at};
 

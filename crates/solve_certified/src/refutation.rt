@@ -3,7 +3,7 @@ ghost use Rattle.pip_model.specs.Agreement.{AgreesCounted};
 ghost use Rattle.pip_model.specs.Made.{steps_or_none};
 ghost use Rattle.affine_forms.specs.Checks.{Fits};
 ghost use Rattle.pip_problem.specs.Faults.{run_fault};
-ghost use Rattle.refuter.specs.KeptForms.{AreFirst, AreFirstWithin};
+ghost use Rattle.refuter.specs.Kept.{AreFirst, AreFirstWithin};
 ghost use Rattle.solve_certified.specs.Refutations.{refuted_by, places_of, IsScope};
 
 use crate::indices::push_indices;

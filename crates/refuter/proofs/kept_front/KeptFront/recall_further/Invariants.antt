@@ -1,8 +1,9 @@
-use Rattle.refuter.proofs.Words.{◌≡◌, ◌++◌, map, take, narrow_to}
+use Rattle.refuter.proofs.Words.{◌≡◌, AreFirst}
 use Rattle.refuter.proofs.kept_front.KeptFront.recall_further.Given as goal
 
-abbrev pub invariant-loop-form : goal.invariant-loop-form
-invariant-loop-form l = record {
+abbrev pub invariant-loop : goal.invariant-loop
+invariant-loop l = record {
   width : l.self.width ≡ l.fn.self.width;
-  forms : l.self.forms ≡ l.fn.self.forms ++ map (narrow_to l.fn.self.width) (take l.form-index l.more);
+  count : l.self.count ≡ l.counter;
+  first : AreFirst l.self l.known;
 }

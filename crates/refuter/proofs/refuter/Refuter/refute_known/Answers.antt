@@ -1,4 +1,4 @@
-use Rattle.refuter.proofs.Words.{rules, sym, subst, KeptForms, AreFirst}
+use Rattle.refuter.proofs.Words.{rules, sym, subst, KeptRun, AreFirst}
 use Rattle.refuter.proofs.KeptFirst.{on_ok}
 use Rattle.refuter.proofs.refuter.Refuter.refute_known.Goals as goal
 
@@ -9,4 +9,4 @@ refute_first-requires-clause-first c =
 pub returns-clause-first : goal.returns-clause-first
 returns-clause-first c =
     on_ok c.refute_first.result (AreFirst c.refute_first.new.self c.args.known.now)
-    (subst (λ (k : KeptForms). AreFirst k c.args.known.now) (sym c.refute_first.ensures.kept) c.in_ok-recall_first.ensures.first)
+    (subst (λ (k : KeptRun). AreFirst k c.args.known.now) (sym c.refute_first.ensures.kept) c.in_ok-recall_first.ensures.first)

@@ -1,7 +1,8 @@
 use Rattle.solve_certified.proofs.Words.{rules, ◌≡◌, ◌∙◌, ap, ℤ, List, ◌++◌, slice_index_or, err_from_is_err_and, all_fit, scope_forms, run_fault, case_of, own_premises, nothing, unknowns_at}
 use Rattle.std.proofs.Common.{IsTrue}
-use Rattle.solve_certified.proofs.GoalsBefore.{own_next, first_still}
+use Rattle.solve_certified.proofs.GoalsBefore.{own_next}
 use Rattle.solve_certified.proofs.Refuting.{goal_same, goal_fault}
+use Rattle.refuter.proofs.KeptFirst.{first-same}
 use Rattle.solve_certified.proofs.leaf.LeafMaking.refute_goal.Goals as goal
 
 pub returns-in_err-steps-clause-gives : goal.returns-in_err-steps-clause-gives
@@ -28,4 +29,4 @@ returns-clause-gives c =
 
 pub refute-requires-clause-same : goal.refute-requires-clause-same
 refute-requires-clause-same c =
-    rw c.keep.ensures (first_still c.args.refuter.now c.args.known.now.forms c.turn_to.new.known.forms c.in_ok-same.same c.requires.first c.in_ok-same.ensures.stay)
+    rw c.keep.ensures (first-same c.args.refuter.now c.args.known.now.forms c.turn_to.new.known.forms c.in_ok-same.same c.requires.first c.in_ok-same.ensures.stay)
