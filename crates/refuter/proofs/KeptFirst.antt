@@ -1,5 +1,5 @@
 -- Kept forms that are the first of known ones.
-use Rattle.refuter.proofs.Words.{◌≡◌, ◌∙◌, ap, sym, subst, ℕ, ◌<◌, ◌≤◌, false, ℤ, List, length, map, take, arith, OnOk, All, length-take, take-take, narrow_to, KeptRun, IsRunOf, KeepsNone, AreFirst, AreFirstWithin, IsContext, IsRemembered, Result, Ok, Err}
+use Rattle.refuter.proofs.Words.{◌≡◌, ◌∙◌, ap, sym, subst, ℕ, ◌≤◌, false, ℤ, List, length, map, take, arith, OnOk, length-take, take-take, narrow_to, KeptRun, IsRunOf, KeepsNone, AreFirst, AreFirstWithin, Result, Ok, Err}
 
 -- those of one list are those of another that begins with as many of the same
 pub first-same : (k : KeptRun) (old now : List (List ℤ)) (n : ℕ) → AreFirst k old → take n now ≡ take n old → AreFirstWithin k now n

@@ -1,5 +1,5 @@
 -- What stays from one refutation to the next.
-use Rattle.solve_certified.proofs.Words.{◌≡◌, ◌∙◌, ap, sym, ◌+◌, ℕ, ℤ, List, zero, suc, ◌<◌, ◌++◌, length, map, take, drop, take-take, append-nil, arith, without_last, add-one, take-append-drop, own_before, own_forms, staying, AreMore}
+use Rattle.solve_certified.proofs.Words.{◌≡◌, ◌∙◌, ap, sym, ◌+◌, ℕ, ℤ, List, zero, suc, ◌<◌, ◌++◌, length, take, drop, append-nil, arith, without_last, add-one, take-append-drop, own_before, own_forms, staying, AreMore}
 use Rattle.solve_certified.specs.declared.leaf.LeafMaking.{LeafMaking}
 
 pub own_next : (m : LeafMaking) (r : ℕ) → own_before m.leaf (r + 1) ≡ own_forms m.leaf r
