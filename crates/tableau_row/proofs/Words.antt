@@ -1,6 +1,6 @@
 -- The words of other modules that the proofs of this crate cite, passed on from one place. Declares nothing.
 pub use Rattle.std.proofs.Common.{◌≡◌, refl, sym, subst, ◌∙◌, ℕ, ◌-◌, ◌<◌, pos, ◌≤ℤ◌, length, arith, ◌+◌, ℤ, List, [], ◌∷◌, ◌++◌, replicate, take, drop, get_or, to_z, of_z, ap, suc, ◌*ℤ◌, true, false, length-set, ◌≤◌, append-nil, map, length-append, ◌-ℤ◌, vec_len, vec_capacity, rules}
-pub use Rattle.std.specs.Prelude.{IsTrue, All, slice_set, Vec}
+pub use Rattle.std.specs.Prelude.{IsTrue, IsFalse, All, slice_set, Vec}
 pub use Rattle.std.proofs.lemmas.List.Elements.{All-append, All-take, All-drop, All-cons, All-set}
 pub use Rattle.std.specs.Int.{w128, w64}
 pub use Rattle.std.proofs.lemmas.Int.{to_z-of_z, ints}
