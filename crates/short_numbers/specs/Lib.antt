@@ -1,3 +1,4 @@
 pub mod Short
+pub mod Nonzeros
 pub use Rattle.affine_forms.specs.Checks
 pub use Rattle.affine_forms.specs.Forms

@@ -2,9 +2,11 @@
 #![tactic(auto)]
 
 mod division;
+mod nonzeros;
 mod products;
 
 pub use division::{short_floor_div, short_gcd};
+pub use nonzeros::{Nonzeros, nonzeros_of};
 pub use products::{
     half_difference, half_product, is_half, narrow, short_difference, short_product,
 };

@@ -1,5 +1,4 @@
 pub mod Begun
-pub mod Nonzeros
 pub mod Put
 pub mod Rows
 pub mod Sized

@@ -2,12 +2,11 @@ ghost use Rattle.std.specs.Prelude.{◌≡◌, ◌≤◌, pos, length, All, IfSo
 ghost use Rattle.pip_model.specs.Forms.{combine as combine_of};
 ghost use Rattle.short_numbers.specs.Short.{IsShort, IsHalf, AreHalf};
 ghost use Rattle.short_row.specs.Begun.{finished};
-ghost use Rattle.short_row.specs.Nonzeros.{AreNonzeros};
+ghost use Rattle.short_numbers.specs.Nonzeros.{AreNonzeros};
 ghost use Rattle.short_row.specs.Terms.{AreTerms};
 
-use crate::nonzeros::Nonzeros;
 use crate::wide::Factors;
-use short_numbers::{half_difference, is_half};
+use short_numbers::{Nonzeros, half_difference, is_half};
 
 // Makes `a*r - b*s` of r, entry by entry, up to the first that has no 32 bits; how many are made.
 fn combine_half(a: i64, r: &mut [i64], b: i64, s: &[i64]) -> usize
@@ -46,7 +45,7 @@ fn reduce_half(r: &mut [i64], b: i64, s: &[i64]) -> usize
 }
 
 // The same by the list of the places at which s is not 0.
-#[tactic(auto, using(crate::proofs::Reached::listed_within))]
+#[tactic(auto, using(short_numbers::proofs::Places::listed_within))]
 fn reduce_listed(r: &mut [i64], b: i64, s: &[i64], nonzeros: &Nonzeros) -> usize
     requires terms { AreTerms (pos 1) r.old b s.now }
     requires half { IsHalf b }

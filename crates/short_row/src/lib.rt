@@ -4,7 +4,6 @@
 mod begun;
 mod divisors;
 mod halves;
-mod nonzeros;
 mod numbers;
 mod put;
 mod row;
@@ -12,8 +11,8 @@ mod turning;
 mod whole;
 mod wide;
 
-pub use nonzeros::{Nonzeros, nonzeros_of};
 pub use numbers::{floor_mod, narrow, product, wide_entry};
 pub use row::{ShortRow, divide_parts, make_unit, put_unit, view_of};
+pub use short_numbers::{Nonzeros, nonzeros_of};
 pub use turning::turn;
 pub use wide::widen_numbers;

@@ -5,17 +5,16 @@ ghost use Rattle.short_numbers.specs.Short.{IsShort};
 ghost use Rattle.row_laws.specs.Flat.{row_of_numbers};
 ghost use Rattle.row_laws.specs.Lowest.{AreLowest};
 ghost use Rattle.short_row.specs.Begun.{finished};
-ghost use Rattle.short_row.specs.Nonzeros.{AreNonzeros};
+ghost use Rattle.short_numbers.specs.Nonzeros.{AreNonzeros};
 ghost use Rattle.short_row.specs.Put.{IsTurning};
 ghost use Rattle.short_row.specs.Terms.{AreTerms, IsShortDivisor};
 ghost use Rattle.short_row.specs.Turned.{IsTurned};
 
 use crate::divisors::gcd;
 use crate::halves::combine_halves;
-use crate::nonzeros::Nonzeros;
 use crate::put::{Put, end_put};
 use crate::wide::Factors;
-use short_numbers::short_floor_div;
+use short_numbers::{Nonzeros, short_floor_div};
 
 // The factors in lowest terms.
 fn lowest(a: i64, b: i64) -> Factors

@@ -7,7 +7,7 @@ ghost use Rattle.row_laws.specs.Short.{IsShort};
 ghost use Rattle.row_laws.specs.Choices.{IsCandidate};
 ghost use Rattle.short_tableau.specs.Below.{negative_from};
 ghost use Rattle.short_tableau.specs.Dense.{IsDense, rows_in};
-ghost use Rattle.short_row.specs.Nonzeros.{AreNonzeros};
+ghost use Rattle.short_numbers.specs.Nonzeros.{AreNonzeros};
 ghost use Rattle.short_row.specs.Sized.{IsPivot, row_size};
 ghost use Rattle.short_row.specs.Rows.{row_of};
 ghost use Rattle.short_row.specs.Turned.{is_short_row};

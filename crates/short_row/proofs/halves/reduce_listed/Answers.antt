@@ -1,6 +1,7 @@
 use Rattle.short_row.proofs.Words.{arith, rules, ◌≡◌, ◌<◌, sym, pos, length, All-set, IsShort, combined}
 use Rattle.short_row.proofs.Finished.{finished_combined}
-use Rattle.short_row.proofs.Reached.{listed_within, made_all, made_before, made_behind, reached_first}
+use Rattle.short_numbers.proofs.Places.{listed_within}
+use Rattle.short_row.proofs.Reached.{made_all, made_before, made_behind, reached_first}
 use Rattle.short_row.proofs.halves.reduce_listed.Goals as goal
 
 pub loop-k-init : goal.loop-k-init

@@ -1,5 +1,5 @@
 use Rattle.short_row.proofs.Words.{◌≡◌, pos, All, IsShort, combined}
-use Rattle.short_row.proofs.Reached.{reached}
+use Rattle.short_numbers.proofs.Places.{reached}
 use Rattle.short_row.proofs.halves.reduce_listed.Given as goal
 
 abbrev pub invariant-loop-k : goal.invariant-loop-k

@@ -1,7 +1,7 @@
 ghost use Rattle.std.specs.Prelude.{◌≡◌, ◌+◌, ◌<◌, ◌≤◌, length, drop, get_or, [], ◌∷◌, ◌++◌, IfSome};
-ghost use Rattle.short_row.specs.Nonzeros.{AreNonzeros};
+ghost use Rattle.short_numbers.specs.Nonzeros.{AreNonzeros};
 
-use short_numbers::is_half;
+use crate::products::is_half;
 use std::marker::Model;
 
 /// A list of places at which numbers are not 0, in order: at most 64, each below 64. Contracts see the places.
@@ -42,17 +42,17 @@ impl Nonzeros {
         self.count += 1;
     }
 
-    // How many there are.
+    /// How many there are.
     #[inline(always)]
-    pub(crate) fn len(&self) -> usize
+    pub fn len(&self) -> usize
         ensures { result ≡ length self.now }
     {
         self.count
     }
 
-    // The place with number k.
+    /// The place with number k.
     #[inline(always)]
-    pub(crate) fn place(&self, k: usize) -> usize
+    pub fn place(&self, k: usize) -> usize
         requires { k < length self.now }
         ensures { result ≡ get_or self.now k 0 }
     {

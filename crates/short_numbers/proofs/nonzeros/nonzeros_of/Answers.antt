@@ -1,7 +1,8 @@
-use Rattle.short_row.proofs.Words.{rules, arith, take, length-take-le}
-use Rattle.short_row.proofs.Reached.{nonzeros_length, more_zero, more_nonzero}
-use Rattle.short_row.proofs.nonzeros.nonzeros_of.Goals as goal
-use Rattle.short_row.proofs.nonzeros.nonzeros_of.Goals.{then-numbers-i-ne0+else-not-is_half, else-numbers-i-ne0}
+use Rattle.std.proofs.Common.{rules, arith, take}
+use Rattle.std.proofs.lemmas.List.{length-take-le}
+use Rattle.short_numbers.proofs.Places.{nonzeros_length, more_zero, more_nonzero}
+use Rattle.short_numbers.proofs.nonzeros.nonzeros_of.Goals as goal
+use Rattle.short_numbers.proofs.nonzeros.nonzeros_of.Goals.{then-numbers-i-ne0+else-not-is_half, else-numbers-i-ne0}
 
 pub push-requires-clause-count : goal.push-requires-clause-count
 push-requires-clause-count c =
