@@ -21,7 +21,7 @@ pub(crate) fn read_input<S: Source>(alloc: Global, source: &mut S) -> Result<Vec
     ensures faults { CountsFaults (IsErrOf result Ending.ReadFault) (S.faults source.old) (S.faults source.new) }
 {
     let mut bytes = Vec::new(alloc);
-    let mut buf = [0u8; 4096];
+    let mut buf = [0u8; 2048];
     while bytes.len() <= MOST_INPUT_BYTES {
         let room = buf.len().min(MOST_INPUT_BYTES + 1 - bytes.len());
         let count = match source.read(&mut buf[..room]) {

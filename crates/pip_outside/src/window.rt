@@ -11,7 +11,7 @@ use std::alloc::{AllocError, Global};
 use std::marker::Model;
 
 // The most bytes that one call asks a source for.
-const PIECE: usize = 4096;
+const PIECE: usize = 2048;
 
 /// Why no bytes come into a window: the source failed, or memory was refused.
 #[derive(Clone, Copy, Debug, PartialEq, Eq)]
@@ -53,11 +53,11 @@ fn move_to_front(bytes: &mut [u8], start: usize)
     target.copy_from_slice(moved);
 }
 
-// Asks the source for at most `most` bytes, and for no more than 4,096, which come into the front of these.
+// Asks the source for at most `most` bytes, and for no more than 2,048, which come into the front of these.
 fn read_piece<S: Source>(piece: &mut [u8], source: &mut S, most: usize) -> Result<usize, Failed>
-    requires room { length piece.old ≡ 4096 }
+    requires room { length piece.old ≡ 2048 }
     requires most { 1 ≤ most }
-    ensures bound { IfOk result (λ n. (n ≤ most) × (n ≤ 4096)) }
+    ensures bound { IfOk result (λ n. (n ≤ most) × (n ≤ 2048)) }
     ensures bytes { ReadConsumes (S.left source.old) (S.left source.new) result piece.new }
     ensures counted { IfSome (S.left source.old) (λ _. S.taken source.new ≡ S.taken source.old + count_of result) }
     ensures faults { CountsFaults (IsErr result) (S.faults source.old) (S.faults source.new) }
@@ -92,7 +92,7 @@ impl Model for Window {
 
     // the dropped bytes that still stand are no more than the held ones: twice what is held bounds the memory
     ghost invariant = { λ w. (w.start + w.start ≤ vec_len w.bytes) × (vec_len w.bytes ≤ w.peak + w.start)
-        × (vec_len w.piece ≡ 4096) };
+        × (vec_len w.piece ≡ 2048) };
 }
 
 impl Window {
