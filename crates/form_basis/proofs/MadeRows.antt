@@ -1,5 +1,5 @@
 -- A row that is tested to be its form's.
-use Rattle.form_basis.proofs.Words.{◌≡◌, ◌∙◌, refl, ap, sym, ℕ, ◌+◌, ◌*◌, ◌<◌, ◌≤◌, ℤ, pos, negsuc, ◌*ℤ◌, ◌≤ℤ◌, unsigned_abs, arith, List, [], ◌∷◌, length, take, drop, length-drop, ints, get_or-take, get_or-drop, length-take-le, entry, scale, divided, row_of_numbers, TableauRows, entry_first, Basis, IsRead, summed, valued, combined, read}
+use Rattle.form_basis.proofs.Words.{◌≡◌, ◌∙◌, refl, ap, sym, ℕ, ◌+◌, ◌<◌, ℤ, pos, negsuc, ◌*ℤ◌, ◌≤ℤ◌, unsigned_abs, arith, List, [], ◌∷◌, length, take, drop, length-drop, ints, get_or-take, get_or-drop, length-take-le, entry, scale, divided, row_of_numbers, TableauRows, entry_first, Basis, IsRead, summed, valued, combined, read}
 use Rattle.pip_model.proofs.Forms.{entry-scale}
 use Rattle.pip_model.proofs.Polynomials.{var, ◌⊗◌, ring}
 use Rattle.run_laws.proofs.Sums.{length-scale}

@@ -1,5 +1,5 @@
 -- Rows of forms that are read off the places' rows.
-use Rattle.std.specs.Prelude.{◌≡◌, ℕ, ◌+◌, ◌*◌, ◌^◌, ◌<◌, ◌≤◌, ℤ, ◌+ℤ◌, ◌*ℤ◌, List, length}
+use Rattle.std.specs.Prelude.{◌≡◌, ℕ, ◌+◌, ◌*◌, ◌^◌, ◌<◌, ℤ, ◌+ℤ◌, ◌*ℤ◌, List, length}
 use Rattle.pip_model.specs.Forms.{entry, dot}
 use Rattle.pip_model.specs.Rows.{Row}
 use Rattle.row_laws.specs.Tableaus.{TableauRows}

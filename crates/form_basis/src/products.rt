@@ -28,7 +28,10 @@ pub(crate) fn dot(form: &[i64], column: &[i64]) -> i64
 {
     let mut sum = 0;
     for i in 0..column.len() {
-        sum = add_product(sum, form[i], column[i]);
+        let number = form[i];
+        if number != 0 {
+            sum = add_product(sum, number, column[i]);
+        }
     }
     sum
 }
