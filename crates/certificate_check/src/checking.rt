@@ -50,34 +50,16 @@ fn check_leaves(
         return Err(Fault::Rejected(START));
     }
     let walk = TreeCheck {
+        alloc,
         problem,
         shares: certificate.shares(),
         proofs,
     };
     let mut path = NodePath::new(alloc, problem.params());
-    let checked = walk.check_node(alloc, forms, &mut path, tree.root(), 0);
+    let checked = walk.check_node(forms, &mut path, tree.root(), 0);
     drop(path);
     checked?;
     Ok(())
-}
-
-// Checks a tree: the vector, and then the leaves.
-fn check_tree(
-    alloc: Global,
-    forms: &mut GoalForms,
-    problem: &Problem,
-    tree: &Quast,
-    vector: &[i128],
-    certificate: &Certificate,
-) -> Result<(), Fault>
-    requires width { tree.now.width ≡ problem.now.params }
-    requires fits { All Fits vector.now }
-    ensures gives { Agrees (λ _. tt) fault_of result
-        (model.check_tree problem.now certificate.now.shares tree.now.tree vector.now certificate.now.leaves) }
-    ensures quast { OnOk result (IsQuast tree.now) }
-{
-    check_vector(problem, vector)?;
-    check_leaves(alloc, forms, problem, tree, certificate)
 }
 
 // Checks all conditions in order. The word `void` stands exactly with the answer `void`.
@@ -94,14 +76,10 @@ fn check_answer(
 {
     match (answer, certificate.vector()) {
         (Answer::Void, None) => check_void(alloc, problem, certificate.as_slice()),
-        (Answer::Tree(tree), Some(vector)) => check_tree(
-            alloc,
-            forms,
-            problem,
-            tree,
-            vector,
-            certificate,
-        ),
+        (Answer::Tree(tree), Some(vector)) => {
+            check_vector(problem, vector)?;
+            check_leaves(alloc, forms, problem, tree, certificate)
+        }
         _ => Err(Fault::Rejected(START)),
     }
 }

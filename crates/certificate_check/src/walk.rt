@@ -15,9 +15,11 @@ use pip_problem::Problem;
 use quast::{Component, Node};
 use std::alloc::Global;
 
-// The check of a tree's leaves: the problem, whether the certificate's format is 2, and the proofs of the leaves.
+// The check of a tree's leaves: whence its memory comes, the problem, whether the certificate's format is 2, and the
+// proofs of the leaves.
 #[derive(Drop)]
 pub(crate) struct TreeCheck<'a> {
+    pub(crate) alloc: Global,
     pub(crate) problem: &'a Problem,
     pub(crate) shares: bool,
     pub(crate) proofs: &'a [LeafProofs],
@@ -52,7 +54,6 @@ impl TreeCheck<'_> {
     // those of others.
     fn check_leaf(
         &self,
-        alloc: Global,
         forms: &mut GoalForms,
         path: &NodePath,
         l: usize,
@@ -70,7 +71,7 @@ impl TreeCheck<'_> {
             path: path.as_slice(),
             list,
         };
-        leaf.check(alloc, forms, &self.proofs[l])?;
+        leaf.check(self.alloc, forms, &self.proofs[l])?;
         Ok(l + 1)
     }
 
@@ -104,7 +105,6 @@ impl TreeCheck<'_> {
     // next.
     pub(crate) fn check_node(
         &self,
-        alloc: Global,
         forms: &mut GoalForms,
         path: &mut NodePath,
         node: &Node,
@@ -116,28 +116,28 @@ impl TreeCheck<'_> {
         ensures path { OnOk result (path.new ≡ path.old) }
     {
         match node {
-            Node::Bottom => self.check_leaf(alloc, forms, path, l, None),
+            Node::Bottom => self.check_leaf(forms, path, l, None),
             Node::Leaf(components) => {
-                self.check_leaf(alloc, forms, path, l, Some(components.as_slice()))
+                self.check_leaf(forms, path, l, Some(components.as_slice()))
             }
             Node::Select(v, a, b) => {
                 let (scope, n) = (path.scope(), path.len());
-                path.push(alloc, v)?;
-                let second = self.check_node(alloc, forms, path, a, l)?;
+                path.push(self.alloc, v)?;
+                let second = self.check_node(forms, path, a, l)?;
                 path.go_back(scope, n);
-                if let Err(refusal) = path.push_opposite(alloc, v) {
+                if let Err(refusal) = path.push_opposite(self.alloc, v) {
                     return Err(self.refusal_at(refusal, b, second));
                 }
-                let next = self.check_node(alloc, forms, path, b, second)?;
+                let next = self.check_node(forms, path, b, second)?;
                 path.go_back(scope, n);
                 Ok(next)
             }
             Node::Define(v, d, a) => {
                 let (scope, n) = (path.scope(), path.len());
-                if let Err(refusal) = path.push_bounds(alloc, v, *d) {
+                if let Err(refusal) = path.push_bounds(self.alloc, v, *d) {
                     return Err(self.refusal_at(refusal, a, l));
                 }
-                let next = self.check_node(alloc, forms, path, a, l)?;
+                let next = self.check_node(forms, path, a, l)?;
                 path.go_back(scope, n);
                 Ok(next)
             }
