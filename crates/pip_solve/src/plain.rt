@@ -10,7 +10,7 @@ use crate::starting::{are_tight, tighten_rows};
 use affine_forms::Form;
 use node_turn::{Work, are_read_off};
 use pip_problem::{Problem, Refusal};
-use plain_run::{ShortTableau, Spares, tree_shortly};
+use plain_run::{PlainProblem, ShortTableau, Spares, tree_shortly};
 use quast::Quast;
 
 // The tree of a problem without parameters whose first rows are these, where all numbers on the way have 64 bits. None
@@ -29,8 +29,12 @@ fn tree_of_rows(
     ensures width { IfSome result (λ r. IfOk r (λ tree. tree.width ≡ problem.now.params)) }
     ensures none { IfNone result (work.new ≡ work.old) }
 {
-    let integer = problem.integer();
-    tree_shortly(spares, room, problem.unknowns(), forms, integer, work)
+    let plain = PlainProblem {
+        unknowns: problem.unknowns(),
+        forms,
+        integer: problem.integer(),
+    };
+    tree_shortly(spares, room, &plain, work)
 }
 
 // The tree of a problem without parameters, where all numbers on the way have 64 bits; its rows are copied where they

@@ -7,4 +7,4 @@ mod tree;
 pub use point::point_shortly;
 pub use point_turns::ShortTableau;
 pub use spare_forms::Spares;
-pub use tree::tree_shortly;
+pub use tree::{PlainProblem, tree_shortly};

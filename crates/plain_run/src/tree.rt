@@ -22,6 +22,15 @@ use run_counts::Work;
 use short_run::{ShortRows, Stop, start_short};
 use spare_forms::Spares;
 
+/// A problem without parameters: the number of its unknowns, the forms of its rows, and whether whole points are asked
+/// for.
+#[derive(Clone, Copy)]
+pub struct PlainProblem<'a> {
+    pub unknowns: usize,
+    pub forms: &'a [Form],
+    pub integer: bool,
+}
+
 // The same number.
 #[inline(always)]
 pub(crate) fn wide(x: i64) -> i128
@@ -86,52 +95,48 @@ fn leaf(spares: &mut Spares, rows: &ShortTableau) -> Result<Quast, WantOfMemory>
     Ok(Quast::list(components(spares, rows)?))
 }
 
-// The tree of the run of these forms as rows over so many unknowns, in the room of other rows: the list of the values
-// found, or bottom.
+// The tree of a problem's run, in the room of other rows: the list of the values found, or bottom.
 fn plain_tree(
     spares: &mut Spares,
     rows: &mut ShortTableau,
-    places: usize,
-    forms: &[Form],
-    integer: bool,
+    problem: &PlainProblem,
     work: &mut Work,
 ) -> Result<Quast, Stop>
-    requires forms { IsContext places forms.now }
-    requires some { 1 ≤ places }
-    requires few { places ≤ most_unknowns }
+    requires forms { IsContext problem.now.unknowns problem.now.forms.now }
+    requires some { 1 ≤ problem.now.unknowns }
+    requires few { problem.now.unknowns ≤ most_unknowns }
     ensures gives { IsCountedRun tree_in stop_fault result work.old work.new
-        (run_from (plain_setting places integer) (node_of (start places 0 (map (widen_to places) forms.now)))) }
+        (run_from (plain_setting problem.now.unknowns problem.now.integer)
+        (node_of (start problem.now.unknowns 0 (map (widen_to problem.now.unknowns) problem.now.forms.now)))) }
     ensures width { IfOk result (λ tree. tree.width ≡ 0) }
 {
-    start_short(rows, places, forms)?;
-    if run_on::<ShortRows>(rows, integer, usize::MAX, work)? {
+    start_short(rows, problem.unknowns, problem.forms)?;
+    if run_on::<ShortRows>(rows, problem.integer, usize::MAX, work)? {
         Ok(leaf(spares, rows)?)
     } else {
         Ok(Quast::bottom(0))
     }
 }
 
-/// The tree of the run of these forms as rows over so many unknowns, without parameters, in the room of other rows: the
-/// list of the values found, or bottom, with the counts and the refusals of that run. None where a number on the way has
-/// more than 64 bits, and nothing is counted then.
+/// The tree of a problem's run, in the room of other rows: the list of the values found, or bottom, with the counts and
+/// the refusals of that run. None where a number on the way has more than 64 bits, and nothing is counted then.
 pub fn tree_shortly(
     spares: &mut Spares,
     rows: &mut ShortTableau,
-    places: usize,
-    forms: &[Form],
-    integer: bool,
+    problem: &PlainProblem,
     work: &mut Work,
 ) -> Option<Result<Quast, Refusal>>
-    requires forms { IsContext places forms.now }
-    requires some { 1 ≤ places }
-    requires few { places ≤ most_unknowns }
+    requires forms { IsContext problem.now.unknowns problem.now.forms.now }
+    requires some { 1 ≤ problem.now.unknowns }
+    requires few { problem.now.unknowns ≤ most_unknowns }
     ensures gives { IfSome result (λ r. IsCountedRun tree_in run_fault r work.old work.new
-        (run_from (plain_setting places integer) (node_of (start places 0 (map (widen_to places) forms.now))))) }
+        (run_from (plain_setting problem.now.unknowns problem.now.integer)
+        (node_of (start problem.now.unknowns 0 (map (widen_to problem.now.unknowns) problem.now.forms.now))))) }
     ensures width { IfSome result (λ r. IfOk r (λ tree. tree.width ≡ 0)) }
     ensures none { IfNone result (work.new ≡ work.old) }
 {
     let before = work.counts();
-    match plain_tree(spares, rows, places, forms, integer, work) {
+    match plain_tree(spares, rows, problem, work) {
         Ok(tree) => Some(Ok(tree)),
         Err(Stop::Refused(refusal)) => Some(Err(refusal)),
         Err(Stop::Long) => {

@@ -12,9 +12,8 @@ ghost use Rattle.point_turns.specs.Turns.{made, node_of};
 ghost use Rattle.plain_laws.specs.Plain.{plain_setting};
 ghost use Rattle.plain_run.specs.Trees.{tree_in};
 
-use affine_forms::Form;
 use pip_problem::Refusal;
-use plain_run::{ShortTableau, Spares};
+use plain_run::{PlainProblem, ShortTableau, Spares};
 use point_run::{PointTurn, WideRows};
 use quast::Quast;
 use run_counts::Work;
@@ -36,17 +35,16 @@ pub fn take_turn(rows: &mut Tableau, work: &mut Work) -> Result<PointTurn, Refus
 pub fn tree_shortly(
     spares: &mut Spares,
     rows: &mut ShortTableau,
-    places: usize,
-    forms: &[Form],
-    integer: bool,
+    problem: &PlainProblem,
     work: &mut Work,
 ) -> Option<Result<Quast, Refusal>>
-    requires forms { IsContext places forms.now }
-    requires some { 1 ≤ places }
-    requires few { places ≤ most_unknowns }
+    requires forms { IsContext problem.now.unknowns problem.now.forms.now }
+    requires some { 1 ≤ problem.now.unknowns }
+    requires few { problem.now.unknowns ≤ most_unknowns }
     ensures gives { IfSome result (λ r. IsCountedRun tree_in run_fault r work.old work.new
-        (run_from (plain_setting places integer) (node_of (start places 0 (map (widen_to places) forms.now))))) }
+        (run_from (plain_setting problem.now.unknowns problem.now.integer)
+        (node_of (start problem.now.unknowns 0 (map (widen_to problem.now.unknowns) problem.now.forms.now))))) }
     ensures none { IfNone result (work.new ≡ work.old) }
 {
-    plain_run::tree_shortly(spares, rows, places, forms, integer, work)
+    plain_run::tree_shortly(spares, rows, problem, work)
 }

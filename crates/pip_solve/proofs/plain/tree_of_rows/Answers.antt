@@ -16,6 +16,6 @@ tree_shortly-requires-clause-forms c =
 pub returns-clause-gives : goal.returns-clause-gives
 returns-clause-gives c =
     let P = c.args.problem.now in
-    let same : run_from (plain_setting c.unknowns.result c.integer-integer.result) (node_over [] (start c.unknowns.result 0 (map (widen_to c.unknowns.result) c.args.forms.now))) c.args.work.now ≡ run_from (setting P) (first_node P) c.args.work.now =
-    rw (c.requires.rows, c.unknowns.ensures.value, c.integer-integer.ensures) (problem_run P c.args.work.now c.requires.none c.unknowns.ensures.problem.rows) in
+    let same : run_from (plain_setting c.unknowns.result c.integer.result) (node_over [] (start c.unknowns.result 0 (map (widen_to c.unknowns.result) c.args.forms.now))) c.args.work.now ≡ run_from (setting P) (first_node P) c.args.work.now =
+    rw (c.requires.rows, c.unknowns.ensures.value, c.integer.ensures) (problem_run P c.args.work.now c.requires.none c.unknowns.ensures.problem.rows) in
     given_by tree_in run_fault c.tree_shortly.result c.args.work.now c.tree_shortly.new.work _ _ same c.tree_shortly.ensures.gives
