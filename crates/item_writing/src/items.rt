@@ -56,9 +56,8 @@ pub trait Items {
         ensures text { IsTextOfItem (text_of (meaning self.now) (seen self.now item.old)) result text.new.items };
 }
 
-// Puts the text of the item at a place into `text` and answers the place after the item.
+// Puts the text of the item at a place into `text`, from whose memory all is made, and answers the place after the item.
 fn write_text<C: Items>(
-    alloc: Global,
     command: &C,
     room: &mut C::Room,
     bytes: &[u8],
@@ -71,6 +70,7 @@ fn write_text<C: Items>(
     ensures own { IfErr result IsOfItem }
     ensures after { IfOk result (λ found. IfSome found (IsBehind at (C.last_place command.now bytes.now))) }
 {
+    let alloc = *text.allocator();
     match command.read(alloc, bytes, at)? {
         Some((mut item, after)) => {
             command.put(alloc, room, &mut item, text)?;
@@ -95,7 +95,7 @@ pub fn write_items<C: Items, K: Sink>(
     let mut text = Vec::new(alloc);
     let mut room = command.room(alloc);
     let mut at = 0;
-    while let Some(after) = write_text(alloc, command, &mut room, bytes, at, &mut text)? {
+    while let Some(after) = write_text(command, &mut room, bytes, at, &mut text)? {
         write_all(sink, &text)?;
         text.clear();
         at = after;
