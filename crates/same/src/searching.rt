@@ -64,7 +64,7 @@ impl Walker for Searching<'_> {
         context: &mut Context,
         work: &mut Work,
     ) -> Result<Found, ToolRefusal> {
-        search_second(&self.reading, leaf, self.second, depth, context, work)
+        self.search_second(leaf, depth, context, work)
     }
 
     fn is_end(&self, first: &Found) -> bool {
@@ -143,34 +143,35 @@ impl Walker for Meeting<'_> {
     }
 }
 
-// The first point at which the answers differ in the order of the second one's walk, from a leaf of the first.
-#[tactic(auto, using(quast_walk::proofs::Readied::second_ready))]
-fn search_second(
-    reading: &Reading,
-    leaf: TreeLeaf,
-    answer: &Answer,
-    depth: u64,
-    context: &mut Context,
-    work: &mut Work,
-) -> Result<Found, ToolRefusal>
-    requires few { reading.now.parameters ≤ context.old.width }
-    requires leaf { IsTrue (is_scoped context.old.width (leaf_tree leaf)) }
-    requires answer { IsOver reading.now.parameters answer.now }
-    requires room { HasRoom (2 * answer_nesting answer.now + 1) depth 0 context.old }
-    ensures gives { AgreesWalked (λ o. o) tool_fault result work.new
-        (same_second reading.now.parameters (leaf_answer leaf.entry) (visit_of context.old depth) (answer_of answer.now)
-        work.old) }
-    ensures kept { IsKeptContext context.old context.new }
-{
-    let below = reading.below(context.mark().width);
-    match answer {
-        Answer::Void => find_at_leaves(&below, leaf, TreeLeaf::Void, context, work),
-        Answer::Tree(tree) => {
-            let walker = Meeting {
-                reading: below,
-                first: leaf,
-            };
-            walk(&walker, tree.root(), depth, context, work)
+impl Searching<'_> {
+    // The first point at which the answers differ in the order of the second one's walk, from a leaf of the first.
+    #[tactic(auto, using(quast_walk::proofs::Readied::second_ready))]
+    fn search_second(
+        &self,
+        leaf: TreeLeaf,
+        depth: u64,
+        context: &mut Context,
+        work: &mut Work,
+    ) -> Result<Found, ToolRefusal>
+        requires few { self.now.reading.parameters ≤ context.old.width }
+        requires leaf { IsTrue (is_scoped context.old.width (leaf_tree leaf)) }
+        requires answer { IsOver self.now.reading.parameters self.now.second.now }
+        requires room { HasRoom (2 * answer_nesting self.now.second.now + 1) depth 0 context.old }
+        ensures gives { AgreesWalked (λ o. o) tool_fault result work.new
+            (same_second self.now.reading.parameters (leaf_answer leaf.entry) (visit_of context.old depth)
+            (answer_of self.now.second.now) work.old) }
+        ensures kept { IsKeptContext context.old context.new }
+    {
+        let below = self.reading.below(context.mark().width);
+        match self.second {
+            Answer::Void => find_at_leaves(&below, leaf, TreeLeaf::Void, context, work),
+            Answer::Tree(tree) => {
+                let walker = Meeting {
+                    reading: below,
+                    first: leaf,
+                };
+                walk(&walker, tree.root(), depth, context, work)
+            }
         }
     }
 }
@@ -196,14 +197,9 @@ pub(crate) fn search_answers(
         parameters: context.mark().width,
         between: 0,
     };
+    let walker = Searching { reading, second };
     match first {
-        Answer::Void => search_second(&reading, TreeLeaf::Void, second, 0, context, work),
-        Answer::Tree(tree) => walk(
-            &Searching { reading, second },
-            tree.root(),
-            0,
-            context,
-            work,
-        ),
+        Answer::Void => walker.search_second(TreeLeaf::Void, 0, context, work),
+        Answer::Tree(tree) => walk(&walker, tree.root(), 0, context, work),
     }
 }

@@ -1,4 +1,4 @@
-use Rattle.same.proofs.searching.search_second.Goals as goal
+use Rattle.same.proofs.searching.Searching.search_second.Goals as goal
 
 pub returns-in-Tree-clause-gives : goal.returns-in-Tree-clause-gives
 returns-in-Tree-clause-gives c =
