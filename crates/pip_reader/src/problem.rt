@@ -10,7 +10,7 @@ ghost use Rattle.pip_problem.specs.Faults.{read_fault};
 ghost use Rattle.pip_reader.specs.Problems.{problem_of, head_of, blocks_of, blocks_by_sizes, problem_by_steps};
 ghost use Rattle.pip_reader.specs.Refusals.{IsNoOption};
 
-use crate::block::form_block;
+use crate::block::{Block, form_block};
 use crate::header::{Sizes, read_mode, read_sizes};
 use affine_forms::Form;
 use pip_problem::{Bytes, Problem, ReadRefusal};
@@ -70,8 +70,12 @@ fn blocks_at(
     requires params { sizes.params ≤ most_params }
     ensures { IsRead blocks_of read_fault bytes.now place result (blocks_by_sizes bytes.now sizes place) }
 {
-    let width = sizes.unknowns + 1 + sizes.params;
-    let (rows, at) = form_block(spare, bytes, sizes.rows, width, sizes.unknowns, place)?;
+    let block = Block {
+        rows: sizes.rows,
+        width: sizes.unknowns + 1 + sizes.params,
+        coefficients: sizes.unknowns,
+    };
+    let (rows, at) = form_block(spare, bytes, block, place)?;
     let (context, at) = block_in(spare, bytes, sizes.context_rows, sizes.params + 1, at)?;
     Ok((Blocks { rows, context }, at))
 }

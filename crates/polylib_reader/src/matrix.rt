@@ -23,29 +23,35 @@ pub(crate) struct Matrix {
     pub after: usize,
 }
 
-// The inequalities of so many rows of `width` entries behind the first, at most `most` of them, and the place behind
-// them.
+// What is known of a matrix before its rows: how many there are, of how many entries behind the first, and the limit of
+// the inequalities that they give.
+#[derive(Clone, Copy)]
+struct Shape {
+    rows: usize,
+    width: usize,
+    kind: LimitKind,
+    most: usize,
+}
+
+// The inequalities of a matrix's rows, and the place behind them.
 fn matrix_rows(
     alloc: Global,
     bytes: &[u8],
-    kind: LimitKind,
-    most: usize,
-    width: usize,
-    row_count: usize,
+    shape: Shape,
     place: usize,
 ) -> Reads<Vec<Form>, ReadRefusal>
     requires place { place ≤ length bytes.now }
-    requires width { 0 < width }
-    requires most { most ≤ most_rows }
+    requires width { 0 < shape.width }
+    requires most { shape.most ≤ most_rows }
     ensures { AreRead (λ v. v.items) read_fault bytes.now place result
-        (matrix_rows_of bytes.now kind most width 0 row_count place) }
+        (matrix_rows_of bytes.now shape.kind shape.most shape.width 0 shape.rows place) }
 {
     let mut forms = Vec::new(alloc);
     let mut count = 0;
     let mut at = place;
-    for _ in 0..row_count {
-        let head = row_head(bytes, kind, most, count, at)?;
-        let (entries, after) = numbers(alloc, bytes, width, head.after)?;
+    for _ in 0..shape.rows {
+        let head = row_head(bytes, shape.kind, shape.most, count, at)?;
+        let (entries, after) = numbers(alloc, bytes, shape.width, head.after)?;
         push_inequalities(alloc, &mut forms, head.equality, entries)?;
         count = head.count;
         at = after;
@@ -79,15 +85,13 @@ pub(crate) fn context_matrix(alloc: Global, bytes: &[u8]) -> Result<Matrix, Read
     let most_columns = MOST_PARAMETERS + 2;
     let (columns, at) = size(bytes, LimitKind::ContextColumns, 2, most_columns, at)?;
     let params = columns - 2;
-    let (forms, after) = matrix_rows(
-        alloc,
-        bytes,
-        LimitKind::ContextRows,
-        MOST_CONTEXT_ROWS,
-        params + 1,
+    let shape = Shape {
         rows,
-        at,
-    )?;
+        width: params + 1,
+        kind: LimitKind::ContextRows,
+        most: MOST_CONTEXT_ROWS,
+    };
+    let (forms, after) = matrix_rows(alloc, bytes, shape, at)?;
     Ok(Matrix {
         size: params,
         forms,
@@ -112,8 +116,13 @@ pub(crate) fn constraint_matrix(
     let most_columns = params + 2 + MOST_UNKNOWNS;
     let (columns, at) = size(bytes, LimitKind::Columns, params + 3, most_columns, at)?;
     let unknowns = columns - params - 2;
-    let width = unknowns + params + 1;
-    let (forms, after) = matrix_rows(alloc, bytes, LimitKind::Rows, MOST_ROWS, width, rows, at)?;
+    let shape = Shape {
+        rows,
+        width: unknowns + params + 1,
+        kind: LimitKind::Rows,
+        most: MOST_ROWS,
+    };
+    let (forms, after) = matrix_rows(alloc, bytes, shape, at)?;
     Ok(Matrix {
         size: unknowns,
         forms,

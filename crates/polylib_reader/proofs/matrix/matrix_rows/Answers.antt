@@ -5,15 +5,15 @@ use Rattle.polylib_reader.proofs.matrix.matrix_rows.Goals as goal
 pub returns-in_err-head : goal.returns-in_err-head
 returns-in_err-head c =
     let p = err_from_is_err_and c.from_residual.result c.from_residual.ensures.1 in
-    rw (p.1, p.2) (refused_by (read_fault c.in_err-head.field-0.0) (row_head c.args.bytes.now c.args.kind c.args.most c.loop.count c.loop.at) (matrix_rows c.args.bytes.now c.args.kind c.args.most c.args.width 0 c.args.row_count c.args.place)
-    (head_refused c.loop.forms.items c.args.bytes.now c.args.kind c.args.most c.args.width c.loop.count c.args.row_count c.loop.counter c.loop.at _ c.loop-test.true c.loop.invariant.so_far) c.in_err-head.ensures.agrees)
+    rw (p.1, p.2) (refused_by (read_fault c.in_err-head.field-0.0) (row_head c.args.bytes.now c.args.shape.kind c.args.shape.most c.loop.count c.loop.at) (matrix_rows c.args.bytes.now c.args.shape.kind c.args.shape.most c.args.shape.width 0 c.args.shape.rows c.args.place)
+    (head_refused c.loop.forms.items c.args.bytes.now c.args.shape.kind c.args.shape.most c.args.shape.width c.loop.count c.args.shape.rows c.loop.counter c.loop.at _ c.loop-test.true c.loop.invariant.so_far) c.in_err-head.ensures.agrees)
 
 pub returns-in_err-entries : goal.returns-in_err-entries
 returns-in_err-entries c =
     let p = err_from_is_err_and c.from_residual-in_err-entries.result c.from_residual-in_err-entries.ensures.1 in
     let head = c.in_ok-head.head in
-    rw (p.1, p.2) (refused_by (read_fault c.in_err-entries.field-0.0) (matrix_numbers c.args.bytes.now c.args.width head.after) (matrix_rows c.args.bytes.now c.args.kind c.args.most c.args.width 0 c.args.row_count c.args.place)
-    (entries_refused c.loop.forms.items c.args.bytes.now c.args.kind c.args.most c.args.width c.loop.count c.args.row_count c.loop.counter c.loop.at ((head.equality, head.count), head.after) _ c.loop-test.true c.loop.invariant.so_far c.in_ok-head.ensures.agrees)
+    rw (p.1, p.2) (refused_by (read_fault c.in_err-entries.field-0.0) (matrix_numbers c.args.bytes.now c.args.shape.width head.after) (matrix_rows c.args.bytes.now c.args.shape.kind c.args.shape.most c.args.shape.width 0 c.args.shape.rows c.args.place)
+    (entries_refused c.loop.forms.items c.args.bytes.now c.args.shape.kind c.args.shape.most c.args.shape.width c.loop.count c.args.shape.rows c.loop.counter c.loop.at ((head.equality, head.count), head.after) _ c.loop-test.true c.loop.invariant.so_far c.in_ok-head.ensures.agrees)
     c.in_err-entries.ensures.reads)
 
 pub loop-preserved : goal.loop-preserved
