@@ -114,34 +114,58 @@ fn read<W: Walker>(walker: &W, form: &Form) -> Result<Form, WantOfMemory>
     spread(reading.alloc, form, reading.parameters, reading.between)
 }
 
-// Goes below a new parameter of this form and divisor, after its sign. Where it is refused, the context is as before.
+// A new parameter of the tree: the floor of a form, as it is read, over a divisor.
+#[derive(Clone, Copy)]
+struct NewParameter<'f> {
+    form: &'f Form,
+    den: i128,
+}
+
+// A node that chooses where its form, as it is read, has both signs: its trees, and the condition under which it takes
+// the first.
+#[derive(Drop)]
+struct Split<'n> {
+    form: Form,
+    first: &'n Node,
+    second: &'n Node,
+    condition: Form,
+}
+
+// A node's tree, walked where a condition is at least 0.
+#[derive(Drop)]
+struct Branch<'n> {
+    node: &'n Node,
+    condition: Form,
+}
+
+// Goes below a new parameter, after the sign of its form. Where it is refused, the context is as before.
 fn go_under<W: Walker>(
     walker: &W,
-    form: &Form,
-    den: i128,
+    parameter: &NewParameter,
     depth: u64,
     context: &mut Context,
     work: &mut Work,
 ) -> Result<(), ToolRefusal>
-    requires wide { length form.now ≡ context.old.width + 1 }
-    requires divisor { pos 1 ≤ℤ den }
-    requires fits { Fits den }
+    requires wide { length parameter.now.form.now ≡ context.old.width + 1 }
+    requires divisor { pos 1 ≤ℤ parameter.now.den }
+    requires fits { Fits parameter.now.den }
     requires room { 2 ≤ context.old.spare }
     requires shallow { depth < 2 ^ 63 }
     ensures gives { (next : model.Walking W.Seen) → PassesTo result work.new (below_then (W.walker walker.now)
-        (visit_of context.old depth) (record { form = form.now; den = den }) next work.old) next }
+        (visit_of context.old depth) (record { form = parameter.now.form.now; den = parameter.now.den }) next work.old)
+        next }
     ensures context { MatchResult result
-        (λ x. IsBelow context.old (record { form = form.now; den = den }) context.new)
+        (λ x. IsBelow context.old (record { form = parameter.now.form.now; den = parameter.now.den }) context.new)
         (λ e. IsKeptContext context.old context.new) }
 {
     let alloc = walker.reading().alloc;
-    match sign(alloc, form, context, work)? {
+    match sign(alloc, parameter.form, context, work)? {
         Class::Plus => {}
         Class::Minus => return Err(ToolRefusal::Negative),
         Class::Unknown(_) => return Err(ToolRefusal::Negative),
     }
     walker.at_quotient(depth, work)?;
-    go_below(alloc, form, den, context)?;
+    go_below(alloc, parameter.form, parameter.den, context)?;
     Ok(())
 }
 
@@ -186,15 +210,25 @@ pub fn walk<W: Walker>(
             match sign(walker.reading().alloc, &form, context, work)? {
                 Class::Plus => walk(walker, first, depth, context, work),
                 Class::Minus => walk(walker, second, depth, context, work),
-                Class::Unknown(condition) => walk_both(
-                    walker, form, first, second, condition, depth, context, work,
-                ),
+                Class::Unknown(condition) => {
+                    let split = Split {
+                        form,
+                        first,
+                        second,
+                        condition,
+                    };
+                    walk_both(walker, split, depth, context, work)
+                }
             }
         }
         Node::Define(form, den, tree) => {
             let form = read(walker, form)?;
             let start = mark(context);
-            go_under(walker, &form, *den, depth, context, work)?;
+            let parameter = NewParameter {
+                form: &form,
+                den: *den,
+            };
+            go_under(walker, &parameter, depth, context, work)?;
             let walked = walk(walker, tree, depth + 1, context, work);
             leave(context, start);
             defined(walker, form, *den, walked)
@@ -207,57 +241,69 @@ pub fn walk<W: Walker>(
 #[cycle(walk)]
 fn walk_both<W: Walker>(
     walker: &W,
-    form: Form,
-    first: &Node,
-    second: &Node,
-    condition: Form,
+    split: Split,
     depth: u64,
     context: &mut Context,
     work: &mut Work,
 ) -> Result<W::Made, ToolRefusal>
     requires ready { W.IsReady walker.now }
     requires trees { AreBranches (W.parameters walker.now) (W.between walker.now) (W.room walker.now) depth
-        context.old (tree_of first.now) (tree_of second.now) }
-    requires condition { IsCondition context.old.width condition }
+        context.old (tree_of split.first.now) (tree_of split.second.now) }
+    requires condition { IsCondition context.old.width split.condition }
     ensures gives { AgreesWalked W.seen tool_fault result work.new (both_trees (W.walker walker.now)
-        (visit_of context.old depth) form
-        (spread_tree (W.parameters walker.now) (W.between walker.now) (tree_of first.now))
-        (spread_tree (W.parameters walker.now) (W.between walker.now) (tree_of second.now)) condition work.old) }
+        (visit_of context.old depth) split.entry.form
+        (spread_tree (W.parameters walker.now) (W.between walker.now) (tree_of split.entry.first.now))
+        (spread_tree (W.parameters walker.now) (W.between walker.now) (tree_of split.entry.second.now))
+        split.entry.condition work.old) }
     ensures kept { IsKeptContext context.old context.new }
 {
+    let Split {
+        form,
+        first,
+        second,
+        condition,
+    } = split;
     walker.at_split(depth, work)?;
     let fails = opposite(walker.reading().alloc, &condition)?;
-    let made = walk_where(walker, first, condition, depth, context, work)?;
+    let holds = Branch {
+        node: first,
+        condition,
+    };
+    let made = walk_where(walker, holds, depth, context, work)?;
     if walker.is_end(&made) {
         return Ok(made);
     }
-    let other = walk_where(walker, second, fails, depth, context, work)?;
+    let fails = Branch {
+        node: second,
+        condition: fails,
+    };
+    let other = walk_where(walker, fails, depth, context, work)?;
     let whole = walker.join(form, made, other)?;
     Ok(whole)
 }
 
-// The walk of a node's tree where a condition is at least 0, below a node that chooses of what is made.
+// The walk of a branch, below a node that chooses of what is made.
 #[cycle(walk)]
 fn walk_where<W: Walker>(
     walker: &W,
-    node: &Node,
-    condition: Form,
+    branch: Branch,
     depth: u64,
     context: &mut Context,
     work: &mut Work,
 ) -> Result<W::Made, ToolRefusal>
     requires ready { W.IsReady walker.now }
-    requires tree { IsTreeAt (W.parameters walker.now) (W.between walker.now) context.old.width (tree_of node.now) }
-    requires narrow { length condition ≤ context.old.width + 1 }
-    requires room { HasRoom (W.room walker.now + 1) depth (nesting (tree_of node.now)) context.old }
+    requires tree { IsTreeAt (W.parameters walker.now) (W.between walker.now) context.old.width
+        (tree_of branch.node.now) }
+    requires narrow { length branch.condition ≤ context.old.width + 1 }
+    requires room { HasRoom (W.room walker.now + 1) depth (nesting (tree_of branch.node.now)) context.old }
     ensures gives { AgreesWalked W.seen tool_fault result work.new (model.walk (W.walker walker.now)
-        (where_holds (visit_of context.old depth) condition)
-        (spread_tree (W.parameters walker.now) (W.between walker.now) (tree_of node.now)) work.old) }
+        (where_holds (visit_of context.old depth) branch.entry.condition)
+        (spread_tree (W.parameters walker.now) (W.between walker.now) (tree_of branch.entry.node.now)) work.old) }
     ensures kept { IsKeptContext context.old context.new }
 {
     let start = mark(context);
-    enter(context, condition);
-    let made = walk(walker, node, depth + 1, context, work);
+    enter(context, branch.condition);
+    let made = walk(walker, branch.node, depth + 1, context, work);
     leave(context, start);
     made
 }

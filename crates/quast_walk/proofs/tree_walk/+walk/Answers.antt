@@ -54,12 +54,12 @@ walk-returns-in_ok-go_under-in-Define-clause-gives g hyp c =
 
 pub walk_both-returns-in_err-other-clause-gives : goal.walk_both-returns-in_err-other-clause-gives
 walk_both-returns-in_err-other-clause-gives g hyp c =
-    let goes_on = c.is_end.ensures.stops (sym c.is_end.ensures.value ∙ c.if-is_end.false) c.args.form in
+    let goes_on = c.is_end.ensures.stops (sym c.is_end.ensures.value ∙ c.if-is_end.false) c.args.split.form in
     let p = err_from_is_err_and c.from_residual-in_err-other.result c.from_residual-in_err-other.ensures.1 in
     rw (p.1, p.2, c.in_ok-at_split.ensures c.args.context.now, c.in_ok-made.ensures.gives) (IfSome_then (tool_fault c.in_err-other.field-0.0) (rw (c.walk_where.ensures.kept.width, c.walk_where.ensures.kept.forms, c.in_ok-fails.ensures.value) at c.in_err-other.ensures.gives) (λ f is. goes_on _ c.walk_where.new.work c.walk_where-2.new.work f is))
 
 pub walk_both-returns-clause-gives : goal.walk_both-returns-clause-gives
 walk_both-returns-clause-gives g hyp c =
-    let b = spread_tree (g.W.Walker.parameters c.args.walker.now) (g.W.Walker.between c.args.walker.now) (tree_of c.args.second.now) in
+    let b = spread_tree (g.W.Walker.parameters c.args.walker.now) (g.W.Walker.between c.args.walker.now) (tree_of c.args.split.second.now) in
     let second = walk (g.W.Walker.walker c.args.walker.now) (where_holds (visit_of c.walk_where.new.context c.args.depth) c.in_ok-fails.fails) b in
     rw (c.in_ok-at_split.ensures c.args.context.now, c.in_ok-made.ensures.gives) (rw (c.walk_where.ensures.kept.width, c.walk_where.ensures.kept.forms, c.in_ok-fails.ensures.value) at (c.in_ok-whole.ensures second c.walk_where.new.work c.walk_where-2.new.work c.in_ok-other.ensures.gives))
