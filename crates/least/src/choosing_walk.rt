@@ -11,7 +11,7 @@ ghost use Rattle.quast_walk.specs.Faults.{tool_fault};
 ghost use Rattle.quast_walk.specs.Readings.{leaf_tree, answer_nesting, HasRoom};
 ghost use Rattle.quast_walk.specs.Visits.{visit_of};
 
-use crate::lesser_leaves::choose_at_leaves;
+use crate::lesser_leaves::{Leaves, choose_at_leaves};
 use crate::lesser_lists::{count_if, raise};
 use affine_forms::{Form, WantOfMemory};
 use quast::{Answer, Node};
@@ -64,7 +64,7 @@ impl Walker for Choosing<'_> {
         context: &mut Context,
         work: &mut Work,
     ) -> Result<Node, ToolRefusal> {
-        choose_second(&self.reading, leaf, self.second, depth, context, work)
+        self.choose_second(leaf, depth, context, work)
     }
 
     fn is_end(&self, _first: &Node) -> bool {
@@ -125,7 +125,11 @@ impl Walker for Lessening<'_> {
         context: &mut Context,
         work: &mut Work,
     ) -> Result<Node, ToolRefusal> {
-        choose_at_leaves(&self.reading, self.first, leaf, depth, context, work)
+        let leaves = Leaves {
+            first: self.first,
+            second: leaf,
+        };
+        choose_at_leaves(&self.reading, &leaves, depth, context, work)
     }
 
     fn is_end(&self, _first: &Node) -> bool {
@@ -141,34 +145,41 @@ impl Walker for Lessening<'_> {
     }
 }
 
-// The lesser of the answers along the second one's walk, from a leaf of the first.
-#[tactic(auto, using(quast_walk::proofs::Readied::second_ready))]
-fn choose_second(
-    reading: &Reading,
-    leaf: TreeLeaf,
-    answer: &Answer,
-    depth: u64,
-    context: &mut Context,
-    work: &mut Work,
-) -> Result<Node, ToolRefusal>
-    requires few { reading.now.parameters ≤ context.old.width }
-    requires leaf { IsTrue (is_scoped context.old.width (leaf_tree leaf)) }
-    requires answer { IsOver reading.now.parameters answer.now }
-    requires room { HasRoom (2 * answer_nesting answer.now + 2 * most_components) depth 0 context.old }
-    ensures gives { AgreesWalked tree_of tool_fault result work.new
-        (least_second reading.now.parameters (leaf_tree leaf.entry) (visit_of context.old depth)
-        (tree_or_bottom (answer_of answer.now)) work.old) }
-    ensures kept { IsKeptContext context.old context.new }
-{
-    let below = reading.below(context.mark().width);
-    match answer {
-        Answer::Void => choose_at_leaves(&below, leaf, TreeLeaf::Bottom, depth, context, work),
-        Answer::Tree(tree) => {
-            let walker = Lessening {
-                reading: below,
-                first: leaf,
-            };
-            walk(&walker, tree.root(), depth, context, work)
+impl Choosing<'_> {
+    // The lesser of the answers along the second one's walk, from a leaf of the first.
+    #[tactic(auto, using(quast_walk::proofs::Readied::second_ready))]
+    fn choose_second(
+        &self,
+        leaf: TreeLeaf,
+        depth: u64,
+        context: &mut Context,
+        work: &mut Work,
+    ) -> Result<Node, ToolRefusal>
+        requires few { self.now.reading.parameters ≤ context.old.width }
+        requires leaf { IsTrue (is_scoped context.old.width (leaf_tree leaf)) }
+        requires answer { IsOver self.now.reading.parameters self.now.second.now }
+        requires room { HasRoom (2 * answer_nesting self.now.second.now + 2 * most_components) depth 0 context.old }
+        ensures gives { AgreesWalked tree_of tool_fault result work.new
+            (least_second self.now.reading.parameters (leaf_tree leaf.entry) (visit_of context.old depth)
+            (tree_or_bottom (answer_of self.now.second.now)) work.old) }
+        ensures kept { IsKeptContext context.old context.new }
+    {
+        let below = self.reading.below(context.mark().width);
+        match self.second {
+            Answer::Void => {
+                let leaves = Leaves {
+                    first: leaf,
+                    second: TreeLeaf::Bottom,
+                };
+                choose_at_leaves(&below, &leaves, depth, context, work)
+            }
+            Answer::Tree(tree) => {
+                let walker = Lessening {
+                    reading: below,
+                    first: leaf,
+                };
+                walk(&walker, tree.root(), depth, context, work)
+            }
         }
     }
 }
@@ -195,8 +206,9 @@ pub(crate) fn choose_answers(
         parameters: context.mark().width,
         between: 0,
     };
+    let walker = Choosing { reading, second };
     match first {
-        Answer::Void => choose_second(&reading, TreeLeaf::Bottom, second, 0, context, work),
-        Answer::Tree(tree) => walk(&Choosing { reading, second }, tree.root(), 0, context, work),
+        Answer::Void => walker.choose_second(TreeLeaf::Bottom, 0, context, work),
+        Answer::Tree(tree) => walk(&walker, tree.root(), 0, context, work),
     }
 }

@@ -34,23 +34,37 @@ fn first_node(
     Ok(made)
 }
 
-// The lesser of two lists: a list of the first tree, over no more places, and one of the second.
+// Two leaves that meet: of the first tree and of the second.
+#[derive(Clone, Copy)]
+pub(crate) struct Leaves<'t> {
+    pub(crate) first: TreeLeaf<'t>,
+    pub(crate) second: TreeLeaf<'t>,
+}
+
+// Two lists that meet: of the first tree, over no more places, and of the second.
+#[derive(Clone, Copy)]
+struct Lists<'t> {
+    first: &'t [Component],
+    second: &'t [Component],
+}
+
+// The lesser of two lists.
 fn choose_between(
     reading: &Reading,
-    first: &[Component],
-    second: &[Component],
+    lists: &Lists,
     depth: u64,
     context: &mut Context,
     work: &mut Work,
 ) -> Result<Node, ToolRefusal>
-    requires met { AreMet reading.now.parameters reading.now.between context.old.width (model.Leaf first.now)
-        (model.Leaf second.now) }
+    requires met { AreMet reading.now.parameters reading.now.between context.old.width
+        (model.Leaf lists.now.first.now) (model.Leaf lists.now.second.now) }
     requires room { HasRoom (2 * most_components) depth 0 context.old }
     ensures gives { AgreesWalked tree_of tool_fault result work.new
-        (least_leaves (visit_of context.old depth) (model.Leaf first.now)
-        (spread_tree reading.now.parameters reading.now.between (model.Leaf second.now)) work.old) }
+        (least_leaves (visit_of context.old depth) (model.Leaf lists.now.first.now)
+        (spread_tree reading.now.parameters reading.now.between (model.Leaf lists.now.second.now)) work.old) }
     ensures kept { IsKeptContext context.old context.new }
 {
+    let Lists { first, second } = *lists;
     if first.len() != second.len() {
         return Err(ToolRefusal::Lengths(first.len(), second.len()));
     }
@@ -71,24 +85,23 @@ fn choose_between(
 // The lesser of two leaves. Bottom is above every list.
 pub(crate) fn choose_at_leaves(
     reading: &Reading,
-    first: TreeLeaf,
-    second: TreeLeaf,
+    leaves: &Leaves,
     depth: u64,
     context: &mut Context,
     work: &mut Work,
 ) -> Result<Node, ToolRefusal>
-    requires met { AreMet reading.now.parameters reading.now.between context.old.width (leaf_tree first)
-        (leaf_tree second) }
+    requires met { AreMet reading.now.parameters reading.now.between context.old.width
+        (leaf_tree leaves.now.first) (leaf_tree leaves.now.second) }
     requires room { HasRoom (2 * most_components) depth 0 context.old }
     ensures gives { AgreesWalked tree_of tool_fault result work.new
-        (least_leaves (visit_of context.old depth) (leaf_tree first.entry)
-        (spread_tree reading.now.parameters reading.now.between (leaf_tree second.entry)) work.old) }
+        (least_leaves (visit_of context.old depth) (leaf_tree leaves.now.first)
+        (spread_tree reading.now.parameters reading.now.between (leaf_tree leaves.now.second)) work.old) }
     ensures kept { IsKeptContext context.old context.new }
 {
     let width = context.mark().width;
-    match (first, second) {
+    match (leaves.first, leaves.second) {
         (TreeLeaf::List(first), TreeLeaf::List(second)) => {
-            choose_between(reading, first, second, depth, context, work)
+            choose_between(reading, &Lists { first, second }, depth, context, work)
         }
         (TreeLeaf::List(first), TreeLeaf::Void) => Ok(first_node(reading, first, width)?),
         (TreeLeaf::List(first), TreeLeaf::Bottom) => Ok(first_node(reading, first, width)?),
