@@ -108,22 +108,29 @@ fn combine_all(a: i128, r: &mut [i128], b: i128, s: &[i128])
     }
 }
 
+// By what a row and the pivot's row are multiplied, before their difference is made.
+#[derive(Clone, Copy)]
+struct Factors {
+    a: i128,
+    b: i128,
+}
+
 // Makes `a*r - b*s` of r but for place c, which gets the entry.
-fn combine_but(a: i128, r: &mut [i128], b: i128, s: &[i128], c: usize, entry: i128)
+fn combine_but(by: Factors, r: &mut [i128], s: &[i128], c: usize, entry: i128)
     requires lengths { length r.old ≡ length s.now }
     requires place { c < length r.old }
-    requires listed { IsTrue (all_fit (combine_listed a (remove c r.old) b (remove c s.now))) }
+    requires listed { IsTrue (all_fit (combine_listed by.a (remove c r.old) by.b (remove c s.now))) }
     requires entry { Fits entry }
     requires fits { All Fits r.old }
-    ensures value { r.new ≡ slice_set (combine a r.old b s.now) c entry }
+    ensures value { r.new ≡ slice_set (combine by.a r.old by.b s.now) c entry }
     ensures fits { All Fits r.new }
 {
     let (s_front, s_rest) = s.split_at(c);
     let (_, s_back) = s_rest.split_at(1);
     let (front, rest) = r.split_at_mut(c);
-    combine_all(a, front, b, s_front);
+    combine_all(by.a, front, by.b, s_front);
     let (at, back) = rest.split_at_mut(1);
-    combine_all(a, back, b, s_back);
+    combine_all(by.a, back, by.b, s_back);
     at[0] = entry;
 }
 
@@ -204,7 +211,7 @@ fn substitute_long(
     let a = p.coefs[c];
     let b = coefs[c];
     let entry = exact_product(b, p.den);
-    combine_but(a, coefs, b, p.coefs, c, entry);
+    combine_but(Factors { a, b }, coefs, p.coefs, c, entry);
     combine_all(a, constant, b, p.constant);
     exact_product(den, a)
 }
