@@ -1,4 +1,4 @@
-ghost use Rattle.std.specs.Prelude.{◌≡◌, ◌^◌, ◌<◌, ◌≤◌, [], pos, ◌≤ℤ◌, ◌<ℤ◌, length, map, All, IsTrue, IfOk, OnOk, OnErr};
+ghost use Rattle.std.specs.Prelude.{◌≡◌, ◌^◌, ◌<◌, ◌≤◌, [], List, ℤ, pos, ◌≤ℤ◌, ◌<ℤ◌, length, map, All, IsTrue, IfOk, OnOk, OnErr};
 ghost use Rattle.pip_model.specs.Made.{narrow_to};
 ghost use Rattle.pip_model.specs.Refuting as model;
 ghost use Rattle.affine_forms.specs.Checks.{Fits};
@@ -178,13 +178,20 @@ impl Refuter {
         self.refute_first(known, places, first, work)
     }
 
+    /// Keeps its forms only where they are no more than so many: as many of the first known forms of the next refutation
+    /// are those of the one before.
+    pub fn keep_within(&mut self, same: usize)
+        ensures { (known : List (List ℤ)) → AreFirstWithin self.old known same → AreFirst self.new known }
+    {
+        self.front.keep_within(same);
+    }
+
     /// The steps by which the known forms, each over its first places alone and its constant, have no point, as
-    /// `Context::refute` gives them of these forms, with its counts and its refusals. So many of the first known forms
-    /// are those that it was asked before. After a refusal it keeps none, and may be asked further.
+    /// `Context::refute` gives them of these forms, with its counts and its refusals. The forms that it keeps are the
+    /// first of these. After a refusal it keeps none, and may be asked further.
     pub fn refute(
         &mut self,
         known: &[Form],
-        same: usize,
         places: &[i128],
         first: i128,
         work: &mut Work,
@@ -193,13 +200,12 @@ impl Refuter {
         requires places { All Fits places.now }
         requires some { pos 0 ≤ℤ first }
         requires few { first <ℤ pos (2 ^ 64) }
-        requires same { AreFirstWithin self.old known.now same }
+        requires first { AreFirst self.old known.now }
         ensures gives { IsCountedRun (λ o. o) run_fault result work.old work.new
             (model.refute (length places.now) (map (narrow_to (length places.now)) known.now) places.now first) }
         ensures first { OnOk result (AreFirst self.new known.now) }
         ensures refused { OnErr result (KeepsNone self.new) }
     {
-        self.front.keep_within(same);
         match self.refute_known(known, places, first, work) {
             Ok(found) => Ok(found),
             Err(refusal) => {

@@ -89,9 +89,8 @@ impl LeafMaking<'_> {
     {
         let same = self.turn_to(known, r)?;
         refuter.keep(self.kept_forms(known.len()));
-        let steps = self
-            .scope
-            .refute(refuter, known, same, self.unknowns(r), work)?;
+        refuter.keep_within(same);
+        let steps = self.scope.refute(refuter, known, self.unknowns(r), work)?;
         Ok(steps)
     }
 

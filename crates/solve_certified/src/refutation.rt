@@ -3,7 +3,7 @@ ghost use Rattle.pip_model.specs.Agreement.{AgreesCounted};
 ghost use Rattle.pip_model.specs.Made.{steps_or_none};
 ghost use Rattle.affine_forms.specs.Checks.{Fits};
 ghost use Rattle.pip_problem.specs.Faults.{run_fault};
-ghost use Rattle.refuter.specs.Kept.{AreFirst, AreFirstWithin};
+ghost use Rattle.refuter.specs.Kept.{AreFirst};
 ghost use Rattle.solve_certified.specs.Refutations.{refuted_by, places_of, IsScope};
 
 use crate::indices::push_indices;
@@ -69,18 +69,17 @@ impl Scope<'_> {
     }
 
     // The steps by which the known forms have no point over what is in scope and n unknowns: those of the quotients,
-    // and then those of the point's run. So many of the first known forms are those of the refutation before.
+    // and then those of the point's run. The forms that the refuter keeps are the first of the known ones.
     pub(crate) fn refute(
         &self,
         refuter: &mut Refuter,
         known: &Known,
-        same: usize,
         n: usize,
         work: &mut Work,
     ) -> Result<Refutation, Refusal>
         requires scope { IsScope self.now }
         requires width { self.now.params + length self.now.quotients.now + n ≤ known.now.width }
-        requires same { AreFirstWithin refuter.old known.now.forms same }
+        requires first { AreFirst refuter.old known.now.forms }
         ensures gives { AgreesCounted (λ r. r) run_fault result work.new
             (refuted_by self.now n known.now.forms work.old) }
         ensures first { OnOk result (AreFirst refuter.new known.now.forms) }
@@ -91,7 +90,7 @@ impl Scope<'_> {
         };
         let places = self.places(self.alloc, count, n)?;
         let first = index_behind(first);
-        let found = refuter.refute(known.as_slice(), same, &places, first, work)?;
+        let found = refuter.refute(known.as_slice(), &places, first, work)?;
         let steps = quotient_steps(self.alloc, self.front, self.params, &places, self.quotients)?;
         let made = with_found(steps, found)?;
         Ok(made)
@@ -104,7 +103,7 @@ impl Scope<'_> {
         ensures { AgreesCounted (λ r. r) run_fault result work.new (refuted_by self.now 0 known.now.forms work.old) }
     {
         let mut refuter = Refuter::new(self.alloc);
-        let steps = self.refute(&mut refuter, known, 0, 0, work);
+        let steps = self.refute(&mut refuter, known, 0, work);
         drop(refuter);
         steps
     }

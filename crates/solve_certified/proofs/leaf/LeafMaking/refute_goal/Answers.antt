@@ -27,6 +27,7 @@ returns-clause-gives c =
     goal_same P leaf.scope leaf.path.now _ c.args.self.now.scope c.requires.making.scope (unknowns_at P _ c.args.r) o c.args.work.now c.unknowns.result c.turn_to.new.known.forms fits c.unknowns.ensures known
     ∙ c.in_ok-steps.ensures.gives
 
-pub refute-requires-clause-same : goal.refute-requires-clause-same
-refute-requires-clause-same c =
-    rw c.keep.ensures (first-same c.args.refuter.now c.args.known.now.forms c.turn_to.new.known.forms c.in_ok-same.same c.requires.first c.in_ok-same.ensures.stay)
+pub refute-requires-clause-first : goal.refute-requires-clause-first
+refute-requires-clause-first c =
+    c.keep_within.ensures c.turn_to.new.known.forms
+    (rw c.keep.ensures (first-same c.args.refuter.now c.args.known.now.forms c.turn_to.new.known.forms c.in_ok-same.same c.requires.first c.in_ok-same.ensures.stay))

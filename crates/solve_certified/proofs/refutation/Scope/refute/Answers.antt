@@ -12,8 +12,8 @@ refute-requires-clause-wide c =
     rw c.as_slice.ensures.value
     (all-longer c.args.known.now.width (length c.deref.result.now) (omega (arith, ap length at, length-places s c.args.n known, c.requires.width)) known c.as_slice.ensures.wide)
 
-pub refute-requires-clause-same : goal.refute-requires-clause-same
-refute-requires-clause-same c = rw c.as_slice.ensures.value c.requires.same
+pub refute-requires-clause-first : goal.refute-requires-clause-first
+refute-requires-clause-first c = rw c.as_slice.ensures.value c.requires.first
 
 pub returns-in_err-found-clause-gives : goal.returns-in_err-found-clause-gives
 returns-in_err-found-clause-gives c =
