@@ -23,7 +23,7 @@ use quast_walk::ToolRefusal;
 use std::alloc::AllocError;
 
 /// Why a run of the program ends before all is done.
-#[derive(Clone, Copy, Debug, PartialEq, Eq)]
+#[derive(Clone, Copy)]
 pub enum Ending {
     /// The words give no command.
     Usage,
