@@ -1,7 +1,9 @@
 -- The turns of the run without parameters.
 use Rattle.plain_laws.proofs.Plain.{first_minus, plain_turn_is}
-use Rattle.point_turns.proofs.Words.{plain_setting, ◌∙◌, ◌≡◌, refl, ap, ℕ, ◌+◌, ℤ, Bool, true, false, Option, Some, None, List, [], ◌∷◌, ◌++◌, length, if◌then◌else◌, IfSome, is_nonneg, constant, coefficients, Row, row_at, first_fraction, is_whole, constant_cut, Work, Outcome, Done, Refused, Refusal, Node, Setting, Signs, AllPlus, MinusAt, go_on, turn, turn_by, last_turn, cut_turn, count_cut, give, Again, point_setting, negative_from, node_of, counted_cut}
-use Rattle.point_turns.proofs.Leaving.{passes_refusal}
+use Rattle.point_turns.proofs.Words.{plain_setting, ◌∙◌, ◌≡◌, refl, ap, ℕ, ◌+◌, ℤ, Bool, true, false, Option, Some, None, List, [], ◌∷◌, ◌++◌, length, if◌then◌else◌, IfSome, is_nonneg, constant, coefficients, Row, row_at, first_fraction, is_whole, constant_cut, Work, Outcome, Done, Refused, Refusal, Node, Setting, Signs, AllPlus, MinusAt, go_on, turn, turn_by, last_turn, cut_turn, count_cut, give, Again, point_setting, negative_from, node_of, counted_cut, subst, sym, Result, TableauRows, IsCountedRun}
+use Rattle.point_turns.specs.Turns.{made}
+use Rattle.point_turns.specs.declared.turns.PointTurn.{PointTurn}
+use Rattle.point_turns.proofs.Leaving.{passes_refusal, run_same}
 
 abbrev pub signs_of : Option ℕ → Signs
 signs_of None = AllPlus
@@ -21,6 +23,15 @@ turn_in n b rows w = plain_turn_is n b rows w ∙ ap (λ (s : Signs). turn_by (p
 
 pub turn_is : (n : ℕ) (rows : List Row) (w : Work) → turn (point_setting n) (node_of rows) w ≡ turn_by (point_setting n) (node_of rows) (signs_of (negative_from 0 rows)) w
 turn_is n rows w = turn_in n true rows w
+
+-- so a turn by the rows' signs is the turn, where the first row below 0 was looked for before
+pub turned : {E : Type 0} {fault : E → Option Refusal} {result : Result PointTurn E} {w v : Work} (b : Bool) (t m : TableauRows) (now : List Row) (s : Signs)
+    → m ≡ t → signs_of (negative_from 0 t.rows) ≡ s
+    → IsCountedRun (made m.unknowns now) fault result w v (turn_by (plain_setting m.unknowns b) (node_of m.rows) s)
+    → IsCountedRun (made t.unknowns now) fault result w v (turn (plain_setting t.unknowns b) (node_of t.rows))
+turned {fault = fault} {result = result} {w = w} {v = v} b t m now s kept signs told =
+    run_same (subst (λ (x : TableauRows). IsCountedRun (made x.unknowns now) fault result w v (turn_by (plain_setting x.unknowns b) (node_of x.rows) s)) kept told)
+    (sym (turn_in t.unknowns b t.rows w ∙ ap (λ (s : Signs). turn_by (plain_setting t.unknowns b) (node_of t.rows) s w) signs))
 
 -- ---- a cut
 

@@ -37,7 +37,6 @@ fn last_turn<R: PointRows>(
 }
 
 /// One turn: a pivot at a row below 0, else in integer mode a cut at a fraction.
-#[tactic(auto, using(crate::proofs::Turning::turn_in))]
 #[inline(always)]
 pub fn take_turn<R: PointRows>(
     rows: &mut R::Rows,
