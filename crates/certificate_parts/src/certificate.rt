@@ -91,6 +91,11 @@ impl Certificate {
         Ok(())
     }
 
+    // The leaves, taken out.
+    pub(crate) fn into_leaves(self) -> Vec<LeafProofs> {
+        self.leaves
+    }
+
     /// The leaves in order.
     pub fn as_slice(&self) -> &[LeafProofs]
         ensures value { result.now ≡ self.now.leaves }

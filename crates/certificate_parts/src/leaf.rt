@@ -34,6 +34,20 @@ impl Refutation {
         }
     }
 
+    // No steps, in the room of others.
+    pub(crate) fn in_room(items: Vec<Step>) -> Refutation
+        ensures { result ≡ [] }
+    {
+        let mut items = items;
+        items.clear();
+        Refutation { items }
+    }
+
+    // The steps, taken out.
+    pub(crate) fn into_items(self) -> Vec<Step> {
+        self.items
+    }
+
     /// Puts a step behind the others. A refusal leaves them as they were.
     pub fn push(&mut self, item: Step) -> Result<(), WantOfMemory>
         ensures ok { OnOk result (self.new ≡ self.old ++ item ∷ []) }
@@ -118,6 +132,11 @@ impl LeafProofs {
             shared: steps,
             items: Vec::new(alloc),
         }
+    }
+
+    // The refutations, taken out.
+    pub(crate) fn into_items(self) -> Vec<Refutation> {
+        self.items
     }
 
     /// Puts a refutation behind the others. A refusal leaves them as they were.

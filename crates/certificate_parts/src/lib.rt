@@ -4,8 +4,10 @@
 
 mod certificate;
 mod leaf;
+mod spare_steps;
 mod step;
 
 pub use certificate::Certificate;
 pub use leaf::{LeafProofs, Refutation};
+pub use spare_steps::SpareSteps;
 pub use step::{Step, Terms};

@@ -42,6 +42,23 @@ impl Terms {
         Ok(Terms { items })
     }
 
+    /// Makes room for so many more pairs. All stays as it was.
+    pub fn reserve(&mut self, pairs: usize) -> Result<(), WantOfMemory>
+        ensures { self.new ≡ self.old }
+    {
+        self.items.reserve(pairs)?;
+        Ok(())
+    }
+
+    // No pairs, in the room of these.
+    pub(crate) fn cleared(self) -> Terms
+        ensures { result ≡ [] }
+    {
+        let mut items = self.items;
+        items.clear();
+        Terms { items }
+    }
+
     /// Puts a pair of index and multiplier behind the others. A refusal leaves them as they were.
     pub fn push(&mut self, item: (i128, i128)) -> Result<(), WantOfMemory>
         requires index { Fits item.0 }

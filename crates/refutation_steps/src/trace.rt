@@ -9,7 +9,7 @@ ghost use Rattle.point_turns.specs.Traces.{with_cut};
 
 use crate::positive_terms::{count_negative, push_opposites, push_positive};
 use affine_forms::{WantOfMemory, negate_all, remainders};
-use certificate_parts::{Refutation, Step, Terms};
+use certificate_parts::{Certificate, Refutation, SpareSteps, Step, Terms};
 use point_run::RowView;
 use short_run::ShortTableau;
 use std::alloc::Global;
@@ -27,6 +27,7 @@ pub struct Trace {
     columns: Vec<i128>,
     first: i128,
     steps: Refutation,
+    spares: SpareSteps,
 }
 
 impl Model for Trace {
@@ -70,6 +71,7 @@ impl Trace {
             columns: Vec::new(alloc),
             first: 0,
             steps: Refutation::new(alloc),
+            spares: SpareSteps::new(alloc),
         }
     }
 
@@ -99,7 +101,7 @@ impl Trace {
         self.columns.clear();
         self.columns.extend_from_slice(places)?;
         self.first = first;
-        self.steps = self.no_steps();
+        self.steps = self.spares.take_steps();
         Ok(())
     }
 
@@ -207,16 +209,31 @@ impl Trace {
         self.push_step(Step { divisor: 1, terms })
     }
 
-    // The pairs of the last step at a row whose numbers have 64 bits, in room for just these: the index at this place with
+    // No pairs, in a room that is kept.
+    fn take_terms(&mut self) -> Terms
+        ensures empty { result ≡ [] }
+        ensures same { self.new ≡ self.old }
+    {
+        self.spares.take_terms()
+    }
+
+    // The pairs of the last step at a row whose numbers have 64 bits, in a room: the index at this place with
     // the denominator, and each column that the row has below 0, so many times away.
-    fn short_terms(&self, at: usize, den: i64, coefs: &[i64]) -> Result<Terms, WantOfMemory>
+    fn short_terms(
+        &self,
+        room: Terms,
+        at: usize,
+        den: i64,
+        coefs: &[i64],
+    ) -> Result<Terms, WantOfMemory>
+        requires empty { room ≡ [] }
         requires index { at < length self.now.rows }
         requires number { length coefs.now ≡ length self.now.columns }
         ensures { IfOk result (λ terms. terms
             ≡ (entry self.now.rows at, den) ∷ positive_terms self.now.columns (negate coefs.now)) }
     {
-        let pairs = count_negative(coefs).saturating_add(1);
-        let mut terms = Terms::with_capacity(*self.columns.allocator(), pairs)?;
+        let mut terms = room;
+        terms.reserve(count_negative(coefs).saturating_add(1))?;
         terms.push((self.index_of(at), den as i128))?;
         push_opposites(&mut terms, &self.columns, coefs)?;
         Ok(terms)
@@ -237,8 +254,16 @@ impl Trace {
             (last_step (row_at rows.now.rows r) (entry self.old.rows at) self.old.columns)) }
     {
         let row = rows.row(r);
-        let terms = self.short_terms(at, row.den, row.coefs)?;
+        let room = self.take_terms();
+        let terms = self.short_terms(room, at, row.den, row.coefs)?;
         self.push_step(Step { divisor: 1, terms })
+    }
+
+    /// Keeps the rooms of a certificate's steps for others. All stays as it was.
+    pub fn keep(&mut self, certificate: Certificate)
+        ensures { self.new ≡ self.old }
+    {
+        self.spares.keep(certificate);
     }
 
     /// The steps, which are not kept.

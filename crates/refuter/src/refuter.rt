@@ -10,13 +10,14 @@ ghost use Rattle.short_run.specs.Stops.{stop_fault};
 use crate::kept_front::KeptFront;
 use crate::narrowed::Narrowed;
 use affine_forms::{Form, WantOfMemory};
-use certificate_parts::Refutation;
+use certificate_parts::{Certificate, Refutation};
 use pip_problem::Refusal;
 use refutation_steps::RefutationRoom;
 use run_counts::Work;
 use short_run::Stop;
 use std::alloc::Global;
 use std::marker::Model;
+use std::mem::replace;
 
 /// Makes refutations of known forms, one after the other. From one to the next it keeps the first pivots of the run of
 /// so many first forms as it is told. It goes on from them where it is told that the next first forms begin with these,
@@ -27,6 +28,8 @@ pub struct Refuter {
     front: KeptFront,
     narrowed: Narrowed,
     room: RefutationRoom,
+    // Room for the indices of a refutation's places.
+    places: Vec<i128>,
 }
 
 impl Model for Refuter {
@@ -47,7 +50,33 @@ impl Refuter {
             front: KeptFront::new(alloc),
             narrowed: Narrowed::new(alloc),
             room: RefutationRoom::new(alloc),
+            places: Vec::new(alloc),
         }
+    }
+
+    /// No numbers, in the room that it has for a refutation's places, which it lets go.
+    pub fn take_places(&mut self) -> Vec<i128>
+        ensures empty { result.items ≡ [] }
+        ensures same { self.new ≡ self.old }
+    {
+        let none = Vec::new(*self.places.allocator());
+        let mut places = replace(&mut self.places, none);
+        places.clear();
+        places
+    }
+
+    /// Has these numbers' room for the next refutation's places.
+    pub fn keep_places(&mut self, places: Vec<i128>)
+        ensures { self.new ≡ self.old }
+    {
+        self.places = places;
+    }
+
+    /// Keeps the rooms of a certificate's steps for those that it makes.
+    pub fn keep_steps(&mut self, certificate: Certificate)
+        ensures { self.new ≡ self.old }
+    {
+        self.room.trace.keep(certificate);
     }
 
     /// From now on it keeps the run of so many of the first known forms; of none where there are fewer.
