@@ -8,7 +8,7 @@ pub use Rattle.std.proofs.lemmas.List.Folds.{list_all-append, list_all_at}
 pub use Rattle.std.specs.Prelude.{slice_set, None, All, slice_index_or, Some}
 pub use Rattle.std.specs.List.{list_all, AllByRecursion}
 pub use Rattle.std.proofs.lemmas.List.Elements.{All-take, All-drop, All-append, All-set, All-replicate, All-same, All-push, All-cons, All-from_recursion, recursion_from_All}
-pub use Rattle.std.specs.Int.{w64, w128, IsGcd}
+pub use Rattle.std.specs.Int.{w64, w128}
 pub use Rattle.std.proofs.lemmas.Grind.{common_steps}
 pub use Rattle.pip_model.proofs.Forms.{length-combine, entry-combine, scale_one, length-widened}
 pub use Rattle.pip_model.specs.Numbers.{gcd, gcd_of, floor_div}
@@ -28,14 +28,15 @@ pub use Rattle.short_row.specs.Begun.{finished, begun_coefs, begun_constant, beg
 pub use Rattle.short_row.specs.Turned.{is_short_row, IsDenominatorOf, IsTurned}
 pub use Rattle.short_row.specs.Sized.{IsShortReduced, places_of}
 pub use Rattle.short_row.specs.Rows.{row_of}
-pub use Rattle.short_row.specs.Terms.{IsDivisor, IsNarrowed, IsShortDivisor, AreTerms}
+pub use Rattle.short_row.specs.Terms.{IsDivisor, IsNarrowed, AreTerms}
+pub use Rattle.short_numbers.specs.Short.{IsShortDivisor}
 pub use Rattle.row_laws.specs.Lowest.{AreLowest, substituted_by}
 pub use Rattle.row_laws.proofs.Lowest.{eliminated-lowest, divisor-lowest, lowest-alone, lowest-divided}
 pub use Rattle.row_laws.proofs.Places.{take_combine, drop_combine}
 pub use Rattle.row_laws.proofs.RowLaws.{divided_row, divided_one, divided_whole}
 pub use Rattle.pip_model.proofs.RingLaws.{*ℤ_left_comm, *ℤ_assoc}
 pub use Rattle.short_row.specs.declared.begun.Begun.{Begun}
-pub use Rattle.std.proofs.lemmas.Nat.Gcd.{dvd_antisymm, dvd_refl, IsGcd-swap, IsGcd-from_zero, IsGcd-from_mod}
+pub use Rattle.std.proofs.lemmas.Nat.Gcd.{dvd_antisymm, dvd_refl, IsGcd-swap}
 pub use Rattle.short_row.specs.Whole.{scaled_front, IsHalfDivisor}
 pub use Rattle.row_laws.proofs.Stepping.{own_row}
 pub use Rattle.std.proofs.Math.Seq.{take-set-lt}

@@ -8,7 +8,8 @@ use Rattle.row_laws.specs.Short.{IsShort}
 use Rattle.row_laws.specs.Rows.{row_from, content}
 use Rattle.short_row.specs.Begun.{finished}
 use Rattle.short_row.specs.Sized.{places_of, IsShortReduced, IsPivot}
-use Rattle.short_row.specs.Terms.{AreTerms, IsShortDivisor}
+use Rattle.short_numbers.specs.Short.{IsShortDivisor}
+use Rattle.short_row.specs.Terms.{AreTerms}
 use Rattle.short_row.specs.declared.put.Put.{Put}
 use Rattle.short_row.specs.declared.wide.Factors.{Factors}
 

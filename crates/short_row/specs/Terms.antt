@@ -12,11 +12,6 @@ pub record AreTerms (a : ℤ) (r : List ℤ) (b : ℤ) (s : List ℤ) : Type 0 w
   pub pivot_factor : IsShort b
   pub pivot : All IsShort s
 
--- d lies from 1 to 2^63 - 1
-pub record IsShortDivisor (d : ℤ) : Type 0 where
-  pub positive : pos 1 ≤ℤ d
-  pub short : IsShort d
-
 -- d lies from 1 to 2^127 - 1
 pub record IsDivisor (d : ℤ) : Type 0 where
   pub positive : pos 1 ≤ℤ d

@@ -1,14 +1,12 @@
-ghost use Rattle.std.specs.Prelude.{◌≡◌, ◌≤◌, ◌*ℤ◌, ◌-ℤ◌, pos, ◌++◌, length, take, drop, All, IfSome, IsTrue};
+ghost use Rattle.std.specs.Prelude.{◌≡◌, ◌≤◌, pos, ◌++◌, length, take, drop, All, IfSome};
 ghost use Rattle.pip_model.specs.Forms.{combine as combine_of};
-ghost use Rattle.short_numbers.specs.Short.{IsShort, IsHalf, AreShort, AreHalf};
+ghost use Rattle.short_numbers.specs.Short.{IsShort, IsHalf, AreHalf};
 ghost use Rattle.short_row.specs.Begun.{finished};
 ghost use Rattle.short_numbers.specs.Nonzeros.{AreNonzeros};
 ghost use Rattle.short_row.specs.Terms.{AreTerms};
 
 use crate::wide::Factors;
-use short_numbers::{Nonzeros, half_difference, is_half};
-use std::simd::prelude::*;
-use std::simd::{i64x2, i64x4};
+use short_numbers::{Nonzeros, are_narrow, half_difference, is_half, two_differences};
 
 // Makes `a*r - b*s` of r, entry by entry, up to the first that has no 32 bits; how many are made.
 fn combine_half(a: i64, r: &mut [i64], b: i64, s: &[i64]) -> usize
@@ -27,36 +25,6 @@ fn combine_half(a: i64, r: &mut [i64], b: i64, s: &[i64]) -> usize
     r.len()
 }
 
-// Whether both numbers have 31 bits, in one test.
-#[inline(always)]
-fn are_narrow(x: i64, y: i64) -> bool
-    ensures { IsTrue result → AreHalf x y }
-{
-    let moved = i64x2::from_array([x, y]) + i64x2::splat(0x4000_0000);
-    (moved & i64x2::splat(-0x8000_0000)).reduce_or() == 0
-}
-
-// `a*x - b*y` for two x and two y. All four products are made of one vector, since LLVM then sees that 32 bits of each
-// number tell all.
-#[inline(always)]
-fn two_differences(by: Factors, x: (i64, i64), y: (i64, i64)) -> (i64, i64)
-    requires factors { AreHalf by.of_row by.of_pivot }
-    requires row { AreHalf x.0 x.1 }
-    requires pivot { AreHalf y.0 y.1 }
-    ensures first { result.0 ≡ by.of_row *ℤ x.0 -ℤ by.of_pivot *ℤ y.0 }
-    ensures second { result.1 ≡ by.of_row *ℤ x.1 -ℤ by.of_pivot *ℤ y.1 }
-    ensures short { AreShort result.0 result.1 }
-{
-    let factors = i64x4::from_array([by.of_row, by.of_row, by.of_pivot, by.of_pivot]);
-    let numbers = i64x4::from_array([x.0, x.1, y.0, y.1]);
-    let products = factors
-        .cast::<i32>()
-        .cast::<i64>()
-        .strict_mul(numbers.cast::<i32>().cast::<i64>())
-        .to_array();
-    (products[0] - products[2], products[1] - products[3])
-}
-
 // Makes `a*r - b*s` of r, two entries at a time, up to the first two of which one has no 31 bits; how many are made.
 fn combine_pairs(by: Factors, r: &mut [i64], s: &[i64]) -> usize
     requires terms { AreTerms by.of_row r.old by.of_pivot s.now }
@@ -71,7 +39,12 @@ fn combine_pairs(by: Factors, r: &mut [i64], s: &[i64]) -> usize
         if !are_narrow(r[i], r[i + 1]) {
             return i;
         }
-        let (first, second) = two_differences(by, (r[i], r[i + 1]), (s[i], s[i + 1]));
+        let (first, second) = two_differences(
+            by.of_row,
+            (r[i], r[i + 1]),
+            by.of_pivot,
+            (s[i], s[i + 1]),
+        );
         r[i] = first;
         r[i + 1] = second;
     }

@@ -2,7 +2,6 @@
 #![tactic(auto)]
 
 mod begun;
-mod divisors;
 mod halves;
 mod numbers;
 mod put;

@@ -2,9 +2,9 @@ ghost use Rattle.std.specs.Prelude.{◌≡◌, ◌≤◌, pos, ◌-ℤ◌, ◌*�
 ghost use Rattle.pip_model.specs.Numbers.{gcd as gcd_of_two, gcd_of, floor_mod as floor_mod_of};
 ghost use Rattle.pip_model.specs.Forms.{combine as combine_of, floor_divided};
 ghost use Rattle.affine_forms.specs.Checks.{Fits};
-ghost use Rattle.short_numbers.specs.Short.{IsShort, AreShort};
+ghost use Rattle.short_numbers.specs.Short.{IsShort, AreShort, IsShortDivisor};
 ghost use Rattle.short_row.specs.Begun.{finished};
-ghost use Rattle.short_row.specs.Terms.{AreTerms, IsShortDivisor, IsNarrowed};
+ghost use Rattle.short_row.specs.Terms.{AreTerms, IsNarrowed};
 
 use short_numbers::{short_difference, short_floor_div, short_gcd, short_product};
 

@@ -2,20 +2,18 @@ ghost use Rattle.std.specs.Prelude.{◌≡◌, ◌+◌, ◌<◌, ◌≤◌, pos,
 ghost use Rattle.pip_model.specs.Forms.{entry};
 ghost use Rattle.pip_model.specs.Numbers.{gcd as gcd_of_two, gcd_of};
 ghost use Rattle.pip_model.specs.Rows as model;
-ghost use Rattle.short_numbers.specs.Short.{IsShort};
+ghost use Rattle.short_numbers.specs.Short.{IsShort, IsShortDivisor};
 ghost use Rattle.row_laws.specs.Flat.{row_of_numbers};
 ghost use Rattle.row_laws.specs.Rows.{content};
 ghost use Rattle.short_row.specs.Put.{IsPut, ArePutEnds, put_row};
-ghost use Rattle.short_row.specs.Terms.{IsShortDivisor};
 ghost use Rattle.short_row.specs.Turned.{IsTurned};
 
 use crate::begun::{Begun, finish};
-use crate::divisors::gcd;
 use crate::numbers::{combine, divide_all, gcd_with, narrow, product};
 use crate::row::view_of;
 use crate::whole::divide_common;
 use crate::wide::Factors;
-use short_numbers::is_half;
+use short_numbers::{gcd, is_half};
 
 // A row that the pivot's row is put into: what the two rows are multiplied by, the column, and how many of the numbers
 // behind the denominator are made. The others, and the denominator, are still those of the row before.

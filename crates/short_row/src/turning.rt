@@ -1,20 +1,19 @@
 ghost use Rattle.std.specs.Prelude.{◌≡◌, ◌+◌, ◌≤◌, drop, length, All, IfSome};
 ghost use Rattle.pip_model.specs.Forms.{entry, combine as combine_of};
 ghost use Rattle.pip_model.specs.Rows as model;
-ghost use Rattle.short_numbers.specs.Short.{IsShort};
+ghost use Rattle.short_numbers.specs.Short.{IsShort, IsShortDivisor};
 ghost use Rattle.row_laws.specs.Flat.{row_of_numbers};
 ghost use Rattle.row_laws.specs.Lowest.{AreLowest};
 ghost use Rattle.short_row.specs.Begun.{finished};
 ghost use Rattle.short_numbers.specs.Nonzeros.{AreNonzeros};
 ghost use Rattle.short_row.specs.Put.{IsTurning};
-ghost use Rattle.short_row.specs.Terms.{AreTerms, IsShortDivisor};
+ghost use Rattle.short_row.specs.Terms.{AreTerms};
 ghost use Rattle.short_row.specs.Turned.{IsTurned};
 
-use crate::divisors::gcd;
 use crate::halves::combine_halves;
 use crate::put::{Put, end_put};
 use crate::wide::Factors;
-use short_numbers::{Nonzeros, short_floor_div};
+use short_numbers::{Nonzeros, gcd, short_floor_div};
 
 // The factors in lowest terms.
 fn lowest(a: i64, b: i64) -> Factors

@@ -4,8 +4,7 @@ ghost use Rattle.pip_model.specs.Numbers.{gcd as gcd_of_two, gcd_of};
 ghost use Rattle.short_numbers.specs.Short.{IsShort, IsHalf};
 ghost use Rattle.short_row.specs.Whole.{IsHalfDivisor, scaled_front};
 
-use crate::divisors::gcd;
-use short_numbers::{is_half, short_floor_div};
+use short_numbers::{gcd, is_half, short_floor_div};
 
 // The quotient of numbers of 32 bits, where nothing is left.
 fn half_quotient(z: i32, d: i32) -> Option<i32>

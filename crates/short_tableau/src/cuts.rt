@@ -8,7 +8,7 @@ ghost use Rattle.row_laws.specs.Short.{IsShort, IsShortRow};
 ghost use Rattle.row_laws.specs.Rows.{row_from};
 ghost use Rattle.short_tableau.specs.Dense.{IsDense, rows_in};
 ghost use Rattle.short_row.specs.Sized.{IsShortReduced, row_size};
-ghost use Rattle.short_row.specs.Terms.{IsShortDivisor};
+ghost use Rattle.short_numbers.specs.Short.{IsShortDivisor};
 
 use crate::rows::place_of;
 use affine_forms::WantOfMemory;

@@ -1,7 +1,7 @@
 ghost use Rattle.std.specs.Prelude.{◌≡◌, ◌<◌, ◌≤◌, length, IfSome};
 ghost use Rattle.pip_model.specs.Rows as model;
 ghost use Rattle.row_laws.specs.Rows.{IsRow};
-ghost use Rattle.short_row.specs.Terms.{IsShortDivisor};
+ghost use Rattle.short_numbers.specs.Short.{IsShortDivisor};
 
 use crate::short_table::ShortTableau;
 use short_row::floor_mod;

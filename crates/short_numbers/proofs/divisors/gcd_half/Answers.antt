@@ -1,6 +1,6 @@
-use Rattle.short_row.proofs.Words.{IsGcd-from_zero, IsGcd-from_mod, IsGcd-swap}
+use Rattle.std.proofs.lemmas.Nat.Gcd.{IsGcd-from_zero, IsGcd-from_mod, IsGcd-swap}
 use Rattle.affine_forms.proofs.Gcd.{euclid_only}
-use Rattle.short_row.proofs.divisors.gcd_half.Goals as goal
+use Rattle.short_numbers.proofs.divisors.gcd_half.Goals as goal
 
 pub loop-y-init : goal.loop-y-init
 loop-y-init c = λ g h. IsGcd-swap _ _ g h

@@ -1,5 +1,9 @@
-use Rattle.short_row.proofs.Words.{rules, arith, ints, ◌≡◌, to_z, of_z, w64, gcd, gcd_between, IsShort}
-use Rattle.short_row.proofs.divisors.gcd.Goals as goal
+use Rattle.std.proofs.Common.{rules, arith, ◌≡◌, to_z, of_z, w64}
+use Rattle.std.proofs.lemmas.Int.{ints}
+use Rattle.pip_model.specs.Numbers.{gcd}
+use Rattle.pip_model.proofs.Gcd.{gcd_between}
+use Rattle.short_numbers.specs.Short.{IsShort}
+use Rattle.short_numbers.proofs.divisors.gcd.Goals as goal
 
 pub returns-then-is_half-2-clause-divisor : goal.returns-then-is_half-2-clause-divisor
 returns-then-is_half-2-clause-divisor c =

@@ -2,7 +2,7 @@ use Rattle.std.proofs.Common.{◌≡◌, ap, sym, ◌∙◌, ℕ, ◌+◌, ◌-�
 use Rattle.std.proofs.lemmas.Nat.{and_shr, and_mask, le_or_l, le_or_r}
 use mir.Val.{SFits}
 use Rattle.std.proofs.lemmas.Bool.{eqb-true}
-use Rattle.short_row.proofs.halves.are_narrow.Goals as goal
+use Rattle.short_numbers.proofs.pairs.are_narrow.Goals as goal
 
 below : (v : ℕ) → v < 2 ^ 64 → bit_and v 18446744071562067968 ≡ 0 → v < 2 ^ 31
 below v h e =

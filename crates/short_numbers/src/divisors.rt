@@ -1,9 +1,9 @@
 ghost use Rattle.std.specs.Prelude.{◌≡◌, ◌+◌, pos, ◌≤ℤ◌};
 ghost use Rattle.pip_model.specs.Numbers.{euclid, gcd as gcd_of_two};
-ghost use Rattle.short_numbers.specs.Short.{IsShort};
-ghost use Rattle.short_row.specs.Terms.{IsShortDivisor};
+ghost use Rattle.short_numbers.specs.Short.{IsShort, IsShortDivisor};
 
-use short_numbers::{is_half, short_gcd};
+use crate::division::short_gcd;
+use crate::products::is_half;
 
 // Euclid's algorithm in 32 bits, which divides the second number first.
 fn gcd_half(a: u32, b: u32) -> u32
@@ -19,10 +19,10 @@ fn gcd_half(a: u32, b: u32) -> u32
     x
 }
 
-// The greatest common divisor of a number of at least 1 and a short one: at once where one of them is 1 or -1, by 32 bits
-// where both have them.
+/// The greatest common divisor of a number of at least 1 and a short one: at once where one of them is 1 or -1, by 32 bits
+/// where both have them.
 #[inline(always)]
-pub(crate) fn gcd(a: i64, b: i64) -> i64
+pub fn gcd(a: i64, b: i64) -> i64
     requires a { IsShortDivisor a }
     requires b { IsShort b }
     ensures value { result ≡ gcd_of_two a b }

@@ -1,5 +1,6 @@
-use Rattle.short_row.proofs.Words.{ℕ, IsGcd}
-use Rattle.short_row.proofs.divisors.gcd_half.Given as goal
+use Rattle.std.proofs.Common.{ℕ}
+use Rattle.std.specs.Int.{IsGcd}
+use Rattle.short_numbers.proofs.divisors.gcd_half.Given as goal
 
 abbrev pub invariant-loop-y : goal.invariant-loop-y
 invariant-loop-y l = (g : ℕ) → IsGcd l.x l.y g → IsGcd l.fn.a l.fn.b g

@@ -1,8 +1,8 @@
-use Rattle.short_row.proofs.Words.{arith, rules, ints, ◌≡◌, ◌<◌, ℤ, ◌*ℤ◌, ◌-ℤ◌, to_z, of_z, unsigned_abs, fits_signed_from_abs, to_z-of_z, w64}
-use Rattle.std.proofs.Common.{◌^◌, w32, FitsSigned}
+use Rattle.std.proofs.Common.{◌^◌, arith, rules, ◌≡◌, ◌<◌, ℤ, ◌*ℤ◌, ◌-ℤ◌, to_z, of_z, unsigned_abs, w32, w64, FitsSigned}
+use Rattle.std.proofs.lemmas.Int.{ints, to_z-of_z, fits_signed_from_abs}
 use Rattle.short_numbers.specs.Short.{IsHalf}
 use Rattle.short_numbers.proofs.Bounds.{half_bound}
-use Rattle.short_row.proofs.halves.two_differences.Goals as goal
+use Rattle.short_numbers.proofs.pairs.two_differences.Goals as goal
 
 -- a number through 32 bits, and a product of two such
 abbrev low : ℤ → ℤ
@@ -38,30 +38,30 @@ module _ (a x b y : ℤ) (f : IsHalf a) (g : IsHalf x) (h : IsHalf b) (k : IsHal
 pub overflow_mul-products : goal.overflow_mul-products
 overflow_mul-products c =
     let by = c.requires.factors in
-    let one = fits c.args.by.of_row c.args.x.0 by.first c.requires.row.first in
-    let two = fits c.args.by.of_row c.args.x.1 by.first c.requires.row.second in
-    let three = fits c.args.by.of_pivot c.args.y.0 by.second c.requires.pivot.first in
-    let four = fits c.args.by.of_pivot c.args.y.1 by.second c.requires.pivot.second in
+    let one = fits c.args.a c.args.x.0 by.first c.requires.row.first in
+    let two = fits c.args.a c.args.x.1 by.first c.requires.row.second in
+    let three = fits c.args.b c.args.y.0 by.second c.requires.pivot.first in
+    let four = fits c.args.b c.args.y.1 by.second c.requires.pivot.second in
     search (rules, one, two, three, four)
 
 pub overflow_sub-result : goal.overflow_sub-result
-overflow_sub-result c = difference_fits c.args.by.of_row c.args.x.0 c.args.by.of_pivot c.args.y.0 c.requires.factors.first c.requires.row.first c.requires.factors.second c.requires.pivot.first
+overflow_sub-result c = difference_fits c.args.a c.args.x.0 c.args.b c.args.y.0 c.requires.factors.first c.requires.row.first c.requires.factors.second c.requires.pivot.first
 
 pub overflow_sub-result-2 : goal.overflow_sub-result-2
-overflow_sub-result-2 c = difference_fits c.args.by.of_row c.args.x.1 c.args.by.of_pivot c.args.y.1 c.requires.factors.first c.requires.row.second c.requires.factors.second c.requires.pivot.second
+overflow_sub-result-2 c = difference_fits c.args.a c.args.x.1 c.args.b c.args.y.1 c.requires.factors.first c.requires.row.second c.requires.factors.second c.requires.pivot.second
 
 pub returns-clause-first : goal.returns-clause-first
-returns-clause-first c = difference_is c.args.by.of_row c.args.x.0 c.args.by.of_pivot c.args.y.0 c.requires.factors.first c.requires.row.first c.requires.factors.second c.requires.pivot.first
+returns-clause-first c = difference_is c.args.a c.args.x.0 c.args.b c.args.y.0 c.requires.factors.first c.requires.row.first c.requires.factors.second c.requires.pivot.first
 
 pub returns-clause-second : goal.returns-clause-second
-returns-clause-second c = difference_is c.args.by.of_row c.args.x.1 c.args.by.of_pivot c.args.y.1 c.requires.factors.first c.requires.row.second c.requires.factors.second c.requires.pivot.second
+returns-clause-second c = difference_is c.args.a c.args.x.1 c.args.b c.args.y.1 c.requires.factors.first c.requires.row.second c.requires.factors.second c.requires.pivot.second
 
 pub returns-clause-short : goal.returns-clause-short
 returns-clause-short c = record {
   first =
-      rw (difference_is c.args.by.of_row c.args.x.0 c.args.by.of_pivot c.args.y.0 c.requires.factors.first c.requires.row.first c.requires.factors.second c.requires.pivot.first)
-      (small c.args.by.of_row c.args.x.0 c.args.by.of_pivot c.args.y.0 c.requires.factors.first c.requires.row.first c.requires.factors.second c.requires.pivot.first);
+      rw (difference_is c.args.a c.args.x.0 c.args.b c.args.y.0 c.requires.factors.first c.requires.row.first c.requires.factors.second c.requires.pivot.first)
+      (small c.args.a c.args.x.0 c.args.b c.args.y.0 c.requires.factors.first c.requires.row.first c.requires.factors.second c.requires.pivot.first);
   second =
-      rw (difference_is c.args.by.of_row c.args.x.1 c.args.by.of_pivot c.args.y.1 c.requires.factors.first c.requires.row.second c.requires.factors.second c.requires.pivot.second)
-      (small c.args.by.of_row c.args.x.1 c.args.by.of_pivot c.args.y.1 c.requires.factors.first c.requires.row.second c.requires.factors.second c.requires.pivot.second);
+      rw (difference_is c.args.a c.args.x.1 c.args.b c.args.y.1 c.requires.factors.first c.requires.row.second c.requires.factors.second c.requires.pivot.second)
+      (small c.args.a c.args.x.1 c.args.b c.args.y.1 c.requires.factors.first c.requires.row.second c.requires.factors.second c.requires.pivot.second);
 }
