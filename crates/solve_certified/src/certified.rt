@@ -145,6 +145,11 @@ impl Certifier {
         }
     }
 
+    /// Keeps the rooms of a certificate's steps for the next ones.
+    pub fn keep(&mut self, certificate: Certificate) {
+        self.refuter.keep_steps(certificate);
+    }
+
     // Gives its rooms for those of a walk.
     fn swap_rooms(&mut self, making: &mut TreeMaking)
         ensures { making.new.certificate ≡ making.old.certificate }

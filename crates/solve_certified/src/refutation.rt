@@ -1,4 +1,4 @@
-ghost use Rattle.std.specs.Prelude.{◌≡◌, ◌^◌, ◌+◌, ◌≤◌, pos, ◌≤ℤ◌, ◌<ℤ◌, ◌++◌, length, All, IfOk, OnOk};
+ghost use Rattle.std.specs.Prelude.{◌≡◌, ◌^◌, ◌+◌, ◌≤◌, [], pos, ◌≤ℤ◌, ◌<ℤ◌, ◌++◌, length, All, IfOk, OnOk};
 ghost use Rattle.pip_model.specs.Agreement.{AgreesCounted};
 ghost use Rattle.pip_model.specs.Made.{steps_or_none};
 ghost use Rattle.affine_forms.specs.Checks.{Fits};
@@ -52,8 +52,9 @@ fn with_found(steps: Refutation, found: Option<Refutation>) -> Result<Refutation
 
 impl Scope<'_> {
     // The indices of the places: the parameters' forms, those that the quotients' steps give behind the known ones, and
-    // those of n unknowns.
-    fn places(&self, alloc: Global, count: usize, n: usize) -> Result<Vec<i128>, WantOfMemory>
+    // those of n unknowns, in a room.
+    fn places(&self, room: Vec<i128>, count: usize, n: usize) -> Result<Vec<i128>, WantOfMemory>
+        requires { room.items ≡ [] }
         ensures value { IfOk result (λ places. places.items ≡ places_of self.now count n) }
         ensures fits { IfOk result (λ places. All Fits places.items) }
     {
@@ -61,7 +62,8 @@ impl Scope<'_> {
             .params
             .saturating_add(self.quotients.len())
             .saturating_add(n);
-        let mut places = Vec::with_capacity(alloc, number)?;
+        let mut places = room;
+        places.reserve(number)?;
         push_indices(&mut places, 0, self.params)?;
         push_indices(&mut places, count, self.quotients.len())?;
         push_indices(&mut places, self.own, n)?;
@@ -88,10 +90,11 @@ impl Scope<'_> {
         let Some(first) = count.checked_add(self.quotients.len()) else {
             return Err(Refusal::WantOfMemory);
         };
-        let places = self.places(self.alloc, count, n)?;
+        let places = self.places(refuter.take_places(), count, n)?;
         let first = index_behind(first);
         let found = refuter.refute(known.as_slice(), &places, first, work)?;
         let steps = quotient_steps(self.alloc, self.front, self.params, &places, self.quotients)?;
+        refuter.keep_places(places);
         let made = with_found(steps, found)?;
         Ok(made)
     }

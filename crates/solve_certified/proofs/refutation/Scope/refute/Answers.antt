@@ -13,7 +13,7 @@ refute-requires-clause-wide c =
     (all-longer c.args.known.now.width (length c.deref.result.now) (omega (arith, ap length at, length-places s c.args.n known, c.requires.width)) known c.as_slice.ensures.wide)
 
 pub refute-requires-clause-first : goal.refute-requires-clause-first
-refute-requires-clause-first c = rw c.as_slice.ensures.value c.requires.first
+refute-requires-clause-first c = rw (c.as_slice.ensures.value, c.take_places.ensures.same) c.requires.first
 
 pub returns-in_err-found-clause-gives : goal.returns-in_err-found-clause-gives
 returns-in_err-found-clause-gives c =
@@ -38,7 +38,7 @@ quotient_steps-requires-clause-number c =
     omega (arith, ap length at, length-places s c.args.n known)
 
 pub returns-clause-first : goal.returns-clause-first
-returns-clause-first c = rw c.as_slice.ensures.value at c.in_ok-found.ensures.first
+returns-clause-first c = rw c.keep_places.ensures (rw c.as_slice.ensures.value at c.in_ok-found.ensures.first)
 
 pub returns-clause-gives : goal.returns-clause-gives
 returns-clause-gives c =
