@@ -9,10 +9,11 @@ turn of the outermost loop, the place in its body, the turn of the next loop, an
 from __future__ import annotations
 
 from dataclasses import dataclass, replace
-from typing import Dict, Iterable, Iterator, List, Mapping, NamedTuple, Optional, Tuple
+from typing import Dict, Iterable, Iterator, List, Mapping, NamedTuple, Optional, Sequence, Tuple
 
-from lexmin import Answer, Form, Problem, Relation, Solver
-from nests import Access, Case, Kernel, Loop, Statement, least_value
+from lexmin import Answer, Floor, Form, Problem, Relation, Solver
+from nests import Access, Case, Kernel, Loop, Statement, floors_of, least_value
+from syntax import Fault
 
 Found = Optional[Tuple[int, Tuple[int, ...]]]  # a statement by its number and the values of its loop variables
 
@@ -65,6 +66,9 @@ class Analyser:
 
     def __init__(self, solver: Solver, kernel: Kernel) -> None:
         self.solver, self.kernel, self.problems = solver, kernel, 0
+        for statement in kernel.statements:
+            for case in statement.cases:
+                self.divides(statement, case)
         self.cases = {statement: self.held(statement) for statement in kernel.statements}
 
     def held(self, statement: Statement) -> List[Case]:
@@ -73,6 +77,33 @@ class Analyser:
             return list(statement.cases)
         answers = [self.solver.solve(Reading(self.kernel, statement, case).problem) for case in statement.cases]
         return [case for case, answer in zip(statement.cases, answers) if not answer.is_empty]
+
+    def divides(self, statement: Statement, case: Case) -> None:
+        """A Fault where a form that is divided may be below 0: there C rounds towards 0, and the forms' floors do not. A relation
+        may stand on all without floors, and on those before it."""
+        relations = [*self.kernel.known, *statement.domain(), *case]
+        dividing = [relation for relation in relations if any(floors_of(relation.form))]
+        held = [relation for relation in relations if relation not in dividing]
+        for relation in dividing:
+            for floor in floors_of(relation.form):
+                self.is_from_0_on(floor, statement, held)
+            held.append(relation)
+        for access in (statement.writes, *statement.reads):
+            for floor in (floor for form in access.subscripts for floor in floors_of(form)):
+                self.is_from_0_on(floor, statement, held)
+
+    def is_from_0_on(self, floor: Floor, statement: Statement, held: Sequence[Relation]) -> None:
+        problem = Problem(f"{self.kernel.name}, S{statement.number}: what is divided by {floor.divisor} below 0")
+        for name, low in lowest(statement, self.kernel.sizes).items():
+            if low is None:
+                problem.further(name, low=None)
+            else:
+                problem.least(name, low=low)
+        found = self.solver.solve(problem.where(*held, floor.form() <= -1)).value()
+        if found is not None:
+            at = ", ".join(f"{name} = {number}" for name, number in found.items())
+            words = f"{floor.form()} is divided by {floor.divisor}, and is below 0 at {at}: C rounds towards 0 there, which is not read"
+            raise Fault(statement.assignment.line, words)
 
     def sources(self) -> Iterator[Source]:
         """Each read's, in each case of its statement; an element that a statement reads twice is asked for once."""
@@ -97,7 +128,7 @@ class Analyser:
             if found is not None and found.is_total:
                 break  # what is written at the levels outside is overwritten in all turns
         answer = None if found is None else self.instance(found)
-        return Source(self.kernel, statement, read, case, answer, counters_of(statement, self.kernel.sizes))
+        return Source(self.kernel, statement, read, case, answer, Reading(self.kernel, statement, case).counters)
 
     def last(self, question: Question) -> Optional[Answer]:
         """When the writer last wrote what is read; none where it never did."""
@@ -120,28 +151,50 @@ def levels(writer: Statement, reader: Statement) -> Iterator[int]:
 
 
 class Reading:
-    """A problem whose parameters are the sizes and a turn of a statement, in a case of the conditions around it."""
+    """A problem whose parameters are the sizes and a turn of a statement, in a case of the conditions around it, and each floor
+    that stands in these, since a context has none. `counters` says what they are, over the sizes and the loop variables."""
 
     def __init__(self, kernel: Kernel, reader: Statement, case: Case, comment: str = "") -> None:
         self.kernel, self.problem = kernel, Problem(comment or f"{kernel.name}, S{reader.number}")
         self.sizes = {name: self.problem.parameter(name) for name in kernel.sizes}
         self.turns: Dict[str, Turns] = {}
+        self.floors: Dict[Floor, Form] = {}
+        self.counters = {name: Form({name: 1}) for name in kernel.sizes}
         lows = lowest(reader, self.sizes)
         for loop in reader.loops:
             own = counter(loop, lows)
+            base = self.known(own.base)
             parameter = self.problem.parameter(own.name, low=own.low)
-            variable = own.base.substitute(self.names(self.turns)) + parameter * own.step
+            self.counters[own.name] = (Form({loop.variable: 1}) - own.base) / own.step
+            variable = base + parameter * own.step
             self.turns[loop.variable] = Turns(variable, parameter if abs(loop.step) > 1 else variable * loop.step)
-        self.problem.context(*kernel.known, *self.domain(reader, case, self.turns))
+        for relation in (*kernel.known, *reader.domain(), *case):
+            self.problem.context(replace(relation, form=self.known(relation.form)))
 
     def names(self, turns: Mapping[str, Turns]) -> Dict[str, Form]:
         """What the sizes and the variables of a turn are in the problem."""
         return {**self.sizes, **{name: own.variable for name, own in turns.items()}}
 
-    def domain(self, statement: Statement, case: Case, turns: Mapping[str, Turns], level: int = 0) -> List[Relation]:
-        """That these are turns of the statement's loops from a level on, and that the case holds."""
-        relations = [relation for loop in statement.loops[level:] for relation in loop.domain()]
-        return [relation.substitute(self.names(turns)) for relation in (*relations, *case)]
+    def known(self, form: Form) -> Form:
+        """A form over the sizes and the reading turn's variables in the problem, with its floors among the parameters."""
+        for floor in floors_of(form):
+            if floor not in self.floors:
+                name, own = f"floor.{len(self.floors)}", self.own(floor.form())
+                self.floors[floor] = parameter = self.problem.parameter(name)
+                self.counters[name] = Form({floor: 1})
+                self.problem.context(parameter * floor.divisor <= own, own <= parameter * floor.divisor + (floor.divisor - 1))
+        return self.own(form)
+
+    def own(self, form: Form) -> Form:
+        """The same, with those of its floors that are parameters already."""
+        names = self.names(self.turns)
+
+        def value(atom: object) -> Form:
+            if isinstance(atom, Floor):
+                return self.floors[atom] if atom in self.floors else self.own(atom.form()) // atom.divisor
+            return names[str(atom)]
+
+        return form.put(value)
 
 
 class Question(Reading):
@@ -159,9 +212,9 @@ class Question(Reading):
             else:
                 before = self.turns[loop.variable] if place == level < common else None
                 self.written[loop.variable] = self._unknown(loop, self.names(self.written), before)
-        own, other = self.names(self.turns), self.names(self.written)
-        pairs = zip(read.subscripts, writer.writes.subscripts)
-        self.problem.where(*self.domain(writer, held, self.written, level), *(a.substitute(own) == b.substitute(other) for a, b in pairs))
+        other = self.names(self.written)
+        self.problem.where(*(relation.substitute(other) for relation in (*writer.domain(level), *held)))
+        self.problem.where(*(self.own(a) == b.substitute(other) for a, b in zip(read.subscripts, writer.writes.subscripts)))
 
     def time(self) -> Dict[str, Form]:
         """The writer's time, and behind it which statement it is, and its variables."""
@@ -216,13 +269,3 @@ def lowest(statement: Statement, sizes: Iterable[str]) -> Dict[str, Optional[int
         known = [low for low in (least_value(form, lows) for form in loop.lows) if low is not None]
         lows[loop.variable] = max(known, default=None)
     return lows
-
-
-def counters_of(statement: Statement, sizes: Iterable[str]) -> Dict[str, Form]:
-    """The parameters of the statement's problems, as forms over the sizes and its loop variables."""
-    lows = lowest(statement, sizes)
-    made = {name: Form({name: 1}) for name in sizes}
-    for loop in statement.loops:
-        own = counter(loop, lows)
-        made[own.name] = (Form({loop.variable: 1}) - own.base) / own.step
-    return made

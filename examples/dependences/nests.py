@@ -4,9 +4,9 @@ from __future__ import annotations
 import itertools
 import operator
 from dataclasses import dataclass
-from typing import Callable, Dict, List, Optional, Sequence, Tuple
+from typing import Callable, Dict, Iterator, List, Optional, Sequence, Tuple
 
-from lexmin import Form, Relation
+from lexmin import Floor, Form, Relation
 from syntax import Assignment, Binary, Block, Call, Element, Expression, Fault, For, Function, If, Name, Number, Unary
 
 Case = Tuple[Relation, ...]  # relations that all hold
@@ -66,6 +66,10 @@ class Statement:
     def variables(self) -> List[str]:
         return [loop.variable for loop in self.loops]
 
+    def domain(self, level: int = 0) -> List[Relation]:
+        """What its loops say of their variables, from a level on."""
+        return [relation for loop in self.loops[level:] for relation in loop.domain()]
+
     def common(self, other: Statement) -> int:
         """How many loops both stand in."""
         return sum(1 for _ in itertools.takewhile(lambda pair: pair[0] is pair[1], zip(self.loops, other.loops)))
@@ -120,7 +124,19 @@ def affine(expression: Expression, line: int) -> Form:
             return left + right if expression.operator == "+" else left - right
         if not left.terms or not right.terms:
             return right * left.constant if not left.terms else left * right.constant
+    if isinstance(expression, Binary) and expression.operator in ("/", "%"):
+        left, right = affine(expression.left, line), affine(expression.right, line)
+        if not right.terms and right.constant >= 1:
+            found = quotient(left, int(right.constant))
+            return found if expression.operator == "/" else left - found * right.constant
     raise Fault(line, "a bound, a condition or a subscript is not affine")
+
+
+def quotient(form: Form, divisor: int) -> Form:
+    """C's quotient: towards 0 of a number; of a form its floor, which is the same where the form is from 0 on (`Analyser` asks)."""
+    if form.terms:
+        return form // divisor
+    return Form({}, abs(form.constant) // divisor * (1 if form.constant >= 0 else -1))
 
 
 def access(element: Element, line: int) -> Access:
@@ -181,8 +197,21 @@ def least_value(form: Form, lows: Dict[str, Optional[int]]) -> Optional[int]:
     """A number that the form is never below, from those of its names; none where these don't tell."""
     total = form.constant
     for name, number in form.terms.items():
-        low = lows.get(str(name))
+        low = least_floor(name, lows) if isinstance(name, Floor) else lows.get(str(name))
         if low is None or number < 0:
             return None
         total += number * low
     return int(total)
+
+
+def least_floor(floor: Floor, lows: Dict[str, Optional[int]]) -> Optional[int]:
+    low = least_value(floor.form(), lows)
+    return None if low is None else low // floor.divisor
+
+
+def floors_of(form: Form) -> Iterator[Floor]:
+    """The floors in a form, those in others before these."""
+    for atom in form.terms:
+        if isinstance(atom, Floor):
+            yield from floors_of(atom.form())
+            yield atom

@@ -1,4 +1,5 @@
-/* What the benchmarks of PolyBench have not: strides, tiles, branches, diagonals, loops that run downwards or below 0. */
+/* What the benchmarks of PolyBench have not: strides, tiles, branches, diagonals, quotients and remainders, loops that run downwards or
+   below 0. */
 #include <assert.h>
 #include <math.h>
 
@@ -85,4 +86,32 @@ void below_zero(int N, int M, double A[N + M + 1], double B[N + M + 1])
             A[i + N] += B[j + N] + A[j + N];
     for (int i = M; i >= -N; i -= 2)
         B[i + N] = A[M - i] + B[M - i];
+}
+
+void parity(int N, double A[N], double B[N])
+{
+    for (int i = 0; i < N; i++) {
+        if (i % 2 == 0)
+            A[i] = B[i / 2];
+        else
+            A[i / 2] = A[i - 1];
+        B[(N - 1 - i) / 3] = A[i];
+    }
+}
+
+void middle(int N, double A[N + 1], double B[N + 1])
+{
+    for (int i = N / 2; i < N; i++)
+        A[i] = B[N - 1 - i] + A[i / 2];
+    for (int i = (N + 1) / 2; i >= N / 4; i -= 2)
+        B[i] = A[i % 3] + A[i - i / 2 % 2];
+}
+
+void guarded(int N, double A[N])
+{
+    for (int i = 0; i < N; i++)
+        if (i >= 3 && (i - 3) % 4 != 1)
+            A[i] = A[(i - 3) / 2] + A[i - 3 + i / 3 / 2 % 2];
+        else
+            A[i] = A[7 / 2 - 3];
 }
