@@ -2,7 +2,8 @@
 
     functions = read(text)
 
-`int` parameters are sizes, `double` ones data. Loop variables are ints that only their loop changes. Comments and lines that
+`int` parameters are sizes, `double` ones data. Loop variables are ints that only their loop changes, and that have a value in it
+alone, wherever they are declared. Comments and lines that
 begin with `#` are passed over, but for those of `#if`, since which lines it takes isn't known, and those of macros that are used,
 other than `min` and `max`: they may stand for elements.
 """
@@ -179,6 +180,7 @@ class _Reader:
         self.sizes: List[str] = []
         self.data: Dict[str, Tuple[Expression, ...]] = {}
         self.variables: List[str] = []  # of the loops around
+        self.declared: List[str] = []  # ints of the blocks around, which loops may have as their variables
         self.count = 0
 
     # Tokens.
@@ -225,14 +227,14 @@ class _Reader:
 
     def new_name(self) -> str:
         found = self.name()
-        if found in self.sizes or found in self.data or found in self.variables:
+        if found in (*self.sizes, *self.data, *self.variables, *self.declared):
             raise self.fault(f"the name {found} is taken")
         return found
 
     # Functions and statements.
 
     def function(self) -> Function:
-        self.sizes, self.data, self.variables, self.count = [], {}, [], 0
+        self.sizes, self.data, self.variables, self.declared, self.count = [], {}, [], [], 0
         self.expect("void")
         name = self.name()
         self.expect("(")
@@ -262,8 +264,10 @@ class _Reader:
 
     def rest_of_block(self) -> Block:
         found: List[Statement] = []
+        around = len(self.declared)
         while not self.has("}"):
             found += self.statement()
+        del self.declared[around:]
         return tuple(found)
 
     def statement(self) -> List[Statement]:
@@ -277,6 +281,8 @@ class _Reader:
             return [self.branch()]
         if self.has("double"):
             return self.declaration()
+        if self.has("int"):
+            return self.loop_variables()
         return [self.assignment()]
 
     def declaration(self) -> List[Statement]:
@@ -291,6 +297,15 @@ class _Reader:
             if not self.has(","):
                 self.expect(";")
                 return made
+
+    def loop_variables(self) -> List[Statement]:
+        while True:
+            self.declared.append(self.new_name())
+            if self.peek() == "=":
+                raise self.fault(f"an int that is no size, as {self.declared[-1]}, is the variable of loops alone")
+            if not self.has(","):
+                self.expect(";")
+                return []
 
     def assignment(self) -> Statement:
         begin, line = self.begin(), self.line()
@@ -313,8 +328,7 @@ class _Reader:
         line = self.line()
         self.expect("for")
         self.expect("(")
-        self.expect("int")
-        variable = self.new_name()
+        variable = self.new_name() if self.has("int") else self.declared_name()
         self.expect("=")
         first = self.expression()
         self.expect(";")
@@ -331,6 +345,14 @@ class _Reader:
         body = tuple(self.statement())
         self.variables.pop()
         return For(variable, first, comparison, bound, step, body, line)
+
+    def declared_name(self) -> str:
+        found = self.name()
+        if found in self.variables:
+            raise self.fault(f"a loop around has {found} already")
+        if found not in self.declared:
+            raise self.fault(f"{found} is not declared as the variable of a loop")
+        return found
 
     def step(self, variable: str) -> int:
         if self.peek() in ("++", "--"):
@@ -381,7 +403,7 @@ class _Reader:
         if name in self.sizes or name in self.variables:
             return Name(name)
         if name not in self.data:
-            raise self.fault(f"{name} is not declared")
+            raise self.fault(f"{name} has a value in its loops alone" if name in self.declared else f"{name} is not declared")
         subscripts = tuple(self.subscripts())
         if len(subscripts) != len(self.data[name]):
             raise self.fault(f"{name} has {len(self.data[name])} subscripts")

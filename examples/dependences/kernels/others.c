@@ -115,3 +115,22 @@ void guarded(int N, double A[N])
         else
             A[i] = A[7 / 2 - 3];
 }
+
+void declared(int N, double A[N], double B[N])
+{
+    int i, j;
+    for (i = 0; i < N; i++) {
+        for (j = 0; j < i; j++) {
+            int k;
+            for (k = j; k <= i; ++k)
+                B[k] += A[k - j];
+        }
+        if (2 * i < N) {
+            int k;
+            for (k = N - 1; k > i; k -= 2)
+                A[k] = B[k - i];
+        }
+    }
+    for (j = N - 1; j >= 0; --j)
+        B[j] = A[j];
+}
