@@ -91,13 +91,14 @@ def answered(source):
 
 
 def lines(kernel, sources):
-    """A line for isl_flow.c of each read of an array that the kernel writes."""
+    """A line for isl_flow.c of each read of an array that the kernel writes, with affine subscripts."""
     found = {}
     for source in sources:
         found.setdefault((source.statement.number, source.read), []).append(source)
     for own in found.values():
         statement, access = own[0].statement, own[0].statement.reads[own[0].read]
-        if kernel.writers(access.array):
+        writers = kernel.writers(access.array)
+        if writers and all(map(own[0].is_sure, writers)):
             reads = union(kernel, [f"{instance(statement)} -> {element(access)} : {domain(kernel, statement, case)}" for case in statement.cases])
             maps = union(kernel, [it for source in own for it in answered(source)])
             yield "\t".join([reads, written(kernel, access.array), schedule(kernel), maps])

@@ -5,6 +5,9 @@ in common with the reading one, and each case of the conditions around it, a pro
 element: before the reading turn at that level, in the same turn of the loops outside. What is written at a deeper level is
 written later. At the same level the last of several writes is the one of the greatest time: the place in the text, the
 turn of the outermost loop, the place in its body, the turn of the next loop, and so on.
+
+A subscript that is not affine may be any number. So what is found has perhaps not written the element that is read, but nothing has
+that ran later.
 """
 from __future__ import annotations
 
@@ -29,7 +32,8 @@ class Turns:
 @dataclass(frozen=True, eq=False)
 class Source:
     """Which instance wrote what a read reads, where this case holds: the answer's points are the number of the statement and the
-    values of its loop variables, `value.0` that of the outermost. Without an answer nothing wrote it in any turn."""
+    values of its loop variables, `value.0` that of the outermost. Without an answer nothing wrote it in any turn. Of a writer of
+    which nothing is sure (`is_sure`) it is known only that this instance wrote it, or one before, or none."""
 
     kernel: Kernel
     statement: Statement
@@ -46,6 +50,10 @@ class Source:
         writer = self.kernel.statements[int(point["statement.number"])]
         return writer.number, tuple(int(point[f"value.{place}"]) for place in range(len(writer.loops)))
 
+    def is_sure(self, writer: Statement) -> bool:
+        """Whether it is known which elements both write and read."""
+        return writer.writes.is_affine and self.statement.reads[self.read].is_affine
+
     def shortened(self) -> Source:
         """The same with a shorter tree."""
         return self if self.answer is None else replace(self, answer=self.answer.shorten())
@@ -58,7 +66,8 @@ class Source:
 
     def _instance(self, point: Mapping[str, Form]) -> str:
         writer = self.kernel.statements[int(point["statement.number"].constant)]
-        return f"S{writer.number}({', '.join(str(point[f'value.{place}']) for place in range(len(writer.loops)))})"
+        words = f"S{writer.number}({', '.join(str(point[f'value.{place}']) for place in range(len(writer.loops)))})"
+        return words if self.is_sure(writer) else f"unknown: {words} or earlier"
 
 
 class Analyser:
@@ -89,7 +98,7 @@ class Analyser:
                 self.is_from_0_on(floor, statement, held)
             held.append(relation)
         for access in (statement.writes, *statement.reads):
-            for floor in (floor for form in access.subscripts for floor in floors_of(form)):
+            for floor in (floor for form in access.subscripts if form is not None for floor in floors_of(form)):
                 self.is_from_0_on(floor, statement, held)
 
     def is_from_0_on(self, floor: Floor, statement: Statement, held: Sequence[Relation]) -> None:
@@ -199,7 +208,7 @@ class Reading:
 
 class Question(Reading):
     """Which turn of a writer, at a level and in a case, is the last one before a turn of the reading statement that writes what
-    this reads."""
+    this reads, or may write it where a subscript is not affine."""
 
     def __init__(self, kernel: Kernel, reader: Statement, case: Case, read: Access, writer: Statement, held: Case, level: int) -> None:
         super().__init__(kernel, reader, case, f"{kernel.name}, S{reader.number}: S{writer.number} at level {level}")
@@ -214,7 +223,9 @@ class Question(Reading):
                 self.written[loop.variable] = self._unknown(loop, self.names(self.written), before)
         other = self.names(self.written)
         self.problem.where(*(relation.substitute(other) for relation in (*writer.domain(level), *held)))
-        self.problem.where(*(self.own(a) == b.substitute(other) for a, b in zip(read.subscripts, writer.writes.subscripts)))
+        for one, of_writer in zip(read.subscripts, writer.writes.subscripts):
+            if one is not None and of_writer is not None:
+                self.problem.where(self.own(one) == of_writer.substitute(other))
 
     def time(self) -> Dict[str, Form]:
         """The writer's time, and behind it which statement it is, and its variables."""

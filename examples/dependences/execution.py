@@ -33,10 +33,10 @@ OPERATIONS: Dict[str, Callable[[Value, Value], Value]] = {
 FUNCTIONS: Dict[str, Callable[..., Value]] = {"sqrt": root, "fmin": min, "fmax": max, "min": min, "max": max, "fabs": abs}
 
 
-def first_value(place: int, subscripts: Tuple[int, ...]) -> float:
-    """What an element of the place-th array or scalar holds at the beginning: from 1/8 to 11/8."""
-    total = 7 * place + sum(number * own for number, own in zip((3, 5, 2), subscripts))
-    return (total % 11 + 1) / 8
+def first_value(function: Function, array: str, subscripts: Tuple[int, ...]) -> Value:
+    """What an element of an array, or a scalar, holds at the beginning: from 1/8 to 11/8, or an int from 0 to 10."""
+    total = 7 * list(function.data).index(array) + sum(number * own for number, own in zip((3, 5, 2), subscripts))
+    return total % 11 if array in function.int_arrays else (total % 11 + 1) / 8
 
 
 class Execution:
@@ -47,7 +47,7 @@ class Execution:
         self.sizes = dict(sizes)
         self.names: Dict[str, int] = dict(sizes)
         self.variables: Tuple[int, ...] = ()
-        self.places = {name: place for place, name in enumerate(function.data)}
+        self.function = function
         self.cells: Dict[Cell, Value] = {}
         self.writers: Dict[Cell, Instance] = {}
         self.sources: Dict[Read, Optional[Instance]] = {}
@@ -90,7 +90,7 @@ class Execution:
         value = self.value(statement.value)
         if statement.operator != "=":
             value = OPERATIONS[statement.operator[0]](self.held(target), value)
-        self.cells[target] = float(value)
+        self.cells[target] = int(value) if target[0] in self.function.int_arrays else float(value)
         self.writers[target] = (statement.number, self.variables)
 
     def cell(self, element: Element, line: int) -> Cell:
@@ -100,7 +100,7 @@ class Execution:
         return element.array, found
 
     def held(self, cell: Cell) -> Value:
-        return self.cells.setdefault(cell, first_value(self.places[cell[0]], cell[1]))
+        return self.cells.setdefault(cell, first_value(self.function, *cell))
 
     def value(self, expression: Expression) -> Value:
         if isinstance(expression, Number):

@@ -39,11 +39,16 @@ class Loop:
 
 @dataclass(frozen=True, eq=False)
 class Access:
-    """An element that is read or written, its subscripts as forms over the sizes and the loop variables."""
+    """An element that is read or written, its subscripts as forms over the sizes and the loop variables, none where one is not
+    affine."""
 
     array: str
-    subscripts: Tuple[Form, ...]
+    subscripts: Tuple[Optional[Form], ...]
     text: str
+
+    @property
+    def is_affine(self) -> bool:
+        return all(form is not None for form in self.subscripts)
 
 
 @dataclass(frozen=True, eq=False)
@@ -129,7 +134,7 @@ def affine(expression: Expression, line: int) -> Form:
         if not right.terms and right.constant >= 1:
             found = quotient(left, int(right.constant))
             return found if expression.operator == "/" else left - found * right.constant
-    raise Fault(line, "a bound, a condition or a subscript is not affine")
+    raise Fault(line, "a bound or a condition is not affine")
 
 
 def quotient(form: Form, divisor: int) -> Form:
@@ -140,7 +145,14 @@ def quotient(form: Form, divisor: int) -> Form:
 
 
 def access(element: Element, line: int) -> Access:
-    return Access(element.array, tuple(affine(own, line) for own in element.subscripts), element.text)
+    return Access(element.array, tuple(subscript(own, line) for own in element.subscripts), element.text)
+
+
+def subscript(expression: Expression, line: int) -> Optional[Form]:
+    try:
+        return affine(expression, line)
+    except Fault:
+        return None
 
 
 def bounds(expression: Expression, word: str, line: int) -> List[Form]:

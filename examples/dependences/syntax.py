@@ -2,7 +2,7 @@
 
     functions = read(text)
 
-`int` parameters are sizes, `double` ones data. Loop variables are ints that only their loop changes, and that have a value in it
+`int` parameters are sizes, `double` ones and arrays of `int` data. Loop variables are ints that only their loop changes, and that have a value in it
 alone, wherever they are declared. Comments and lines that
 begin with `#` are passed over, but for those of `#if`, since which lines it takes isn't known, and those of macros that are used,
 other than `min` and `max`: they may stand for elements.
@@ -77,8 +77,9 @@ class Assignment:
     text: str
 
     def reads(self) -> List[Element]:
-        """The elements that it reads, in their order; its own first where it adds to it."""
-        return [*([self.target] if self.operator != "=" else []), *elements(self.value)]
+        """The elements that it reads, in their order; its own first where it adds to it, then those in its subscripts."""
+        own, *inner = elements(self.target)
+        return [*([own] if self.operator != "=" else []), *inner, *elements(self.value)]
 
 
 @dataclass(frozen=True)
@@ -109,15 +110,18 @@ class Function:
     name: str
     sizes: Tuple[str, ...]
     data: Dict[str, Tuple[Expression, ...]]  # of each array its lengths; those of the parameters first
+    int_arrays: Tuple[str, ...]  # the arrays that hold ints
     parameters: Tuple[str, ...]  # all of them, in their order
     known: Tuple[Tuple[Expression, int], ...]  # what it asserts of the sizes, with the lines
     body: Block
 
 
 def elements(expression: Expression) -> Iterator[Element]:
-    """The elements in an expression, from left to right. Those in subscripts are none of data."""
+    """The elements in an expression, from left to right, those in subscripts behind the element that has these."""
     if isinstance(expression, Element):
         yield expression
+        for subscript in expression.subscripts:
+            yield from elements(subscript)
     elif isinstance(expression, Call):
         for argument in expression.arguments:
             yield from elements(argument)
@@ -179,6 +183,7 @@ class _Reader:
         self.text, self.place, self.end = text, 0, 0
         self.sizes: List[str] = []
         self.data: Dict[str, Tuple[Expression, ...]] = {}
+        self.int_arrays: List[str] = []
         self.variables: List[str] = []  # of the loops around
         self.declared: List[str] = []  # ints of the blocks around, which loops may have as their variables
         self.count = 0
@@ -234,21 +239,21 @@ class _Reader:
     # Functions and statements.
 
     def function(self) -> Function:
-        self.sizes, self.data, self.variables, self.declared, self.count = [], {}, [], [], 0
+        self.sizes, self.data, self.int_arrays, self.variables, self.declared, self.count = [], {}, [], [], [], 0
         self.expect("void")
         name = self.name()
         self.expect("(")
         parameters: List[str] = []
         while True:
             self.has("const")
-            is_size = self.has("int")
-            if not is_size:
+            is_whole = self.has("int")
+            if not is_whole:
                 self.expect("double")
             parameters.append(self.new_name())
-            if is_size:
+            if is_whole and self.peek() != "[":
                 self.sizes.append(parameters[-1])
             else:
-                self.data[parameters[-1]] = tuple(self.subscripts())
+                self.array(parameters[-1], is_whole)
             if not self.has(","):
                 break
         self.expect(")")
@@ -260,7 +265,13 @@ class _Reader:
             known.append((self.expression(), line))
             self.expect(";")
         body = self.rest_of_block()
-        return Function(name, tuple(self.sizes), self.data, tuple(parameters), tuple(known), body)
+        return Function(name, tuple(self.sizes), self.data, tuple(self.int_arrays), tuple(parameters), tuple(known), body)
+
+    def array(self, name: str, is_whole: bool) -> None:
+        """Its lengths, behind its name; none of a scalar."""
+        self.data[name] = tuple(self.subscripts())
+        if is_whole:
+            self.int_arrays.append(name)
 
     def rest_of_block(self) -> Block:
         found: List[Statement] = []
@@ -282,7 +293,7 @@ class _Reader:
         if self.has("double"):
             return self.declaration()
         if self.has("int"):
-            return self.loop_variables()
+            return self.ints()
         return [self.assignment()]
 
     def declaration(self) -> List[Statement]:
@@ -290,7 +301,7 @@ class _Reader:
         while True:
             begin, line = self.begin(), self.line()
             name = self.new_name()
-            self.data[name] = tuple(self.subscripts())
+            self.array(name, is_whole=False)
             if not self.data[name] and self.has("="):
                 value = self.expression()
                 made.append(self.made(Element(name, (), name), "=", value, line, begin))
@@ -298,11 +309,16 @@ class _Reader:
                 self.expect(";")
                 return made
 
-    def loop_variables(self) -> List[Statement]:
+    def ints(self) -> List[Statement]:
+        """Arrays, and the variables of loops."""
         while True:
-            self.declared.append(self.new_name())
+            name = self.new_name()
             if self.peek() == "=":
-                raise self.fault(f"an int that is no size, as {self.declared[-1]}, is the variable of loops alone")
+                raise self.fault(f"an int that is no size, as {name}, is the variable of loops alone")
+            if self.peek() == "[":
+                self.array(name, is_whole=True)
+            else:
+                self.declared.append(name)
             if not self.has(","):
                 self.expect(";")
                 return []

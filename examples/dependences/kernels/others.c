@@ -1,5 +1,5 @@
-/* What the benchmarks of PolyBench have not: strides, tiles, branches, diagonals, quotients and remainders, loops that run downwards or
-   below 0. */
+/* What the benchmarks of PolyBench have not: strides, tiles, branches, diagonals, quotients and remainders, variables of several
+   loops, subscripts that are not affine, loops that run downwards or below 0. */
 #include <assert.h>
 #include <math.h>
 
@@ -133,4 +133,33 @@ void declared(int N, double A[N], double B[N])
     }
     for (j = N - 1; j >= 0; --j)
         B[j] = A[j];
+}
+
+void scattered(int N, int at[N], double H[11], double A[N][11], double B[N * N])
+{
+    for (int i = 0; i < 11; i++)
+        H[i] = 0;
+    for (int i = N - 1; i >= 0; i--) {
+        H[at[i]] += A[0][at[i]];
+        A[i][at[i]] = H[i / 2 % 11] + A[i][2];
+        B[i * i] = A[i][2] + B[i];
+    }
+    H[3] = 1;
+    for (int i = 0; i < N; i++) {
+        B[i] = B[i * (N - i)] + H[3] + H[4];
+        at[(3 * i + 1) % N] = 2 * i % 11;
+        at[N - 1] = at[at[i] % N];
+    }
+}
+
+void turning(int N, int M, double A[N], double T[M + 1])
+{
+    for (int i = 0; i < N; i++) {
+        int last[1];
+        last[0] = i;
+        T[i % (M + 1)] = A[last[0]] + T[(i + 1) % (M + 1)];
+        for (int j = 0; j <= M; j += 2)
+            T[j] = T[j] + T[0];
+        A[i] = T[M];
+    }
 }
