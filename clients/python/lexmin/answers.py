@@ -30,6 +30,15 @@ class Piece:
     quotients: Tuple[Tuple[str, Form, int], ...]
     point: Optional[Tuple[Tuple[str, Form], ...]]
 
+    def relations(self) -> List[Relation]:
+        """That the piece holds, to be said in other problems: there the quotients are further unknowns (`further(name)`: those of
+        an answer of the program's are from 0 on) and parameters, or names of a domain."""
+        held: List[Relation] = []
+        for name, form, divisor in self.quotients:
+            rest = form - Form({name: 1}) * divisor
+            held += [rest >= 0, rest <= divisor - 1]
+        return [*held, *(form >= 0 for form in self.conditions)]
+
     def _key(self) -> Tuple[object, ...]:
         quotients = tuple((name, form.key(), divisor) for name, form, divisor in self.quotients)
         point = None if self.point is None else tuple((name, form.key()) for name, form in self.point)
