@@ -56,9 +56,11 @@ class Form:
         return self * (1 / Fraction(plain(number)))
 
     def __floordiv__(self, divisor: int) -> Form:
-        """The floor of the form over a whole number from 1 on."""
+        """The floor of the form over a whole number from 1 on; of a number that is one."""
         divisor = from_one_on(divisor, "a floor needs a whole divisor from 1 on")
         scaled, common = self.whole()
+        if not scaled.terms:
+            return Form({}, scaled.constant // (divisor * common))
         return Form({Floor(tuple(sorted(scaled.terms.items(), key=str)), int(scaled.constant), divisor * common): 1})
 
     def __mod__(self, divisor: int) -> Form:

@@ -333,9 +333,9 @@ class Reader:
         if self.peek().isdigit():
             return [_Case((), Form({}, int(self.take())))]
         if self.has("floor"):
-            return [_Case(it.held, _floor(it.form)) for it in self.bracket(known)]
+            return [_Case(it.held, it.form // 1) for it in self.bracket(known)]
         if self.has("ceil"):
-            return [_Case(it.held, -_floor(-it.form)) for it in self.bracket(known)]
+            return [_Case(it.held, -(-it.form // 1)) for it in self.bracket(known)]
         if self.peek() in ("floord", "ceild"):
             sign = 1 if self.take() == "floord" else -1
             self.expect("(")
@@ -381,10 +381,6 @@ class Reader:
         if not self.peek().isdigit() or int(self.peek()) == 0:
             raise self.fault("a whole number from 1 on is missing")
         return int(self.take())
-
-
-def _floor(form: Form) -> Form:
-    return form // 1 if form.terms else Form({}, math.floor(form.constant))
 
 
 def _compared(one: Sequence[_Case], other: Sequence[_Case], compare: Callable[[Form, Form], List[Relation]]) -> List[Part]:

@@ -33,8 +33,9 @@ class Solver:
     `simplify` asks for simplified answers. `pivots`, `cuts`, `splits`, `nesting` are the budgets of a problem, the
     program's own where none is given; a stranger's problems should have some. `timeout` is the seconds that a problem
     may take, above 0, or None; of `same` and `check` too. A Solver ends its processes by `close`, at the end of a `with`, or where
-    neither it nor an answer of it is left; a call that is under way then fails, in another thread too. What comes of a pickled Solver, or of that of a pickled answer, has
-    processes of its own, and so has a fork; a call that was begun before it is read on by the other process alone.
+    neither it nor an answer of it is left; a call that is under way then fails, in another thread too. What comes of a pickled
+    Solver, or of that of a pickled answer, has processes of its own, and so has a fork; a call that was begun before it is read on
+    by the other process alone.
 
     `prepare=True` takes equalities out of each problem before it is solved, `prepare="when refused"` out of those that were
     refused or late. The answer is put back here, in Python, and then `check` is asked whether it is right: its `checked` says
@@ -230,7 +231,10 @@ class Solver:
         verdicts: List[bool] = []
         while waiting:
             count, batch, size = waiting[0][0], [waiting.popleft()[1]], 0
-            while waiting and waiting[0][0] == count and (size := size + len(as_bytes(batch[-1]))) < MOST_BATCH_BYTES:
+            while waiting and waiting[0][0] == count:
+                size += len(as_bytes(batch[-1]))
+                if size + len(as_bytes(waiting[0][1])) > MOST_BATCH_BYTES:
+                    break
                 batch.append(waiting.popleft()[1])
             words = ["same", str(count), *self.budget_words(["pivots", "cuts", "splits"])]
             verdicts += [found == "same" for found in self._lines(words, batch)]
