@@ -178,8 +178,8 @@ def cases(condition: Expression, line: int, wanted: bool = True) -> Tuple[Case, 
     """The cases in which a condition is what is wanted: in each all relations hold, and no two cases meet."""
     if isinstance(condition, Unary) and condition.operator == "!":
         return cases(condition.operand, line, not wanted)
-    if not isinstance(condition, Binary):
-        raise Fault(line, "a condition is made of comparisons, `&&`, `||` and `!`")
+    if not isinstance(condition, Binary) or condition.operator not in (*_RELATIONS, "!=", "&&", "||"):
+        condition = Binary("!=", condition, Number(0))
     if condition.operator in ("&&", "||"):
         left, right = cases(condition.left, line, wanted), cases(condition.right, line, wanted)
         if (condition.operator == "&&") == wanted:
@@ -189,8 +189,6 @@ def cases(condition: Expression, line: int, wanted: bool = True) -> Tuple[Case, 
     if condition.operator == "!=":
         is_equal = one == other
         return tuple((it,) for it in is_equal.negated()) if wanted else ((is_equal,),)
-    if condition.operator not in _RELATIONS:
-        raise Fault(line, f"`{condition.operator}` is no comparison")
     relation = _RELATIONS[condition.operator](one, other)
     return ((relation,),) if wanted else tuple((it,) for it in relation.negated())
 

@@ -91,7 +91,7 @@ void below_zero(int N, int M, double A[N + M + 1], double B[N + M + 1])
 void parity(int N, double A[N], double B[N])
 {
     for (int i = 0; i < N; i++) {
-        if (i % 2 == 0)
+        if (!(i % 2))
             A[i] = B[i / 2];
         else
             A[i / 2] = A[i - 1];
