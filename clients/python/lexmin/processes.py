@@ -17,9 +17,9 @@ from collections import deque
 from dataclasses import dataclass
 from typing import Callable, Deque, Iterable, Iterator, List, Optional, Sequence, Set, Tuple, Union
 
+from .texts import MOST_BYTES
 from .trees import as_bytes, as_text, is_one_group
 
-MOST_INPUT_BYTES = 16_777_216  # what one run of the program takes
 MOST_IDLE = 8  # processes that are kept for later calls
 HELD_SECONDS = 1.0  # how long a line of standard error may be the last one, a refusal's
 LOOK_SECONDS = 1.0  # how long a call waits before it looks again whether it was ended
@@ -394,7 +394,7 @@ class Coprocess(Child):
         return self.process is not None and self.process.poll() is None and self._has_room(asked)
 
     def _has_room(self, asked: _Asked) -> bool:
-        return self.bytes_given == 0 or self.bytes_given + len(asked.data) <= MOST_INPUT_BYTES
+        return self.bytes_given == 0 or self.bytes_given + len(asked.data) <= MOST_BYTES
 
     def _exchange(self, waiting: Deque[_Asked], given: Deque[_Asked]) -> Iterator[Union[List[str], Refused]]:
         """Gives what waits to the process, as far as one run takes it, and yields what comes back, up to the end of what

@@ -11,8 +11,7 @@ from typing import Dict, Iterator, List, Optional, Sequence, Tuple
 
 from .forms import row_text
 from .prepare import Vector, combined, dominates, equalities, negated, tightened
-from .shorten import MOST_COLUMNS
-from .texts import ReadProblem
+from .texts import MOST_UNKNOWNS, ReadProblem
 from .trees import Choice, NewParameter, Point, Row, Tree, Void
 
 Step = Tuple[int, Tuple[Tuple[int, int], ...]]  # the divisor, and the terms: an index and a multiplier each
@@ -113,7 +112,7 @@ class System:
         """The problem that asks for a point of what is left."""
         places = list(self.signs)
         rows = [row_text([*(form[place] for place in places), form[-1]]) for form in self.rows]
-        if not places or len(places) > MOST_COLUMNS:
+        if not places or len(places) > MOST_UNKNOWNS:
             raise NotCertified("a refutation has too many columns, or none")
         if any(entry and place not in self.signs for form in self.rows for place, entry in enumerate(form[:-1])):
             raise NotCertified("a new parameter is not known to be from 0 on")

@@ -14,6 +14,7 @@ from fractions import Fraction
 from typing import Callable, List, Optional, Sequence, Tuple, Union
 
 from .forms import row_text
+from .texts import MOST_ROWS, MOST_UNKNOWNS
 from .trees import Bottom, Choice, NewParameter, Point, Row, Tree, Void, value_at
 
 Vector = Tuple[int, ...]  # a form over the columns of a region: its constant, then the columns' numbers
@@ -22,7 +23,6 @@ Value = Union[Bottom, Void, Tuple[Union[int, Fraction], ...]]
 # is no point, or False where the program does not say.
 Ask = Callable[[str, Optional[float]], Union[Tuple[int, ...], None, bool]]
 
-MOST_COLUMNS, MOST_ROWS = 128, 4096  # what the program takes
 QUESTIONS, SECONDS = 5_000, 10.0  # the limits of an answer where none are given
 
 
@@ -111,7 +111,7 @@ class Shortener:
 
     def _point(self, region: Region) -> Union[Tuple[int, ...], None, bool]:
         """A point of the region; none where it has none, False where that isn't known."""
-        if self.ended() or region.columns > MOST_COLUMNS or len(region.rows) > MOST_ROWS:
+        if self.ended() or region.columns > MOST_UNKNOWNS or len(region.rows) > MOST_ROWS:
             return False
         for row in region.rows:
             if row[0] < 0 and all(entry <= 0 for entry in row[1:]):

@@ -2,6 +2,7 @@
 from __future__ import annotations
 
 import functools
+import itertools
 import os
 import signal
 from collections import deque
@@ -10,11 +11,11 @@ from typing import Any, Deque, Dict, Iterable, Iterator, List, Optional, Sequenc
 from .answers import Answer, AnswerBySigns, checked_answer
 from .forms import whole_number
 from .problems import Posed, Problem, numbers_over
-from .processes import MOST_INPUT_BYTES, Pool, Refused, Runs, TimedOut, checked_seconds
+from .processes import Pool, Refused, Runs, TimedOut, checked_seconds
 from .prepare import prepared
 from .refutations import NotCertified, Obligations, steps_of
 from .shorten import QUESTIONS, SECONDS, Shortener
-from .texts import Fault, native
+from .texts import MOST_BYTES, Fault, native
 from .trees import Bottom, Point, Void, answer_text, as_bytes, as_text, is_one_group, parse_answer
 
 
@@ -227,17 +228,12 @@ class Solver:
     def same_all(self, trios: Sequence[Tuple[int, str, str, str]]) -> List[bool]:
         """Whether `same` says `same` of each number of parameters, context and two answers, given as texts; a refusal is none.
         Those that follow each other and are over as many parameters are read by one process, as many as it takes."""
-        waiting = deque((count, joined(texts, "a context and two answers")) for count, *texts in trios)
+        given = [(count, joined(texts, "a context and two answers")) for count, *texts in trios]
         verdicts: List[bool] = []
-        while waiting:
-            count, batch, size = waiting[0][0], [waiting.popleft()[1]], 0
-            while waiting and waiting[0][0] == count:
-                size += len(as_bytes(batch[-1]))
-                if size + len(as_bytes(waiting[0][1])) > MOST_BATCH_BYTES:
-                    break
-                batch.append(waiting.popleft()[1])
+        for count, group in itertools.groupby(given, lambda it: it[0]):
             words = ["same", str(count), *self.budget_words(["pivots", "cuts", "splits"])]
-            verdicts += [found == "same" for found in self._lines(words, batch)]
+            for batch in batches([text for _, text in group], MOST_BATCH_BYTES):
+                verdicts += [found == "same" for found in self._lines(words, batch)]
         return verdicts
 
     def _lines(self, words: Sequence[str], texts: Sequence[str]) -> List[Union[str, Refused]]:
@@ -291,12 +287,9 @@ class Solver:
     def check(self, triples: Iterable[Tuple[str, str, str]]) -> List[Optional[Refused]]:
         """What `check` says of each problem, answer and certificate: none where it accepts them, else its refusal, or that it was
         late with it. One process reads as many triples as it can."""
-        waiting = deque(joined(triple, "a problem, an answer and a certificate") for triple in triples)
+        texts = [joined(triple, "a problem, an answer and a certificate") for triple in triples]
         verdicts: List[Optional[Refused]] = []
-        while waiting:
-            batch, size = [waiting.popleft()], 0
-            while waiting and (size := size + len(as_bytes(batch[-1]))) + len(as_bytes(waiting[0])) <= MOST_INPUT_BYTES:
-                batch.append(waiting.popleft())
+        for batch in batches(texts, MOST_BYTES):
             for found in self._lines(["check"], batch):
                 if isinstance(found, str) and found != "accepted":
                     raise RuntimeError(f"check wrote {found}")
@@ -379,3 +372,18 @@ def joined(texts: Sequence[str], what: str) -> str:
     if len(texts) != 3 or not all(map(is_one_group, texts)):
         raise ValueError(f"{what} are wanted, each one group of balanced brackets")
     return "\n".join(texts) + "\n"
+
+
+def batches(texts: Iterable[str], most: int) -> Iterator[List[str]]:
+    """The texts in lists, in order, each of so many bytes at most, or of one text."""
+    batch: List[str] = []
+    size = 0
+    for text in texts:
+        own = len(as_bytes(text))
+        if batch and size + own > most:
+            yield batch
+            batch, size = [], 0
+        batch.append(text)
+        size += own
+    if batch:
+        yield batch

@@ -9,7 +9,8 @@ from typing import Iterator, List, NamedTuple, NoReturn, Tuple
 from .trees import as_text
 
 MOST_NUMBER = (1 << 127) - 1
-MOST_BYTES = 16_777_216
+MOST_BYTES = 16_777_216  # of what one run of the program reads
+MOST_UNKNOWNS, MOST_PARAMETERS, MOST_ROWS, MOST_CONTEXT_ROWS = 128, 48, 4096, 256
 _BLANKS = b" \t\n\f\r"
 _TOKEN = re.compile(rb"\(|\)|#\[|\]|[+-]?[0-9]+(/[0-9]+)?|[A-Za-z]+|[\x00-\xff]", re.DOTALL)
 _NUMBER = re.compile(rb"[+-]?[0-9]+")
@@ -169,8 +170,8 @@ class _Reader:
         comment = self.comment()
         if not self.peek().is_number():
             self.fail(self.peek(), "the number of unknowns belongs here: the comment ended with the `)` that balances its `(`")
-        unknowns, parameters = self.size("unknowns", 1, 128), self.size("parameters", 0, 48)
-        row_count, context_count = self.size("rows", 0, 4096), self.size("context rows", 0, 256)
+        unknowns, parameters = self.size("unknowns", 1, MOST_UNKNOWNS), self.size("parameters", 0, MOST_PARAMETERS)
+        row_count, context_count = self.size("rows", 0, MOST_ROWS), self.size("context rows", 0, MOST_CONTEXT_ROWS)
         place = self.peek().place
         big = self.number("the column of the big parameter, -1,")
         if big != -1:
@@ -272,14 +273,14 @@ class _Matrices:
         return made, columns
 
     def problem(self) -> ReadProblem:
-        context, columns = self.matrix("context", "context ", 256, 2, 50, "the kind, the parameters, the constant")
+        context, columns = self.matrix("context", "context ", MOST_CONTEXT_ROWS, 2, MOST_PARAMETERS + 2, "the kind, the parameters, the constant")
         parameters = columns - 2
         big, place = self.number("-1, no big parameter,")
         if big != -1:
             raise Fault(place, f"{big} as the column of the big parameter: -1 belongs here, none, between the two matrices",
                         f"unsupported big parameter {big}")
         order = f"the kind, the unknowns, the {_count(parameters, 'parameter')} of the context, the constant"
-        rows, columns = self.matrix("constraints", "", 4096, parameters + 3, parameters + 130, order)
+        rows, columns = self.matrix("constraints", "", MOST_ROWS, parameters + 3, parameters + 2 + MOST_UNKNOWNS, order)
         integer = True
         for text, place in self.words[self.next:]:
             if text in _NOT_OFFERED:
