@@ -117,7 +117,7 @@ class Answer:
         return self._named(value_at(found, []), parameters)
 
     def _sent(self, at: Mapping[str, int], named: Mapping[str, int]) -> Tuple[Dict[str, int], List[int]]:
-        given = {**at, **named}
+        given = _given(at, named)
         if len(given) < len(at) + len(named):
             raise ValueError(f"given twice: {', '.join(sorted(set(at) & set(named)))}")
         names = list(self.posed.parameters)
@@ -265,6 +265,13 @@ class Answer:
         return _Words(self, point, none, names).lines()
 
 
+def _given(at: Mapping[str, int], named: Mapping[str, int]) -> Dict[str, int]:
+    try:
+        return {**at, **named}
+    except TypeError:
+        raise TypeError(f"parameters are given by their names, as N=3 or {{'N': 3}}, not as {at!r}") from None
+
+
 def checked_answer(answer: object) -> Answer:
     if not isinstance(answer, Answer):
         raise TypeError(f"not an answer: {answer!r}" + ("; take each of its parts" if isinstance(answer, AnswerBySigns) else ""))
@@ -389,7 +396,7 @@ class AnswerBySigns:
 
     def part(self, at: Mapping[str, int] = {}, /, **named: int) -> Answer:
         """The answer for parameters of these signs."""
-        parameters = {**at, **named}
+        parameters = _given(at, named)
         for answer in self.parts:
             ranges = answer.posed.parameters
             if set(ranges) != set(parameters) or all(parameters[name] in own for name, own in ranges.items()):

@@ -196,7 +196,8 @@ class Relation:
     modulus: int = 1
 
     def __bool__(self) -> bool:
-        raise TypeError("a relation has no truth value; write `low <= x, x <= high` in place of `low <= x <= high`")
+        raise TypeError("a relation has no truth value, as `low <= x <= high`, `and`, `max`, `min` and `in` want one: say each relation "
+                        "by itself, `low <= x, x <= high`")
 
     def __str__(self) -> str:
         return f"{self.form} is a multiple of {self.modulus}" if self.kind == "multiple" else f"{self.form} {self.kind} 0"
