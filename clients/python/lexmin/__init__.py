@@ -32,7 +32,8 @@ What is sent
 
 What answers are good for
     `value`, `eval`, `restrict`, `simplify`, `same`, `difference`, `least`, `pieces` and `put` are methods of an answer,
-    `first_of` and `last_of` of a Solver put several together. All of them go by the names and the context of the problem.
+    `first_of` and `last_of` of a Solver put several together. All of them go by the names and the context of the problem. What a
+    piece says, `relations()`, goes into other problems.
     `is_total` and `is_empty` say whether there are points everywhere, or nowhere.
 
     `shorten` gives an answer with fewer leaves, which the program's `same` has compared with the given one. `Solver(prepare=True)`
