@@ -64,7 +64,7 @@ pub(crate) fn write_certified(
     let (answer, certificate) = certify(certifier, limits, problem)?;
     let printed = print_certified(problem.comment(), &answer, &certificate, text);
     certifier.solver.keep(answer);
-    drop(certificate);
+    certifier.keep(certificate);
     printed?;
     Ok(())
 }
