@@ -4,8 +4,17 @@ ghost use Rattle.certificate_items.specs.Triples.{IsTriple, triple_of};
 
 use crate::triple::{Triple, accept, triple_at};
 use certificate_check::GoalForms;
+use certificate_parts::{Certificate, SpareSteps};
 use item_writing::{Ending, Items};
 use std::alloc::Global;
+use std::mem::replace;
+
+/// What a check keeps from triple to triple as room: forms of goals, and steps of certificates.
+#[derive(Drop)]
+pub struct CheckRoom {
+    forms: GoalForms,
+    steps: SpareSteps,
+}
 
 /// Says of each triple that its certificate is accepted.
 pub struct Check;
@@ -13,7 +22,7 @@ pub struct Check;
 impl Items for Check {
     type Read = Triple;
 
-    type Room = GoalForms;
+    type Room = CheckRoom;
 
     ghost meaning = { λ _. CheckAll };
 
@@ -26,24 +35,30 @@ impl Items for Check {
     fn read(
         &self,
         alloc: Global,
+        room: &mut CheckRoom,
         bytes: &[u8],
         at: usize,
     ) -> Result<Option<(Triple, usize)>, Ending> {
-        triple_at(alloc, bytes, at)
+        triple_at(alloc, &mut room.steps, bytes, at)
     }
 
-    fn room(&self, alloc: Global) -> GoalForms {
-        GoalForms::new(alloc)
+    fn room(&self, alloc: Global) -> CheckRoom {
+        CheckRoom {
+            forms: GoalForms::new(alloc),
+            steps: SpareSteps::new(alloc),
+        }
     }
 
     fn put(
         &self,
         alloc: Global,
-        forms: &mut GoalForms,
+        room: &mut CheckRoom,
         triple: &mut Triple,
         text: &mut Vec<u8>,
     ) -> Result<(), Ending> {
-        accept(alloc, forms, triple)?;
+        accept(alloc, &mut room.forms, triple)?;
+        let none = Certificate::with_vector(alloc, false, None);
+        room.steps.keep(replace(&mut triple.certificate, none));
         text.extend_from_slice(b"accepted\n")?;
         Ok(())
     }

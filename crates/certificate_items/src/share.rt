@@ -4,6 +4,7 @@ ghost use Rattle.certificate_items.specs.Triples.{IsTriple, triple_of};
 
 use crate::triple::{Triple, accept_alone, triple_at};
 use certificate_check::share;
+use certificate_parts::SpareSteps;
 use item_writing::{Ending, Items};
 use leaf_certificate::print_certificate;
 use std::alloc::Global;
@@ -27,10 +28,11 @@ impl Items for Share {
     fn read(
         &self,
         alloc: Global,
+        _room: &mut (),
         bytes: &[u8],
         at: usize,
     ) -> Result<Option<(Triple, usize)>, Ending> {
-        triple_at(alloc, bytes, at)
+        triple_at(alloc, &mut SpareSteps::new(alloc), bytes, at)
     }
 
     fn room(&self, _alloc: Global) {}

@@ -8,7 +8,7 @@ ghost use Rattle.certificate_items.specs.Triples.{IsTriple, triple_of, IsFound};
 
 use crate::needed::needed_certificate;
 use certificate_check::{CheckRefusal, GoalForms, Verdict, check_in};
-use certificate_parts::Certificate;
+use certificate_parts::{Certificate, SpareSteps};
 use item_writing::{Ending, needed_answer};
 use pip_problem::Problem;
 use pip_reader::read_problem;
@@ -26,6 +26,7 @@ pub struct Triple {
 // What stands behind a problem, and the place behind that. A rational problem is refused before its answer is read.
 fn rest_of_triple(
     alloc: Global,
+    spare: &mut SpareSteps,
     bytes: &[u8],
     problem: Problem,
     at: usize,
@@ -38,7 +39,7 @@ fn rest_of_triple(
         return Err(Ending::RationalCertificate);
     }
     let (spoken, at) = needed_answer(alloc, bytes, at, problem.params())?;
-    let (certificate, at) = needed_certificate(alloc, bytes, at)?;
+    let (certificate, at) = needed_certificate(alloc, spare, bytes, at)?;
     let triple = Triple {
         problem,
         answer: spoken.answer,
@@ -48,9 +49,10 @@ fn rest_of_triple(
 }
 
 /// The triple that begins with the first `(` at or behind a place, and the place behind it; none exactly where there is
-/// no `(`.
+/// no `(`. Its certificate's steps are read into the rooms of earlier ones.
 pub(crate) fn triple_at(
     alloc: Global,
+    spare: &mut SpareSteps,
     bytes: &[u8],
     at: usize,
 ) -> Result<Option<(Triple, usize)>, Ending>
@@ -58,7 +60,7 @@ pub(crate) fn triple_at(
     ensures { FindsItem triple_of IsTriple (kinds.triple bytes.now at) at (length bytes.now) result }
 {
     match read_problem(alloc, bytes, at)? {
-        Some((problem, after)) => Ok(Some(rest_of_triple(alloc, bytes, problem, after)?)),
+        Some((problem, after)) => Ok(Some(rest_of_triple(alloc, spare, bytes, problem, after)?)),
         None => Ok(None),
     }
 }

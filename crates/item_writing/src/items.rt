@@ -28,10 +28,11 @@ pub trait Items {
     /// The last place that may stand behind an item.
     ghost last_place: { Self → List ℕ → ℕ };
 
-    /// The item at a place, with the place after it, or none where no item is left.
+    /// The item at a place, with the place after it, or none where no item is left. The room is for what it is made of.
     fn read(
         &self,
         alloc: Global,
+        room: &mut Self::Room,
         bytes: &[u8],
         at: usize,
     ) -> Result<Option<(Self::Read, usize)>, Ending>
@@ -71,7 +72,7 @@ fn write_text<C: Items>(
     ensures after { IfOk result (λ found. IfSome found (IsBehind at (C.last_place command.now bytes.now))) }
 {
     let alloc = *text.allocator();
-    match command.read(alloc, bytes, at)? {
+    match command.read(alloc, room, bytes, at)? {
         Some((mut item, after)) => {
             command.put(alloc, room, &mut item, text)?;
             Ok(Some(after))

@@ -11,5 +11,5 @@ mod refusal;
 
 pub use certificate_parts::{Certificate, LeafProofs, Refutation, Step, Terms};
 pub use print::print_certificate;
-pub use read::read_certificate;
+pub use read::{read_certificate, read_certificate_in};
 pub use refusal::CertificateRefusal;

@@ -12,7 +12,7 @@ ghost use Rattle.certificate_parts.specs.Vectors.{numbers_of};
 
 use crate::read_leaf::read_leaves;
 use crate::refusal::CertificateRefusal;
-use certificate_parts::Certificate;
+use certificate_parts::{Certificate, SpareSteps};
 use std::alloc::Global;
 use text_reading::{Reads, TextFault, expect, expect_word, number, same_bracket, spells};
 use text_tokens::{Kind, next_open, token};
@@ -68,6 +68,7 @@ fn read_vector(alloc: Global, bytes: &[u8], place: usize) -> Reads<Option<Vec<i1
 // The certificate that begins at a place, and the place behind its last `)`.
 fn certificate_at(
     alloc: Global,
+    spare: &mut SpareSteps,
     bytes: &[u8],
     place: usize,
 ) -> Reads<Certificate, CertificateRefusal>
@@ -79,13 +80,14 @@ fn certificate_at(
     let (shares, at) = read_version(bytes, at)?;
     let (vector, at) = read_vector(alloc, bytes, at)?;
     let start = Certificate::with_vector(alloc, shares, vector);
-    let (certificate, after) = read_leaves(alloc, bytes, start, at)?;
+    let (certificate, after) = read_leaves(alloc, spare, bytes, start, at)?;
     Ok((certificate, after))
 }
 
 // The certificate that begins with the first `(` at or behind `start`, and the place behind its last `)`.
 fn first_certificate(
     alloc: Global,
+    spare: &mut SpareSteps,
     bytes: &[u8],
     start: usize,
 ) -> Result<Option<(Certificate, usize)>, CertificateRefusal>
@@ -95,7 +97,7 @@ fn first_certificate(
 {
     match next_open(bytes, start) {
         None => Ok(None),
-        Some(place) => Ok(Some(certificate_at(alloc, bytes, place)?)),
+        Some(place) => Ok(Some(certificate_at(alloc, spare, bytes, place)?)),
     }
 }
 
@@ -116,5 +118,21 @@ pub fn read_certificate(
     ensures place { IfOk result (λ o. IfSome o (λ x. (start < x.1) × (x.1 ≤ length bytes.now))) }
     ensures fits { IfOk result (λ o. IfSome o (λ x. IsTrue (certificate_fits x.0))) }
 {
-    first_certificate(alloc, bytes, start)
+    read_certificate_in(alloc, &mut SpareSteps::new(alloc), bytes, start)
+}
+
+/// The same, its steps in the rooms of others that are done with.
+pub fn read_certificate_in(
+    alloc: Global,
+    spare: &mut SpareSteps,
+    bytes: &[u8],
+    start: usize,
+) -> Result<Option<(Certificate, usize)>, CertificateRefusal>
+    requires { start ≤ length bytes.now }
+    ensures agrees { Agrees (λ o. o) certificate_fault result (model.read_certificate bytes.now start) }
+    ensures none { IfOk result (λ o. (o ≡ None) ↔ IsTrue (list_all is_closed (drop start bytes.now))) }
+    ensures place { IfOk result (λ o. IfSome o (λ x. (start < x.1) × (x.1 ≤ length bytes.now))) }
+    ensures fits { IfOk result (λ o. IfSome o (λ x. IsTrue (certificate_fits x.0))) }
+{
+    first_certificate(alloc, spare, bytes, start)
 }

@@ -5,7 +5,7 @@ ghost use Rattle.leaf_certificate.specs.Sequences.{refutations_to_end, leaves_to
 
 use crate::closing::behind_close;
 use crate::read_step::read_refutation;
-use certificate_parts::{Certificate, LeafProofs, Refutation};
+use certificate_parts::{Certificate, LeafProofs, Refutation, SpareSteps};
 use std::alloc::Global;
 use text_reading::{Reads, TextFault, expect};
 use text_tokens::Kind;
@@ -13,6 +13,7 @@ use text_tokens::Kind;
 // The shared steps, which format 2 alone spells, and the place behind them.
 fn read_shared(
     alloc: Global,
+    spare: &mut SpareSteps,
     bytes: &[u8],
     shares: bool,
     place: usize,
@@ -22,7 +23,7 @@ fn read_shared(
     ensures none { shares ≡ false → IfOk result (λ x. x.0 ≡ []) }
 {
     if shares {
-        read_refutation(alloc, bytes, place)
+        read_refutation(spare, bytes, place)
     } else {
         Ok((Refutation::new(alloc), place))
     }
@@ -31,6 +32,7 @@ fn read_shared(
 // The refutations up to the `)`, behind these shared steps, and the place behind that.
 fn read_refutations(
     alloc: Global,
+    spare: &mut SpareSteps,
     bytes: &[u8],
     shared: Refutation,
     place: usize,
@@ -47,7 +49,7 @@ fn read_refutations(
         if let Some(after) = behind_close(bytes, at) {
             return Ok((read, after));
         }
-        let (refutation, after) = read_refutation(alloc, bytes, at)?;
+        let (refutation, after) = read_refutation(spare, bytes, at)?;
         read.push(refutation)?;
         at = after;
     }
@@ -56,6 +58,7 @@ fn read_refutations(
 // The proofs of a leaf between brackets, and the place behind them.
 fn read_leaf(
     alloc: Global,
+    spare: &mut SpareSteps,
     bytes: &[u8],
     shares: bool,
     place: usize,
@@ -65,14 +68,15 @@ fn read_leaf(
     ensures shared { shares ≡ false → IfOk result (λ x. x.0.shared ≡ []) }
 {
     let first = expect(bytes, Kind::LeftParen, place)?;
-    let (shared, at) = read_shared(alloc, bytes, shares, first)?;
-    let (proofs, after) = read_refutations(alloc, bytes, shared, at)?;
+    let (shared, at) = read_shared(alloc, spare, bytes, shares, first)?;
+    let (proofs, after) = read_refutations(alloc, spare, bytes, shared, at)?;
     Ok((proofs, after))
 }
 
 // The leaves up to the `)` behind a certificate that has none, and the place behind that.
 pub(crate) fn read_leaves(
     alloc: Global,
+    spare: &mut SpareSteps,
     bytes: &[u8],
     start: Certificate,
     place: usize,
@@ -92,7 +96,7 @@ pub(crate) fn read_leaves(
         if let Some(after) = behind_close(bytes, at) {
             return Ok((read, after));
         }
-        let (leaf, after) = read_leaf(alloc, bytes, shares, at)?;
+        let (leaf, after) = read_leaf(alloc, spare, bytes, shares, at)?;
         read.push(leaf)?;
         at = after;
     }

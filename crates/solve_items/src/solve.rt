@@ -90,6 +90,7 @@ impl Items for Matrices<'_> {
     fn read(
         &self,
         alloc: Global,
+        _room: &mut (),
         bytes: &[u8],
         at: usize,
     ) -> Result<Option<(Problem, usize)>, Ending> {

@@ -26,6 +26,7 @@ impl Items for Trial<'_> {
     fn read(
         &self,
         _alloc: Global,
+        _room: &mut (),
         _bytes: &[u8],
         at: usize,
     ) -> Result<Option<((), usize)>, Ending> {

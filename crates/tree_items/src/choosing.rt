@@ -29,6 +29,7 @@ impl Items for Least<'_> {
     fn read(
         &self,
         alloc: Global,
+        _room: &mut (),
         bytes: &[u8],
         at: usize,
     ) -> Result<Option<(Trio, usize)>, Ending> {

@@ -46,6 +46,7 @@ impl Items for Same<'_> {
     fn read(
         &self,
         alloc: Global,
+        _room: &mut (),
         bytes: &[u8],
         at: usize,
     ) -> Result<Option<(Trio, usize)>, Ending> {

@@ -29,6 +29,7 @@ impl Items for Eval<'_> {
     fn read(
         &self,
         alloc: Global,
+        _room: &mut (),
         bytes: &[u8],
         at: usize,
     ) -> Result<Option<(Spoken, usize)>, Ending> {

@@ -37,6 +37,7 @@ impl Items for Restrict<'_> {
     fn read(
         &self,
         alloc: Global,
+        _room: &mut (),
         bytes: &[u8],
         at: usize,
     ) -> Result<Option<(Pair, usize)>, Ending> {

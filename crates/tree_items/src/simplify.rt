@@ -31,6 +31,7 @@ impl Items for Simplify<'_> {
     fn read(
         &self,
         alloc: Global,
+        _room: &mut (),
         bytes: &[u8],
         at: usize,
     ) -> Result<Option<(Spoken, usize)>, Ending> {

@@ -1,6 +1,6 @@
 use Rattle.leaf_certificate.proofs.Words.{◌-◌, length, RightParen, term}
 use Rattle.leaf_certificate.proofs.Sequences.{Reaches}
-use Rattle.leaf_certificate.proofs.read_step.read_some_terms.Given as goal
+use Rattle.leaf_certificate.proofs.read_step.read_terms.Given as goal
 
 abbrev pub invariant-loop-after : goal.invariant-loop-after
 invariant-loop-after l = Reaches l.bytes RightParen (term l.bytes) l.place l.read l.at

@@ -6,7 +6,7 @@ use Rattle.pip_model.specs.Printed.{certificate_fits}
 use Rattle.text_laws.proofs.ReadPlaces.{Read}
 use Rattle.text_laws.proofs.ReadCertificates.{read_certificate-none, read_certificate-reads}
 use Rattle.leaf_certificate.proofs.Found.{found_none, found_certificate}
-use Rattle.leaf_certificate.proofs.read.read_certificate.Goals as goal
+use Rattle.leaf_certificate.proofs.read.read_certificate_in.Goals as goal
 
 pub returns-clause-none : goal.returns-clause-none
 returns-clause-none c =
