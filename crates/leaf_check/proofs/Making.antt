@@ -1,6 +1,9 @@
 -- Forms that are made for a leaf, and lists of them.
 use Rattle.leaf_check.proofs.Words.{◌≡◌, refl, ap, ap₂, sym, ◌∙◌, ℕ, zero, suc, ◌+◌, ◌-◌, ◌<◌, ◌≤◌, ℤ, pos, List, [], ◌∷◌, ◌++◌, length, take, drop, set, replicate, append_assoc, arith, length-append, length-replicate, set_split, take-replicate, drop-replicate, take_at, take_all, drop_at, get_or_at, length-drop, width, coefficients, constant, unit_form, widen_to, places_from, row_form, length-coefficients}
-use Rattle.pip_model.proofs.Division.{form-parts}
+use Rattle.std.proofs.lemmas.List.Elements.{All-append, All-push, All-take, All-drop, All-replicate, All-same, All-get_or}
+use Rattle.std.specs.Prelude.{All}
+use Rattle.affine_forms.specs.Checks.{Fits}
+use Rattle.affine_forms.specs.Forms.{IsForm}
 
 pub unit_made : (w i : ℕ) (z : ℤ) → i < w → set (replicate (w + 1) (pos 0)) i z ≡ unit_form w i z
 unit_made w i z h =
@@ -24,11 +27,6 @@ places_more w first (suc n) =
 pub places_step : (old now : List (List ℤ)) (w first n : ℕ) (form : List ℤ) → now ≡ (old ++ places_from w first n) ++ form ∷ [] → form ≡ unit_form w (first + n) (pos 1) → now ≡ old ++ places_from w first (n + 1)
 places_step old now w first n form e same = rw (e, same) (append_assoc old (places_from w first n) (unit_form w (first + n) (pos 1) ∷ []) ∙ ap (λ (zs : List (List ℤ)). old ++ zs) (sym (places_more w first n)))
 
-last_entry : (form : List ℤ) → 0 < length form → drop (length form - 1) form ≡ constant form ∷ []
-last_entry form some =
-    ap (drop (length form - 1)) (form-parts (width form) form (omega arith)).0
-    ∙ drop_at (coefficients form) (constant form ∷ []) (length form - 1) (length-coefficients form)
-
 -- the parts of a row that is turned: the other places, and zeros up to the scope; the unknowns; the constant
 module _ (n w : ℕ) (row : List ℤ) (some : n < length row) (within : length row ≤ n + w + 1) where
   abbrev rest : List ℤ
@@ -46,9 +44,6 @@ module _ (n w : ℕ) (row : List ℤ) (some : n < length row) (within : length r
   length-places : length places ≡ w
   length-places = let e : length rest ≡ length row - n = length-drop n row in simp (length-append, length-replicate, front) (omega arith)
 
-  last : drop (length rest - 1) rest ≡ constant rest ∷ []
-  last = last_entry rest (omega (arith, long))
-
   turned : row_form n w row ≡ (places ++ take n row) ++ constant rest ∷ []
   turned =
       let wide : length (widen_to w rest) ≡ w + 1 = length-append places (constant rest ∷ []) ∙ ap (λ (k : ℕ). k + 1) length-places in
@@ -56,7 +51,13 @@ module _ (n w : ℕ) (row : List ℤ) (some : n < length row) (within : length r
       (take_at places (constant rest ∷ []) w length-places)
       (get_or_at places (constant rest) [] (pos 0) (width (widen_to w rest)) (omega (arith, length-places, wide)))
 
-  pub row_made : (made : List ℤ) → made ≡ ((take w (coefficients rest) ++ replicate (w - length (coefficients rest)) (pos 0)) ++ take n row) ++ drop (length rest - 1) rest → made ≡ row_form n w row
-  row_made made e =
-      let whole : take w (coefficients rest) ≡ coefficients rest = take_all w (coefficients rest) (omega (arith, front, length-places, length-append (coefficients rest) (replicate (w - width rest) (pos 0)))) in
-      e ∙ rw (whole, front, last) refl ∙ sym turned
+  pub row_made : (made : List ℤ) → made ≡ ((coefficients rest ++ replicate (w - length (coefficients rest)) (pos 0)) ++ take n row) ++ constant rest ∷ [] → made ≡ row_form n w row
+  row_made made e = e ∙ rw front refl ∙ sym turned
+
+  pub turned_form : (made : List ℤ) → made ≡ ((coefficients rest ++ replicate (w - length (coefficients rest)) (pos 0)) ++ take n row) ++ constant rest ∷ [] → All Fits row → IsForm made
+  turned_form made e h =
+      let own : All Fits rest = All-drop Fits n row h in
+      let zeros : All Fits (replicate (w - length (coefficients rest)) (pos 0)) = All-replicate Fits _ _ refl in
+      let parts = All-append Fits _ _ (All-append Fits _ _ (All-take Fits (width rest) rest own) zeros) (All-take Fits n row h) in
+      let fits : All Fits made = All-same Fits _ _ e (All-push Fits _ _ parts (All-get_or Fits rest (width rest) (pos 0) (omega (arith, long)) own)) in
+      record { some = rw e (simp length-append (omega arith)); fits = fits }

@@ -1,4 +1,4 @@
-ghost use Rattle.std.specs.Prelude.{◌≡◌, ◌+◌, ◌≤◌, ◌<◌, [], pos, length, map, replicate, All, IfOk};
+ghost use Rattle.std.specs.Prelude.{◌≡◌, ◌+◌, ◌-◌, ◌≤◌, ◌<◌, ◌++◌, [], pos, length, map, replicate, All, IfOk, OnOk};
 ghost use Rattle.pip_model.specs.Forms.{unit_form, widen_to};
 ghost use Rattle.pip_model.specs.Check as model;
 ghost use Rattle.affine_forms.specs.Checks.{Fits};
@@ -34,6 +34,21 @@ fn unit(room: Vec<i128>, width: usize, place: usize) -> Result<Form, WantOfMemor
     Ok(Form::from_entries(made))
 }
 
+// Puts zeros behind the entries up to so many.
+#[inline(always)]
+fn fill_to(made: &mut Vec<i128>, width: usize) -> Result<(), WantOfMemory>
+    requires width { length made.old.items ≤ width }
+    requires fits { All Fits made.old.items }
+    ensures value { OnOk result (made.new.items
+        ≡ made.old.items ++ replicate (width - length made.old.items) (pos 0)) }
+    ensures fits { OnOk result (All Fits made.new.items) }
+{
+    if made.len() < width {
+        made.resize(width, 0)?;
+    }
+    Ok(())
+}
+
 // The entries of a form, read over so many places, in a room, that has place for those of a form over `most` places
 // from then on.
 pub(crate) fn widened_entries(
@@ -49,12 +64,13 @@ pub(crate) fn widened_entries(
     ensures long { IfOk result (λ made. length made.items ≡ width + 1) }
     ensures fits { IfOk result (λ made. All Fits made.items) }
 {
-    let (front, constant) = form.split_at(form.len() - 1);
+    let last = form.len() - 1;
+    let (front, _) = form.split_at(last);
     let mut made = room;
     made.reserve(most.saturating_add(1))?;
     made.extend_from_slice(front)?;
-    made.resize(width, 0)?;
-    made.extend_from_slice(constant)?;
+    fill_to(&mut made, width)?;
+    made.push(form[last])?;
     Ok(made)
 }
 
@@ -84,14 +100,15 @@ fn turned_row(
     ensures long { IfOk result (λ made. length made ≡ scope + unknowns + 1) }
 {
     let (front, rest) = row.as_slice().split_at(unknowns);
-    let (coefficients, constant) = rest.split_at(rest.len() - 1);
+    let last = rest.len() - 1;
+    let (coefficients, _) = rest.split_at(last);
     let entries = scope.saturating_add(unknowns).saturating_add(1);
     let mut made = room;
     made.reserve(entries)?;
     made.extend_from_slice(coefficients)?;
-    made.resize(scope, 0)?;
+    fill_to(&mut made, scope)?;
     made.extend_from_slice(front)?;
-    made.extend_from_slice(constant)?;
+    made.push(rest[last])?;
     Ok(Form::from_entries(made))
 }
 

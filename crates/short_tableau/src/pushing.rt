@@ -12,6 +12,23 @@ ghost use Rattle.short_row.specs.Terms.{AreNarrowed, IsNarrowed};
 use affine_forms::WantOfMemory;
 use short_row::{ShortRow, divide_parts, narrow, put_unit};
 
+// How many numbers are copied at once: a copy of no more than 2,048 bytes goes by vectors.
+const PIECE: usize = 256;
+
+// Appends numbers, piece by piece.
+pub(crate) fn append_pieces(numbers: &mut Vec<i64>, more: &[i64]) -> Result<(), WantOfMemory>
+    ensures { OnOk result (numbers.new.items ≡ numbers.old.items ++ more.now) }
+{
+    let mut rest = more;
+    while rest.len() > PIECE {
+        let (piece, others) = rest.split_at(PIECE);
+        numbers.extend_from_slice(piece)?;
+        rest = others;
+    }
+    numbers.extend_from_slice(rest)?;
+    Ok(())
+}
+
 // Appends the numbers of a row, or some of them.
 fn append_row(numbers: &mut Vec<i64>, row: &ShortRow<'_>) -> Result<(), WantOfMemory>
     ensures ok { OnOk result (numbers.new.items ≡ numbers.old.items ++ numbers_of (row_of row.now)) }

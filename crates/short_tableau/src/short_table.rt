@@ -16,7 +16,7 @@ ghost use Rattle.short_row.specs.Rows.{row_of};
 ghost use Rattle.short_row.specs.Turned.{is_short_row};
 
 use crate::cuts::push_cut_row;
-use crate::pushing::{append_form, push_divided_row, push_row, push_unit_row};
+use crate::pushing::{append_form, append_pieces, push_divided_row, push_row, push_unit_row};
 use crate::rows::{
     Pivot, coef_at, constant_at, first_below_in, numbers_in, pivot_rows, row_in, turn_rows,
 };
@@ -101,7 +101,10 @@ impl ShortTableau {
         self.numbers.clear();
         let more = t.numbers.len() / 4;
         make_room(&mut self.numbers, t.numbers.len().saturating_add(more))?;
-        self.numbers.extend_from_slice(&t.numbers)?;
+        if append_pieces(&mut self.numbers, &t.numbers).is_err() {
+            self.numbers.clear();
+            return Err(WantOfMemory);
+        }
         self.count = t.count;
         Ok(())
     }

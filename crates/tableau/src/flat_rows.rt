@@ -1,4 +1,4 @@
-ghost use Rattle.std.specs.Prelude.{◌≡◌, ◌*◌, ◌^◌, ◌<◌, ◌≤◌, false, [], length, IfOk, IfSome, IfNone, OnOk};
+ghost use Rattle.std.specs.Prelude.{◌≡◌, ◌*◌, ◌^◌, ◌<◌, ◌≤◌, false, [], length, vec_capacity, IfOk, IfSome, IfNone, OnOk};
 ghost use Rattle.pip_model.specs.Rows as model;
 ghost use Rattle.tableau.specs.KeptRows.{AreLentOf, AreSides, IsSpare, SameRows};
 ghost use Rattle.tableau.specs.Places.{flat_numbers, row_length, unit_run};
@@ -50,6 +50,23 @@ fn count_numbers(unknowns: usize, width: usize, rows: usize) -> Result<usize, Wa
     let parts = unknowns.checked_add(width).ok_or(WantOfMemory)?;
     let all = parts.checked_add(2).ok_or(WantOfMemory)?;
     rows.checked_mul(all).ok_or(WantOfMemory)
+}
+
+// Makes room for so many numbers in all; where there are none, in a new block, since there is nothing to move.
+fn reserve_all(numbers: &mut Vec<i128>, most: usize) -> Result<(), WantOfMemory>
+    requires { length numbers.old.items ≤ most }
+    ensures same { numbers.new.items ≡ numbers.old.items }
+    ensures room { OnOk result (most ≤ vec_capacity numbers.new) }
+    ensures kept { vec_capacity numbers.old ≤ vec_capacity numbers.new }
+{
+    if numbers.is_empty() && numbers.capacity() < most {
+        let alloc = *numbers.allocator();
+        let room = max(most, numbers.capacity().saturating_mul(2));
+        *numbers = Vec::with_capacity(alloc, room)?;
+        return Ok(());
+    }
+    numbers.reserve(most - numbers.len())?;
+    Ok(())
 }
 
 impl FlatRows {
@@ -174,7 +191,7 @@ impl FlatRows {
         let most = max(most, self.most.saturating_add(self.most / 2));
         let numbers = count_numbers(self.unknowns, self.width, most)?;
         self.kept.reserve(most - self.kept.len())?;
-        self.numbers.reserve(numbers - self.numbers.len())?;
+        reserve_all(&mut self.numbers, numbers)?;
         self.most = most;
         Ok(())
     }
