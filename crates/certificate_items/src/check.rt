@@ -2,18 +2,16 @@ ghost use Rattle.std.specs.Prelude.{length};
 ghost use Rattle.program_model.specs.Commands.{CheckAll};
 ghost use Rattle.certificate_items.specs.Triples.{IsTriple, triple_of};
 
-use crate::triple::{Triple, accept, triple_at};
+use crate::triple::{Triple, TripleRoom, accept, triple_at};
 use certificate_check::GoalForms;
-use certificate_parts::{Certificate, SpareSteps};
 use item_writing::{Ending, Items};
 use std::alloc::Global;
-use std::mem::replace;
 
-/// What a check keeps from triple to triple as room: forms of goals, and steps of certificates.
+/// What a check keeps from triple to triple as room: forms of goals, rows of problems, and steps of certificates.
 #[derive(Drop)]
 pub struct CheckRoom {
     forms: GoalForms,
-    steps: SpareSteps,
+    triples: TripleRoom,
 }
 
 /// Says of each triple that its certificate is accepted.
@@ -39,13 +37,13 @@ impl Items for Check {
         bytes: &[u8],
         at: usize,
     ) -> Result<Option<(Triple, usize)>, Ending> {
-        triple_at(alloc, &mut room.steps, bytes, at)
+        triple_at(alloc, &mut room.triples, bytes, at)
     }
 
     fn room(&self, alloc: Global) -> CheckRoom {
         CheckRoom {
             forms: GoalForms::new(alloc),
-            steps: SpareSteps::new(alloc),
+            triples: TripleRoom::new(alloc),
         }
     }
 
@@ -57,9 +55,11 @@ impl Items for Check {
         text: &mut Vec<u8>,
     ) -> Result<(), Ending> {
         accept(alloc, &mut room.forms, triple)?;
-        let none = Certificate::with_vector(alloc, false, None);
-        room.steps.keep(replace(&mut triple.certificate, none));
         text.extend_from_slice(b"accepted\n")?;
         Ok(())
+    }
+
+    fn keep(&self, room: &mut CheckRoom, triple: Triple) {
+        room.triples.keep(triple);
     }
 }

@@ -2,9 +2,8 @@ ghost use Rattle.std.specs.Prelude.{length};
 ghost use Rattle.program_model.specs.Commands.{ShareAll};
 ghost use Rattle.certificate_items.specs.Triples.{IsTriple, triple_of};
 
-use crate::triple::{Triple, accept_alone, triple_at};
+use crate::triple::{Triple, TripleRoom, accept_alone, triple_at};
 use certificate_check::share;
-use certificate_parts::SpareSteps;
 use item_writing::{Ending, Items};
 use leaf_certificate::print_certificate;
 use std::alloc::Global;
@@ -32,7 +31,7 @@ impl Items for Share {
         bytes: &[u8],
         at: usize,
     ) -> Result<Option<(Triple, usize)>, Ending> {
-        triple_at(alloc, &mut SpareSteps::new(alloc), bytes, at)
+        triple_at(alloc, &mut TripleRoom::new(alloc), bytes, at)
     }
 
     fn room(&self, _alloc: Global) {}

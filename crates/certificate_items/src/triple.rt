@@ -11,7 +11,7 @@ use certificate_check::{CheckRefusal, GoalForms, Verdict, check_in};
 use certificate_parts::{Certificate, SpareSteps};
 use item_writing::{Ending, needed_answer};
 use pip_problem::Problem;
-use pip_reader::read_problem;
+use pip_reader::{SpareRows, read_problem_in};
 use quast::Answer;
 use std::alloc::Global;
 
@@ -21,6 +21,36 @@ pub struct Triple {
     pub(crate) problem: Problem,
     pub(crate) answer: Answer,
     pub(crate) certificate: Certificate,
+}
+
+// What is kept of triples that are done with, as room for the next: rows of problems, and steps of certificates.
+#[derive(Drop)]
+pub(crate) struct TripleRoom {
+    rows: SpareRows,
+    steps: SpareSteps,
+}
+
+impl TripleRoom {
+    // No room yet. It takes no memory.
+    pub(crate) fn new(alloc: Global) -> TripleRoom {
+        TripleRoom {
+            rows: SpareRows::new(alloc),
+            steps: SpareSteps::new(alloc),
+        }
+    }
+
+    // Keeps the rooms of a triple that is done with. Those of its answer are given back.
+    pub(crate) fn keep(&mut self, triple: Triple) {
+        let Triple {
+            problem,
+            answer: _,
+            certificate,
+        } = triple;
+        let (rows, context) = problem.into_rows();
+        self.rows.keep(context);
+        self.rows.keep(rows);
+        self.steps.keep(certificate);
+    }
 }
 
 // What stands behind a problem, and the place behind that. A rational problem is refused before its answer is read.
@@ -49,18 +79,21 @@ fn rest_of_triple(
 }
 
 /// The triple that begins with the first `(` at or behind a place, and the place behind it; none exactly where there is
-/// no `(`. Its certificate's steps are read into the rooms of earlier ones.
+/// no `(`. Its problem's rows and its certificate's steps are read into the rooms of earlier ones.
 pub(crate) fn triple_at(
     alloc: Global,
-    spare: &mut SpareSteps,
+    room: &mut TripleRoom,
     bytes: &[u8],
     at: usize,
 ) -> Result<Option<(Triple, usize)>, Ending>
     requires { at ≤ length bytes.now }
     ensures { FindsItem triple_of IsTriple (kinds.triple bytes.now at) at (length bytes.now) result }
 {
-    match read_problem(alloc, bytes, at)? {
-        Some((problem, after)) => Ok(Some(rest_of_triple(alloc, spare, bytes, problem, after)?)),
+    match read_problem_in(&mut room.rows, bytes, at)? {
+        Some((problem, after)) => {
+            let found = rest_of_triple(alloc, &mut room.steps, bytes, problem, after)?;
+            Ok(Some(found))
+        }
         None => Ok(None),
     }
 }

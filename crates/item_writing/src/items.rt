@@ -55,6 +55,9 @@ pub trait Items {
         requires empty { text.old.items ≡ [] }
         ensures own { IfErr result IsOfItem }
         ensures text { IsTextOfItem (text_of (meaning self.now) (seen self.now item.old)) result text.new.items };
+
+    /// Keeps what is done with of an item as room for the next. No text depends on it.
+    fn keep(&self, _room: &mut Self::Room, _item: Self::Read) {}
 }
 
 // Puts the text of the item at a place into `text`, from whose memory all is made, and answers the place after the item.
@@ -74,7 +77,9 @@ fn write_text<C: Items>(
     let alloc = *text.allocator();
     match command.read(alloc, room, bytes, at)? {
         Some((mut item, after)) => {
-            command.put(alloc, room, &mut item, text)?;
+            let put = command.put(alloc, room, &mut item, text);
+            command.keep(room, item);
+            put?;
             Ok(Some(after))
         }
         None => Ok(None),
