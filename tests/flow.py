@@ -42,7 +42,7 @@ def strides(statement):
 def domain(kernel, statement, case):
     """The turns of a statement in a case, as constraints."""
     held = [relation(it) for loop in statement.loops for it in loop.domain()]
-    held += [relation(it) for it in (*kernel.known, *case)]
+    held += [relation(it) for it in (*kernel.known, *case.relations)]
     return " and ".join([*held, *strides(statement), *(f"{size} >= 0" for size in kernel.sizes)]) or "true"
 
 
@@ -76,7 +76,7 @@ def answered(source):
         point = {name: form.substitute(source.counters) for name, form in piece.point}
         writer = kernel.statements[int(point["statement.number"].constant)]
         own = [f"o{place}" for place in range(len(writer.loops))]
-        held = [relation(it) for it in source.case]
+        held = [relation(it) for it in source.case.relations]
         for condition in piece.conditions:
             held.append(f"{said(condition.substitute(source.counters).whole()[0])} >= 0")
         for place, name in enumerate(own):
@@ -90,15 +90,19 @@ def answered(source):
     return made
 
 
+def is_certain(writer):
+    return writer.writes.is_affine and not any(case.doubts for case in writer.cases)
+
+
 def lines(kernel, sources):
-    """A line for isl_flow.c of each read of an array that the kernel writes, with affine subscripts."""
+    """A line for isl_flow.c of each read of an array that the kernel writes, with affine subscripts and conditions."""
     found = {}
     for source in sources:
         found.setdefault((source.statement.number, source.read), []).append(source)
     for own in found.values():
         statement, access = own[0].statement, own[0].statement.reads[own[0].read]
         writers = kernel.writers(access.array)
-        if writers and all(map(own[0].is_sure, writers)):
+        if writers and access.is_affine and all(map(is_certain, writers)):
             reads = union(kernel, [f"{instance(statement)} -> {element(access)} : {domain(kernel, statement, case)}" for case in statement.cases])
             maps = union(kernel, [it for source in own for it in answered(source)])
             yield "\t".join([reads, written(kernel, access.array), schedule(kernel), maps])

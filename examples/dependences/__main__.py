@@ -3,8 +3,8 @@
     PYTHONPATH=clients/python python3 examples/dependences [--program FILE] [--only NAME] [--shorten] FILE
 
 FILE is a text in C, of which `syntax.py` says what is read. A statement is named by its number, and an instance of it by the
-values of its loop variables, the outermost first. `unknown: S1(i - 1) or earlier` stands where a subscript is not affine: that
-instance may have written it last, and none that ran later. --only names one function; --shorten writes shorter answers, which takes
+values of its loop variables, the outermost first. `unknown: S1(i - 1) or earlier` stands where a subscript or a condition is not
+affine: that instance may have written it last, and none that ran later. --only names one function; --shorten writes shorter answers, which takes
 longer.
 """
 from __future__ import annotations
@@ -30,8 +30,8 @@ def described(kernel: Kernel, solver: Solver, shorten: bool) -> Iterator[str]:
         statement, access = source.statement, source.statement.reads[source.read]
         if statement is not told:
             told, seen = statement, set()
-            yield f"    S{statement.number}({', '.join(statement.variables)}): {statement.assignment.text}"
-        where = f" where {', '.join(map(str, source.case))}" if source.case else ""
+            yield f"    S{statement.number}({', '.join(statement.variables)}): {statement.part.text}"
+        where = f" where {', '.join(map(str, source.case.relations))}" if source.case.relations else ""
         if kernel.writers(access.array) and access.text + where not in seen:
             seen.add(access.text + where)
             yield f"        {access.text}{where}:"

@@ -6,12 +6,13 @@ element: before the reading turn at that level, in the same turn of the loops ou
 written later. At the same level the last of several writes is the one of the greatest time: the place in the text, the
 turn of the outermost loop, the place in its body, the turn of the next loop, and so on.
 
-A subscript that is not affine may be any number. So what is found has perhaps not written the element that is read, but nothing has
-that ran later.
+A subscript that is not affine may be any number, and under a condition that is not affine a statement may run or not. So what is
+found has perhaps not written the element that is read, but nothing has that ran later.
 """
 from __future__ import annotations
 
 from dataclasses import dataclass, replace
+from fractions import Fraction
 from typing import Dict, Iterable, Iterator, List, Mapping, NamedTuple, Optional, Sequence, Tuple
 
 from lexmin import Answer, Floor, Form, Problem, Relation, Solver
@@ -31,9 +32,9 @@ class Turns:
 
 @dataclass(frozen=True, eq=False)
 class Source:
-    """Which instance wrote what a read reads, where this case holds: the answer's points are the number of the statement and the
-    values of its loop variables, `value.0` that of the outermost. Without an answer nothing wrote it in any turn. Of a writer of
-    which nothing is sure (`is_sure`) it is known only that this instance wrote it, or one before, or none."""
+    """Which instance wrote what a read reads, where this case holds: the answer's points are the number of the statement, whether it
+    is sure, and the values of its loop variables, `value.0` that of the outermost. Without an answer nothing wrote it in any turn. Of
+    one that is not sure it is known only that this instance wrote it, or one before, or none."""
 
     kernel: Kernel
     statement: Statement
@@ -44,15 +45,19 @@ class Source:
 
     def at(self, values: Mapping[str, int]) -> Found:
         """The instance at sizes and loop variables."""
-        point = None if self.answer is None else self.answer.value({name: int(form.at(values)) for name, form in self.counters.items()})
+        point = self._point(values)
         if point is None:
             return None
         writer = self.kernel.statements[int(point["statement.number"])]
         return writer.number, tuple(int(point[f"value.{place}"]) for place in range(len(writer.loops)))
 
-    def is_sure(self, writer: Statement) -> bool:
-        """Whether it is known which elements both write and read."""
-        return writer.writes.is_affine and self.statement.reads[self.read].is_affine
+    def is_sure_at(self, values: Mapping[str, int]) -> bool:
+        """Whether that instance wrote it, and none before: it may be one before where a subscript or a condition is not affine."""
+        point = self._point(values)
+        return point is None or bool(point["is.sure"])
+
+    def _point(self, values: Mapping[str, int]) -> Optional[Mapping[str, Fraction]]:
+        return None if self.answer is None else self.answer.value({name: int(form.at(values)) for name, form in self.counters.items()})
 
     def shortened(self) -> Source:
         """The same with a shorter tree."""
@@ -67,7 +72,7 @@ class Source:
     def _instance(self, point: Mapping[str, Form]) -> str:
         writer = self.kernel.statements[int(point["statement.number"].constant)]
         words = f"S{writer.number}({', '.join(str(point[f'value.{place}']) for place in range(len(writer.loops)))})"
-        return words if self.is_sure(writer) else f"unknown: {words} or earlier"
+        return words if point["is.sure"].constant else f"unknown: {words} or earlier"
 
 
 class Analyser:
@@ -90,15 +95,15 @@ class Analyser:
     def divides(self, statement: Statement, case: Case) -> None:
         """A Fault where a form that is divided may be below 0: there C rounds towards 0, and the forms' floors do not. A relation
         may stand on all without floors, and on those before it."""
-        relations = [*self.kernel.known, *statement.domain(), *case]
+        relations = [*self.kernel.known, *statement.domain(), *case.relations]
         dividing = [relation for relation in relations if any(floors_of(relation.form))]
         held = [relation for relation in relations if relation not in dividing]
         for relation in dividing:
             for floor in floors_of(relation.form):
                 self.is_from_0_on(floor, statement, held)
             held.append(relation)
-        for access in (statement.writes, *statement.reads):
-            for floor in (floor for form in access.subscripts if form is not None for floor in floors_of(form)):
+        for form in (form for access in statement.accesses for form in access.subscripts if form is not None):
+            for floor in floors_of(form):
                 self.is_from_0_on(floor, statement, held)
 
     def is_from_0_on(self, floor: Floor, statement: Statement, held: Sequence[Relation]) -> None:
@@ -112,7 +117,7 @@ class Analyser:
         if found is not None:
             at = ", ".join(f"{name} = {number}" for name, number in found.items())
             words = f"{floor.form()} is divided by {floor.divisor}, and is below 0 at {at}: C rounds towards 0 there, which is not read"
-            raise Fault(statement.assignment.line, words)
+            raise Fault(statement.part.line, words)
 
     def sources(self) -> Iterator[Source]:
         """Each read's, in each case of its statement; an element that a statement reads twice is asked for once."""
@@ -131,6 +136,8 @@ class Analyser:
         for level in sorted({level for level, _ in writers}, reverse=True):
             for own, writer in writers:
                 for held in self.cases[writer] if own == level else ():
+                    if held.is_contrary(case, level):
+                        continue
                     answer = self.last(Question(self.kernel, statement, case, statement.reads[read], writer, held, level))
                     if answer is not None:
                         found = answer if found is None else self.solver.last_of(found, answer)
@@ -147,7 +154,7 @@ class Analyser:
 
     def instance(self, answer: Answer) -> Answer:
         """The answer without the time."""
-        names = ["statement.number", *(f"value.{place}" for place in range(self.kernel.depth))]
+        names = ["statement.number", "is.sure", *(f"value.{place}" for place in range(self.kernel.depth))]
         return answer.put({name: answer.names[name] for name in names}).simplify()
 
 
@@ -177,7 +184,7 @@ class Reading:
             self.counters[own.name] = (Form({loop.variable: 1}) - own.base) / own.step
             variable = base + parameter * own.step
             self.turns[loop.variable] = Turns(variable, parameter if abs(loop.step) > 1 else variable * loop.step)
-        for relation in (*kernel.known, *reader.domain(), *case):
+        for relation in (*kernel.known, *reader.domain(), *case.relations):
             self.problem.context(replace(relation, form=self.known(relation.form)))
 
     def names(self, turns: Mapping[str, Turns]) -> Dict[str, Form]:
@@ -208,11 +215,11 @@ class Reading:
 
 class Question(Reading):
     """Which turn of a writer, at a level and in a case, is the last one before a turn of the reading statement that writes what
-    this reads, or may write it where a subscript is not affine."""
+    this reads, or may write it where a subscript or a condition is not affine (then not `is_sure`)."""
 
     def __init__(self, kernel: Kernel, reader: Statement, case: Case, read: Access, writer: Statement, held: Case, level: int) -> None:
         super().__init__(kernel, reader, case, f"{kernel.name}, S{reader.number}: S{writer.number} at level {level}")
-        self.writer = writer
+        self.writer, own_subscripts = writer, writer.writes.subscripts if writer.writes else ()
         self.written: Dict[str, Turns] = {}
         common = writer.common(reader)
         for place, loop in enumerate(writer.loops):
@@ -222,19 +229,22 @@ class Question(Reading):
                 before = self.turns[loop.variable] if place == level < common else None
                 self.written[loop.variable] = self._unknown(loop, self.names(self.written), before)
         other = self.names(self.written)
-        self.problem.where(*(relation.substitute(other) for relation in (*writer.domain(level), *held)))
-        for one, of_writer in zip(read.subscripts, writer.writes.subscripts):
-            if one is not None and of_writer is not None:
+        self.problem.where(*(relation.substitute(other) for relation in (*writer.domain(level), *held.relations)))
+        self.is_sure = held.runs_beside(case, level)
+        for one, of_writer in zip(read.subscripts, own_subscripts):
+            if one is None or of_writer is None:
+                self.is_sure = False
+            else:
                 self.problem.where(self.own(one) == of_writer.substitute(other))
 
     def time(self) -> Dict[str, Form]:
-        """The writer's time, and behind it which statement it is, and its variables."""
+        """The writer's time, and behind it which statement it is, whether it is sure, and its variables."""
         turns = list(self.written.values())
         made: Dict[str, Form] = {}
         for place in range(self.kernel.depth + 1):
             made[f"place.{place}"] = Form({}, self.writer.places[place] if place < len(self.writer.places) else 0)
             made[f"time.{place}"] = turns[place].time if place < len(turns) else Form()
-        made["statement.number"] = Form({}, self.writer.number)
+        made["statement.number"], made["is.sure"] = Form({}, self.writer.number), Form({}, int(self.is_sure))
         for place in range(self.kernel.depth):
             made[f"value.{place}"] = turns[place].variable if place < len(turns) else Form()
         return made

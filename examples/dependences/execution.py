@@ -2,14 +2,14 @@
 from __future__ import annotations
 
 import math
-from typing import Callable, Dict, Iterator, Mapping, Optional, Tuple, Union
+from typing import Callable, Dict, Iterable, Iterator, List, Mapping, Optional, Tuple, Union
 
-from syntax import Assignment, Block, Call, Element, Expression, Fault, For, Function, If, Name, Number, Statement, Unary
+from syntax import Assignment, Binary, Block, Call, Element, Expression, Fault, For, Function, If, Name, Number, Statement, Unary, elements
 
 Value = Union[int, float]
 Cell = Tuple[str, Tuple[int, ...]]
 Instance = Tuple[int, Tuple[int, ...]]  # an assignment by its number, and the values of the loop variables around it
-Read = Tuple[int, int, Tuple[int, ...]]  # of an assignment's reads one by its number, in a turn
+Read = Tuple[int, int, Tuple[int, ...]]  # of a statement's reads one by its number, in a turn
 
 
 def truncated(one: Value, other: Value) -> Value:
@@ -65,14 +65,38 @@ class Execution:
         if isinstance(statement, Assignment):
             self.assign(statement)
         elif isinstance(statement, If):
-            self.block(statement.yes if self.value(statement.condition) else statement.no)
+            evaluated: List[Element] = []
+            holds = self.holds(statement.condition, evaluated)
+            self.note(statement, evaluated)
+            self.block(statement.yes if holds else statement.no)
         else:
             around = self.variables
+            self.note(statement, statement.reads())
             for number in self.turns(statement):
                 self.variables = (*around, number)
                 self.block(statement.body)
             self.variables = around
             self.names.pop(statement.variable, None)
+
+    def holds(self, condition: Expression, evaluated: List[Element]) -> bool:
+        """Whether a condition holds. The elements that are read for that are added to those that are given."""
+        if isinstance(condition, Unary) and condition.operator == "!":
+            return not self.holds(condition.operand, evaluated)
+        if isinstance(condition, Binary) and condition.operator in ("&&", "||"):
+            left = self.holds(condition.left, evaluated)
+            return left if left == (condition.operator == "||") else self.holds(condition.right, evaluated)
+        evaluated += elements(condition)
+        return self.decided(condition)
+
+    def decided(self, condition: Expression) -> bool:
+        return bool(self.value(condition))
+
+    def note(self, part: Statement, evaluated: Iterable[Element]) -> None:
+        """Who wrote last what is read of these elements."""
+        own = {id(element) for element in evaluated}
+        for place, element in enumerate(part.reads()):
+            if part.number is not None and id(element) in own:
+                self.sources[part.number, place, self.variables] = self.writers.get(self.cell(element, part.line))
 
     def turns(self, loop: For) -> Iterator[int]:
         number = int(self.value(loop.first))
@@ -84,8 +108,7 @@ class Execution:
             number += loop.step
 
     def assign(self, statement: Assignment) -> None:
-        for place, element in enumerate(statement.reads()):
-            self.sources[statement.number, place, self.variables] = self.writers.get(self.cell(element, statement.line))
+        self.note(statement, statement.reads())
         target = self.cell(statement.target, statement.line)
         value = self.value(statement.value)
         if statement.operator != "=":

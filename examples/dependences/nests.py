@@ -1,17 +1,48 @@
-"""Functions as affine loop nests: each assignment with its loops, the conditions around it, and its place in the text."""
+"""Functions as affine loop nests: each assignment with its loops, the conditions around it, and its place in the text. A condition
+that is not affine leaves a doubt: what stands under it may run."""
 from __future__ import annotations
 
 import itertools
 import operator
-from dataclasses import dataclass
-from typing import Callable, Dict, Iterator, List, Optional, Sequence, Tuple
+from dataclasses import dataclass, replace
+from typing import Callable, Dict, Iterator, List, NamedTuple, Optional, Sequence, Tuple, Union
 
 from lexmin import Floor, Form, Relation
-from syntax import Assignment, Binary, Block, Call, Element, Expression, Fault, For, Function, If, Name, Number, Unary
+from syntax import Assignment, Binary, Block, Call, Element, Expression, Fault, For, Function, If, Name, Number, Unary, assignments, elements, names
 
-Case = Tuple[Relation, ...]  # relations that all hold
+Relations = Tuple[Relation, ...]  # that all hold
 _RELATIONS: Dict[str, Callable[[Form, Form], Relation]] = {
     "<": operator.lt, "<=": operator.le, ">": operator.gt, ">=": operator.ge, "==": operator.eq}
+
+
+@dataclass(frozen=True)
+class Doubt:
+    """That a statement runs only where a condition that is not affine comes out as `outcome`. In a turn of the outermost `depth`
+    loops it comes out once. Of a loop whose bound is not affine: where the turn is one that it makes; there that bound's `depth` is
+    that of the loop itself, since who makes a turn has made those before it."""
+
+    condition: int  # its number among those of the function
+    outcome: bool
+    depth: int
+
+    def contrary(self) -> Doubt:
+        return replace(self, outcome=not self.outcome)
+
+
+@dataclass(frozen=True)
+class Case:
+    """Relations that all hold, and the doubts that there are then: without one the statement runs."""
+
+    relations: Relations = ()
+    doubts: Tuple[Doubt, ...] = ()
+
+    def runs_beside(self, other: Case, level: int) -> bool:
+        """Whether it runs where the other one did: in the same turn of the loops outside a level, and no later one at that level."""
+        return all(doubt.depth <= level and doubt in other.doubts for doubt in self.doubts)
+
+    def is_contrary(self, other: Case, level: int) -> bool:
+        """Whether never both run there."""
+        return any(doubt.depth <= level and doubt.contrary() in other.doubts for doubt in self.doubts)
 
 
 @dataclass(frozen=True, eq=False)
@@ -23,18 +54,15 @@ class Loop:
     lows: Tuple[Form, ...]
     highs: Tuple[Form, ...]
     step: int
-    line: int
+    further: Relations = ()  # what else the variable is at least, said without the floors of quotients
 
     def first(self) -> Form:
-        """Where it begins. Of a loop that steps by more than 1, of which the turns are counted, that has to be one form."""
-        found = self.lows if self.step > 0 else self.highs
-        if len(found) > 1:
-            raise Fault(self.line, f"{self.variable} steps by {abs(self.step)} from the {'greatest' if self.step > 0 else 'least'} of several forms")
-        return found[0]
+        """Where it begins, if it steps by more than 1: then that is one form, and the turns are counted."""
+        return (self.lows if self.step > 0 else self.highs)[0]
 
     def domain(self) -> List[Relation]:
         own = Form({self.variable: 1})
-        return [*(own >= low for low in self.lows), *(own <= high for high in self.highs)]
+        return [*(own >= low for low in self.lows), *self.further, *(own <= high for high in self.highs)]
 
 
 @dataclass(frozen=True, eq=False)
@@ -53,19 +81,21 @@ class Access:
 
 @dataclass(frozen=True, eq=False)
 class Statement:
-    """An assignment. `places` says where it stands: in the function's body, in that of the outermost loop, and so on. It runs in a
-    turn of its loops where one of `cases` holds, and never do two of them."""
+    """An assignment, or the condition of an `if` or the bounds of a `for` that read data; these write nothing. `places` says where it
+    stands: in the function's body, in that of the outermost loop, and so on. It runs in a turn of its loops where the relations of one
+    of `cases` hold, and never do those of two, and where these leave no doubt or it comes out so."""
 
-    assignment: Assignment
+    number: int
+    part: Union[Assignment, If, For]
     loops: Tuple[Loop, ...]
     places: Tuple[int, ...]
     cases: Tuple[Case, ...]
-    writes: Access
+    writes: Optional[Access]
     reads: Tuple[Access, ...]
 
     @property
-    def number(self) -> int:
-        return self.assignment.number
+    def accesses(self) -> Tuple[Access, ...]:
+        return self.reads if self.writes is None else (self.writes, *self.reads)
 
     @property
     def variables(self) -> List[str]:
@@ -89,31 +119,47 @@ class Kernel:
 
     def __init__(self, function: Function) -> None:
         self.function, self.name, self.sizes = function, function.name, function.sizes
-        self.known = [relation for condition, line in function.known for relation in _only(cases(condition, line), line)]
+        self.known = [relation for condition, line in function.known for relation in asserted(condition, line)]
         self.statements: List[Statement] = []
-        self._block(function.body, (), (), ((),), 0)
+        self.doubted = 0
+        self._block(function.body, (), (), (Case(),), 0)
         self.depth = max((len(statement.loops) for statement in self.statements), default=0)
 
     def _block(self, block: Block, loops: Tuple[Loop, ...], around: Tuple[int, ...], held: Tuple[Case, ...], place: int) -> int:
         """Adds the statements of a block, whose first one has this place in its loop; the place behind the last one."""
-        for statement in block:
-            if isinstance(statement, If):
-                yes = product(held, cases(statement.condition, statement.line))
-                no = product(held, cases(statement.condition, statement.line, wanted=False))
-                place = self._block(statement.yes, loops, around, yes, place)
-                place = self._block(statement.no, loops, around, no, place)
-                continue
-            if isinstance(statement, For):
-                self._block(statement.body, (*loops, loop_of(statement)), (*around, place), held, 0)
-            else:
-                reads = tuple(access(element, statement.line) for element in statement.reads())
-                self.statements.append(
-                    Statement(statement, loops, (*around, place), held, access(statement.target, statement.line), reads))
-            place += 1
+        for part in block:
+            if part.number is not None:
+                self._add(part.number, part, loops, (*around, place), held)
+                place += 1
+            if isinstance(part, If):
+                yes, no = self._branches(part, len(loops))
+                place = self._block(part.yes, loops, around, both(held, yes), place)
+                place = self._block(part.no, loops, around, both(held, no), place)
+            elif isinstance(part, For):
+                loop, is_sure, depth = loop_of(part)
+                inner = held if is_sure else both(held, [Case(doubts=(self._doubt(len(loops) + depth),))])
+                self._block(part.body, (*loops, loop), (*around, place), inner, 0)
+                place += 1
         return place
 
+    def _add(self, number: int, part: Union[Assignment, If, For], loops: Tuple[Loop, ...], places: Tuple[int, ...], held: Tuple[Case, ...]) -> None:
+        writes = access(part.target, part.line) if isinstance(part, Assignment) else None
+        reads = tuple(access(element, part.line) for element in part.reads())
+        self.statements.append(Statement(number, part, loops, places, held, writes, reads))
+
+    def _branches(self, part: If, depth: int) -> Tuple[List[Case], List[Case]]:
+        """The cases of an `if` and of its `else`."""
+        found, doubt = outcomes(part.condition, part.line), self._doubt(depth)
+        yes = [*map(Case, found.yes), *(Case(held, (doubt,)) for held in found.unknown)]
+        no = [*map(Case, found.no), *(Case(held, (doubt.contrary(),)) for held in found.unknown)]
+        return yes, no
+
+    def _doubt(self, depth: int) -> Doubt:
+        self.doubted += 1
+        return Doubt(self.doubted - 1, True, depth)
+
     def writers(self, array: str) -> List[Statement]:
-        return [statement for statement in self.statements if statement.writes.array == array]
+        return [statement for statement in self.statements if statement.writes is not None and statement.writes.array == array]
 
 
 def affine(expression: Expression, line: int) -> Form:
@@ -134,7 +180,7 @@ def affine(expression: Expression, line: int) -> Form:
         if not right.terms and right.constant >= 1:
             found = quotient(left, int(right.constant))
             return found if expression.operator == "/" else left - found * right.constant
-    raise Fault(line, "a bound or a condition is not affine")
+    raise Fault(line, "this is not affine")
 
 
 def quotient(form: Form, divisor: int) -> Form:
@@ -145,62 +191,118 @@ def quotient(form: Form, divisor: int) -> Form:
 
 
 def access(element: Element, line: int) -> Access:
-    return Access(element.array, tuple(subscript(own, line) for own in element.subscripts), element.text)
+    return Access(element.array, tuple(known_form(own, line) for own in element.subscripts), element.text)
 
 
-def subscript(expression: Expression, line: int) -> Optional[Form]:
+def known_form(expression: Expression, line: int) -> Optional[Form]:
     try:
         return affine(expression, line)
     except Fault:
         return None
 
 
-def bounds(expression: Expression, word: str, line: int) -> List[Form]:
-    """The forms of which an expression is the least (`min`) or the greatest (`max`)."""
+def bounds(expression: Expression, word: str, line: int) -> List[Optional[Form]]:
+    """The forms of which an expression is the least (`min`) or the greatest (`max`), none for one that is not affine."""
     if isinstance(expression, Call) and expression.function == word:
         return [form for argument in expression.arguments for form in bounds(argument, word, line)]
-    return [affine(expression, line)]
+    return [known_form(expression, line)]
 
 
-def loop_of(statement: For) -> Loop:
-    is_upwards = statement.step > 0
-    strict = 1 if statement.comparison in ("<", ">") else 0
-    first = bounds(statement.first, "max" if is_upwards else "min", statement.line)
-    last = bounds(statement.bound, "min" if is_upwards else "max", statement.line)
-    lows, highs = (first, [form - strict for form in last]) if is_upwards else ([form + strict for form in last], first)
-    loop = Loop(statement.variable, tuple(lows), tuple(highs), statement.step, statement.line)
-    if abs(statement.step) > 1:
-        loop.first()
-    return loop
+def loop_of(part: For) -> Tuple[Loop, bool, int]:
+    """A loop over the turns that it may make; whether it makes them all; and how many loops, from those around it on, have to be in
+    the same turn for an outcome of its bounds: one more where it is not known at which turn it begins."""
+    is_upwards = part.step > 0
+    words = ("max", "min") if is_upwards else ("min", "max")
+    first, last = bounds(part.first, words[0], part.line), bounds(part.bound, words[1], part.line)
+    if abs(part.step) > 1 and len(first) > 1:
+        raise Fault(part.line, f"{part.variable} steps by {abs(part.step)} from the {'greatest' if is_upwards else 'least'} of several forms")
+    strict = 1 if part.comparison in ("<", ">") else 0
+    begins, ends = affine_ones(part, first, f"{words[0]}(..)"), affine_ones(part, last, f"{words[1]}(..)")
+    least, most = (begins, [form - strict for form in ends]) if is_upwards else (ends, begins)
+    above = 0 if is_upwards else strict
+    quotients, lows = clamped(least)
+    further = tuple(from_quotient_on(Form({part.variable: 1}) - above, floor) for floor in quotients)
+    loop = Loop(part.variable, tuple(form + above for form in lows), tuple(most), part.step, further)
+    return loop, len(begins) == len(first) and len(ends) == len(last), 0 if len(begins) == len(first) else 1
 
 
-def cases(condition: Expression, line: int, wanted: bool = True) -> Tuple[Case, ...]:
-    """The cases in which a condition is what is wanted: in each all relations hold, and no two cases meet."""
+def affine_ones(part: For, found: Sequence[Optional[Form]], word: str) -> List[Form]:
+    """The affine ones among the forms of a bound. What it reads has to stand as long as the loop runs."""
+    if all(form is None for form in found):
+        raise Fault(part.line, f"a bound of `{part.text}` is not affine: that is read in `{word}`, beside an affine form")
+    written = {own.target.array for own in assignments(part.body)}
+    for element in elements(part.bound):
+        if element.array in written:
+            raise Fault(part.line, f"the loop over {part.variable} writes {element.array}, which its bound reads: that is not read")
+        if Name(part.variable) in names(element):
+            raise Fault(part.line, f"the bound of {part.variable} reads {element.text}, another element in each turn: that is not read")
+    return [form for form in found if form is not None]
+
+
+def clamped(forms: Sequence[Form]) -> Tuple[List[Floor], List[Form]]:
+    """Of forms of which the greatest is taken the quotients, if a number from 0 on is among the others, and the others: of what is
+    below 0 a quotient is not the greatest then, to whichever side it is rounded."""
+    if not any(not form.terms and form.constant >= 0 for form in forms):
+        return [], list(forms)
+    found = [(form, [atom for atom in form.terms if isinstance(atom, Floor) and form.terms == {atom: 1} and form.constant == 0]) for form in forms]
+    return [floor for _, own in found for floor in own], [form for form, own in found if not own]
+
+
+def from_quotient_on(form: Form, quotient: Floor) -> Relation:
+    """That a form is at least a floor, without the floor."""
+    return form * quotient.divisor >= quotient.form() - (quotient.divisor - 1)
+
+
+class Outcomes(NamedTuple):
+    """The cases in which a condition holds, in which it does not, and in which it may, since a part of it is not affine. In each
+    turn the relations of one of them all hold, and never those of two."""
+
+    yes: Tuple[Relations, ...]
+    no: Tuple[Relations, ...]
+    unknown: Tuple[Relations, ...]
+
+    def negated(self) -> Outcomes:
+        return Outcomes(self.no, self.yes, self.unknown)
+
+
+def outcomes(condition: Expression, line: int) -> Outcomes:
     if isinstance(condition, Unary) and condition.operator == "!":
-        return cases(condition.operand, line, not wanted)
+        return outcomes(condition.operand, line).negated()
     if not isinstance(condition, Binary) or condition.operator not in (*_RELATIONS, "!=", "&&", "||"):
         condition = Binary("!=", condition, Number(0))
-    if condition.operator in ("&&", "||"):
-        left, right = cases(condition.left, line, wanted), cases(condition.right, line, wanted)
-        if (condition.operator == "&&") == wanted:
-            return product(left, right)
-        return (*left, *product(cases(condition.left, line, not wanted), right))
-    one, other = affine(condition.left, line), affine(condition.right, line)
-    if condition.operator == "!=":
-        is_equal = one == other
-        return tuple((it,) for it in is_equal.negated()) if wanted else ((is_equal,),)
-    relation = _RELATIONS[condition.operator](one, other)
-    return ((relation,),) if wanted else tuple((it,) for it in relation.negated())
+    if condition.operator == "&&":
+        return conjunction(outcomes(condition.left, line), outcomes(condition.right, line))
+    if condition.operator == "||":
+        return conjunction(outcomes(condition.left, line).negated(), outcomes(condition.right, line).negated()).negated()
+    one, other = known_form(condition.left, line), known_form(condition.right, line)
+    if one is None or other is None:
+        return Outcomes((), (), ((),))
+    relation = _RELATIONS["==" if condition.operator == "!=" else condition.operator](one, other)
+    found = Outcomes(((relation,),), tuple((it,) for it in relation.negated()), ())
+    return found.negated() if condition.operator == "!=" else found
 
 
-def product(first: Sequence[Case], second: Sequence[Case]) -> Tuple[Case, ...]:
+def conjunction(left: Outcomes, right: Outcomes) -> Outcomes:
+    no = (*left.no, *product(left.yes, right.no), *product(left.unknown, right.no))
+    unknown = (*product(left.yes, right.unknown), *product(left.unknown, right.yes), *product(left.unknown, right.unknown))
+    return Outcomes(product(left.yes, right.yes), no, unknown)
+
+
+def product(first: Sequence[Relations], second: Sequence[Relations]) -> Tuple[Relations, ...]:
     return tuple(one + other for one in first for other in second)
 
 
-def _only(found: Sequence[Case], line: int) -> Case:
-    if len(found) != 1:
+def both(first: Sequence[Case], second: Sequence[Case]) -> Tuple[Case, ...]:
+    return tuple(Case(one.relations + other.relations, one.doubts + other.doubts) for one in first for other in second)
+
+
+def asserted(condition: Expression, line: int) -> Relations:
+    found = outcomes(condition, line)
+    if found.unknown:
+        raise Fault(line, "what is asserted is not affine")
+    if len(found.yes) != 1:
         raise Fault(line, "what is asserted is one conjunction")
-    return found[0]
+    return found.yes[0]
 
 
 def least_value(form: Form, lows: Dict[str, Optional[int]]) -> Optional[int]:

@@ -11,7 +11,7 @@ from __future__ import annotations
 
 import re
 from dataclasses import dataclass, field
-from typing import Dict, Iterator, List, Tuple, Union
+from typing import Dict, Iterator, List, Optional, Tuple, Union
 
 
 class Fault(ValueError):
@@ -69,7 +69,7 @@ Expression = Union[Number, Name, Element, Call, Unary, Binary]
 
 @dataclass(frozen=True)
 class Assignment:
-    number: int  # of the function's assignments, in their order, from 0 on
+    number: int  # of what reads or writes in the function, in the order of the text, from 0 on
     target: Element
     operator: str  # "=" or one with an operation, as "+="
     value: Expression
@@ -84,6 +84,7 @@ class Assignment:
 
 @dataclass(frozen=True)
 class For:
+    number: Optional[int]  # where its bounds have elements, among those of the assignments
     variable: str
     first: Expression
     comparison: str
@@ -91,14 +92,23 @@ class For:
     step: int
     body: Block
     line: int
+    text: str
+
+    def reads(self) -> List[Element]:
+        return [*elements(self.first), *elements(self.bound)]
 
 
 @dataclass(frozen=True)
 class If:
+    number: Optional[int]  # where its condition has elements, among those of the assignments
     condition: Expression
     yes: Block
     no: Block
     line: int
+    text: str
+
+    def reads(self) -> List[Element]:
+        return list(elements(self.condition))
 
 
 Statement = Union[Assignment, For, If]
@@ -116,20 +126,31 @@ class Function:
     body: Block
 
 
+def parts(expression: Expression) -> Tuple[Expression, ...]:
+    """What stands in an expression, from left to right."""
+    if isinstance(expression, Element):
+        return expression.subscripts
+    if isinstance(expression, Call):
+        return expression.arguments
+    if isinstance(expression, Unary):
+        return (expression.operand,)
+    return (expression.left, expression.right) if isinstance(expression, Binary) else ()
+
+
 def elements(expression: Expression) -> Iterator[Element]:
     """The elements in an expression, from left to right, those in subscripts behind the element that has these."""
     if isinstance(expression, Element):
         yield expression
-        for subscript in expression.subscripts:
-            yield from elements(subscript)
-    elif isinstance(expression, Call):
-        for argument in expression.arguments:
-            yield from elements(argument)
-    elif isinstance(expression, Unary):
-        yield from elements(expression.operand)
-    elif isinstance(expression, Binary):
-        yield from elements(expression.left)
-        yield from elements(expression.right)
+    for part in parts(expression):
+        yield from elements(part)
+
+
+def names(expression: Expression) -> Iterator[Name]:
+    """The sizes and loop variables in an expression."""
+    if isinstance(expression, Name):
+        yield expression
+    for part in parts(expression):
+        yield from names(part)
 
 
 def assignments(block: Block) -> Iterator[Assignment]:
@@ -340,8 +361,15 @@ class _Reader:
         self.count += 1
         return Assignment(self.count - 1, target, operator, value, line, self.since(begin))
 
+    def numbered(self, *expressions: Expression) -> Optional[int]:
+        """The next number, where elements are read."""
+        if not any(any(elements(expression)) for expression in expressions):
+            return None
+        self.count += 1
+        return self.count - 1
+
     def loop(self) -> For:
-        line = self.line()
+        begin, line = self.begin(), self.line()
         self.expect("for")
         self.expect("(")
         variable = self.new_name() if self.has("int") else self.declared_name()
@@ -356,11 +384,12 @@ class _Reader:
         self.expect(";")
         step = self.step(variable)
         self.expect(")")
+        number, text = self.numbered(first, bound), self.since(begin)
         if (step > 0) != (comparison in ("<", "<=")):
             raise Fault(line, f"the step of {variable} leads away from its bound")
         body = tuple(self.statement())
         self.variables.pop()
-        return For(variable, first, comparison, bound, step, body, line)
+        return For(number, variable, first, comparison, bound, step, body, line, text)
 
     def declared_name(self) -> str:
         found = self.name()
@@ -384,14 +413,15 @@ class _Reader:
         return self.whole() * (1 if word == "+=" else -1)
 
     def branch(self) -> If:
-        line = self.line()
+        begin, line = self.begin(), self.line()
         self.expect("if")
         self.expect("(")
         condition = self.expression()
         self.expect(")")
+        number, text = self.numbered(condition), self.since(begin)
         yes = tuple(self.statement())
         no = tuple(self.statement()) if self.has("else") else ()
-        return If(condition, yes, no, line)
+        return If(number, condition, yes, no, line, text)
 
     # Expressions.
 

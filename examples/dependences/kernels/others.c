@@ -116,6 +116,16 @@ void guarded(int N, double A[N])
             A[i] = A[7 / 2 - 3];
 }
 
+void clamped(int N, double A[N + 2])
+{
+    for (int i = 0; i < N; i++)
+        for (int j = max(0, (i - 3) / 2); j < i; j++)
+            A[j] = A[i - j] + A[i];
+    for (int i = N - 1; i >= 0; i--)
+        for (int j = i + 1; j > max((i - 5) / 3, 1); j--)
+            A[j] = A[j - 1] + A[i / 2];
+}
+
 void declared(int N, double A[N], double B[N])
 {
     int i, j;
