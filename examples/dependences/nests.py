@@ -218,6 +218,7 @@ def loop_of(part: For) -> Tuple[Loop, bool, int]:
         raise Fault(part.line, f"{part.variable} steps by {abs(part.step)} from the {'greatest' if is_upwards else 'least'} of several forms")
     strict = 1 if part.comparison in ("<", ">") else 0
     begins, ends = affine_ones(part, first, f"{words[0]}(..)"), affine_ones(part, last, f"{words[1]}(..)")
+    stands(part)
     least, most = (begins, [form - strict for form in ends]) if is_upwards else (ends, begins)
     above = 0 if is_upwards else strict
     quotients, lows = clamped(least)
@@ -227,16 +228,20 @@ def loop_of(part: For) -> Tuple[Loop, bool, int]:
 
 
 def affine_ones(part: For, found: Sequence[Optional[Form]], word: str) -> List[Form]:
-    """The affine ones among the forms of a bound. What it reads has to stand as long as the loop runs."""
+    """The affine ones among the forms of a bound."""
     if all(form is None for form in found):
         raise Fault(part.line, f"a bound of `{part.text}` is not affine: that is read in `{word}`, beside an affine form")
+    return [form for form in found if form is not None]
+
+
+def stands(part: For) -> None:
+    """A Fault where what the bound of a loop reads is another value, or another element, from turn to turn."""
     written = {own.target.array for own in assignments(part.body)}
     for element in elements(part.bound):
         if element.array in written:
             raise Fault(part.line, f"the loop over {part.variable} writes {element.array}, which its bound reads: that is not read")
         if Name(part.variable) in names(element):
             raise Fault(part.line, f"the bound of {part.variable} reads {element.text}, another element in each turn: that is not read")
-    return [form for form in found if form is not None]
 
 
 def clamped(forms: Sequence[Form]) -> Tuple[List[Floor], List[Form]]:
