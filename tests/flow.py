@@ -53,7 +53,7 @@ def element(access):
 def written(kernel, array):
     """Which instances write which elements of an array."""
     return union(kernel, [f"{instance(it)} -> {element(it.writes)} : {domain(kernel, it, case)}"
-                          for it in kernel.statements if it.writes.array == array for case in it.cases])
+                          for it in kernel.writers(array) for case in it.cases])
 
 
 def schedule(kernel):
