@@ -17,9 +17,9 @@ _RELATIONS: Dict[str, Callable[[Form, Form], Relation]] = {
 
 @dataclass(frozen=True)
 class Doubt:
-    """That a statement runs only where a condition that is not affine comes out as `outcome`. In a turn of the outermost `depth`
-    loops it comes out once. Of a loop whose bound is not affine: where the turn is one that it makes; there that bound's `depth` is
-    that of the loop itself, since who makes a turn has made those before it."""
+    """That a statement runs only where a condition that is not affine comes out as `outcome`, which it does once in a turn of the
+    `depth` loops around it. A loop's bound that is not affine is such a condition for its body. If the loop begins at an affine bound,
+    `depth` counts those around it, since before a turn that it makes it has made all earlier ones; else it counts the loop too."""
 
     condition: int  # its number among those of the function
     outcome: bool
@@ -129,7 +129,8 @@ class Kernel:
         """Adds the statements of a block, whose first one has this place in its loop; the place behind the last one."""
         for part in block:
             if part.number is not None:
-                self._add(part.number, part, loops, (*around, place), held)
+                reading = both(held, [Case(own) for own in reached(part.condition, part.line)]) if isinstance(part, If) else held
+                self._add(part.number, part, loops, (*around, place), reading)
                 place += 1
             if isinstance(part, If):
                 yes, no = self._branches(part, len(loops))
@@ -285,6 +286,16 @@ def outcomes(condition: Expression, line: int) -> Outcomes:
     relation = _RELATIONS["==" if condition.operator == "!=" else condition.operator](one, other)
     found = Outcomes(((relation,),), tuple((it,) for it in relation.negated()), ())
     return found.negated() if condition.operator == "!=" else found
+
+
+def reached(condition: Expression, line: int) -> Tuple[Relations, ...]:
+    """The cases in which elements of a condition may be read: not where what stands before them, and has none, decides it."""
+    if isinstance(condition, Unary) and condition.operator == "!":
+        return reached(condition.operand, line)
+    if not isinstance(condition, Binary) or condition.operator not in ("&&", "||") or any(elements(condition.left)):
+        return ((),)
+    left = outcomes(condition.left, line)
+    return product((*(left.yes if condition.operator == "&&" else left.no), *left.unknown), reached(condition.right, line))
 
 
 def conjunction(left: Outcomes, right: Outcomes) -> Outcomes:

@@ -111,6 +111,8 @@ void squares(int N, double A[N], double B[N])
     for (int i = 0; i < N; i++) {
         if (i * i < N)
             A[i] = B[i];
+        if (i > 2 && !(i == 5 || A[(i - 3) / 2] < B[i - 3]))
+            A[i - 1] = A[i];
         B[i] = A[i] + A[i / 2];
     }
 }
