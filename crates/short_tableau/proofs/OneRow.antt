@@ -1,5 +1,5 @@
 -- One row, whose constant form is over no places.
-use Rattle.short_tableau.proofs.Words.{◌≡◌, sym, ap, ◌∙◌, subst, ℕ, ℤ, List, length, arith, Row, unit_row, row_of_numbers, numbers_of, row_size, IsShortReduced, IsPivot, places_of, numbers_again}
+use Rattle.short_tableau.proofs.Words.{◌≡◌, sym, ap, ◌∙◌, subst, ℕ, ℤ, pos, List, [], ◌∷◌, length, map, All, arith, entry, eliminated, eliminated_none, row_at, All-head, Row, IsCandidate, unit_row, row_of_numbers, numbers_of, row_size, IsShortReduced, IsPivot, places_of, numbers_again}
 use Rattle.short_row.specs.Put.{IsTurning}
 
 pub no_places : (n : ℕ) (zs : List ℤ) → length zs ≡ row_size n → places_of n zs ≡ 0
@@ -28,3 +28,12 @@ unit_made n c before made size e = e ∙ ap (λ (m : ℕ). unit_row n m c) (no_p
 pub unit_numbers : (n c : ℕ) (before now : List ℤ) → length before ≡ row_size n → length now ≡ length before → row_of_numbers n now ≡ unit_row n (places_of n before) c
     → now ≡ numbers_of (unit_row n 0 c)
 unit_numbers n c before now size same e = sym (numbers_again n now (omega (arith, size, same))) ∙ ap numbers_of (unit_made n c before (row_of_numbers n now) size e)
+
+-- one row that is 0 in the column stays
+pub stays_alone : (n w : ℕ) (p : Row) (c : ℕ) (rows : List Row) → length rows ≡ 1 → IsShortReduced n w p → IsCandidate n p c → All (IsShortReduced n w) rows → entry (row_at rows 0).coefs c ≡ pos 0
+    → rows ≡ map (eliminated p c) rows
+stays_alone n w p c [] e hp at all none = absurd (omega (arith, e))
+stays_alone n w p c (r ∷ []) e hp at all none =
+    let h : IsShortReduced n w r = All-head (IsShortReduced n w) r [] all in
+    ap (λ (x : Row). x ∷ []) (eliminated_none n w p c r hp.row h.row at.positive none h.reduced)
+stays_alone n w p c (r ∷ q ∷ rs) e hp at all none = absurd (omega (arith, e))

@@ -299,8 +299,13 @@ impl ShortTableau {
             (map (model.eliminated (model.row_at t.now.rows i) c) self.old.rows) ≡ false }
         ensures none { IsFalse result → self.new ≡ record self.old { rows = [] } }
     {
+        let row = t.row_numbers(i);
+        // One row alone, as a further form's is, stays where it is 0 in the column.
+        if self.rows() == 1 && self.coef(0, c) == 0 {
+            return true;
+        }
         let pivot = Pivot {
-            row: t.row_numbers(i),
+            row,
             unknowns: self.unknowns,
             column: c,
             nonzeros: &None,
