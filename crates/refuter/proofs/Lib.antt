@@ -2,3 +2,4 @@ mod Words
 pub mod ClosingBehind
 pub mod FurtherForms
 pub mod KeptFirst
+pub mod IndexLists

@@ -9,6 +9,7 @@ ghost use Rattle.short_run.specs.Stops.{stop_fault};
 
 use crate::kept_front::KeptFront;
 use crate::narrowed::Narrowed;
+use crate::places::Places;
 use affine_forms::{Form, WantOfMemory};
 use certificate_parts::{Certificate, Refutation};
 use pip_problem::Refusal;
@@ -28,8 +29,8 @@ pub struct Refuter {
     front: KeptFront,
     narrowed: Narrowed,
     room: RefutationRoom,
-    // Room for the indices of a refutation's places.
-    places: Vec<i128>,
+    // The places of the refutation before.
+    places: Places,
 }
 
 impl Model for Refuter {
@@ -50,23 +51,20 @@ impl Refuter {
             front: KeptFront::new(alloc),
             narrowed: Narrowed::new(alloc),
             room: RefutationRoom::new(alloc),
-            places: Vec::new(alloc),
+            places: Places::new(alloc),
         }
     }
 
-    /// No numbers, in the room that it has for a refutation's places, which it lets go.
-    pub fn take_places(&mut self) -> Vec<i128>
-        ensures empty { result.items ≡ [] }
-        ensures same { self.new ≡ self.old }
+    /// The places that it keeps, which it lets go.
+    pub fn take_places(&mut self) -> Places
+        ensures { self.new ≡ self.old }
     {
-        let none = Vec::new(*self.places.allocator());
-        let mut places = replace(&mut self.places, none);
-        places.clear();
-        places
+        let none = Places::new(self.places.allocator());
+        replace(&mut self.places, none)
     }
 
-    /// Has these numbers' room for the next refutation's places.
-    pub fn keep_places(&mut self, places: Vec<i128>)
+    /// Keeps these places for the next refutation.
+    pub fn keep_places(&mut self, places: Places)
         ensures { self.new ≡ self.old }
     {
         self.places = places;

@@ -2,7 +2,6 @@
 #![tactic(auto)]
 
 mod certified;
-mod indices;
 mod leaf;
 mod quotients;
 mod refutation;

@@ -6,13 +6,12 @@ ghost use Rattle.pip_problem.specs.Faults.{run_fault};
 ghost use Rattle.refuter.specs.Kept.{AreFirst};
 ghost use Rattle.solve_certified.specs.Refutations.{refuted_by, places_of, IsScope};
 
-use crate::indices::push_indices;
 use crate::quotients::{PathQuotient, quotient_steps};
 use affine_forms::WantOfMemory;
 use certificate_check::Known;
 use certificate_parts::Refutation;
 use pip_problem::Refusal;
-use refuter::Refuter;
+use refuter::{PlaceRuns, Places, Refuter};
 use run_counts::Work;
 use std::alloc::Global;
 
@@ -52,22 +51,17 @@ fn with_found(steps: Refutation, found: Option<Refutation>) -> Result<Refutation
 
 impl Scope<'_> {
     // The indices of the places: the parameters' forms, those that the quotients' steps give behind the known ones, and
-    // those of n unknowns, in a room.
-    fn places(&self, room: Vec<i128>, count: usize, n: usize) -> Result<Vec<i128>, WantOfMemory>
-        requires { room.items ≡ [] }
-        ensures value { IfOk result (λ places. places.items ≡ places_of self.now count n) }
-        ensures fits { IfOk result (λ places. All Fits places.items) }
+    // those of n unknowns. They are made of those of the refutation before.
+    fn places(&self, before: Places, count: usize, n: usize) -> Result<Places, WantOfMemory>
+        ensures { IfOk result (λ places. places ≡ places_of self.now count n) }
     {
-        let number = self
-            .params
-            .saturating_add(self.quotients.len())
-            .saturating_add(n);
-        let mut places = room;
-        places.reserve(number)?;
-        push_indices(&mut places, 0, self.params)?;
-        push_indices(&mut places, count, self.quotients.len())?;
-        push_indices(&mut places, self.own, n)?;
-        Ok(places)
+        before.of(PlaceRuns {
+            params: self.params,
+            first_quotient: count,
+            quotients: self.quotients.len(),
+            first_unknown: self.own,
+            unknowns: n,
+        })
     }
 
     // The steps by which the known forms have no point over what is in scope and n unknowns: those of the quotients,
@@ -92,8 +86,14 @@ impl Scope<'_> {
         };
         let places = self.places(refuter.take_places(), count, n)?;
         let first = index_behind(first);
-        let found = refuter.refute(known.as_slice(), &places, first, work)?;
-        let steps = quotient_steps(self.alloc, self.front, self.params, &places, self.quotients)?;
+        let found = refuter.refute(known.as_slice(), places.as_slice(), first, work)?;
+        let steps = quotient_steps(
+            self.alloc,
+            self.front,
+            self.params,
+            places.as_slice(),
+            self.quotients,
+        )?;
         refuter.keep_places(places);
         let made = with_found(steps, found)?;
         Ok(made)
