@@ -59,6 +59,22 @@ fn opposites(alloc: Global, numbers: &[i128]) -> Result<Vec<i128>, WantOfMemory>
     Ok(made)
 }
 
+// Makes these numbers of others, in their room.
+fn copy_to(others: &mut Vec<i128>, numbers: &[i128]) -> Result<(), WantOfMemory>
+    requires others { All Fits others.old.items }
+    requires numbers { All Fits numbers.now }
+    ensures value { OnOk result (others.new.items ≡ numbers.now) }
+    ensures fits { All Fits others.new.items }
+{
+    if others.len() == numbers.len() {
+        others.copy_from_slice(numbers);
+        return Ok(());
+    }
+    others.clear();
+    others.extend_from_slice(numbers)?;
+    Ok(())
+}
+
 impl Trace {
     /// No rows, no columns and no steps. It takes no memory.
     pub fn new(alloc: Global) -> Trace
@@ -94,12 +110,10 @@ impl Trace {
         requires few { first <ℤ pos (2 ^ 64) }
         ensures { OnOk result (self.new ≡ first_trace places.now count first) }
     {
-        self.places.clear();
-        self.places.extend_from_slice(places)?;
+        copy_to(&mut self.places, places)?;
         self.forms = count;
         self.cuts.clear();
-        self.columns.clear();
-        self.columns.extend_from_slice(places)?;
+        copy_to(&mut self.columns, places)?;
         self.first = first;
         self.steps = self.spares.take_steps();
         Ok(())
