@@ -1,5 +1,5 @@
 -- A number of 64 bits and a product of two such.
-use Rattle.derivation_steps.proofs.Words.{◌≤◌, ℤ, ◌+ℤ◌, ◌*ℤ◌, arith, unsigned_abs, w128, Fits, ints}
+use Rattle.derivation_steps.proofs.Words.{◌≡◌, pos, ◌≤◌, ℤ, ◌+ℤ◌, ◌*ℤ◌, arith, unsigned_abs, w128, Fits, ints}
 use Rattle.std.specs.Prelude.{◌^◌, FitsSigned}
 use Rattle.std.specs.Int.{w64}
 use Rattle.std.proofs.lemmas.Nat.{mul-le}
@@ -22,3 +22,20 @@ sum_fits s a b x y z = lt-ltb (unsigned_abs (s +ℤ a *ℤ b)) (2 ^ 127) (let fi
 
 pub fits_128 : (z : ℤ) → Fits z → FitsSigned w128 z
 fits_128 z h = fits_signed_from_abs w128 z (ltb-true (unsigned_abs z) (2 ^ 127) h)
+
+-- ---- numbers that are added once
+
+pub once : (z : ℤ) → pos 1 *ℤ z ≡ z
+once z = omega (arith, ints)
+
+pub once_fits : (z : ℤ) → unsigned_abs z ≤ 2 ^ 125 → Fits (pos 1 *ℤ z)
+once_fits z h = rw (once z) (lt-ltb (unsigned_abs z) (2 ^ 127) (omega (arith, h)))
+
+both_fit : (s z : ℤ) → unsigned_abs s ≤ 2 ^ 125 → unsigned_abs z ≤ 2 ^ 125 → Fits (s +ℤ z)
+both_fit s z h k = lt-ltb (unsigned_abs (s +ℤ z)) (2 ^ 127) (omega (arith, ints, h, k))
+
+pub once_128 : (s z : ℤ) → unsigned_abs s ≤ 2 ^ 125 → unsigned_abs z ≤ 2 ^ 125 → FitsSigned w128 (s +ℤ z)
+once_128 s z h k = fits_128 (s +ℤ z) (both_fit s z h k)
+
+pub narrow_fits : (s z : ℤ) → unsigned_abs s ≤ 2 ^ 125 → unsigned_abs z ≤ 2 ^ 125 → Fits (s +ℤ pos 1 *ℤ z)
+narrow_fits s z h k = rw (once z) (both_fit s z h k)

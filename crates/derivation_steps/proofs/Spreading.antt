@@ -21,18 +21,10 @@ times_zero m = omega (arith, ints)
 zero_times : (x : ℤ) → pos 0 *ℤ x ≡ pos 0
 zero_times x = omega (arith, ints)
 
--- one of them more before others
-one_more : (xs : List ℤ) (k n : ℕ) → n ≡ k + 1 → k < length xs → get_or xs k (pos 0) ≡ pos 0 → drop n xs ≡ replicate (length xs - n) (pos 0) → drop k xs ≡ replicate (length xs - k) (pos 0)
-one_more xs k n e h none rest =
-    drop_more xs k (pos 0) h ∙ rw (none, ← e, rest) (replicate_add 1 (length xs - n) (length xs - k) (pos 0) (omega arith))
-
-pub four_more : (xs : List ℤ) (n : ℕ) → 4 ≤ n → n ≤ length xs → get_or xs (n - 1) (pos 0) ≡ pos 0 → get_or xs (n - 2) (pos 0) ≡ pos 0 → get_or xs (n - 3) (pos 0) ≡ pos 0 → get_or xs (n - 4) (pos 0) ≡ pos 0
-    → drop n xs ≡ replicate (length xs - n) (pos 0) → drop (n - 4) xs ≡ replicate (length xs - (n - 4)) (pos 0)
-four_more xs n four h a b c d rest =
-    one_more xs (n - 4) (n - 3) (omega arith) (omega arith) d
-    (one_more xs (n - 3) (n - 2) (omega arith) (omega arith) c
-    (one_more xs (n - 2) (n - 1) (omega arith) (omega arith) b
-    (one_more xs (n - 1) n (omega arith) (omega arith) a rest)))
+pub four_more : (xs : List ℤ) (n : ℕ) → 4 ≤ n → n ≤ length xs → drop (n - 4) xs ≡ replicate 4 (pos 0) ++ drop n xs → drop n xs ≡ replicate (length xs - n) (pos 0)
+    → drop (n - 4) xs ≡ replicate (length xs - (n - 4)) (pos 0)
+four_more xs n four h e rest =
+    e ∙ ap (λ (l : List ℤ). replicate 4 (pos 0) ++ l) rest ∙ replicate_add 4 (length xs - n) (length xs - (n - 4)) (pos 0) (omega arith)
 
 scale_zeros : (m : ℤ) (n : ℕ) → scale m (replicate n (pos 0)) ≡ replicate n (pos 0)
 scale_zeros m zero = refl

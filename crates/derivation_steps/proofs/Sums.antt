@@ -91,6 +91,14 @@ module _ (at : Spot) (known : List (List ℤ)) (sum : List ℤ) where
       ∙ first_and_rest (get_or ts i d) (drop (i + 1) ts)
       ∙ ap (λ (x : Checks (List ℤ)). x >>= (λ (now : List ℤ). sum_of at known now (drop (i + 1) ts))) e
 
+  pub terms_next : (first : List ℤ) (ts : List (ℤ × ℤ)) (i : ℕ) (d : ℤ × ℤ) (now : List ℤ) → i < length ts → sum_of at known first ts ≡ sum_of at known sum (drop i ts)
+      → sum_of at known sum (get_or ts i d ∷ []) ≡ Ok now → sum_of at known first ts ≡ sum_of at known now (drop (i + 1) ts)
+  terms_next first ts i d now h e k =
+      e
+      ∙ ap (sum_of at known sum) (drop_more ts i d h)
+      ∙ first_and_rest (get_or ts i d) (drop (i + 1) ts)
+      ∙ ap (λ (x : Checks (List ℤ)). x >>= (λ (now : List ℤ). sum_of at known now (drop (i + 1) ts))) k
+
   pub terms_refused : (first : List ℤ) (ts : List (ℤ × ℤ)) (i : ℕ) (d : ℤ × ℤ) (o : Option CheckFault) → i < length ts → sum_of at known first ts ≡ sum_of at known sum (drop i ts)
       → IfSome o (λ f. sum_of at known sum (get_or ts i d ∷ []) ≡ Err f) → IfSome o (λ f. sum_of at known first ts ≡ Err f)
   terms_refused first ts i d None h e k = tt

@@ -15,7 +15,7 @@ pub use Rattle.pip_model.proofs.Fitting.{fit_behind, fit_never, fit_zeros, fit_d
 pub use Rattle.pip_model.specs.Certificate.{Step}
 pub use Rattle.pip_model.proofs.Forms.{length-add, length-widened}
 pub use Rattle.affine_forms.specs.Checks.{Fits, is_form_overflow, is_overflow}
-pub use Rattle.derivation_steps.specs.Faults.{fault_of, spot_of}
+pub use Rattle.derivation_steps.specs.Faults.{fault_of, fault_at, spot_of}
 pub use Rattle.std.proofs.lemmas.List.Folds.{list_all-append}
 pub use Rattle.derivation_steps.specs.Sums.{spread, total, PartSum, IsPartSum, EndsAtItsLast}
 pub use Rattle.derivation_steps.specs.Steps.{absurd_after, derived_from, read_over}

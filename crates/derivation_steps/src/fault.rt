@@ -1,7 +1,8 @@
 ghost use Rattle.std.specs.Prelude.{◌≡◌};
 ghost use Rattle.derivation_steps.specs.declared.fault.Fault.TheVariants as fault;
+ghost use Rattle.derivation_steps.specs.Faults.{fault_of, fault_at, spot_of, of_form};
 
-use affine_forms::WantOfMemory;
+use affine_forms::{FormRefusal, WantOfMemory};
 use std::fmt;
 
 /// A place in a certificate: a leaf, a refutation of it and a step of that, each counted from 1. 0 stands for what
@@ -40,5 +41,37 @@ impl From<WantOfMemory> for Fault {
 
     fn from(_: WantOfMemory) -> Fault {
         Fault::WantOfMemory
+    }
+}
+
+// Why a step derives nothing. Its place is told where the step is known.
+#[derive(Clone, Copy, Debug, PartialEq, Eq)]
+pub(crate) enum StepRefusal {
+    Rejected,
+    Overflow,
+    WantOfMemory,
+}
+
+impl StepRefusal {
+    // The fault at this place.
+    pub(crate) fn at(self, spot: Spot) -> Fault
+        ensures { fault_of result ≡ fault_at (spot_of spot) self }
+    {
+        match self {
+            StepRefusal::Rejected => Fault::Rejected(spot),
+            StepRefusal::Overflow => Fault::Overflow(spot),
+            StepRefusal::WantOfMemory => Fault::WantOfMemory,
+        }
+    }
+}
+
+impl From<FormRefusal> for StepRefusal {
+    ghost from_gives = { λ refusal e. e ≡ of_form refusal };
+
+    fn from(refusal: FormRefusal) -> StepRefusal {
+        match refusal {
+            FormRefusal::Overflow => StepRefusal::Overflow,
+            FormRefusal::WantOfMemory => StepRefusal::WantOfMemory,
+        }
     }
 }

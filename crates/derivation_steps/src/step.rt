@@ -2,11 +2,11 @@ ghost use Rattle.std.specs.Prelude.{◌≡◌, ◌+◌, ◌≤ℤ◌, ◌≤◌,
 ghost use Rattle.pip_model.specs.Agreement.{Agrees};
 ghost use Rattle.pip_model.specs.Forms.{widen_to};
 ghost use Rattle.pip_model.specs.Check as model;
-ghost use Rattle.derivation_steps.specs.Faults.{fault_of, spot_of};
+ghost use Rattle.derivation_steps.specs.Faults.{fault_of, fault_at, spot_of};
 ghost use Rattle.derivation_steps.specs.Steps.{absurd_after, derived_from, read_over};
 ghost use Rattle.derivation_steps.specs.Sums.{total, EndsAtItsLast};
 
-use crate::fault::{Fault, Spot};
+use crate::fault::{Fault, Spot, StepRefusal};
 use crate::step_sum::StepSum;
 use affine_forms::Form;
 use certificate_parts::Step;
@@ -14,19 +14,19 @@ use std::alloc::Global;
 
 // Adds a step's multiples of the known forms to the sum, and divides it by the step's divisor.
 #[tactic(auto, using(crate::proofs::Spreading::spread_divided))]
-fn derive_in(at: Spot, known: &[Form], sum: &mut StepSum, step: &Step) -> Result<(), Fault>
+fn derive_in(known: &[Form], sum: &mut StepSum, step: &Step) -> Result<(), StepRefusal>
     requires positive { pos 1 ≤ℤ step.now.divisor }
     requires widths { All (λ c. length c ≤ sum.old.width + 1) known.now }
-    ensures gives { Agrees (λ _. total sum.new) fault_of result
-        (derived_from (spot_of at) (read_over sum.old.width known.now) (total sum.old) step.now) }
+    ensures gives { (at : model.Spot) → Agrees (λ _. total sum.new) (fault_at at) result
+        (derived_from at (read_over sum.old.width known.now) (total sum.old) step.now) }
     ensures width { sum.new.width ≡ sum.old.width }
 {
-    sum.add_terms(at, known, step.terms.as_slice())?;
+    sum.add_terms(known, step.terms.as_slice())?;
     if step.divisor == 1 {
         return Ok(());
     }
     if !sum.is_divisible(step.divisor) {
-        return Err(Fault::Rejected(at));
+        return Err(StepRefusal::Rejected);
     }
     sum.divide(step.divisor);
     Ok(())
@@ -34,17 +34,18 @@ fn derive_in(at: Spot, known: &[Form], sum: &mut StepSum, step: &Step) -> Result
 
 // Makes the sum that of the form that a step derives from the known forms, each over the first of the sum's places.
 #[tactic(auto, using(crate::proofs::Steps::step_derives))]
-fn derive_sum(at: Spot, known: &[Form], sum: &mut StepSum, step: &Step) -> Result<(), Fault>
+fn derive_sum(known: &[Form], sum: &mut StepSum, step: &Step) -> Result<(), StepRefusal>
     requires { All (λ c. length c ≤ sum.old.width + 1) known.now }
-    ensures gives { let w = sum.old.width in Agrees (λ _. read_over w known.now ++ total sum.new ∷ []) fault_of
-        result (model.after_step (spot_of at) w (read_over w known.now) step.now) }
+    ensures gives { (at : model.Spot) → let w = sum.old.width in
+        Agrees (λ _. read_over w known.now ++ total sum.new ∷ []) (fault_at at) result
+        (model.after_step at w (read_over w known.now) step.now) }
     ensures width { sum.new.width ≡ sum.old.width }
 {
     if step.divisor < 1 {
-        return Err(Fault::Rejected(at));
+        return Err(StepRefusal::Rejected);
     }
     sum.clear();
-    derive_in(at, known, sum, step)?;
+    derive_in(known, sum, step)?;
     Ok(())
 }
 
@@ -64,7 +65,9 @@ pub fn derive(
     ensures ends { IfOk result EndsAtItsLast }
     ensures width { sum.new.width ≡ sum.old.width }
 {
-    derive_sum(at, known, sum, step)?;
+    if let Err(refusal) = derive_sum(known, sum, step) {
+        return Err(refusal.at(at));
+    }
     let form = sum.form(alloc)?;
     Ok(form)
 }
@@ -82,6 +85,8 @@ pub fn derives_absurd(
         result (absurd_after (spot_of at) w (read_over w known.now) step.now) }
     ensures width { sum.new.width ≡ sum.old.width }
 {
-    derive_sum(at, known, sum, step)?;
+    if let Err(refusal) = derive_sum(known, sum, step) {
+        return Err(refusal.at(at));
+    }
     Ok(sum.is_absurd())
 }

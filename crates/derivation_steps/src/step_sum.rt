@@ -5,12 +5,12 @@ ghost use Rattle.pip_model.specs.Agreement.{IsChecked, Agrees};
 ghost use Rattle.pip_model.specs.Check as model;
 ghost use Rattle.affine_forms.specs.Checks.{Fits, is_overflow, is_form_overflow};
 ghost use Rattle.affine_forms.specs.Forms.{IsForm};
-ghost use Rattle.derivation_steps.specs.Faults.{fault_of, spot_of};
+ghost use Rattle.derivation_steps.specs.Faults.{fault_at};
 ghost use Rattle.derivation_steps.specs.Steps.{read_over};
 ghost use Rattle.derivation_steps.specs.Sums.{total, EndsAtItsLast};
 
 use crate::absurd::{all_zero, negative};
-use crate::fault::{Fault, Spot};
+use crate::fault::StepRefusal;
 use crate::sum::{add_front, add_product};
 use crate::trimming::{trimmed_form, trimmed_len};
 use affine_forms::{Form, FormRefusal, Overflow, WantOfMemory, divide_all, floor_div, is_whole};
@@ -120,40 +120,36 @@ impl StepSum {
     }
 
     // Adds a pair's multiple of the known form that its index names.
-    fn add_term(&mut self, at: Spot, known: &[Form], term: (i128, i128)) -> Result<(), Fault>
+    fn add_term(&mut self, known: &[Form], term: (i128, i128)) -> Result<(), StepRefusal>
         requires { All (λ c. length c ≤ self.old.width + 1) known.now }
-        ensures gives { Agrees (λ _. total self.new) fault_of result
-            (model.sum_of (spot_of at) (read_over self.old.width known.now) (total self.old) (term ∷ [])) }
+        ensures gives { (at : model.Spot) → Agrees (λ _. total self.new) (fault_at at) result
+            (model.sum_of at (read_over self.old.width known.now) (total self.old) (term ∷ [])) }
         ensures width { self.new.width ≡ self.old.width }
     {
         let (index, multiplier) = term;
         if multiplier < 0 {
-            return Err(Fault::Rejected(at));
+            return Err(StepRefusal::Rejected);
         }
         let Some(form) = form_of_index(self.width, known, index) else {
-            return Err(Fault::Rejected(at));
+            return Err(StepRefusal::Rejected);
         };
-        match self.add(multiplier, form.as_slice()) {
-            Ok(()) => Ok(()),
-            Err(FormRefusal::Overflow) => Err(Fault::Overflow(at)),
-            Err(FormRefusal::WantOfMemory) => Err(Fault::WantOfMemory),
-        }
+        self.add(multiplier, form.as_slice())?;
+        Ok(())
     }
 
     // Adds the multiples of all pairs, in order.
     pub(crate) fn add_terms(
         &mut self,
-        at: Spot,
         known: &[Form],
         terms: &[(i128, i128)],
-    ) -> Result<(), Fault>
+    ) -> Result<(), StepRefusal>
         requires { All (λ c. length c ≤ self.old.width + 1) known.now }
-        ensures gives { Agrees (λ _. total self.new) fault_of result
-            (model.sum_of (spot_of at) (read_over self.old.width known.now) (total self.old) terms.now) }
+        ensures gives { (at : model.Spot) → Agrees (λ _. total self.new) (fault_at at) result
+            (model.sum_of at (read_over self.old.width known.now) (total self.old) terms.now) }
         ensures width { self.new.width ≡ self.old.width }
     {
         for term in terms {
-            self.add_term(at, known, *term)?;
+            self.add_term(known, *term)?;
         }
         Ok(())
     }

@@ -1,17 +1,49 @@
-ghost use Rattle.std.specs.Prelude.{◌≡◌, ◌+◌, ◌+ℤ◌, ◌*ℤ◌, ◌≤◌, [], ◌∷◌, ◌++◌, length, take, drop, All, IfOk, OnOk};
+ghost use Rattle.std.specs.Prelude.{◌≡◌, ◌+◌, ◌+ℤ◌, ◌*ℤ◌, ◌≤◌, ◌^◌, [], ◌∷◌, ◌++◌, pos, length, take, drop, unsigned_abs, IsTrue, All, FitsSigned, IfOk, OnOk};
+ghost use Rattle.std.specs.Int.{w64};
 ghost use Rattle.pip_model.specs.Agreement.{IsChecked};
 ghost use Rattle.pip_model.specs.Check as model;
 ghost use Rattle.affine_forms.specs.Checks.{Fits, is_overflow};
 
 use affine_forms::{Overflow, plus, times};
 
+// 2^125.
+const NARROW_END: i128 = 0x2000_0000_0000_0000_0000_0000_0000_0000;
+
+// Whether a number has 64 bits.
+fn is_short(z: i128) -> bool
+    ensures { IsTrue result → FitsSigned w64 z }
+{
+    -0x8000_0000_0000_0000 <= z && z < 0x8000_0000_0000_0000
+}
+
 // The next entry, `sum + m*c`, of numbers of 64 bits.
-fn short_sum(sum: i64, m: i64, c: i64) -> i128
+fn short_sum(sum: i128, m: i128, c: i128) -> i128
+    requires sum { FitsSigned w64 sum }
+    requires m { FitsSigned w64 m }
+    requires c { FitsSigned w64 c }
     ensures value { result ≡ sum +ℤ m *ℤ c }
     ensures product { Fits (m *ℤ c) }
     ensures fits { Fits (sum +ℤ m *ℤ c) }
 {
-    i128::from(sum) + i128::from(m) * i128::from(c)
+    sum + m * c
+}
+
+// Whether a number has 126 bits, so that the sum of two such fits.
+fn is_narrow(z: i128) -> bool
+    ensures { IsTrue result → unsigned_abs z ≤ 2 ^ 125 }
+{
+    -NARROW_END <= z && z < NARROW_END
+}
+
+// The next entry where m is 1, of numbers of 126 bits.
+fn narrow_sum(sum: i128, c: i128) -> i128
+    requires sum { unsigned_abs sum ≤ 2 ^ 125 }
+    requires c { unsigned_abs c ≤ 2 ^ 125 }
+    ensures value { result ≡ sum +ℤ pos 1 *ℤ c }
+    ensures product { Fits (pos 1 *ℤ c) }
+    ensures fits { Fits (sum +ℤ pos 1 *ℤ c) }
+{
+    sum + c
 }
 
 // The next entry of any numbers.
@@ -25,20 +57,23 @@ fn long_sum(sum: i128, m: i128, c: i128) -> Result<i128, Overflow>
     Ok(next)
 }
 
-// The next entry, `sum + m*c`.
+// The next entry, `sum + m*c`. Mostly m is 1, and then nothing is multiplied.
 #[inline(always)]
 pub(crate) fn add_product(sum: i128, m: i128, c: i128) -> Result<i128, Overflow>
     ensures listed { IsChecked is_overflow ((m *ℤ c) ∷ (sum +ℤ m *ℤ c) ∷ []) result }
     ensures value { IfOk result (λ z. z ≡ sum +ℤ m *ℤ c) }
     ensures fits { IfOk result Fits }
 {
-    match (i64::try_from(sum), i64::try_from(m), i64::try_from(c)) {
-        (Ok(sum), Ok(m), Ok(c)) => Ok(short_sum(sum, m, c)),
-        // Part by part, so that the result above need not stand in memory.
-        _ => match long_sum(sum, m, c) {
-            Ok(next) => Ok(next),
-            Err(overflow) => Err(overflow),
-        },
+    if m == 1 && is_narrow(sum) && is_narrow(c) {
+        return Ok(narrow_sum(sum, c));
+    }
+    if is_short(sum) && is_short(m) && is_short(c) {
+        return Ok(short_sum(sum, m, c));
+    }
+    // Part by part, so that the result above need not stand in memory.
+    match long_sum(sum, m, c) {
+        Ok(next) => Ok(next),
+        Err(overflow) => Err(overflow),
     }
 }
 

@@ -1,4 +1,4 @@
-ghost use Rattle.std.specs.Prelude.{◌≡◌, ◌+◌, ◌-◌, ◌≤◌, ◌<◌, ℕ, ◌++◌, pos, length, take, drop, replicate, All, IfOk, IsFalse};
+ghost use Rattle.std.specs.Prelude.{◌≡◌, ◌+◌, ◌-◌, ◌≤◌, ◌<◌, ℕ, ◌++◌, pos, length, take, drop, replicate, All, IfOk, IsTrue, IsFalse};
 ghost use Rattle.pip_model.specs.Numbers.{is_zero};
 ghost use Rattle.pip_model.specs.Forms.{entry, widen_to};
 ghost use Rattle.affine_forms.specs.Checks.{Fits};
@@ -7,6 +7,18 @@ ghost use Rattle.derivation_steps.specs.Sums.{spread, EndsAtItsLast};
 use affine_forms::{Form, WantOfMemory};
 use std::alloc::Global;
 
+// Whether the four numbers before this place are 0. All four are read, so that they are looked at together.
+fn are_zeros_before(numbers: &[i128], count: usize) -> bool
+    requires four { 4 ≤ count }
+    requires within { count ≤ length numbers.now }
+    ensures { IsTrue result → drop (count - 4) numbers.now ≡ replicate 4 (pos 0) ++ drop count numbers.now }
+{
+    (numbers[count - 1] == 0)
+        & (numbers[count - 2] == 0)
+        & (numbers[count - 3] == 0)
+        & (numbers[count - 4] == 0)
+}
+
 // How many numbers are left of which the last four are not all 0, or fewer than four, where fours of zeros are left out
 // at the end.
 fn without_fours(numbers: &[i128]) -> usize
@@ -14,12 +26,7 @@ fn without_fours(numbers: &[i128]) -> usize
     ensures within { result ≤ length numbers.now }
 {
     let mut count = numbers.len();
-    while count >= 4
-        && numbers[count - 1] == 0
-        && numbers[count - 2] == 0
-        && numbers[count - 3] == 0
-        && numbers[count - 4] == 0
-    {
+    while count >= 4 && are_zeros_before(numbers, count) {
         count -= 4;
     }
     count
