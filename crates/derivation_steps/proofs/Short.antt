@@ -1,5 +1,6 @@
 -- A number of 64 bits and a product of two such.
-use Rattle.derivation_steps.proofs.Words.{◌≡◌, pos, ◌≤◌, ℤ, ◌+ℤ◌, ◌*ℤ◌, arith, unsigned_abs, w128, Fits, ints}
+use Rattle.derivation_steps.proofs.Words.{pos, ◌≤◌, ℤ, ◌+ℤ◌, ◌*ℤ◌, arith, unsigned_abs, w128, Fits, ints}
+use Rattle.derivation_steps.proofs.Spreading.{once}
 use Rattle.std.specs.Prelude.{◌^◌, FitsSigned}
 use Rattle.std.specs.Int.{w64}
 use Rattle.std.proofs.lemmas.Nat.{mul-le}
@@ -24,9 +25,6 @@ pub fits_128 : (z : ℤ) → Fits z → FitsSigned w128 z
 fits_128 z h = fits_signed_from_abs w128 z (ltb-true (unsigned_abs z) (2 ^ 127) h)
 
 -- ---- numbers that are added once
-
-pub once : (z : ℤ) → pos 1 *ℤ z ≡ z
-once z = omega (arith, ints)
 
 pub once_fits : (z : ℤ) → unsigned_abs z ≤ 2 ^ 125 → Fits (pos 1 *ℤ z)
 once_fits z h = rw (once z) (lt-ltb (unsigned_abs z) (2 ^ 127) (omega (arith, h)))

@@ -60,6 +60,31 @@ no_multiple_listed sum c e h =
     ∙ ap all_fit (add_zeros sum (length c) e)
     ∙ h
 
+-- ---- added once to nothing
+
+pub once : (x : ℤ) → pos 1 *ℤ x ≡ x
+once x = omega (arith, ints)
+
+zero_plus : (x : ℤ) → pos 0 +ℤ x ≡ x
+zero_plus x = omega (arith, ints)
+
+scale_once : (c : List ℤ) → scale (pos 1) c ≡ c
+scale_once [] = refl
+scale_once (x ∷ c) = ap₂ (λ (z : ℤ) (l : List ℤ). z ∷ l) (once x) (scale_once c)
+
+zeros_add : (n : ℕ) (c : List ℤ) → length c ≡ n → add (replicate n (pos 0)) c ≡ c
+zeros_add zero [] e = refl
+zeros_add zero (x ∷ c) e = absurd (omega arith)
+zeros_add (suc n) [] e = absurd (omega arith)
+zeros_add (suc n) (x ∷ c) e = ap₂ (λ (z : ℤ) (l : List ℤ). z ∷ l) (zero_plus x) (zeros_add n c (omega arith))
+
+pub first_added : (n : ℕ) (c : List ℤ) → length c ≡ n → plus_term (replicate n (pos 0)) (pos 1) c ≡ c
+first_added n c e = ap (add (replicate n (pos 0))) (scale_once c) ∙ zeros_add n c e
+
+pub first_listed : (n : ℕ) (c : List ℤ) → length c ≡ n → all_fit c ≡ true → all_fit (plus_term_listed (replicate n (pos 0)) (pos 1) c) ≡ true
+first_listed n c e h =
+    ap₂ (λ (a b : List ℤ). all_fit (a ++ b)) (scale_once c) (first_added n c e) ∙ fit_join c c h h
+
 -- ---- sums of two parts
 
 add_parts : (a b c d : List ℤ) → length a ≡ length c → add (a ++ b) (c ++ d) ≡ add a c ++ add b d
@@ -236,6 +261,18 @@ pub spread_front : (w n : ℕ) (cs : List ℤ) (t : ℤ) → n ≤ length cs →
 spread_front w n cs t h e k =
     let front = length-take n cs in
     widened_is w (take n cs) t ∙ sym (spread_padded w (length cs - n) (take n cs) t (omega (arith, front, h, k))) ∙ ap (λ (l : List ℤ). spread w l t) (sym e)
+
+-- a form that is copied without the zeros before its constant
+pub begun : (w : ℕ) (form places front : List ℤ) (n : ℕ) (u : ℤ) → 0 < length form → length form ≤ w + 1 → places ≡ take (length form - 1) form → n ≤ length places
+    → places ≡ take n places ++ replicate (length places - n) (pos 0) → front ≡ take n places → u ≡ entry form (length form - 1) → spread w front u ≡ widen_to w form
+begun w form places front n u some k all within zeros f e =
+    let long : length places ≡ length form - 1 = (let g = length-take (length form - 1) form in ap length all ∙ omega (arith, g)) in
+    sym (widened_is w front u)
+    ∙ ap (λ (l : List ℤ). widen_to w (l ++ u ∷ [])) f
+    ∙ spread_front w n places u within zeros (omega (arith, long, k, some))
+    ∙ ap₂ (λ (l : List ℤ) (z : ℤ). spread w l z) all e
+    ∙ sym (widened_is w (take (length form - 1) form) (entry form (length form - 1)))
+    ∙ ap (widen_to w) (sym (split_last form some))
 
 -- a form without the zeros before its constant
 module _ (s r : PartSum) (m : ℤ) (form places front : List ℤ) (n : ℕ) (u : ℤ) (p : IsPartSum s) (some : 0 < length form) (k : length form ≤ s.width + 1) (reach : r ≡ record s { coefficients = s.coefficients ++ replicate (length front - length s.coefficients) (pos 0) }) (all : places ≡ take (length form - 1) form) (within : n ≤ length places) (zeros : places ≡ take n places ++ replicate (length places - n) (pos 0)) (f : front ≡ take n places) (e : u ≡ entry form (length form - 1)) where

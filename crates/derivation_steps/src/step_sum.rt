@@ -1,4 +1,4 @@
-ghost use Rattle.std.specs.Prelude.{◌≡◌, ◌+◌, ◌-◌, ◌≤◌, ◌<◌, ◌≤ℤ◌, ◌+ℤ◌, ◌*ℤ◌, ◌&&◌, ◌++◌, [], ◌∷◌, true, false, pos, nat_lt, unsigned_abs, length, take, drop, replicate, slice_index_or, All, IfOk, OnOk, OnErr, MatchOption};
+ghost use Rattle.std.specs.Prelude.{◌≡◌, ◌+◌, ◌-◌, ◌≤◌, ◌<◌, ◌≤ℤ◌, ◌+ℤ◌, ◌*ℤ◌, ◌&&◌, ◌++◌, [], ◌∷◌, true, false, pos, nat_lt, unsigned_abs, length, take, drop, replicate, slice_index_or, All, IsTrue, IfOk, OnOk, OnErr, MatchOption};
 ghost use Rattle.pip_model.specs.Numbers.{is_nonneg, floor_div as floor_div_of};
 ghost use Rattle.pip_model.specs.Forms.{floor_divided, widen_to};
 ghost use Rattle.pip_model.specs.Agreement.{IsChecked, Agrees};
@@ -119,6 +119,47 @@ impl StepSum {
         Ok(())
     }
 
+    // Whether it is 0 everywhere, and has no coefficients.
+    fn is_empty(&self) -> bool
+        ensures { IsTrue result → total self.now ≡ replicate (self.now.width + 1) (pos 0) }
+    {
+        self.coefficients.is_empty() && self.constant == 0
+    }
+
+    // Makes it a form, which reads 0 at the places that it has not.
+    fn begin(&mut self, form: &[i128]) -> Result<(), WantOfMemory>
+        requires form { IsForm form.now }
+        requires within { length form.now ≤ self.old.width + 1 }
+        ensures ok { OnOk result (total self.new ≡ widen_to self.old.width form.now) }
+        ensures width { self.new.width ≡ self.old.width }
+    {
+        let (places, constant) = form.split_at(form.len() - 1);
+        let (front, _) = places.split_at(trimmed_len(places));
+        self.coefficients.clear();
+        self.coefficients.extend_from_slice(front)?;
+        self.constant = constant[0];
+        Ok(())
+    }
+
+    // Adds m times a form, which reads 0 at the places that it has not. Where it is the first, and m is 1, it is copied.
+    fn add_next(&mut self, m: i128, form: &[i128]) -> Result<(), FormRefusal>
+        requires form { IsForm form.now }
+        requires within { length form.now ≤ self.old.width + 1 }
+        ensures listed { IsChecked is_form_overflow
+            (model.plus_term_listed (total self.old) m (widen_to self.old.width form.now)) result }
+        ensures ok { OnOk result (total self.new
+            ≡ model.plus_term (total self.old) m (widen_to self.old.width form.now)) }
+        ensures width { self.new.width ≡ self.old.width }
+    {
+        if m == 1 && self.is_empty() {
+            self.begin(form)?;
+            // Reading it tells that its numbers fit.
+            let _constant = self.constant;
+            return Ok(());
+        }
+        self.add(m, form)
+    }
+
     // Adds a pair's multiple of the known form that its index names.
     fn add_term(&mut self, known: &[Form], term: (i128, i128)) -> Result<(), StepRefusal>
         requires { All (λ c. length c ≤ self.old.width + 1) known.now }
@@ -133,7 +174,7 @@ impl StepSum {
         let Some(form) = form_of_index(self.width, known, index) else {
             return Err(StepRefusal::Rejected);
         };
-        self.add(multiplier, form.as_slice())?;
+        self.add_next(multiplier, form.as_slice())?;
         Ok(())
     }
 

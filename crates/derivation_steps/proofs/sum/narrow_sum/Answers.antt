@@ -1,5 +1,6 @@
 use Rattle.derivation_steps.proofs.Words.{to_z-of_z, w128}
-use Rattle.derivation_steps.proofs.Short.{narrow_fits, once_fits, once_128, once}
+use Rattle.derivation_steps.proofs.Short.{narrow_fits, once_fits, once_128}
+use Rattle.derivation_steps.proofs.Spreading.{once}
 use Rattle.derivation_steps.proofs.sum.narrow_sum.Goals as goal
 
 pub overflow_add-result : goal.overflow_add-result
