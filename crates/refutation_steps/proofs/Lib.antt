@@ -1,4 +1,5 @@
 mod Words
+mod NoPlaces
 pub mod Positives
 pub mod RefutedPoints
 pub mod Tracing

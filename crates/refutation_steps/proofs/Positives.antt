@@ -49,7 +49,7 @@ opposite-later xs i h = ap is_positive (entry-negate xs i) ∙ rest (entry xs i)
 
 -- ---- the index of a row's form
 
-index_at : (i n k : ℕ) → k < n → entry (indices i n) k ≡ pos (i + k)
+pub index_at : (i n k : ℕ) → k < n → entry (indices i n) k ≡ pos (i + k)
 index_at i zero k h = absurd (omega arith)
 index_at i (suc n) zero h = ap pos (let e : i ≡ i + 0 = omega arith in e)
 index_at i (suc n) (suc k) h = index_at (i + 1) n k (omega arith) ∙ ap pos (let e : i + 1 + k ≡ i + suc k = omega arith in e)

@@ -1,6 +1,7 @@
 //! The steps by which forms have no whole point, along the run that finds none.
 #![tactic(auto)]
 
+mod constants;
 mod form_refute;
 mod positive_terms;
 mod refute;

@@ -8,6 +8,7 @@ ghost use Rattle.affine_forms.specs.Checks.{Fits};
 ghost use Rattle.pip_problem.specs.Faults.{run_fault};
 ghost use Rattle.run_counts.specs.Counts.{IsCountedRun};
 
+use crate::constants::refute_at_once;
 use crate::form_refute::refute_by_forms;
 use crate::room::RefutationRoom;
 use crate::short_refute::refute_shortly;
@@ -103,6 +104,9 @@ impl RefutationRoom {
     {
         if places.is_empty() && forms.is_empty() {
             return Ok(None);
+        }
+        if let Some(steps) = refute_at_once(self, forms, places)? {
+            return Ok(Some(steps));
         }
         if let Some(found) = refute_in_64_bits(self, forms, places, first, work) {
             return found;

@@ -273,6 +273,19 @@ impl Trace {
         self.push_step(Step { divisor: 1, terms })
     }
 
+    // One step alone, that takes the form with an index once, in the rooms that are kept.
+    pub(crate) fn single_step(&mut self, index: usize) -> Result<Refutation, WantOfMemory>
+        ensures value { IfOk result (λ steps. steps
+            ≡ record { divisor = pos 1; terms = (pos index, pos 1) ∷ [] } ∷ []) }
+    {
+        let mut terms = self.take_terms();
+        terms.reserve(1)?;
+        terms.push((index as i128, 1))?;
+        let mut steps = self.spares.take_steps();
+        steps.push(Step { divisor: 1, terms })?;
+        Ok(steps)
+    }
+
     /// Keeps the rooms of a certificate's steps for others. All stays as it was.
     pub fn keep(&mut self, certificate: Certificate)
         ensures { self.new ≡ self.old }
