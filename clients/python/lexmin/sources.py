@@ -17,7 +17,7 @@ import argparse
 import pathlib
 import re
 import sys
-from typing import Dict, Iterator, List, Optional, Sequence
+from typing import Dict, Iterator, List, Optional, Sequence, Set
 
 from .answers import Answer
 from .drawing import answer_texts, names_of, told_apart
@@ -63,6 +63,7 @@ class _Writer:
         self.answer, self.c = answer, c
         self.turned = not c and _indents(answer.tree) > MOST_INDENTS
         self.names: Dict[str, str] = {}
+        self._used: Set[str] = set()  # the names in what was written
         for own in answer.posed.parameters:
             plain = own if _PLAIN.fullmatch(own) and own not in _TAKEN and own != name else f"p{len(self.names)}_"
             while plain in self.names.values():
@@ -74,7 +75,6 @@ class _Writer:
         yield from self._below(self.answer.tree, self.answer.posed.scope(), margin)
 
     def _below(self, tree: Tree, scope: List[Form], margin: str) -> Iterator[str]:
-        end = ";" if self.c else ""
         if isinstance(tree, Choice):
             asked, inner, outer = f"{self._text(form_of(tree.form, scope).whole()[0])} >= 0", tree.yes, tree.no
             if self.turned and _least_indents(tree.no) < _least_indents(tree.yes):
@@ -88,15 +88,24 @@ class _Writer:
             own = f"q{tree.number}_"
             while own in self.parameters or own in self.names:
                 own += "_"
-            form, common = form_of(tree.form, scope).whole()
-            text = self._floor(self._text(form), tree.divisor * common)
-            yield f"{margin}{'const long long ' if self.c else ''}{own} = {text}{end}"
-            yield from self._below(tree.below, [*scope, Form({own: 1})], margin)
+            yield from self._quotient(tree, own, scope, margin)
         elif isinstance(tree, Point):
             point = self.answer.posed.point([form_of(row, scope) for row in tree.components])
             yield from self._point([form for _, form in point], margin)
         else:
             yield f"{margin}return {'0;' if self.c else 'None'}"
+
+    def _quotient(self, tree: NewParameter, own: str, scope: List[Form], margin: str) -> Iterator[str]:
+        """A quotient and what stands below it; without the quotient where nothing there uses it, since compilers warn of such."""
+        outside, self._used = self._used, set()
+        below = list(self._below(tree.below, [*scope, Form({own: 1})], margin))
+        inside, self._used = self._used, outside
+        if own in inside:
+            form, common = form_of(tree.form, scope).whole()
+            text = self._floor(self._text(form), tree.divisor * common)
+            yield f"{margin}{'const long long ' if self.c else ''}{own} = {text}{';' if self.c else ''}"
+        self._used |= inside
+        yield from below
 
     def _point(self, forms: Sequence[Form], margin: str) -> Iterator[str]:
         if any(form.whole()[1] != 1 for form in forms):
@@ -121,8 +130,11 @@ class _Writer:
         for number in (*form.terms.values(), form.constant):
             self._fits(number)
         for atom, number in form.terms.items():
-            own = self._floor(self._text(atom.form()), atom.divisor) if isinstance(atom, Floor) else self.names.get(str(atom), str(atom))
-            own = f"({own})" if isinstance(atom, Floor) else own
+            if isinstance(atom, Floor):
+                own = f"({self._floor(self._text(atom.form()), atom.divisor)})"
+            else:
+                own = self.names.get(str(atom), str(atom))
+                self._used.add(own)
             terms.append(f"{'-' if number < 0 else '+'} {own if abs(number) == 1 else f'{abs(number)} * {own}'}")
         if form.constant or not terms:
             terms.append(f"{'-' if form.constant < 0 else '+'} {abs(form.constant)}")
