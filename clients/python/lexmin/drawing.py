@@ -15,6 +15,7 @@ Diamonds are choices with their two branches, rounded boxes the new parameters a
 from __future__ import annotations
 
 import argparse
+import contextlib
 import pathlib
 import sys
 from typing import Dict, Iterator, List, Optional, Sequence, Tuple
@@ -136,6 +137,15 @@ def answer_texts(file: Optional[pathlib.Path]) -> List[str]:
     return texts
 
 
+@contextlib.contextmanager
+def told_which(number: int, count: int) -> Iterator[None]:
+    """Says of a ValueError to which of several answers it belongs."""
+    try:
+        yield
+    except ValueError as error:
+        raise ValueError(f"answer {number}: {error}" if count > 1 else str(error)) from None
+
+
 def names_of(text: Optional[str]) -> Optional[List[str]]:
     return None if text is None else [name.strip() for name in text.split(",") if name.strip()]
 
@@ -174,8 +184,10 @@ def main(words: Sequence[str]) -> int:
     try:
         answers = answer_texts(chosen.file)
         parameters, unknowns = names_of(chosen.parameters), names_of(chosen.unknowns)
-        for answer in answers:
-            print(draw(answer, parameters, unknowns, as_mermaid=chosen.mermaid, merge=chosen.merge, across=chosen.across))
+        for number, answer in enumerate(answers, 1):
+            with told_which(number, len(answers)):
+                made = draw(answer, parameters, unknowns, as_mermaid=chosen.mermaid, merge=chosen.merge, across=chosen.across)
+            print(made)
     except BrokenPipeError:
         raise
     except (OSError, ValueError) as error:

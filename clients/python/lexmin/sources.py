@@ -20,7 +20,7 @@ import sys
 from typing import Dict, Iterator, List, Optional, Sequence, Set
 
 from .answers import Answer
-from .drawing import answer_texts, names_of, told_apart
+from .drawing import answer_texts, names_of, told_apart, told_which
 from .forms import Column, Floor, Form, Number
 from .problems import Range, Space
 from .trees import Choice, NewParameter, Point, Tree, form_of, leaves, parameter_count, parse_answer
@@ -182,8 +182,10 @@ def sources(texts: Sequence[str], name: str, parameters: Optional[Sequence[str]]
     """The functions of answers, one after the other."""
     for number, text in enumerate(texts, 1):
         own = name if len(texts) == 1 else f"{name}{number}"
-        answer = read_answer(text, parameters, unknowns)
-        yield c_source(answer, own, floor=False) if as_c else python_source(answer, own)
+        with told_which(number, len(texts)):
+            answer = read_answer(text, parameters, unknowns)
+            made = c_source(answer, own, floor=False) if as_c else python_source(answer, own)
+        yield made
 
 
 def main(words: Sequence[str]) -> int:

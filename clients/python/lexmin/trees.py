@@ -240,7 +240,8 @@ class _Reader:
         if token == "void":
             return Void()
         if token != "(":
-            raise ValueError(f"no answer: a tree is missing at character {self.place - len(token)}")
+            hint = ": a problem's sizes stand there, and `solve` writes its answer" if token.lstrip("+-").isdigit() else ""
+            raise ValueError(f"no answer: a tree is missing at character {self.place - len(token)}{hint}")
         word = self.token()
         if word == ")":
             return Bottom()
