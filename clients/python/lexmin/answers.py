@@ -7,6 +7,7 @@ from typing import TYPE_CHECKING, Callable, Dict, Iterator, List, Mapping, NoRet
 from .forms import Atom, Column, Floor, Form, FormLike, Number, Relation, as_form, checked_name, divided, whole_number
 from .problems import Space, numbers_over
 from .shorten import QUESTIONS, SECONDS
+from .texts import MOST_NUMBER
 from .trees import (
     Bottom, Choice, NewParameter, Point, Row, Tree, Void, answer_text, form_of, leaves, new_parameter_names,
     parameter_count, parse_answer, parse_pieces, value_at)
@@ -113,6 +114,8 @@ class Answer:
     def eval(self, at: Mapping[str, int] = {}, /, **named: int) -> Found:
         """The same, by the program's `eval`."""
         parameters, sent = self._sent(at, named)
+        if any(number > MOST_NUMBER for number in sent):
+            raise ValueError("the program's numbers end at 2^127 - 1; `value` takes any")
         found = parse_answer(self._run("eval", [], self.text, sent))[1]
         return self._named(value_at(found, []), parameters)
 
