@@ -265,6 +265,8 @@ class Answer:
               names: Mapping[str, FormLike] = {}) -> Iterator[str]:
         """The same line by line. `point` gives the words of a point, `none` is what stands where there is none, and `names` has
         forms that stand in the place of parameters."""
+        if unknown := [name for name in names if name not in self.posed.parameters]:
+            raise ValueError(f"{', '.join(unknown)}: not among the parameters, {', '.join(self.posed.parameters) or 'none here'}")
         return _Words(self, point, none, names).lines()
 
 
