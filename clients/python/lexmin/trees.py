@@ -180,16 +180,17 @@ class _Reader:
 
     def piece(self) -> PieceOf:
         path: List[Union[Row, NewParameter]] = []
+        new = 0  # of the path's new parameters
         while True:
             self.expect("(")
             word = self.token()
-            new = sum(isinstance(it, NewParameter) for it in path)
             if word == "where":
                 path.append(self.scoped(self.row(), new))
                 self.expect(")")
             elif word == "newparm":
                 number, form, divisor = self.quotient(new)
                 path.append(NewParameter(number, form, divisor, Bottom()))
+                new += 1
             else:
                 leaf: Union[Bottom, Point] = Bottom() if word == ")" else self.point(new)
                 self.expect(")")
