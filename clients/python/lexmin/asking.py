@@ -95,7 +95,7 @@ def isl(words: Sequence[str]) -> int:
     parser.add_argument("--program", default="./pip", help="the program, ./pip where none is named")
     parser.add_argument("--timeout", type=float, metavar="SECONDS", help="how long a part of the set may take; none without it")
     parser.add_argument("--greatest", action="store_true", help="the lexmax")
-    parser.add_argument("--context", default="", help="what is known of the parameters")
+    parser.add_argument("--context", default="", help="what is known of the parameters, as 'N >= 5'")
     parser.add_argument("--low", action="append", default=[], metavar="NAME=NUMBER", help="from where on a parameter or an unknown is")
     parser.add_argument("--shorten", action="store_true", help="with fewer pieces")
     parser.add_argument("set", metavar="SET")

@@ -43,6 +43,8 @@ def problems(text: str, *, greatest: bool = False, low: Mapping[str, int] = {}, 
     if tuples and (other := [name for name in low if name not in (*names, *asked)]):
         raise Fault(f"{', '.join(other)}: low is for a parameter or an unknown of the first tuple")
     known: List[Relation] = []
+    if "{" in context:
+        raise Fault("a context is constraints alone, as `N >= 5`")
     if context:
         chosen = Reader(context).conditions(names)
         if len(chosen) != 1 or chosen[0].further:
