@@ -33,7 +33,7 @@ class Solver:
 
     `simplify` asks for simplified answers. `pivots`, `cuts`, `splits`, `nesting` are the budgets of a problem, the
     program's own where none is given; a stranger's problems should have some. `timeout` is the seconds that a problem
-    may take, above 0, or None; of `same` and `check` too. A Solver ends its processes by `close`, at the end of a `with`, or where
+    may take, above 0, or None; of each other command too. A Solver ends its processes by `close`, at the end of a `with`, or where
     neither it nor an answer of it is left; a call that is under way then fails, in another thread too. What comes of a pickled
     Solver, or of that of a pickled answer, has processes of its own, and so has a fork; a call that was begun before it is read on
     by the other process alone.
