@@ -25,7 +25,7 @@ from __future__ import annotations
 import re
 from typing import Iterator, List, Mapping, Optional, Sequence, Set, Tuple
 
-from .answers import Answer
+from .answers import Answer, checked_answer
 from .formulas import Fault, Part, Reader, is_name
 from .forms import Atom, Floor, Form, Relation
 from .problems import Problem
@@ -126,7 +126,7 @@ def solved(solver: Solver, text: str, *, greatest: bool = False, low: Mapping[st
 def written(answer: Answer, name: str = "") -> str:
     """The answer as isl writes a piecewise quasi-affine function: a piece for each leaf that is a point. Of a map the names
     of its first tuple are parameters. A ValueError where isl has no such names."""
-    names = list(answer.posed.parameters)
+    names = list(checked_answer(answer).posed.parameters)
     if other := [own for own in (*names, *([name] if name else [])) if not is_name(own)]:
         raise ValueError(f"no names in isl's notation: {', '.join(other)}")
     held = [f"{it} {own}" for it, own in answer.posed.parameters.items()]

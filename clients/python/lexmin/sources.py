@@ -19,7 +19,7 @@ import re
 import sys
 from typing import Dict, Iterator, List, Optional, Sequence, Set
 
-from .answers import Answer
+from .answers import Answer, checked_answer
 from .drawing import answer_texts, names_of, told_apart, told_which
 from .forms import Column, Floor, Form, Number
 from .problems import Range, Space
@@ -60,7 +60,7 @@ class _Writer:
     def __init__(self, answer: Answer, name: str, c: bool) -> None:
         if not _PLAIN.fullmatch(name) or (name in _TAKEN and name != "lexmin"):
             raise ValueError(f"{name!r} can't be the name of a function")
-        self.answer, self.c = answer, c
+        self.answer, self.c = checked_answer(answer), c
         self.turned = not c and _indents(answer.tree) > MOST_INDENTS
         self.names: Dict[str, str] = {}
         self._used: Set[str] = set()  # the names in what was written
