@@ -7,7 +7,8 @@ written later. At the same level the last of several writes is the one of the gr
 turn of the outermost loop, the place in its body, the turn of the next loop, and so on.
 
 A subscript that is not affine may be any number, and under a condition that is not affine a statement may run or not. So what is
-found has perhaps not written the element that is read, but nothing has that ran later.
+found has perhaps not written the element that is read, but nothing has that ran later. A loop's bound that is not affine is no bound:
+where nothing else says which of its turns may be the last, any may.
 """
 from __future__ import annotations
 
@@ -19,7 +20,8 @@ from lexmin import Answer, Floor, Form, Problem, Relation, Solver
 from nests import Access, Case, Kernel, Loop, Statement, floors_of, least_value
 from syntax import Fault
 
-Found = Optional[Tuple[int, Tuple[int, ...]]]  # a statement by its number and the values of its loop variables
+Found = Optional[Tuple[int, Tuple[Optional[int], ...]]]  # a statement by its number and the values of its loop variables
+LEAST_INT = -2 ** 31  # in C; a variable whose loop begins at no affine bound is from there on
 
 
 @dataclass(frozen=True, eq=False)
@@ -33,8 +35,9 @@ class Turns:
 @dataclass(frozen=True, eq=False)
 class Source:
     """Which instance wrote what a read reads, where this case holds: the answer's points are the number of the statement, whether it
-    is sure, and the values of its loop variables, `value.0` that of the outermost. Without an answer nothing wrote it in any turn. Of
-    one that is not sure it is known only that this instance wrote it, or one before, or none."""
+    is sure, how many of its turns are known, and the values of its loop variables, `value.0` that of the outermost. Without an
+    answer nothing wrote it in any turn. Of one that is not sure it is known only that this instance wrote it, or one before, or none;
+    where a turn is not known, any turn of that loop may have."""
 
     kernel: Kernel
     statement: Statement
@@ -44,12 +47,13 @@ class Source:
     counters: Dict[str, Form]  # the answer's parameters, over the sizes and the reading statement's variables
 
     def at(self, values: Mapping[str, int]) -> Found:
-        """The instance at sizes and loop variables."""
+        """The instance at sizes and loop variables, with None for each turn that is not known."""
         point = self._point(values)
         if point is None:
             return None
         writer = self.kernel.statements[int(point["statement.number"])]
-        return writer.number, tuple(int(point[f"value.{place}"]) for place in range(len(writer.loops)))
+        known = int(point["turns.known"])
+        return writer.number, tuple(int(point[f"value.{place}"]) if place < known else None for place in range(len(writer.loops)))
 
     def is_sure_at(self, values: Mapping[str, int]) -> bool:
         """Whether that instance wrote it, and none before: it may be one before where a subscript or a condition is not affine."""
@@ -71,7 +75,9 @@ class Source:
 
     def _instance(self, point: Mapping[str, Form]) -> str:
         writer = self.kernel.statements[int(point["statement.number"].constant)]
-        words = f"S{writer.number}({', '.join(str(point[f'value.{place}']) for place in range(len(writer.loops)))})"
+        known = int(point["turns.known"].constant)
+        turns = [str(point[f"value.{place}"]) if place < known else ".." for place in range(len(writer.loops))]
+        words = f"S{writer.number}({', '.join(turns)})"
         return words if point["is.sure"].constant else f"unknown: {words} or earlier"
 
 
@@ -154,7 +160,7 @@ class Analyser:
 
     def instance(self, answer: Answer) -> Answer:
         """The answer without the time."""
-        names = ["statement.number", "is.sure", *(f"value.{place}" for place in range(self.kernel.depth))]
+        names = ["statement.number", "is.sure", "turns.known", *(f"value.{place}" for place in range(self.kernel.depth))]
         return answer.put({name: answer.names[name] for name in names}).simplify()
 
 
@@ -220,49 +226,75 @@ class Question(Reading):
     def __init__(self, kernel: Kernel, reader: Statement, case: Case, read: Access, writer: Statement, held: Case, level: int) -> None:
         super().__init__(kernel, reader, case, f"{kernel.name}, S{reader.number}: S{writer.number} at level {level}")
         self.writer, own_subscripts = writer, writer.writes.subscripts if writer.writes else ()
+        relations = [*writer.domain(level), *held.relations]
+        meeting = [(self.own(one), own) for one, own in zip(read.subscripts, own_subscripts) if one is not None and own is not None]
+        self.is_sure = held.runs_beside(case, level) and len(meeting) == len(read.subscripts)
+        # Two forms each, over the problem's names and over the writer's; the second one is at least the first.
+        self.rows = [*((Form(), form) for relation in relations for form in from_0_on(relation)), *meeting, *((-one, -own) for one, own in meeting)]
         self.written: Dict[str, Turns] = {}
+        self.told = len(writer.loops)  # of so many of its loops the last turn is known
         common = writer.common(reader)
         for place, loop in enumerate(writer.loops):
             if place < level:
                 self.written[loop.variable] = self.turns[loop.variable]
             else:
                 before = self.turns[loop.variable] if place == level < common else None
-                self.written[loop.variable] = self._unknown(loop, self.names(self.written), before)
+                self.written[loop.variable] = self._unknown(place, loop, before)
         other = self.names(self.written)
-        self.problem.where(*(relation.substitute(other) for relation in (*writer.domain(level), *held.relations)))
-        self.is_sure = held.runs_beside(case, level)
-        for one, of_writer in zip(read.subscripts, own_subscripts):
-            if one is None or of_writer is None:
-                self.is_sure = False
-            else:
-                self.problem.where(self.own(one) == of_writer.substitute(other))
+        self.problem.where(*(relation.substitute(other) for relation in relations), *(one == own.substitute(other) for one, own in meeting))
 
     def time(self) -> Dict[str, Form]:
-        """The writer's time, and behind it which statement it is, whether it is sure, and its variables."""
-        turns = list(self.written.values())
+        """The writer's time, and behind it which statement it is, whether it is sure, and its variables. A loop whose last turn is not
+        known counts as one that has ended: its place is twice its number, and 1 more then."""
+        turns = list(self.written.values())[:self.told]
         made: Dict[str, Form] = {}
         for place in range(self.kernel.depth + 1):
-            made[f"place.{place}"] = Form({}, self.writer.places[place] if place < len(self.writer.places) else 0)
-            made[f"time.{place}"] = turns[place].time if place < len(turns) else Form()
+            made[f"place.{place}"] = Form({}, 2 * self.writer.places[place] if place < len(self.writer.places) else 0)
+            made[f"time.{place}"] = turns[place].time if place < self.told else Form()
+        if self.told < len(self.written):
+            made[f"place.{self.told}"] += 1
+            self.is_sure = False
         made["statement.number"], made["is.sure"] = Form({}, self.writer.number), Form({}, int(self.is_sure))
+        made["turns.known"] = Form({}, self.told)
         for place in range(self.kernel.depth):
-            made[f"value.{place}"] = turns[place].variable if place < len(turns) else Form()
+            made[f"value.{place}"] = turns[place].variable if place < self.told else Form()
         return made
 
-    def _unknown(self, loop: Loop, names: Mapping[str, Form], before: Optional[Turns]) -> Turns:
-        """A turn of a loop, before another one where that is given: the last one is asked for."""
-        lows, highs = ([form.substitute(names) for form in forms] for forms in (loop.lows, loop.highs))
-        name = loop.variable + "'"
+    def _unknown(self, place: int, loop: Loop, before: Optional[Turns]) -> Turns:
+        """A turn of a loop, before another one where that is given. The last one is asked for, if it is known to be no later than some
+        time, and if the turns of the loops outside are known."""
+        names, sign, name = self.names(self.written), 1 if loop.step > 0 else -1, loop.variable + "'"
+        limit = before.time - 1 if before else next(self._limits(loop.variable, sign, names), None)
+        if self.told < place or limit is None:
+            self.told = min(self.told, place)
+            return self._further(loop, name, names)
         if abs(loop.step) > 1:
             first = loop.first().substitute(names)
-            most = highs[0] - lows[0] if before is None else before.time - 1
-            turn = self.problem.greatest(name, high=most)
+            turn = self.problem.greatest(name, high=limit if before else limit - first * sign)
             return Turns(first + turn * loop.step, turn)
-        if loop.step > 0:
-            variable = self.problem.greatest(name, low=lows[0], high=highs[0] if before is None else before.variable - 1)
-            return Turns(variable, variable)
-        variable = self.problem.least(name, low=lows[0] if before is None else before.variable + 1)
-        return Turns(variable, -variable)
+        time = -self.problem.least(name, low=-limit)
+        return Turns(time * sign, time)
+
+    def _further(self, loop: Loop, name: str, names: Mapping[str, Form]) -> Turns:
+        """Any turn of a loop."""
+        if abs(loop.step) > 1:
+            turn = self.problem.further(name)
+            return Turns(loop.first().substitute(names) + turn * loop.step, turn)
+        variable = self.problem.further(name, low=None)
+        return Turns(variable, variable)
+
+    def _limits(self, variable: str, sign: int, names: Mapping[str, Form]) -> Iterator[Form]:
+        """What a variable, or what is negated of it, is at most by the rows in which all else is known."""
+        for one, own in self.rows:
+            number = own.terms.get(variable, 0) * sign
+            rest = own - Form({variable: number * sign})
+            if number < 0 and all(name in names for name in rest.names()):
+                yield (rest.substitute(names) - one) // int(-number)
+
+
+def from_0_on(relation: Relation) -> List[Form]:
+    """The forms that are from 0 on where a relation holds."""
+    return [relation.form, -relation.form] if relation.kind == "==" else [relation.form]
 
 
 class Counter(NamedTuple):
@@ -275,12 +307,14 @@ class Counter(NamedTuple):
 
 
 def counter(loop: Loop, lows: Mapping[str, Optional[int]]) -> Counter:
-    """The variable itself, where it has a least value; else how far it is above a bound. Of a loop that steps by more than 1 the
-    number of the turn."""
+    """The variable itself, where it has a least value, or no bound below; else how far it is above a bound. Of a loop that steps by
+    more than 1 the number of the turn."""
     least = lows[loop.variable]
     if abs(loop.step) > 1:
         return Counter(loop.variable + ".turn", loop.first(), loop.step, 0)
-    return Counter(loop.variable + ".above", loop.lows[0], 1, 0) if least is None else Counter(loop.variable, Form(), 1, least)
+    if least is None and loop.lows:
+        return Counter(loop.variable + ".above", loop.lows[0], 1, 0)
+    return Counter(loop.variable, Form(), 1, LEAST_INT if least is None else least)
 
 
 def lowest(statement: Statement, sizes: Iterable[str]) -> Dict[str, Optional[int]]:

@@ -48,7 +48,7 @@ class Case:
 @dataclass(frozen=True, eq=False)
 class Loop:
     """A loop over `variable`, upwards where the step is above 0. The variable is at least each of `lows` and at most each of
-    `highs`, forms over the sizes and the variables around."""
+    `highs`, forms over the sizes and the variables around. There is none where the bound on that side is not affine."""
 
     variable: str
     lows: Tuple[Form, ...]
@@ -215,11 +215,11 @@ def loop_of(part: For) -> Tuple[Loop, bool, int]:
     is_upwards = part.step > 0
     words = ("max", "min") if is_upwards else ("min", "max")
     first, last = bounds(part.first, words[0], part.line), bounds(part.bound, words[1], part.line)
-    if abs(part.step) > 1 and len(first) > 1:
-        raise Fault(part.line, f"{part.variable} steps by {abs(part.step)} from the {'greatest' if is_upwards else 'least'} of several forms")
-    strict = 1 if part.comparison in ("<", ">") else 0
-    begins, ends = affine_ones(part, first, f"{words[0]}(..)"), affine_ones(part, last, f"{words[1]}(..)")
+    begins = [form for form in first if form is not None]
+    ends = [form for form in last if form is not None and part.variable not in form.names()]
+    counts(part, first)
     stands(part)
+    strict = 1 if part.comparison in ("<", ">") else 0
     least, most = (begins, [form - strict for form in ends]) if is_upwards else (ends, begins)
     above = 0 if is_upwards else strict
     quotients, lows = clamped(least)
@@ -228,11 +228,13 @@ def loop_of(part: For) -> Tuple[Loop, bool, int]:
     return loop, len(begins) == len(first) and len(ends) == len(last), 0 if len(begins) == len(first) else 1
 
 
-def affine_ones(part: For, found: Sequence[Optional[Form]], word: str) -> List[Form]:
-    """The affine ones among the forms of a bound."""
-    if all(form is None for form in found):
-        raise Fault(part.line, f"a bound of `{part.text}` is not affine: that is read in `{word}`, beside an affine form")
-    return [form for form in found if form is not None]
+def counts(part: For, first: Sequence[Optional[Form]]) -> None:
+    """A Fault where a loop steps by more than 1 and does not begin at one form, from which its turns are counted."""
+    step = abs(part.step)
+    if step > 1 and len(first) > 1:
+        raise Fault(part.line, f"{part.variable} steps by {step} from the {'greatest' if part.step > 0 else 'least'} of several forms")
+    if step > 1 and first[0] is None:
+        raise Fault(part.line, f"{part.variable} steps by {step} from what is not affine: that is read of steps of 1")
 
 
 def stands(part: For) -> None:
