@@ -3,9 +3,9 @@
     PYTHONPATH=clients/python python3 examples/dependences [--program FILE] [--only NAME] [--shorten] FILE
 
 FILE is a text in C, of which `syntax.py` says what is read. A statement is named by its number, and an instance of it by the
-values of its loop variables, the outermost first. `unknown: S1(i - 1) or earlier` stands where a subscript or a condition is not
-affine: that instance may have written it last, and none that ran later. --only names one function; --shorten writes shorter answers, which takes
-longer.
+values of its loop variables, the outermost first. `unknown: S1(i - 1) or earlier` stands where a subscript, a condition or a bound is not
+affine: that instance may have written it last, and none that ran later; `..` in it stands for all turns that a loop made. --only names
+one function; --shorten writes shorter answers, which takes longer.
 """
 from __future__ import annotations
 

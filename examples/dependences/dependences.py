@@ -230,7 +230,8 @@ class Question(Reading):
         meeting = [(self.own(one), own) for one, own in zip(read.subscripts, own_subscripts) if one is not None and own is not None]
         self.is_sure = held.runs_beside(case, level) and len(meeting) == len(read.subscripts)
         # Two forms each, over the problem's names and over the writer's; the second one is at least the first.
-        self.rows = [*((Form(), form) for relation in relations for form in from_0_on(relation)), *meeting, *((-one, -own) for one, own in meeting)]
+        self.rows = [(Form(), form) for relation in relations for form in from_0_on(relation)]
+        self.rows += [*meeting, *((-one, -own) for one, own in meeting)]
         self.written: Dict[str, Turns] = {}
         self.told = len(writer.loops)  # of so many of its loops the last turn is known
         common = writer.common(reader)
