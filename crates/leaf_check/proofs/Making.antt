@@ -27,6 +27,13 @@ places_more w first (suc n) =
 pub places_step : (old now : List (List ℤ)) (w first n : ℕ) (form : List ℤ) → now ≡ (old ++ places_from w first n) ++ form ∷ [] → form ≡ unit_form w (first + n) (pos 1) → now ≡ old ++ places_from w first (n + 1)
 places_step old now w first n form e same = rw (e, same) (append_assoc old (places_from w first n) (unit_form w (first + n) (pos 1) ∷ []) ∙ ap (λ (zs : List (List ℤ)). old ++ zs) (sym (places_more w first n)))
 
+-- the entries of a form that is read over more places
+pub widened_fits : (w : ℕ) (form made : List ℤ) → made ≡ widen_to w form → IsForm form → All Fits made
+widened_fits w form made is h =
+    let zeros : All Fits (replicate (w - width form) (pos 0)) = All-replicate Fits _ _ refl in
+    let front = All-append Fits _ _ (All-take Fits (width form) form h.fits) zeros in
+    rw is (All-push Fits _ _ front (All-get_or Fits form (width form) (pos 0) (omega (arith, h.some)) h.fits))
+
 -- the parts of a row that is turned: the other places, and zeros up to the scope; the unknowns; the constant
 module _ (n w : ℕ) (row : List ℤ) (some : n < length row) (within : length row ≤ n + w + 1) where
   abbrev rest : List ℤ

@@ -1,6 +1,7 @@
 -- What each refutation of a leaf starts from beside the leaf's forms.
 use Rattle.leaf_check.proofs.Words.{◌≡◌, refl, ap, sym, ◌∙◌, ℕ, zero, suc, ◌+◌, ◌-◌, ◌<◌, pos, List, [], ◌∷◌, ◌++◌, length, take, map, get_or, append_assoc, arith, eqb-true, Bool, true, false, ◌&&◌, Err, slice_index_or, Option, Some, None, ◌==◌, length-map, length-append, get_or-append_right, get_or-map, same_number, Problem, Component, ◌>>◌, LeafProofs, spot, Rejected, Checks, holds, check_leaf, Premises, LeafCase, leaf_premises, row_premises, sign_premises, least_premises, fronts_from, is_whole_list, nothing, goal_count, has_shape, list_all}
-use Rattle.std.proofs.Common.{IsTrue}
+use Rattle.std.proofs.Common.{IsTrue, ℤ}
+use Rattle.std.proofs.lemmas.List.{get_or_append_left}
 use Rattle.pip_model.proofs.Tests.{both}
 
 pub length-fronts : (front cs : List Component) → length (fronts_from front cs) ≡ length cs
@@ -37,6 +38,25 @@ module _ (P : Problem) (L : LeafCase) (cs : List Component) where
       let f : length lasts ≡ length cs = length-map (fronts_from [] cs) (least_premises P L) ∙ length-fronts [] cs in
       let g = length-both in
       omega arith
+
+  pub own_row : (r : ℕ) (row : List ℤ) → r < length P.rows → row ≡ get_or P.rows r row → slice_index_or (leaf_premises P L (Some cs)) r nothing ≡ row_premises P L cs row
+  own_row r row h e =
+      let one = length-rows in
+      let two = length-both in
+      get_or_append_left (rows ++ signs) lasts nothing r (omega arith)
+      ∙ get_or_append_left rows signs nothing r (omega arith)
+      ∙ get_or-map (row_premises P L cs) P.rows r row nothing h
+      ∙ ap (row_premises P L cs) (sym e)
+
+  pub own_sign : (r k : ℕ) (c : Component) → r ≡ length P.rows + k → k < length cs → c ≡ get_or cs k c → slice_index_or (leaf_premises P L (Some cs)) r nothing ≡ sign_premises P L c
+  own_sign r k c is h e =
+      let two = length-both in
+      let at : r - length P.rows ≡ k = omega arith in
+      get_or_append_left (rows ++ signs) lasts nothing r (omega arith)
+      ∙ get_or-append_right rows signs (length P.rows) r nothing length-rows (omega arith)
+      ∙ ap (λ (i : ℕ). get_or signs i nothing) at
+      ∙ get_or-map (sign_premises P L) cs k c nothing h
+      ∙ ap (sign_premises P L) (sym e)
 
   pub own_least : (r k : ℕ) (front : List Component) → r ≡ length P.rows + length cs + k → k < length cs → front ≡ take (k + 1) cs → slice_index_or (leaf_premises P L (Some cs)) r nothing ≡ least_premises P L front
   own_least r k front is h e =

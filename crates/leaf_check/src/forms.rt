@@ -37,11 +37,9 @@ fn unit(room: Vec<i128>, width: usize, place: usize) -> Result<Form, WantOfMemor
 // Puts zeros behind the entries up to so many.
 #[inline(always)]
 fn fill_to(made: &mut Vec<i128>, width: usize) -> Result<(), WantOfMemory>
-    requires width { length made.old.items ≤ width }
-    requires fits { All Fits made.old.items }
-    ensures value { OnOk result (made.new.items
+    requires { length made.old.items ≤ width }
+    ensures { OnOk result (made.new.items
         ≡ made.old.items ++ replicate (width - length made.old.items) (pos 0)) }
-    ensures fits { OnOk result (All Fits made.new.items) }
 {
     if made.len() < width {
         made.resize(width, 0)?;
@@ -86,7 +84,6 @@ fn widen_form(room: Vec<i128>, width: usize, form: &Form) -> Result<Form, WantOf
 }
 
 // A tableau row over the parameters and quotients in scope, and then the unknowns, in a room.
-#[tactic(auto, using(crate::proofs::Making::row_made))]
 fn turned_row(
     room: Vec<i128>,
     unknowns: usize,

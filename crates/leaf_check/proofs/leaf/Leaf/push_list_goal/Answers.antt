@@ -1,5 +1,5 @@
 use Rattle.leaf_check.proofs.Words.{◌≡◌, ap, ◌-◌, arith, rules, length, case_of}
-use Rattle.leaf_check.proofs.Owned.{own_least}
+use Rattle.leaf_check.proofs.Owned.{own_row, own_sign, own_least}
 use Rattle.leaf_check.proofs.leaf.Leaf.push_list_goal.Goals as goal
 
 pub returns-clause-listed : goal.returns-clause-listed
@@ -31,3 +31,19 @@ push_least_goal-requires-clause-leaf c = c.requires.leaf
 
 pub push_least_goal-requires-clause-width : goal.push_least_goal-requires-clause-width
 push_least_goal-requires-clause-width c = c.requires.width
+
+pub returns-then-r-rows-clause-listed : goal.returns-then-r-rows-clause-listed
+returns-then-r-rows-clause-listed c =
+    let same = c.rows-rows.ensures.value in
+    rw (own_row c.args.self.now.problem.now (case_of c.args.self.now) c.args.components.now c.args.r c.index-rows-r.result (omega (arith, ap length same)) (rw same at c.index-rows-r.is)) c.push_row_goal.ensures.listed
+
+pub returns-then-sign-components-clause-listed : goal.returns-then-sign-components-clause-listed
+returns-then-sign-components-clause-listed c = rw (own_sign c.args.self.now.problem.now (case_of c.args.self.now) c.args.components.now c.args.r (c.args.r - length c.rows-rows.result.now) c.index-components-sign.result (omega (arith, ap length c.rows-rows.ensures.value)) (omega arith) c.index-components-sign.is) c.push_sign_goal.ensures.listed
+
+pub returns-then-r-rows-clause-pushed : goal.returns-then-r-rows-clause-pushed
+returns-then-r-rows-clause-pushed c =
+    let same = c.rows-rows.ensures.value in
+    rw (own_row c.args.self.now.problem.now (case_of c.args.self.now) c.args.components.now c.args.r c.index-rows-r.result (omega (arith, ap length same)) (rw same at c.index-rows-r.is)) c.push_row_goal.ensures.pushed
+
+pub returns-then-sign-components-clause-pushed : goal.returns-then-sign-components-clause-pushed
+returns-then-sign-components-clause-pushed c = rw (own_sign c.args.self.now.problem.now (case_of c.args.self.now) c.args.components.now c.args.r (c.args.r - length c.rows-rows.result.now) c.index-components-sign.result (omega (arith, ap length c.rows-rows.ensures.value)) (omega arith) c.index-components-sign.is) c.push_sign_goal.ensures.pushed
