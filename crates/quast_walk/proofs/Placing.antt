@@ -1,13 +1,22 @@
 -- Lists that are cut, and forms that are read with further places.
-use Rattle.quast_walk.proofs.Words.{◌≡◌, ◌∙◌, ap, ap₂, subst, refl, arith, ℕ, ◌+◌, ◌≤◌, true, IsTrue, List, [], ◌∷◌, ◌++◌, length, take, drop, get_or, map, ℤ, pos, All, int_le, eqb-true, append-nil, nat_le, list_all, take_min, drop_min, take-append-drop, gcd, gcd_of, same_number, floor_div, floor_divided, width, Tree, Bottom, Leaf, If, NewParm, Component, reduced, is_form, is_component, is_scoped, spread, spread_component, spread_tree, three, both, same_number_is, IsOwnComponent}
+use Rattle.quast_walk.proofs.Words.{◌≡◌, ◌∙◌, ap, ap₂, subst, refl, arith, ℕ, ◌+◌, ◌≤◌, true, IsTrue, List, [], ◌∷◌, ◌++◌, length, take, drop, get_or, map, ℤ, pos, All, int_le, eqb-true, append-nil, nat_le, list_all, take-append-drop, gcd, gcd_of, same_number, floor_div, floor_divided, width, Tree, Bottom, Leaf, If, NewParm, Component, reduced, is_form, is_component, is_scoped, spread, spread_component, spread_tree, three, both, same_number_is, IsOwnComponent}
 use Rattle.std.proofs.lemmas.Bool.{leb-true}
+use Rattle.std.proofs.lemmas.List.Elements.{All-append, All-take, All-drop, All-replicate}
+use Rattle.std.proofs.Common.{length-append}
+use Rattle.affine_forms.specs.Checks.{Fits}
+use Rattle.affine_forms.specs.Forms.{IsForm}
 pub use Rattle.pip_model.proofs.Forms.{length-opposite, length-combine}
 use Rattle.pip_model.specs.Limits.{most_components}
 use Rattle.pip_model.proofs.Gcd.{div_one, floor_divided_one}
 
-pub ruleset cut_lemmas = (take_min, drop_min)
-
 pub ruleset length_lemmas = (length-opposite, length-combine)
+
+-- a form with zeros put in
+pub spread_form : (m n : ℕ) (xs made : List ℤ) → made ≡ spread m n xs → IsForm xs → IsForm made
+spread_form m n xs made is form = rw is (record {
+  some = simp length-append (omega (arith, form.some, length-append (take m xs) (drop m xs), ap (λ (ys : List ℤ). length ys) (take-append-drop m xs)));
+  fits = All-append Fits _ _ (All-append Fits _ _ (All-take Fits m xs form.fits) (All-replicate Fits n (pos 0) refl)) (All-drop Fits m xs form.fits);
+})
 
 -- ---- no place in between
 

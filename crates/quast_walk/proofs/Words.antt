@@ -2,13 +2,13 @@
 pub use Rattle.std.proofs.Common.{◌≡◌, ap, ℕ, ◌+◌, ◌≤◌, arith, ℤ, List, length, ◌∙◌, refl, sym, true, [], ◌∷◌, ◌++◌, IsTrue, IsFalse, subst, Option, Some, None, ap₂, take, drop, get_or, map, pos, All, int_le, eqb-true, append-nil, ◌==◌, ◌-◌, ◌*◌, rules, to_z, of_z, suc, ◌<◌, replicate, ◌^◌}
 pub use Rattle.std.specs.Prelude.{IfSome, nat_le}
 pub use Rattle.std.specs.List.{list_all}
-pub use Rattle.std.proofs.lemmas.List.{take_min, drop_min, take-append-drop, map_more, take_all}
+pub use Rattle.std.proofs.lemmas.List.{take-append-drop, map_more, take_all}
 pub use Rattle.std.proofs.lemmas.List.Elements.{All-push}
 pub use Rattle.std.specs.Int.{w128}
 pub use Rattle.std.proofs.lemmas.Result.{err_from_is_err_and}
 pub use Rattle.pip_model.specs.Cuts.{Quotient, lower_bound, upper_bound}
 pub use Rattle.pip_model.specs.Listed.{all_fit}
-pub use Rattle.pip_model.specs.Tree.{Tree, NewParm, Bottom, Leaf, If, Component, reduced, is_form, is_component, is_scoped, size}
+pub use Rattle.pip_model.specs.Tree.{Tree, NewParm, Bottom, Leaf, If, Component, reduced, is_form, is_component, is_scoped, size, nesting}
 pub use Rattle.pip_model.specs.Run.{Work, class, listed}
 pub use Rattle.pip_model.specs.Tools.{spread, spread_tree, spread_component, widened_components, widened_component}
 pub use Rattle.pip_model.specs.Walks.{Walked, Stopped, Walking, walk_on, make, by_run, Visit, below_listed, ToolRefusal, where_holds, walk}

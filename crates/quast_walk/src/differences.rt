@@ -12,7 +12,6 @@ use std::alloc::Global;
 
 /// The first component less the second, times both denominators. They are over the same places. It overflows exactly
 /// where a number of the calculation does not fit.
-#[tactic(auto, using(crate::proofs::Placing::length_lemmas))]
 pub fn difference(alloc: Global, first: &Component, second: &Component) -> Result<Form, FormRefusal>
     requires { length first.now.form ≡ length second.now.form }
     ensures listed { IsChecked is_form_overflow (model.difference_listed first.now second.now) result }

