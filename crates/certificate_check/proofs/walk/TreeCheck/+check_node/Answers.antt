@@ -9,6 +9,9 @@ returns-in_err-second-in-Select-clause-gives t c =
     let p = err_from_is_err_and c.from_residual-in_err-second-in-Select.result c.from_residual-in_err-second-in-Select.ensures.1 in
     rw (p.1, p.2) (choice_stop c.args.self.now c.args.l c.args.path.now (tree_of c.args.node.now) c.requires c.in-Select.v (tree_of c.in-Select.a.value) (tree_of c.in-Select.b.value) (ap tree_of c.in-Select.is) c.push.new.self c.in_ok-push-in-Select.ensures.ok (fault_of c.in_err-second-in-Select.field-0.0) (rw c.deref.ensures at c.in_err-second-in-Select.ensures.gives))
 
+pub go_back-requires : goal.go_back-requires
+go_back-requires t c = back_within c.args.path.now c.check_node.new.path (c.in-Select.v ∷ []) c.len-n.result c.scope-scope.result (ap (λ (q : PathForms). q.forms) (c.in_ok-second-in-Select.ensures.path ∙ c.in_ok-push-in-Select.ensures.ok)) c.len-n.ensures.value c.scope-scope.ensures c.len-n.ensures.within
+
 pub refusal_at-requires : goal.refusal_at-requires
 refusal_at-requires t c = choice_place c.args.self.now c.args.l c.args.path.now (tree_of c.args.node.now) c.requires c.in-Select.v (tree_of c.in-Select.a.value) (tree_of c.in-Select.b.value) (ap tree_of c.in-Select.is) c.push.new.self c.in_ok-push-in-Select.ensures.ok c.in_ok-second-in-Select.second (rw c.deref.ensures at c.in_ok-second-in-Select.ensures.next)
 
@@ -43,6 +46,14 @@ returns-in_err-next-in-Define-clause-gives t c =
     let fits : all_fit (constant (upper_bound (s + 1) s k) ∷ []) ≡ true = search rules in
     let inner : c.push_bounds.new.self ≡ record { scope = s + 1; forms = c.args.path.now.forms ++ lower_bound (s + 1) s k ∷ upper_bound (s + 1) s k ∷ [] } = search rules in
     rw (p.1, p.2) (definition_stop c.args.self.now c.args.l c.args.path.now (tree_of c.args.node.now) c.requires c.in-Define.v c.in-Define.d (tree_of c.in-Define.a.value) (ap tree_of c.in-Define.is) c.push_bounds.new.self (fault_of c.in_err-next-in-Define.field-0.0) inner fits (rw c.deref-in-Define.ensures at c.in_err-next-in-Define.ensures.gives))
+
+pub go_back-requires-in-Select : goal.go_back-requires-in-Select
+go_back-requires-in-Select t c =
+    let back = back_is c.args.path.now c.check_node.new.path (c.in-Select.v ∷ []) c.len-n.result c.scope-scope.result (ap (λ (q : PathForms). q.forms) (c.in_ok-second-in-Select.ensures.path ∙ c.in_ok-push-in-Select.ensures.ok)) c.len-n.ensures.value c.scope-scope.ensures in
+    let gone : c.go_back.new.self ≡ record { scope = c.scope-scope.result; forms = take c.len-n.result c.check_node.new.path.forms } = search rules in
+    let pushed : c.push_opposite.new.self ≡ record c.go_back.new.self { forms = c.go_back.new.self.forms ++ opposite c.in-Select.v ∷ [] } = search rules in
+    let second = pushed ∙ ap (λ (q : PathForms). let r : PathForms = record q { forms = q.forms ++ opposite c.in-Select.v ∷ [] } in r) (gone ∙ back) in
+    back_within c.args.path.now c.check_node-in-Select.new.path (opposite c.in-Select.v ∷ []) c.len-n.result c.scope-scope.result (ap (λ (q : PathForms). q.forms) (c.in_ok-next-in-Select.ensures.path ∙ second)) c.len-n.ensures.value c.scope-scope.ensures c.len-n.ensures.within
 
 pub go_back-requires-in-Define : goal.go_back-requires-in-Define
 go_back-requires-in-Define t c =
