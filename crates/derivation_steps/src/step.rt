@@ -33,7 +33,6 @@ fn derive_in(known: &[Form], sum: &mut StepSum, step: &Step) -> Result<(), StepR
 }
 
 // Makes the sum that of the form that a step derives from the known forms, each over the first of the sum's places.
-#[tactic(auto, using(crate::proofs::Steps::step_derives))]
 fn derive_sum(known: &[Form], sum: &mut StepSum, step: &Step) -> Result<(), StepRefusal>
     requires { All (λ c. length c ≤ sum.old.width + 1) known.now }
     ensures gives { (at : model.Spot) → let w = sum.old.width in

@@ -79,7 +79,6 @@ impl StepSum {
     }
 
     // Adds m times a form of no more coefficients than there are.
-    #[tactic(auto, using(pip_model::proofs::Fitting::fit_never, pip_model::proofs::Fitting::fit_behind, pip_model::proofs::Fitting::fit_join))]
     fn add_parts(&mut self, m: i128, front: &[i128], constant: i128) -> Result<(), Overflow>
         requires { length front.now ≤ length self.old.coefficients }
         ensures listed { IsChecked is_overflow (model.plus_term_listed

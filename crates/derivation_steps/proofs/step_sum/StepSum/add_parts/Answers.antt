@@ -1,4 +1,5 @@
-use Rattle.derivation_steps.proofs.Words.{◌≡◌, refl, ap, subst, [], ◌∷◌, ◌++◌, ◌+ℤ◌, ◌*ℤ◌, ℤ, List, to_z-of_z, w128, fit_never, take, length, IsFalse, all_fit, plus_term_listed, rules, to_z, of_z, refused, is_overflow, PartSum}
+use Rattle.derivation_steps.proofs.Words.{◌≡◌, refl, ap, subst, [], ◌∷◌, ◌++◌, ◌+ℤ◌, ◌*ℤ◌, ℤ, List, to_z-of_z, w128, fit_never, true, ◌∙◌, take, length, IsFalse, all_fit, plus_term_listed, rules, to_z, of_z, refused, is_overflow, PartSum}
+use Rattle.pip_model.proofs.Fitting.{fit_behind, fit_join}
 use Rattle.derivation_steps.proofs.step_sum.StepSum.add_parts.Goals as goal
 
 pub returns-in_err-add_front-clause-listed : goal.returns-in_err-add_front-clause-listed
@@ -32,3 +33,18 @@ invariant_of-self-2 c =
       fits = c.in_ok-add_front.ensures.fits;
       constant = rw number c.in_ok-self-inside.ensures.fits;
     }
+
+pub returns-in_err-self-inside-clause-listed : goal.returns-in_err-self-inside-clause-listed
+returns-in_err-self-inside-clause-listed c =
+    let first = plus_term_listed (take (length c.args.front.now) c.args.self.now.coefficients) c.args.m c.args.front.now in
+    let behind = (c.args.m *ℤ c.args.constant) ∷ (c.args.self.now.constant +ℤ c.args.m *ℤ c.args.constant) ∷ [] in
+    let fit : all_fit first ≡ true = search rules in
+    let over : IsFalse (all_fit behind) = search rules in
+    refused is_overflow c.from_residual-in_err-self-inside.result (first ++ behind) c.from_residual-in_err-self-inside.ensures.0 (fit_behind first behind fit ∙ over)
+
+pub returns-clause-listed : goal.returns-clause-listed
+returns-clause-listed c =
+    let first = plus_term_listed (take (length c.args.front.now) c.args.self.now.coefficients) c.args.m c.args.front.now in
+    let behind = (c.args.m *ℤ c.args.constant) ∷ (c.args.self.now.constant +ℤ c.args.m *ℤ c.args.constant) ∷ [] in
+    let fit : all_fit first ≡ true = search rules in
+    fit_join first behind fit (search rules)
