@@ -1,5 +1,5 @@
 -- The words of other modules that the proofs of this crate cite, passed on from one place. Declares nothing.
-pub use Rattle.std.proofs.Common.{◌≡◌, ◌<◌, ◌+◌, ℕ, arith, List, [], ◌∷◌, length, get_or, ap, subst, sym, ◌&&◌, pos, ◌≤◌, ℤ, ◌≤ℤ◌, refl, Bool, true, IsTrue, eqb-true, ◌∙◌, false, take, flat_map, ◌++◌, if◌then◌else◌, ◌-◌, map, vec_len, vec_capacity, rules, Some, None, to_z, of_z, drop}
+pub use Rattle.std.proofs.Common.{◌≡◌, ap₂, ◌<◌, ◌+◌, ℕ, arith, List, [], ◌∷◌, length, get_or, ap, subst, sym, ◌&&◌, pos, ◌≤◌, ℤ, ◌≤ℤ◌, refl, Bool, true, IsTrue, eqb-true, ◌∙◌, false, take, flat_map, ◌++◌, if◌then◌else◌, ◌-◌, map, vec_len, vec_capacity, rules, Some, None, to_z, of_z, drop}
 pub use Rattle.std.proofs.lemmas.Bool.{and_parts, and_from}
 pub use Rattle.std.proofs.lemmas.List.Elements.{All-head, All-tail, All-push}
 pub use Rattle.std.specs.Prelude.{All, int_le, nat_le}
