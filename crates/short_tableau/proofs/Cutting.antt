@@ -1,12 +1,19 @@
 -- The cut by a short row.
-use Rattle.short_tableau.proofs.Words.{◌≡◌, refl, ap, sym, ◌∙◌, subst, ℕ, ◌+◌, ◌-◌, ◌*◌, ◌<◌, ◌≤◌, ℤ, pos, ◌≤ℤ◌, neg_ℤ, ◌-ℤ◌, ints, to_z, of_z, to_z-of_z, w64, fits_signed_from_abs, FitsSigned, IsShort, divided, length-drop, length-take-le, List, length, map, take, drop, arith, append-nil, slice_range, take_all, drop_all, length-map, constant_cut, fractional_parts, residue_of, negate, residue, floor_mod, Row, row_at, mapped, row_of_numbers, numbers_of, IsShortRow, row_from, content-divided, row_size, rows_in, IsShortReduced, IsDense, numbers_again, short_row, divided_positive}
+use Rattle.short_tableau.proofs.Words.{◌++◌, ◌∷◌, [], length-append, take_at, All, ◌≡◌, refl, ap, sym, ◌∙◌, subst, ℕ, ◌+◌, ◌-◌, ◌*◌, ◌<◌, ◌≤◌, ℤ, pos, ◌≤ℤ◌, neg_ℤ, ◌-ℤ◌, ints, to_z, of_z, to_z-of_z, w64, fits_signed_from_abs, FitsSigned, IsShort, divided, length-drop, length-take-le, List, length, map, take, drop, arith, append-nil, slice_range, take_all, drop_all, length-map, constant_cut, fractional_parts, residue_of, negate, residue, floor_mod, Row, row_at, mapped, row_of_numbers, numbers_of, IsShortRow, row_from, entry, content-divided, row_size, rows_in, IsShortReduced, IsDense, numbers_again, short_row, divided_positive}
 use Rattle.std.proofs.lemmas.Simd.{map-map}
+use Rattle.std.proofs.Common.{append_assoc}
+use Rattle.std.specs.Prelude.{Result, Ok, Err, OnOk}
+use Rattle.std.specs.Result.{IsErr}
 use Rattle.short_tableau.proofs.Places.{IsSplit, split_twice, split_read, split_row}
 
 -- ---- the opposite of a short number, as code holds it
 
 held : (z : ℤ) → IsShort z → to_z w64 (of_z w64 z) ≡ z
 held z h = to_z-of_z w64 z (fits_signed_from_abs w64 z h)
+
+-- as it stands in a list
+pub held_short : (n k : ℕ) (xs : List ℤ) → All IsShort xs → length xs ≡ n → k < n → IsShort (to_z w64 (of_z w64 (entry xs k)))
+held_short n k xs all size lt = let h = all k (pos 0) (omega (arith, size, lt)) in subst IsShort (sym (held (entry xs k) h)) h
 
 pub opposite_short : (z : ℤ) → IsShort z → IsShort (neg_ℤ z)
 opposite_short z h = omega (arith, ints, h)
@@ -19,6 +26,27 @@ opposite_fits z h = rw (held z h, negated z) (fits_signed_from_abs w64 (neg_ℤ 
 
 pub opposite_held : (z : ℤ) → IsShort z → to_z w64 (of_z w64 (pos 0 -ℤ to_z w64 (of_z w64 z))) ≡ neg_ℤ z
 opposite_held z h = rw (held z h, negated z) (held (neg_ℤ z) (opposite_short z h))
+
+-- ---- the parts of a row's numbers
+
+pub row_parts : (n : ℕ) (zs rest coefs constant : List ℤ) (z : ℤ) → z ≡ entry zs 0 → rest ≡ drop 1 zs → coefs ≡ take n rest → constant ≡ drop n rest → row_from z coefs constant ≡ row_of_numbers n zs
+row_parts n zs rest coefs constant z d e f g = rw (d, f, g, e) refl
+
+-- ---- numbers that are appended, and then written over
+
+pub appended : (a xs ys p q r : List ℤ) (z : ℤ) → p ≡ a ++ z ∷ [] → q ≡ p ++ xs → r ≡ q ++ ys → r ≡ a ++ z ∷ (xs ++ ys)
+appended a xs ys p q r z e f g = g ∙ ap (λ (zs : List ℤ). zs ++ ys) (f ∙ ap (λ (zs : List ℤ). zs ++ xs) e) ∙ append_assoc (a ++ z ∷ []) xs ys ∙ append_assoc a (z ∷ []) (xs ++ ys)
+
+-- nothing is claimed where a call failed
+pub none_claimed : {T E : Type 0} (P : Type 0) (r : Result T E) → IsErr r → OnOk r P
+none_claimed P (Ok v) h = absurd cc
+none_claimed P (Err e) h = _
+
+pub written_back : (old more items whole front back made rest : List ℤ) (n len : ℕ) → items ≡ old ++ more → whole ≡ items → length whole ≡ len → length old ≡ n → whole ≡ front ++ back → front ≡ take n whole
+    → length made ≡ length back → take len ((front ++ made) ++ rest) ≡ old ++ made
+written_back old more items whole front back made rest n len i w l o e f m =
+    let size : length (front ++ made) ≡ len = omega (arith, length-append front made, length-append front back, ap length e, l, m) in
+    take_at (front ++ made) rest len size ∙ ap (λ (xs : List ℤ). xs ++ made) (f ∙ ap (take n) (w ∙ i) ∙ take_at old more n o)
 
 -- ---- the cut
 

@@ -1,5 +1,9 @@
 -- A number of a row by its place among all numbers.
-use Rattle.short_tableau.proofs.Words.{◌≡◌, ◌∙◌, ap, ℕ, zero, suc, ◌+◌, ◌-◌, ◌*◌, ◌<◌, ◌≤◌, ℤ, pos, List, length, take, drop, arith, length-drop, get_or-drop, get_or-take, length-take-le, suc-mul, constant, entry, row_at, row_size, rows_in}
+use Rattle.short_tableau.proofs.Words.{sym, refl, negsuc, true, false, is_nonneg, int_lt, ◌≡◌, ◌∙◌, ap, ℕ, zero, suc, ◌+◌, ◌-◌, ◌*◌, ◌<◌, ◌≤◌, ℤ, pos, List, length, take, drop, arith, length-drop, get_or-drop, get_or-take, length-take-le, suc-mul, constant, entry, row_at, row_size, rows_in}
+
+pub not_below : (z r : ℤ) → z ≡ r → int_lt z (pos 0) ≡ false → is_nonneg r ≡ true
+not_below z (pos n) e h = refl
+not_below z (negsuc n) e h = let g : int_lt (negsuc n) (pos 0) ≡ false = ap (λ x. int_lt x (pos 0)) (sym e) ∙ h in absurd cc
 
 rest_long : (l i k z : ℕ) → z ≡ suc k * l → z - l ≡ k * l
 rest_long l i k z e = let whole = suc-mul k l in omega (arith, e, whole)

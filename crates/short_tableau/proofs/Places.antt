@@ -207,5 +207,12 @@ pushed_view n k zs now r t view dense h e =
     ap (λ (rs : List Row). record { unknowns = n; width = 0; rows = rs }) (ap (rows_in n (k + 1)) e ∙ pushed_rows n k zs r dense.size h)
     ∙ ap (λ (s : TableauRows). with_row s r) view
 
+-- rows of other numbers, which are those of a law
+pub turned_view : (n k : ℕ) (zs now : List ℤ) (f : List Row → List Row) (t : TableauRows) → record { unknowns = n; width = 0; rows = rows_in n k zs } ≡ t → rows_in n k now ≡ f (rows_in n k zs)
+    → record { unknowns = n; width = 0; rows = rows_in n k now } ≡ record t { rows = f t.rows }
+turned_view n k zs now f t view e =
+    ap (λ (rs : List Row). record { unknowns = n; width = 0; rows = rs }) e
+    ∙ ap (λ (s : TableauRows). record s { rows = f s.rows }) view
+
 pub count_is : (n k : ℕ) (zs : List ℤ) (t : TableauRows) → record { unknowns = n; width = 0; rows = rows_in n k zs } ≡ t → k ≡ length t.rows
 count_is n k zs t view = sym (length_rows n k zs) ∙ ap (λ (s : TableauRows). length s.rows) view

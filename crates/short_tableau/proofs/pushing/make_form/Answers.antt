@@ -1,5 +1,10 @@
-use Rattle.short_tableau.proofs.Words.{rules, form_written, form_short}
+use Rattle.short_tableau.proofs.Words.{rules, arith, ap, length, pos, row_size, form_written, form_short}
+use Rattle.std.proofs.lemmas.List.{length-replicate}
 use Rattle.short_tableau.proofs.pushing.make_form.Goals as goal
+
+pub narrow_all-requires-then-narrow_all : goal.narrow_all-requires-then-narrow_all
+narrow_all-requires-then-narrow_all c =
+    omega (arith, c.split_at_mut-front.ensures.back_len, c.split_at_mut-den.ensures.back_len, ap length c.requires.zeros, length-replicate (row_size c.args.unknowns) (pos 0), c.split_at.ensures.back_len, c.requires.form.some)
 
 pub returns-then-narrow_all-clause-items : goal.returns-then-narrow_all-clause-items
 returns-then-narrow_all-clause-items c = λ all.

@@ -1,4 +1,4 @@
-use Rattle.short_tableau.proofs.Words.{◌≡◌, ◌∙◌, ap, subst, arith, rules, false, List, ℤ, IsTrue, IsFalse, list_all, all_fit, pivot, pivot_listed, TableauRows, rows_in, is_short_row}
+use Rattle.short_tableau.proofs.Words.{sym, IsDense, take_at, ◌≡◌, ◌∙◌, ap, subst, arith, rules, false, List, ℤ, IsTrue, IsFalse, list_all, all_fit, pivot, pivot_listed, TableauRows, rows_in, is_short_row}
 use Rattle.short_tableau.proofs.Fitting.{pivot_fits}
 use Rattle.short_tableau.proofs.Places.{count_is, length_rows}
 use Rattle.short_tableau.proofs.short_table.ShortTableau.pivot.Goals as goal
@@ -7,6 +7,10 @@ pub pivot_rows-requires-clause-row : goal.pivot_rows-requires-clause-row
 pivot_rows-requires-clause-row c =
     let k = count_is c.self.inside.unknowns c.self.inside.count c.self.inside.numbers.items c.args.self.now c.self.view_is in
     omega (arith, k, c.requires.row)
+
+pub invariant_of-self-else-not-pivot_rows : goal.invariant_of-self-else-not-pivot_rows
+invariant_of-self-else-not-pivot_rows c =
+    subst (IsDense c.self.inside.unknowns c.self.inside.count) (sym (take_at c.pivot_rows.new.numbers _ c.self.inside.numbers.len (c.pivot_rows.auto.numbers ∙ c.deref_mut.ensures.len))) (c.pivot_rows.ensures.dense c.if-not-pivot_rows.false)
 
 pub returns-then-not-pivot_rows-clause-listed : goal.returns-then-not-pivot_rows-clause-listed
 returns-then-not-pivot_rows-clause-listed c =
