@@ -1,5 +1,9 @@
 -- A row after a pivot, by the step's factors and from the step's divisor.
-use Rattle.tableau_row.proofs.Words.{fits, Fits, length-combine, ◌≡◌, ◌∙◌, refl, ap, sym, subst, ℕ, suc, ◌+◌, ◌<◌, ℤ, pos, ◌≤ℤ◌, ◌*ℤ◌, arith, List, [], ◌∷◌, ◌++◌, length, length-map, length-set, map-append, take, drop, take_at, drop_at, take-append-drop, slice_set, All, All-cons, All-append, All-take, All-drop, All-set, IsTrue, floor_div, floor_divided, gcd, gcd_of, gcd_assoc, gcd_zero, entry, combine, Row, divided, eliminated, content, IsRow, IsOwnRow, IsReduced, IsShort, IsShortRow, IsElimination, IsMadeReduced, MakesRow, true, AreLowest, substituted_by, numbers_of, row_of_numbers, get_or-take, content-divided, divided_one, short_fit, fits_short, AreReduced, gcd_between, quotient_positive, eliminated-lowest, divisor-lowest, reduced-lowest, row_again, made_further, some_product}
+use Rattle.tableau_row.proofs.Words.{fits, Fits, length-combine, ◌≡◌, ◌∙◌, refl, ap, sym, subst, ℕ, suc, ◌+◌, ◌<◌, ℤ, pos, ◌≤ℤ◌, ◌*ℤ◌, arith, List, [], ◌∷◌, ◌++◌, length, length-map, length-set, map-append, take, drop, take_at, drop_at, take-append-drop, slice_set, All, All-cons, All-append, All-take, All-drop, All-set, IsTrue, floor_div, floor_divided, gcd, gcd_of, gcd_assoc, gcd_zero, entry, combine, Row, divided, eliminated, content, IsRow, IsOwnRow, IsReduced, IsShort, IsShortRow, IsElimination, IsMadeReduced, MakesRow, true, AreLowest, substituted_by, numbers_of, row_of_numbers, row_from, get_or-take, content-divided, divided_one, short_fit, fits_short, AreReduced, gcd_between, quotient_positive, eliminated-lowest, divisor-lowest, reduced-lowest, row_again, made_further, some_product}
+use Rattle.std.specs.Int.{w64, w128}
+use Rattle.std.proofs.Common.{to_z, of_z}
+use Rattle.std.proofs.lemmas.Int.{fits_signed_from_abs, to_z-of_z}
+use Rattle.row_laws.specs.Short.{AreShort}
 use Rattle.tableau_row.specs.Stepped.{IsStep}
 use Rattle.tableau_row.specs.declared.step.Step.{Step}
 
@@ -83,12 +87,35 @@ module _ (p : Row) (c : ℕ) (i : Row) (x y d : ℤ) (step : IsElimination p c i
         constant_fit = h.row.constant_fit;
       }
 
+-- ---- the step's factors as code holds them
+
+pub held : (z : ℤ) → IsShort z → to_z w128 (of_z w128 (to_z w64 (of_z w64 z))) ≡ z
+held z h =
+    ap (λ (k : ℤ). to_z w128 (of_z w128 k)) (to_z-of_z w64 z (fits_signed_from_abs w64 z h))
+    ∙ to_z-of_z w128 z (fits_signed_from_abs w128 z (omega (arith, h)))
+
+pub factors_held : (s : Step) → AreShort s.row s.pivot → AreShort (to_z w128 (of_z w128 (to_z w64 (of_z w64 s.row)))) (to_z w128 (of_z w128 (to_z w64 (of_z w64 s.pivot))))
+factors_held s h = record { first = subst IsShort (sym (held s.row h.first)) h.first; second = subst IsShort (sym (held s.pivot h.second)) h.second }
+
+pub combine_held : (s : Step) (now rs rs2 us : List ℤ) → AreShort s.row s.pivot → now ≡ combine (to_z w128 (of_z w128 (to_z w64 (of_z w64 s.row)))) rs (to_z w128 (of_z w128 (to_z w64 (of_z w64 s.pivot)))) us → rs ≡ rs2
+    → now ≡ combine s.row rs2 s.pivot us
+combine_held s now rs rs2 us h e f = e ∙ rw (held s.row h.first, held s.pivot h.second, f) refl
+
 -- its numbers, part by part
 pub parts_are : (n c : ℕ) (p : Row) (x y den e : ℤ) (zs front coefs constant : List ℤ) → 0 < length zs → front ≡ take 1 zs → den ≡ entry zs 0 *ℤ x → e ≡ y *ℤ p.den
     → coefs ≡ combine x (take n (drop 1 zs)) y p.coefs → constant ≡ combine x (drop n (drop 1 zs)) y p.constant
     → slice_set front 0 den ++ (slice_set coefs c e ++ constant) ≡ numbers_of (substituted_by x y p c (row_of_numbers n zs))
 parts_are n c p x y den e [] front coefs constant h a b d f g = absurd (omega arith)
 parts_are n c p x y den e (z ∷ zs) front coefs constant h a b d f g = rw (a, b, d, f, g) refl
+
+-- the row of numbers in their parts
+pub row_parts : (n : ℕ) (zs rest coefs constant : List ℤ) (z : ℤ) → z ≡ entry zs 0 → rest ≡ drop 1 zs → coefs ≡ take n rest → constant ≡ drop n rest → row_from z coefs constant ≡ row_of_numbers n zs
+row_parts n zs rest coefs constant z d e f g = rw (d, f, g, e) refl
+
+-- the numbers of a row that is made part by part
+pub parts_made : (zs front coefs constant : List ℤ) (den made : ℤ) (r : Row) → 0 < length zs → front ≡ take 1 zs → den ≡ made → row_from made coefs constant ≡ r → slice_set front 0 den ++ (coefs ++ constant) ≡ numbers_of r
+parts_made [] front coefs constant den made r h a b e = absurd (omega arith)
+parts_made (z ∷ zs) front coefs constant den made r h a b e = rw (a, b) (ap numbers_of e)
 
 -- what is known of it
 pub made_by : (p : Row) (c : ℕ) (i : Row) (x y : ℤ) (known : _) → IsElimination p c i → pos 1 ≤ℤ x → IsTrue (fits (i.den *ℤ x)) → IsTrue (fits (y *ℤ p.den))

@@ -1,5 +1,5 @@
-use Rattle.tableau_row.proofs.Words.{rules, arith, ◌≡◌, ◌*ℤ◌, subst, take, drop, length, combine, fits, IsTrue, All, Fits, IsShort, row_of, row_of_numbers}
-use Rattle.tableau_row.proofs.Found.{parts_are, made_by}
+use Rattle.tableau_row.proofs.Words.{rules, ap, sym, ◌∙◌, arith, ◌≡◌, ◌*ℤ◌, subst, take, drop, length, combine, fits, IsTrue, All, Fits, IsShort, row_of, row_of_numbers}
+use Rattle.tableau_row.proofs.Found.{factors_held, combine_held, parts_are, made_by}
 use Rattle.tableau_row.proofs.row.substitute_short.Goals as goal
 
 pub short_product-made-requires : goal.short_product-made-requires
@@ -9,32 +9,28 @@ pub short_product-entry-requires : goal.short_product-entry-requires
 short_product-entry-requires c = record { first = search (rules, c.args.step.short.second); second = search (rules, c.requires.short.first.den) }
 
 pub combine_short-coefs_short-requires-clause-factors : goal.combine_short-coefs_short-requires-clause-factors
-combine_short-coefs_short-requires-clause-factors c = record { first = search (rules, c.args.step.short.first); second = search (rules, c.args.step.short.second) }
+combine_short-coefs_short-requires-clause-factors c = factors_held c.args.step c.args.step.short
 
 pub combine_short-coefs_short-requires-clause-lists : goal.combine_short-coefs_short-requires-clause-lists
-combine_short-coefs_short-requires-clause-lists c = record {
-  lengths = search (rules, c.requires.step.coefs);
-  first = search (rules, c.requires.short.second.coefs);
-  second = search (rules, c.requires.short.first.coefs);
-}
+combine_short-coefs_short-requires-clause-lists c =
+    let e = c.split_at_mut-coefs.ensures.front ∙ ap (take (length c.args.p.now.coefs.now)) c.split_at_mut-den.ensures.back in
+    record { lengths = ap length e ∙ c.requires.step.coefs; first = subst (All IsShort) (sym e) c.requires.short.second.coefs; second = c.requires.short.first.coefs }
 
 pub combine_short-constant_short-requires-clause-factors : goal.combine_short-constant_short-requires-clause-factors
-combine_short-constant_short-requires-clause-factors c = record { first = search (rules, c.args.step.short.first); second = search (rules, c.args.step.short.second) }
+combine_short-constant_short-requires-clause-factors c = factors_held c.args.step c.args.step.short
 
 pub combine_short-constant_short-requires-clause-lists : goal.combine_short-constant_short-requires-clause-lists
-combine_short-constant_short-requires-clause-lists c = record {
-  lengths = search (rules, c.requires.step.constant);
-  first = search (rules, c.requires.short.second.constant);
-  second = search (rules, c.requires.short.first.constant);
-}
+combine_short-constant_short-requires-clause-lists c =
+    let e = c.split_at_mut-coefs.ensures.back ∙ ap (drop (length c.args.p.now.coefs.now)) c.split_at_mut-den.ensures.back in
+    record { lengths = ap length e ∙ c.requires.step.constant; first = subst (All IsShort) (sym e) c.requires.short.second.constant; second = c.requires.short.first.constant }
 
 pub returns-clause-value : goal.returns-clause-value
 returns-clause-value c =
     let zs = c.args.numbers.now in
     let p = row_of c.args.p.now in
     let s = c.args.step in
-    let coefs : c.combine_short-coefs_short.new.r ≡ combine s.row (take (length p.coefs) (drop 1 zs)) s.pivot p.coefs = search rules in
-    let constant : c.combine_short-constant_short.new.r ≡ combine s.row (drop (length p.coefs) (drop 1 zs)) s.pivot p.constant = search rules in
+    let coefs : c.combine_short-coefs_short.new.r ≡ combine s.row (take (length p.coefs) (drop 1 zs)) s.pivot p.coefs = combine_held s _ _ _ _ s.short c.combine_short-coefs_short.ensures.value (c.split_at_mut-coefs.ensures.front ∙ ap (take (length c.args.p.now.coefs.now)) c.split_at_mut-den.ensures.back) in
+    let constant : c.combine_short-constant_short.new.r ≡ combine s.row (drop (length p.coefs) (drop 1 zs)) s.pivot p.constant = combine_held s _ _ _ _ s.short c.combine_short-constant_short.ensures.value (c.split_at_mut-coefs.ensures.back ∙ ap (drop (length c.args.p.now.coefs.now)) c.split_at_mut-den.ensures.back) in
     parts_are (length p.coefs) c.args.c p s.row s.pivot _ _ zs _ _ _ (omega (arith, c.requires.length)) (search rules) (search rules) (search rules) coefs constant
 
 pub returns-clause-made : goal.returns-clause-made
@@ -45,8 +41,8 @@ returns-clause-made c =
     let s = c.args.step in
     let den : c.short_product-made.result ≡ r.den *ℤ s.row = search rules in
     let e : c.short_product-entry.result ≡ s.pivot *ℤ p.den = search rules in
-    let coefs : c.combine_short-coefs_short.new.r ≡ combine s.row r.coefs s.pivot p.coefs = search rules in
-    let constant : c.combine_short-constant_short.new.r ≡ combine s.row r.constant s.pivot p.constant = search rules in
+    let coefs : c.combine_short-coefs_short.new.r ≡ combine s.row r.coefs s.pivot p.coefs = combine_held s _ _ _ _ s.short c.combine_short-coefs_short.ensures.value (c.split_at_mut-coefs.ensures.front ∙ ap (take (length c.args.p.now.coefs.now)) c.split_at_mut-den.ensures.back) in
+    let constant : c.combine_short-constant_short.new.r ≡ combine s.row r.constant s.pivot p.constant = combine_held s _ _ _ _ s.short c.combine_short-constant_short.ensures.value (c.split_at_mut-coefs.ensures.back ∙ ap (drop (length c.args.p.now.coefs.now)) c.split_at_mut-den.ensures.back) in
     let den_short : IsTrue c.both.result → IsShort c.short_product-made.result = λ all. search (rules, c.with_entry-2.ensures.entry (c.both.ensures.second all)) in
     let e_short : IsTrue c.both.result → IsShort c.short_product-entry.result = λ all. search (rules, c.with_entry.ensures.entry (c.both.ensures.first all)) in
     made_by p c.args.c r s.row s.pivot _ c.requires.step s.positive
