@@ -5,6 +5,7 @@ ghost use Rattle.pip_model.specs.Cuts.{rounded_listed};
 ghost use Rattle.pip_model.specs.Agreement.{IsChecked};
 ghost use Rattle.affine_forms.specs.Checks.{is_overflow};
 ghost use Rattle.row_laws.specs.Flat.{numbers_of, is_unit_row};
+ghost use Rattle.tableau.specs.Places.{unit_run};
 ghost use Rattle.tableau.specs.KeptRows.{AreReady, IsSpare, SameRows, with_rows};
 ghost use Rattle.row_laws.specs.Rows.{IsRow, row_from};
 ghost use Rattle.row_laws.specs.Tableaus.{with_row, with_rounded};
@@ -90,6 +91,17 @@ fn push_forms(rows: &mut FlatRows, forms: &[Form])
     for form in forms {
         rows.push_form(form);
     }
+}
+
+// The tableau of these rows, with the run from which those of columns are lent.
+fn tableau_of(alloc: Global, rows: FlatRows, units: &[i128]) -> Result<Tableau, WantOfMemory>
+    requires run { 0 < length units.now → units.now ≡ unit_run rows.unknowns rows.width }
+    requires begun { 0 < length rows.rows → 0 < length units.now }
+    ensures { IfOk result (λ t. t ≡ record { unknowns = rows.unknowns; width = rows.width; rows = rows.rows }) }
+{
+    let next = FlatRows::with_room(alloc, rows.unknowns(), rows.width(), rows.len() + 2)?;
+    let units = Vec::from_slice(alloc, units)?;
+    Ok(Tableau { rows, next, units })
 }
 
 impl Tableau {
@@ -212,9 +224,7 @@ impl Tableau {
         ensures { IfOk result (λ t. t ≡ self.now) }
     {
         let rows = self.rows.try_clone(alloc)?;
-        let next = FlatRows::with_room(alloc, rows.unknowns(), rows.width(), rows.len() + 2)?;
-        let units = Vec::from_slice(alloc, self.units.as_slice())?;
-        Ok(Tableau { rows, next, units })
+        tableau_of(alloc, rows, self.units.as_slice())
     }
 
     /// Becomes the same as another, in the room that there is where it is enough. A refusal leaves no rows, over the
@@ -236,9 +246,7 @@ impl Tableau {
         ensures { IfOk result (λ t. t ≡ record self.now { rows = take count self.now.rows }) }
     {
         let rows = self.rows.front(alloc, self.units.as_slice(), count)?;
-        let next = FlatRows::with_room(alloc, rows.unknowns(), rows.width(), rows.len() + 2)?;
-        let units = Vec::from_slice(alloc, self.units.as_slice())?;
-        Ok(Tableau { rows, next, units })
+        tableau_of(alloc, rows, self.units.as_slice())
     }
 
     /// Adds a row, divided by the greatest common divisor of all its numbers.
@@ -268,17 +276,11 @@ impl Tableau {
         ensures err { OnErr result (self.new ≡ self.old) }
     {
         let alloc = self.rows.allocator();
-        let unknowns = self.rows.unknowns();
-        let width = self.rows.width() + 1;
+        let mut wider = Tableau::new(alloc, self.rows.unknowns(), self.rows.width() + 1);
         let most = self.rows.len() + SPARE;
-        let mut rows = FlatRows::with_room(alloc, unknowns, width, most)?;
-        let next = FlatRows::with_room(alloc, unknowns, width, most)?;
-        let mut units = Vec::new(alloc);
-        make_run(&mut units, unknowns, width)?;
-        self.rows.widen(self.units.as_slice(), &mut rows);
-        self.rows = rows;
-        self.next = next;
-        self.units = units;
+        make_rooms(&mut wider.rows, &mut wider.next, &mut wider.units, most)?;
+        self.rows.widen(self.units.as_slice(), &mut wider.rows);
+        *self = wider;
         Ok(())
     }
 
