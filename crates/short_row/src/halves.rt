@@ -1,4 +1,4 @@
-ghost use Rattle.std.specs.Prelude.{◌≡◌, ◌≤◌, pos, ◌++◌, length, take, drop, All, IfSome};
+ghost use Rattle.std.specs.Prelude.{◌≡◌, ◌<◌, ◌≤◌, pos, get_or, ◌++◌, length, take, drop, All, IfSome};
 ghost use Rattle.pip_model.specs.Forms.{combine as combine_of};
 ghost use Rattle.short_numbers.specs.Short.{IsShort, IsHalf, AreHalf};
 ghost use Rattle.short_row.specs.Begun.{finished};
@@ -89,8 +89,19 @@ fn reduce_half(r: &mut [i64], b: i64, s: &[i64]) -> usize
     r.len()
 }
 
-// The same by the list of the places at which s is not 0.
+// The place with number k of those at which s is not 0.
+#[inline(always)]
 #[tactic(auto, using(short_numbers::proofs::Places::listed_within))]
+fn place_in(nonzeros: &Nonzeros, s: &[i64], k: usize) -> usize
+    requires nonzeros { AreNonzeros s.now nonzeros.now }
+    requires number { k < length nonzeros.now }
+    ensures value { result ≡ get_or nonzeros.now k 0 }
+    ensures within { result < length s.now }
+{
+    nonzeros.place(k)
+}
+
+// The same by the list of the places at which s is not 0.
 fn reduce_listed(r: &mut [i64], b: i64, s: &[i64], nonzeros: &Nonzeros) -> usize
     requires terms { AreTerms (pos 1) r.old b s.now }
     requires half { IsHalf b }
@@ -100,7 +111,7 @@ fn reduce_listed(r: &mut [i64], b: i64, s: &[i64], nonzeros: &Nonzeros) -> usize
     ensures short { All IsShort r.new }
 {
     for k in 0..nonzeros.len() {
-        let i = nonzeros.place(k);
+        let i = place_in(nonzeros, s, k);
         if !is_half(r[i]) {
             return i;
         }

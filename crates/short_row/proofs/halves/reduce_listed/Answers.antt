@@ -1,6 +1,5 @@
 use Rattle.short_row.proofs.Words.{arith, rules, ◌≡◌, ◌<◌, sym, pos, length, All-set, IsShort, combined}
 use Rattle.short_row.proofs.Finished.{finished_combined}
-use Rattle.short_numbers.proofs.Places.{listed_within}
 use Rattle.short_row.proofs.Reached.{made_all, made_before, made_behind, reached_first}
 use Rattle.short_row.proofs.halves.reduce_listed.Goals as goal
 
@@ -13,17 +12,16 @@ loop-k-init c = record {
 pub returns-then-not-is_half-clause-value : goal.returns-then-not-is_half-clause-value
 returns-then-not-is_half-clause-value c =
     let less : c.loop-k.k < length c.args.nonzeros.now = omega (arith, c.loop-k-test.true, c.len-k-end.ensures) in
-    let within = listed_within c.args.s.now c.args.nonzeros.now c.loop-k.k c.requires.nonzeros less in
-    let made : c.loop-k.r ≡ combined (pos 1) c.args.r.now c.args.b c.args.s.now c.place-i.result =
-    made_before c.args.b c.args.r.now c.args.s.now c.args.nonzeros.now c.loop-k.k c.place-i.result c.requires.nonzeros less c.place-i.ensures c.requires.terms.lengths c.loop-k.r (search (rules, c.loop-k.invariant.value)) in
-    finished_combined (pos 1) c.args.b c.args.r.now c.args.s.now c.place-i.result c.loop-k.r c.requires.terms.lengths (omega (arith, within, c.place-i.ensures, c.requires.terms.lengths)) made
+    let made : c.loop-k.r ≡ combined (pos 1) c.args.r.now c.args.b c.args.s.now c.place_in-i.result =
+    made_before c.args.b c.args.r.now c.args.s.now c.args.nonzeros.now c.loop-k.k c.place_in-i.result c.requires.nonzeros less c.place_in-i.ensures.value c.requires.terms.lengths c.loop-k.r (search (rules, c.loop-k.invariant.value)) in
+    finished_combined (pos 1) c.args.b c.args.r.now c.args.s.now c.place_in-i.result c.loop-k.r c.requires.terms.lengths (omega (arith, c.place_in-i.ensures.within, c.requires.terms.lengths)) made
 
 pub loop-k-preserved : goal.loop-k-preserved
 loop-k-preserved c = record {
   value =
       let less : c.loop-k.k < length c.args.nonzeros.now = omega (arith, c.loop-k-test.true, c.len-k-end.ensures) in
       let made =
-      made_behind c.args.b c.args.r.now c.args.s.now c.args.nonzeros.now c.loop-k.k c.place-i.result c.requires.nonzeros less c.place-i.ensures c.requires.terms.lengths c.loop-k.r (search (rules, c.loop-k.invariant.value))
+      made_behind c.args.b c.args.r.now c.args.s.now c.args.nonzeros.now c.loop-k.k c.place_in-i.result c.requires.nonzeros less c.place_in-i.ensures.value c.requires.terms.lengths c.loop-k.r (search (rules, c.loop-k.invariant.value))
       c.half_difference.result (search rules) in
       search (rules, made);
   short = All-set IsShort _ _ _ (search rules) c.loop-k.invariant.short;
