@@ -1,5 +1,5 @@
 -- The rows that a pivot makes.
-use Rattle.lane_rows.proofs.Words.{get_or, ◌≡◌, ◌∙◌, ap, sym, subst, ℕ, ◌+◌, ◌*◌, ◌<◌, ◌≤◌, ◌^◌, ℤ, pos, ◌≤ℤ◌, ◌-ℤ◌, ◌*ℤ◌, unsigned_abs, arith, List, [], ◌++◌, length, map, take, drop, ints, unsigned_abs-mul, mul-le, take_at, get_or_default, entry, combine, scale, divided, eliminated, entry-combine, entry-scale, entry-set_other, row_over, same_made, map_made, AreLanes, numbers_of, numbers_at, rows_in, AreUnused, AreLaned, IsLaned, IsVertex, AreTurned, CanTurn, turned}
+use Rattle.lane_rows.proofs.Words.{slice_set, replicate, refl, entry-zeros, get_or, ◌≡◌, ◌∙◌, ap, sym, subst, ℕ, ◌+◌, ◌*◌, ◌<◌, ◌≤◌, ◌^◌, ℤ, pos, ◌≤ℤ◌, ◌-ℤ◌, ◌*ℤ◌, unsigned_abs, arith, List, [], ◌++◌, length, map, take, drop, ints, unsigned_abs-mul, mul-le, take_at, get_or_default, entry, combine, scale, divided, eliminated, entry-combine, entry-scale, entry-set_other, row_over, same_made, map_made, AreLanes, numbers_of, numbers_at, rows_in, AreUnused, AreLaned, IsLaned, IsVertex, AreTurned, CanTurn, turned}
 use Rattle.lane_rows.proofs.Numbers.{row_turned}
 
 no_factor : (l z : ℤ) → pos 1 ≤ℤ l → l *ℤ z ≡ pos 0 → z ≡ pos 0
@@ -78,3 +78,15 @@ can_turn n rows at l m g p h lanes sizes lt = record {
 -- a list that is written through a slice of all of it
 pub put_back : (n : ℕ) (made items : List (List ℤ)) → length made ≡ length items → n ≡ length items → take n (made ++ drop (length made) items) ≡ made
 put_back n made items long is = take_at made (drop (length made) items) n (long ∙ sym is)
+
+-- no rows over no columns
+pub none_laned : (rows : List (List ℤ)) (at : List ℤ) → rows ≡ [] → at ≡ slice_set (replicate 8 (pos 0)) 0 (pos 1) → AreLanes at → AreLaned 0 rows at (pos 1) 1
+none_laned rows at e f lanes = record {
+  few = omega arith;
+  enough = omega arith;
+  each = rw e (λ k d lt. absurd (omega (arith, lt)));
+  vertex = record { lanes = lanes; scale = rw f refl; constants = λ j lt. absurd (omega (arith, lt)); unused = λ k lt. ap (λ (zs : List ℤ). entry zs k) f ∙ entry-set_other (replicate 8 (pos 0)) 0 (pos 1) k (λ is. absurd (omega (arith, lt, is))) ∙ entry-zeros 8 k };
+  positive = omega (arith, ints);
+  common = omega (arith, ints);
+  small = omega arith;
+}

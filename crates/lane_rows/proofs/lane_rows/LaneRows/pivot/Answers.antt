@@ -1,5 +1,5 @@
 use Rattle.lane_rows.proofs.Words.{rules, arith, ◌≡◌, ◌∙◌, ◌+◌, ◌<◌, ◌≤◌, ◌++◌, All, ap, sym, subst, unsigned_abs, ℕ, ℤ, List, length, map, take, drop, to_z, of_z, w32, entry, divided, eliminated, row_over, ScaledTable, numbers_of, rows_in, AreLaned, AreUnused, IsVertex, entry_within, AreLanes, AreTurned, CanTurn}
-use Rattle.lane_rows.proofs.Pivoted.{can_turn, pivoted, put_back, rows_pivoted}
+use Rattle.lane_rows.proofs.Pivoted.{none_laned, can_turn, pivoted, put_back, rows_pivoted}
 use Rattle.lane_rows.proofs.Views.{columns_are}
 use Rattle.lane_rows.proofs.lane_rows.LaneRows.pivot.Goals as goal
 
@@ -20,6 +20,9 @@ vertex-self-inside-requires-clause-rows c =
     let long : length c.turn_rows.new.rows ≡ length c.self.inside.rows.items = c.in-Some.ensures.made.long ∙ ap length (search rules) in
     let back = put_back c.self.inside.rows.len c.turn_rows.new.rows c.self.inside.rows.items long (search rules) in
     subst (All AreLanes) (sym (c.deref.ensures.value ∙ back)) c.in-Some.ensures.made.lanes
+
+pub invariant_of-self : goal.invariant_of-self
+invariant_of-self c = none_laned c.clear-in-None.new.self.items c.unit-self-inside.result c.clear-in-None.ensures.items c.unit-self-inside.ensures.value c.unit-self-inside.ensures.lanes
 
 pub invariant_of-self-in-Some : goal.invariant_of-self-in-Some
 invariant_of-self-in-Some c =
