@@ -64,21 +64,27 @@ module _ (P : Problem) (q : TrailForms) (c : Certificate) (w : Work) (t : Tree) 
 
 -- ---- what holds at the nodes below
 
-pub second_at : (P : Problem) (q q2 : TrailForms) (t : Tree) (v : List ℤ) (a b : Tree) → IsAt P q t → t ≡ If v a b → q2 ≡ record q { forms = q.forms ++ opposite v ∷ [] } → IsAt P q2 b
-second_at P q q2 t v a b at is up =
+pub select_at : (P : Problem) (q q1 : TrailForms) (t : Tree) (v f : List ℤ) (a b : Tree) → IsAt P q t → t ≡ If v a b → q1 ≡ record q { forms = q.forms ++ f ∷ [] } → IsAt P q1 a × IsAt P q1 b
+select_at P q q1 t v f a b at is up =
     let scoped : (is_form q.scope v && is_scoped q.scope a && is_scoped q.scope b) ≡ true = subst (λ (s : Tree). is_scoped q.scope s ≡ true) is at.scoped in
     let fit : (all_fit v && tree_fits a && tree_fits b) ≡ true = subst (λ (s : Tree). tree_fits s ≡ true) is at.fits in
     let whole : (are_whole P.unknowns a && are_whole P.unknowns b) ≡ true = subst (λ (s : Tree). are_whole P.unknowns s ≡ true) is at.whole in
     let depth : nesting t ≡ nesting (If v a b) = ap nesting is in
-    subst (λ (x : TrailForms). IsAt P x b) (sym up) record {
-      some = at.some;
-      scope = at.scope;
-      reads = at.reads;
-      scoped = (both (is_form q.scope v && is_scoped q.scope a) (is_scoped q.scope b) scoped).1;
-      fits = (both (all_fit v && tree_fits a) (tree_fits b) fit).1;
-      room = omega (arith, at.room);
-      whole = (both (are_whole P.unknowns a) (are_whole P.unknowns b) whole).1;
-    }
+    let scopes = both (is_form q.scope v && is_scoped q.scope a) (is_scoped q.scope b) scoped in
+    let fits = both (all_fit v && tree_fits a) (tree_fits b) fit in
+    let wholes = both (are_whole P.unknowns a) (are_whole P.unknowns b) whole in
+    subst (λ (x : TrailForms). IsAt P x a × IsAt P x b) (sym up) (
+      record {
+        some = at.some;
+        scope = at.scope;
+        reads = at.reads;
+        scoped = (both (is_form q.scope v) (is_scoped q.scope a) scopes.0).1;
+        fits = (both (all_fit v) (tree_fits a) fits.0).1;
+        room = omega (arith, at.room);
+        whole = wholes.0;
+      },
+      record { some = at.some; scope = at.scope; reads = at.reads; scoped = scopes.1; fits = fits.1; room = omega (arith, at.room); whole = wholes.1 },
+    )
 
 pub below_at : (P : Problem) (q q1 : TrailForms) (t : Tree) (v : List ℤ) (d : ℤ) (a : Tree) → IsAt P q t → t ≡ NewParm v d a → q1 ≡ below_quotient q v d → IsAt P q1 a
 below_at P q q1 t v d a at is down =
