@@ -1,8 +1,9 @@
 ghost use Rattle.std.specs.Prelude.{◌≡◌, IfOk, IfSome, Some, [], drop, option_map};
 ghost use Rattle.clap.specs.Words.{app_of, rows_of, found_of};
+ghost use Rattle.program_model.specs.Commands.{Simplify, Pieces};
 ghost use Rattle.pip_words.specs.Alone.{app_alone, spelling_named};
 ghost use Rattle.pip_words.specs.Arguments.{app_given};
-ghost use Rattle.pip_words.specs.Words.{Gives, meaning_of, pip_app, command_named, named_in, spellings, solve_of, eval_of, trial_of};
+ghost use Rattle.pip_words.specs.Words.{Gives, meaning_of, pip_app, command_named, named_in, spellings, solve_of, eval_of, counted_of, trial_of};
 
 use crate::arguments::{Argument, Entry, first_named, with_commands};
 use crate::command::{Command, PiecesOptions, SimplifyOptions, SolveOptions, TrialOptions};
@@ -110,38 +111,46 @@ pub(crate) fn command_of_name(
     ensures { Gives meaning_of (command_named name.now (rows_of (found_of matches.now))) result }
 {
     if name == "solve" {
-        solve(matches)
+        solve(matches).ok_or(WordsRefusal::Usage)
     } else if name == "eval" {
         eval(alloc, matches)
-    } else if name == "simplify" {
-        let params = parameter_count(matches).ok_or(WordsRefusal::Usage)?;
-        Ok(Command::Simplify(SimplifyOptions { params }))
-    } else if name == "check" {
-        Ok(Command::Check)
-    } else if name == "share" {
-        Ok(Command::Share)
     } else {
-        later_command(name, matches)
+        later_command(name, matches).ok_or(WordsRefusal::Usage)
     }
 }
 
-// The same of a name that stands behind those five.
-fn later_command(name: &str, matches: &ArgMatches<'_>) -> Result<Command, WordsRefusal>
-    ensures { Gives meaning_of (named_in name.now (rows_of (found_of matches.now)) (drop 5 spellings)) result }
+// The same of a name that stands behind those two.
+fn later_command(name: &str, matches: &ArgMatches<'_>) -> Option<Command>
+    ensures { option_map meaning_of result ≡ named_in name.now (rows_of (found_of matches.now)) (drop 2 spellings) }
 {
-    if name == "trial" {
+    if name == "simplify" {
+        simplify(matches)
+    } else if name == "check" {
+        Some(Command::Check)
+    } else if name == "share" {
+        Some(Command::Share)
+    } else if name == "trial" {
         trial(matches)
     } else if name == "pieces" {
-        let params = parameter_count(matches).ok_or(WordsRefusal::Usage)?;
-        Ok(Command::Pieces(PiecesOptions { params }))
-    } else if name == "restrict" {
-        Ok(Command::Restrict(walk(matches).ok_or(WordsRefusal::Usage)?))
-    } else if name == "same" {
-        Ok(Command::Same(walk(matches).ok_or(WordsRefusal::Usage)?))
-    } else if name == "least" {
-        Ok(Command::Least(walk(matches).ok_or(WordsRefusal::Usage)?))
+        pieces(matches)
     } else {
-        Err(WordsRefusal::Usage)
+        walking_command(name, matches)
+    }
+}
+
+// The same of a name that stands behind those seven: each of these commands has the options of a walk.
+fn walking_command(name: &str, matches: &ArgMatches<'_>) -> Option<Command>
+    ensures { option_map meaning_of result ≡ named_in name.now (rows_of (found_of matches.now)) (drop 7 spellings) }
+{
+    let options = walk(matches)?;
+    if name == "restrict" {
+        Some(Command::Restrict(options))
+    } else if name == "same" {
+        Some(Command::Same(options))
+    } else if name == "least" {
+        Some(Command::Least(options))
+    } else {
+        None
     }
 }
 
@@ -167,17 +176,17 @@ pub(crate) fn command_without_values(alloc: Global, name: &str) -> Option<Comman
     }
 }
 
-fn solve(matches: &ArgMatches<'_>) -> Result<Command, WordsRefusal>
-    ensures { Gives meaning_of (solve_of (rows_of (found_of matches.now))) result }
+fn solve(matches: &ArgMatches<'_>) -> Option<Command>
+    ensures { option_map meaning_of result ≡ solve_of (rows_of (found_of matches.now)) }
 {
     let polylib = is_set(matches, names::POLYLIB);
     let simplify = is_set(matches, names::SIMPLIFY);
     let certificate = is_set(matches, names::CERTIFICATE);
     if simplify && certificate {
-        return Err(WordsRefusal::Usage);
+        return None;
     }
-    let limits = limits(matches).ok_or(WordsRefusal::Usage)?;
-    Ok(Command::Solve(SolveOptions {
+    let limits = limits(matches)?;
+    Some(Command::Solve(SolveOptions {
         polylib,
         simplify,
         certificate,
@@ -198,13 +207,24 @@ fn eval(alloc: Global, matches: &ArgMatches<'_>) -> Result<Command, WordsRefusal
     }
 }
 
-fn trial(matches: &ArgMatches<'_>) -> Result<Command, WordsRefusal>
-    ensures { Gives meaning_of (trial_of (rows_of (found_of matches.now))) result }
+fn simplify(matches: &ArgMatches<'_>) -> Option<Command>
+    ensures { option_map meaning_of result ≡ counted_of Simplify (rows_of (found_of matches.now)) }
 {
-    let seed = required_number(matches, names::SEED, u64::MAX).ok_or(WordsRefusal::Usage)?;
-    let count = required_number(matches, names::COUNT, MOST_DRAWN).ok_or(WordsRefusal::Usage)?;
-    Ok(Command::Trial(TrialOptions {
-        seed,
-        count: count as u16,
-    }))
+    let params = parameter_count(matches)?;
+    Some(Command::Simplify(SimplifyOptions { params }))
+}
+
+fn pieces(matches: &ArgMatches<'_>) -> Option<Command>
+    ensures { option_map meaning_of result ≡ counted_of Pieces (rows_of (found_of matches.now)) }
+{
+    let params = parameter_count(matches)?;
+    Some(Command::Pieces(PiecesOptions { params }))
+}
+
+fn trial(matches: &ArgMatches<'_>) -> Option<Command>
+    ensures { option_map meaning_of result ≡ trial_of (rows_of (found_of matches.now)) }
+{
+    let seed = required_number(matches, names::SEED, u64::MAX)?;
+    let count = required_number(matches, names::COUNT, MOST_DRAWN)? as u16;
+    Some(Command::Trial(TrialOptions { seed, count }))
 }

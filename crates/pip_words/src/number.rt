@@ -12,7 +12,7 @@ pub(crate) fn number(text: &[u8], most: u128) -> Option<u128>
     }
     let mut value: u128 = 0;
     for byte in text {
-        if !matches!(*byte, b'0'..=b'9') {
+        if !byte.is_ascii_digit() {
             return None;
         }
         let digit = u128::from(*byte - b'0');

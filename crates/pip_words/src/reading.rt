@@ -64,7 +64,7 @@ fn parsed(
     let command = made_command(alloc, entry)?;
     match command.try_get_matches_from(words) {
         Ok(matches) => command_of_name(alloc, name, &matches),
-        Err(error) => Err(refusal(&error)),
+        Err(error) => Err(refusal(error)),
     }
 }
 
@@ -75,13 +75,13 @@ fn unnamed(alloc: Global, words: &[String]) -> Result<Command, WordsRefusal>
     let pip = pip(alloc)?;
     match pip.try_get_matches_from(words) {
         Ok(matches) => command(alloc, &matches),
-        Err(error) => Err(refusal(&error)),
+        Err(error) => Err(refusal(error)),
     }
 }
 
 // Why `clap` refuses the words.
-fn refusal(error: &Error) -> WordsRefusal
-    ensures { result ≡ refused.Usage → kind_of error.now ≢ OutOfMemory }
+fn refusal(error: Error) -> WordsRefusal
+    ensures { result ≡ refused.Usage → kind_of error ≢ OutOfMemory }
 {
     match error.kind() {
         ErrorKind::OutOfMemory => WordsRefusal::WantOfMemory,
