@@ -7,7 +7,7 @@ ghost use Rattle.affine_forms.specs.Checks.{Fits, is_overflow};
 use affine_forms::{Overflow, plus, times};
 
 // 2^125.
-const NARROW_END: i128 = 0x2000_0000_0000_0000_0000_0000_0000_0000;
+const SUMMAND_END: i128 = 0x2000_0000_0000_0000_0000_0000_0000_0000;
 
 // Whether a number has 64 bits.
 fn is_short(z: i128) -> bool
@@ -29,14 +29,14 @@ fn short_sum(sum: i128, m: i128, c: i128) -> i128
 }
 
 // Whether a number has 126 bits, so that the sum of two such fits.
-fn is_narrow(z: i128) -> bool
+fn is_summand(z: i128) -> bool
     ensures { IsTrue result → unsigned_abs z ≤ 2 ^ 125 }
 {
-    -NARROW_END <= z && z < NARROW_END
+    -SUMMAND_END <= z && z < SUMMAND_END
 }
 
 // The next entry where m is 1, of numbers of 126 bits.
-fn narrow_sum(sum: i128, c: i128) -> i128
+fn unit_sum(sum: i128, c: i128) -> i128
     requires sum { unsigned_abs sum ≤ 2 ^ 125 }
     requires c { unsigned_abs c ≤ 2 ^ 125 }
     ensures value { result ≡ sum +ℤ pos 1 *ℤ c }
@@ -64,8 +64,8 @@ pub(crate) fn add_product(sum: i128, m: i128, c: i128) -> Result<i128, Overflow>
     ensures value { IfOk result (λ z. z ≡ sum +ℤ m *ℤ c) }
     ensures fits { IfOk result Fits }
 {
-    if m == 1 && is_narrow(sum) && is_narrow(c) {
-        return Ok(narrow_sum(sum, c));
+    if m == 1 && is_summand(sum) && is_summand(c) {
+        return Ok(unit_sum(sum, c));
     }
     if is_short(sum) && is_short(m) && is_short(c) {
         return Ok(short_sum(sum, m, c));

@@ -1,5 +1,5 @@
 -- The parts of a point's rows: those of the columns, those that forms make, those of cuts. Which of them are below 0.
-use Rattle.lane_run.proofs.Words.{◌≡◌, ◌∙◌, refl, ap, sym, ℕ, zero, suc, ◌+◌, ◌-◌, ◌<◌, ◌≤◌, ℤ, pos, negsuc, ◌≤ℤ◌, ◌<ℤ◌, arith, Bool, true, false, List, [], ◌∷◌, ◌++◌, length, get_or, take, drop, map, length-drop, ◌&&◌, ints, get_or-take, get_or-drop, length-take-le, map-append, take_at, drop_at, is_nonneg, entry, constant, Row, row_at, form_row, divided, combination, by_form, place, made, wide_by_form, row_over, AreScaled, kept_of, ScaledTable, AreUnused, constants_are, is_above, AreAbove, IsFirstRowBelow, made_rows, value_of, run_rows, forms_of}
+use Rattle.lane_run.proofs.Words.{◌≡◌, ◌∙◌, refl, ap, sym, ℕ, zero, suc, ◌+◌, ◌-◌, ◌<◌, ◌≤◌, ℤ, pos, negsuc, ◌≤ℤ◌, ◌<ℤ◌, arith, Bool, true, false, List, [], ◌∷◌, ◌++◌, length, get_or, take, drop, map, length-drop, ◌&&◌, ints, get_or-take, get_or-drop, length-take-le, map-append, take_at, drop_at, is_nonneg, entry, constant, Row, row_at, form_row, divided, combination, by_form, place, made, wide_by_form, row_over, AreScaled, kept_of, ScaledTable, AreUnused, constants_are, is_not_below, AreNotBelow, IsFirstRowBelow, made_rows, value_of, run_rows, forms_of}
 use Rattle.std.specs.List.{list_all}
 use Rattle.form_laws.proofs.Divided.{same_row}
 use Rattle.form_laws.proofs.Turning.{length_counted}
@@ -23,7 +23,7 @@ alone (z ∷ []) e = and_true (is_nonneg z)
 alone _ e = absurd (omega arith)
 
 -- of the row of these lanes
-pub lanes_sign : (n : ℕ) (l : ℤ) (x : List ℤ) (r : Row) → pos 1 ≤ℤ l → n < length x → divided (row_over n l (numbers_of n x)) ≡ r → length r.constant ≡ 1 → is_nonneg (entry x 0) ≡ is_above r
+pub lanes_sign : (n : ℕ) (l : ℤ) (x : List ℤ) (r : Row) → pos 1 ≤ℤ l → n < length x → divided (row_over n l (numbers_of n x)) ≡ r → length r.constant ≡ 1 → is_nonneg (entry x 0) ≡ is_not_below r
 lanes_sign n l x r h long is one =
     sym (and_true (is_nonneg (entry x 0)))
     ∙ ap (list_all is_nonneg) (sym (constants_are n x long))
@@ -32,7 +32,7 @@ lanes_sign n l x r h long is one =
     ∙ alone r.constant one
 
 -- of the row that a form makes
-pub made_sign : (n : ℕ) (l : ℤ) (basis : List Row) (f : List ℤ) → pos 1 ≤ℤ l → is_nonneg (place 0 (combination n 0 l basis f)) ≡ is_above (by_form n 0 l basis f)
+pub made_sign : (n : ℕ) (l : ℤ) (basis : List Row) (f : List ℤ) → pos 1 ≤ℤ l → is_nonneg (place 0 (combination n 0 l basis f)) ≡ is_not_below (by_form n 0 l basis f)
 made_sign n l basis f h =
     let c = combination n 0 l basis f in
     let long : length (combination n 0 l basis f).coefs ≡ n = length_counted (λ k. _) n in
@@ -72,10 +72,10 @@ module _ (t : ScaledTable) where
     pub one_constant : (j : ℕ) → j < length t.rows → length (row_at t.rows j).constant ≡ 1
     one_constant j lt = (scaled.each j (form_row 0 []) lt).wide.constant
 
-    pub sign_at : (j : ℕ) → j < length t.rows → list_all is_nonneg (row_at t.rows j).constant ≡ is_above (row_at t.rows j)
+    pub sign_at : (j : ℕ) → j < length t.rows → list_all is_nonneg (row_at t.rows j).constant ≡ is_not_below (row_at t.rows j)
     sign_at j lt = alone (row_at t.rows j).constant (one_constant j lt)
 
-    pub lanes_at : (j : ℕ) (x : List ℤ) → j < length t.rows → n < length x → divided (row_over n t.scale (numbers_of n x)) ≡ row_at t.rows j → is_nonneg (entry x 0) ≡ is_above (row_at t.rows j)
+    pub lanes_at : (j : ℕ) (x : List ℤ) → j < length t.rows → n < length x → divided (row_over n t.scale (numbers_of n x)) ≡ row_at t.rows j → is_nonneg (entry x 0) ≡ is_not_below (row_at t.rows j)
     lanes_at j x lt long is = lanes_sign n t.scale x (row_at t.rows j) scaled.positive long is (one_constant j lt)
 
     -- ---- the columns' rows
@@ -86,10 +86,10 @@ module _ (t : ScaledTable) where
     pub column_at : (j : ℕ) → j < n → row_at basis j ≡ row_at t.rows j
     column_at j lt = get_or-take n t.rows j (form_row 0 []) lt
 
-    column_sign : (j : ℕ) (b : Bool) → j < n → list_all is_nonneg (row_at t.rows j).constant ≡ b → is_above (row_at basis j) ≡ b
-    column_sign j b lt e = ap is_above (column_at j lt) ∙ sym (sign_at j (omega (arith, lt, enough))) ∙ e
+    column_sign : (j : ℕ) (b : Bool) → j < n → list_all is_nonneg (row_at t.rows j).constant ≡ b → is_not_below (row_at basis j) ≡ b
+    column_sign j b lt e = ap is_not_below (column_at j lt) ∙ sym (sign_at j (omega (arith, lt, enough))) ∙ e
 
-    pub columns_above : ((j : ℕ) → j < n → list_all is_nonneg (row_at t.rows j).constant ≡ true) → AreAbove basis
+    pub columns_above : ((j : ℕ) → j < n → list_all is_nonneg (row_at t.rows j).constant ≡ true) → AreNotBelow basis
     columns_above all j lt = let s : j < n = omega (arith, lt, columns_long) in column_sign j true s (all j s)
 
     pub column_below : (k : ℕ) (row : List ℤ) → k < n → list_all is_nonneg (row_at t.rows k).constant ≡ false → ((j : ℕ) → j < k → list_all is_nonneg (row_at t.rows j).constant ≡ true)
@@ -109,17 +109,17 @@ module _ (t : ScaledTable) where
     cut_at : (j : ℕ) → row_at (drop n t.rows) j ≡ row_at t.rows (n + j)
     cut_at j = get_or-drop n t.rows j (form_row 0 [])
 
-    cuts_above : (e : ℕ) → ((j : ℕ) → n ≤ j → j < e → is_above (row_at t.rows j) ≡ true) → (j : ℕ) → n + j < e → is_above (row_at (drop n t.rows) j) ≡ true
-    cuts_above e all j lt = ap is_above (cut_at j) ∙ all (n + j) (omega arith) lt
+    cuts_above : (e : ℕ) → ((j : ℕ) → n ≤ j → j < e → is_not_below (row_at t.rows j) ≡ true) → (j : ℕ) → n + j < e → is_not_below (row_at (drop n t.rows) j) ≡ true
+    cuts_above e all j lt = ap is_not_below (cut_at j) ∙ all (n + j) (omega arith) lt
 
-    pub cut_is_below : (i : ℕ) (row : List ℤ) → n ≤ i → i < length t.rows → is_above (row_at t.rows i) ≡ false → ((j : ℕ) → n ≤ j → j < i → is_above (row_at t.rows j) ≡ true)
+    pub cut_is_below : (i : ℕ) (row : List ℤ) → n ≤ i → i < length t.rows → is_not_below (row_at t.rows i) ≡ false → ((j : ℕ) → n ≤ j → j < i → is_not_below (row_at t.rows j) ≡ true)
         → AreLanes row → AreUnused n row → divided (row_over n t.scale (numbers_of n row)) ≡ row_at t.rows i → IsFirstRowBelow t (drop n t.rows) row
     cut_is_below i row le lt below before lanes unused same =
         let here : row_at (drop n t.rows) (i - n) ≡ row_at t.rows i = cut_at (i - n) ∙ ap (row_at t.rows) (omega (arith, le)) in
         record {
           place = i - n;
           within = omega (arith, le, lt, length-drop n t.rows);
-          below = ap is_above here ∙ below;
+          below = ap is_not_below here ∙ below;
           before = λ j less. cuts_above i before j (omega (arith, less, le));
           lanes = lanes;
           unused = unused;
@@ -140,10 +140,10 @@ module _ (t : ScaledTable) where
       made_long : length (made_rows t A) ≡ length A
       made_long = length_map (by_form n 0 t.scale basis) (forms_of n A) ∙ length_map (numbers_of n) A
 
-      made_at_sign : (j : ℕ) (b : Bool) → j < length A → is_nonneg (value_of t (get_or A j [])) ≡ b → is_above (row_at (made_rows t A) j) ≡ b
-      made_at_sign j b lt e = ap is_above (made_at j lt) ∙ sym (made_sign n t.scale basis (numbers_of n (get_or A j [])) scaled.positive) ∙ e
+      made_at_sign : (j : ℕ) (b : Bool) → j < length A → is_nonneg (value_of t (get_or A j [])) ≡ b → is_not_below (row_at (made_rows t A) j) ≡ b
+      made_at_sign j b lt e = ap is_not_below (made_at j lt) ∙ sym (made_sign n t.scale basis (numbers_of n (get_or A j [])) scaled.positive) ∙ e
 
-      pub made_above : ((j : ℕ) → j < length A → is_nonneg (value_of t (get_or A j [])) ≡ true) → AreAbove (made_rows t A)
+      pub made_above : ((j : ℕ) → j < length A → is_nonneg (value_of t (get_or A j [])) ≡ true) → AreNotBelow (made_rows t A)
       made_above all j lt = let s : j < length A = omega (arith, lt, made_long) in made_at_sign j true s (all j s)
 
       pub made_below : (k : ℕ) (row : List ℤ) → k < length A → is_nonneg (value_of t (get_or A k [])) ≡ false → ((j : ℕ) → j < k → is_nonneg (value_of t (get_or A j [])) ≡ true)

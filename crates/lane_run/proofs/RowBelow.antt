@@ -1,5 +1,5 @@
 -- The first row below 0 of a point's run: of the columns, of the forms, of the cuts.
-use Rattle.lane_run.proofs.Words.{◌≡◌, sym, subst, ℕ, ◌+◌, ◌*◌, ◌^◌, ◌<◌, ℤ, arith, None, List, ◌++◌, length, get_or, take, drop, length-append, All, mul-le, get_or_append_left, get_or-append-add, Row, norm, ScaledTable, negative_from, IsWithin, AreWithin, run_rows, forms_of, IsRowBelow, AreAbove, IsFirstRowBelow, IsReadBy, made_rows}
+use Rattle.lane_run.proofs.Words.{◌≡◌, sym, subst, ℕ, ◌+◌, ◌*◌, ◌^◌, ◌<◌, ℤ, arith, None, List, ◌++◌, length, get_or, take, drop, length-append, All, mul-le, get_or_append_left, get_or-append-add, Row, norm, ScaledTable, negative_from, IsWithin, AreWithin, run_rows, forms_of, IsRowBelow, AreNotBelow, IsFirstRowBelow, IsReadBy, made_rows}
 use Rattle.lane_run.proofs.FirstBelow.{none_negative, first_negative, both_above, first_front, first_behind}
 use Rattle.lane_run.proofs.Parts.{in_four_parts}
 
@@ -48,23 +48,23 @@ module _ (t : ScaledTable) (A B : List (List ℤ)) where
   pub of_column : (row : List ℤ) → IsFirstRowBelow t columns row → IsRowBelow t (forms_of t.unknowns (A ++ B)) row
   of_column row h = of_parts row (first_front columns behind t row h)
 
-  module _ (above : AreAbove columns) where
+  module _ (above : AreNotBelow columns) where
     pub of_form : (row : List ℤ) → IsFirstRowBelow t (made_rows t A) row → IsRowBelow t (forms_of t.unknowns (A ++ B)) row
     of_form row h = of_parts row (first_behind columns behind t row above
         (first_front (made_rows t A ++ made_rows t B) cuts t row (first_front (made_rows t A) (made_rows t B) t row h)))
 
-    module _ (forms : AreAbove (made_rows t A)) where
+    module _ (forms : AreNotBelow (made_rows t A)) where
       pub of_further : (row : List ℤ) → IsFirstRowBelow t (made_rows t B) row → IsRowBelow t (forms_of t.unknowns (A ++ B)) row
       of_further row h = of_parts row (first_behind columns behind t row above
           (first_front (made_rows t A ++ made_rows t B) cuts t row (first_behind (made_rows t A) (made_rows t B) t row forms h)))
 
-      module _ (further : AreAbove (made_rows t B)) where
-        both : AreAbove (made_rows t A ++ made_rows t B)
+      module _ (further : AreNotBelow (made_rows t B)) where
+        both : AreNotBelow (made_rows t A ++ made_rows t B)
         both = both_above (made_rows t A) (made_rows t B) forms further
 
         pub of_cut : (row : List ℤ) → IsFirstRowBelow t cuts row → IsRowBelow t (forms_of t.unknowns (A ++ B)) row
         of_cut row h = of_parts row (first_behind columns behind t row above (first_behind (made_rows t A ++ made_rows t B) cuts t row both h))
 
-        pub none_of_all : AreAbove cuts → negative_from 0 (run_rows t (forms_of t.unknowns (A ++ B))) ≡ None
+        pub none_of_all : AreNotBelow cuts → negative_from 0 (run_rows t (forms_of t.unknowns (A ++ B))) ≡ None
         none_of_all last = subst (λ (R : List Row). negative_from 0 R ≡ None) (sym (in_four_parts t A B))
             (none_negative (columns ++ behind) (both_above columns behind above (both_above (made_rows t A ++ made_rows t B) cuts both last)))

@@ -6,7 +6,7 @@ pub use Rattle.std.proofs.lemmas.List.{get_or_append_left, get_or-append-add, ge
 pub use Rattle.pip_model.specs.Rows.{Row, row_at, form_row, divided, eliminated, pivot, pivot_listed, entering, entering_of, entering_listed, candidates, first_fraction, fraction_from}
 pub use Rattle.point_turns.specs.Turns.{negative_from, node_of, counted_cut}
 pub use Rattle.scaled_laws.specs.Tables.{ScaledTable, with_row}
-pub use Rattle.lane_run.specs.Below.{is_above, AreAbove, IsFirstRowBelow, made_rows, value_of, IsReadBy}
+pub use Rattle.lane_run.specs.Below.{is_not_below, AreNotBelow, IsFirstRowBelow, made_rows, value_of, IsReadBy}
 pub use Rattle.form_laws.specs.Bounds.{norm, AllShort}
 pub use Rattle.lane_rows.proofs.Numbers.{numbers_long, constants_are}
 pub use Rattle.lane_run.specs.Within.{IsWithin, AreWithin}

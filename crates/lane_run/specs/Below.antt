@@ -12,18 +12,18 @@ use Rattle.lane_rows.specs.Laned.{numbers_of, AreUnused}
 use Rattle.lane_run.specs.Runs.{forms_of}
 
 -- the constant of a row without parameters is at least 0
-abbrev pub is_above : Row → Bool
-is_above r = is_nonneg (constant r.constant)
+abbrev pub is_not_below : Row → Bool
+is_not_below r = is_nonneg (constant r.constant)
 
-abbrev pub AreAbove : List Row → Type 0
-AreAbove rows = (j : ℕ) → j < length rows → is_above (row_at rows j) ≡ true
+abbrev pub AreNotBelow : List Row → Type 0
+AreNotBelow rows = (j : ℕ) → j < length rows → is_not_below (row_at rows j) ≡ true
 
 -- these lanes are the numbers of the first of these rows that is below 0
 pub record IsFirstRowBelow (t : ScaledTable) (rows : List Row) (row : List ℤ) : Type 0 where
   pub place : ℕ
   pub within : place < length rows
-  pub below : is_above (row_at rows place) ≡ false
-  pub before : (j : ℕ) → j < place → is_above (row_at rows j) ≡ true
+  pub below : is_not_below (row_at rows place) ≡ false
+  pub before : (j : ℕ) → j < place → is_not_below (row_at rows j) ≡ true
   pub lanes : AreLanes row
   pub unused : AreUnused t.unknowns row
   pub same : divided (row_over t.unknowns t.scale (numbers_of t.unknowns row)) ≡ row_at rows place

@@ -7,7 +7,7 @@ ghost use Rattle.point_turns.specs.Points.{IsTurnOf};
 ghost use Rattle.point_turns.specs.Turns.{negative_from, node_of};
 ghost use Rattle.lanes.specs.Narrow.{AreLanes};
 ghost use Rattle.lane_rows.specs.Laned.{AreUnused};
-ghost use Rattle.lane_run.specs.Below.{AreAbove, IsFirstRowBelow, IsReadBy, made_rows};
+ghost use Rattle.lane_run.specs.Below.{AreNotBelow, IsFirstRowBelow, IsReadBy, made_rows};
 ghost use Rattle.lane_run.specs.Within.{AreWithin};
 ghost use Rattle.lane_run.specs.Runs.{run_rows, forms_of, AreModest, IsRowBelow};
 
@@ -23,7 +23,7 @@ use short_run::Stop;
 fn form_below(rows: &LaneRows, forms: &[Lanes]) -> Option<Lanes>
     requires { All (IsReadBy rows.now.most) forms.now }
     ensures some { IfSome result (IsFirstRowBelow rows.now (made_rows rows.now forms.now)) }
-    ensures none { IfNone result (AreAbove (made_rows rows.now forms.now)) }
+    ensures none { IfNone result (AreNotBelow (made_rows rows.now forms.now)) }
 {
     let _ = (rows.scale(), rows.unknowns());
     for form in forms {
@@ -38,7 +38,7 @@ fn form_below(rows: &LaneRows, forms: &[Lanes]) -> Option<Lanes>
 #[inline(always)]
 fn cut_below(rows: &LaneRows) -> Option<Lanes>
     ensures some { IfSome result (IsFirstRowBelow rows.now (drop rows.now.unknowns rows.now.rows)) }
-    ensures none { IfNone result (AreAbove (drop rows.now.unknowns rows.now.rows)) }
+    ensures none { IfNone result (AreNotBelow (drop rows.now.unknowns rows.now.rows)) }
 {
     let _ = rows.scale();
     for i in rows.unknowns()..rows.rows() {

@@ -1,5 +1,5 @@
 -- The forms that are known stay known while the context stays.
-use Rattle.node_turn.proofs.Words.{◌≡◌, ap, ◌⊎◌, inl, inr, ℕ, ℤ, ◌-◌, List, [], ◌∷◌, ◌++◌, length, arith, All-push, All-same, Work, Budget, Done, Plus, class, Counts, ScopedForms, IsKeptContext, KnownForm, IsKnownForm, AreKnown}
+use Rattle.node_turn.proofs.Words.{◌≡◌, ap, ◌⊎◌, inl, inr, ℕ, ℤ, ◌-◌, List, [], ◌∷◌, ◌++◌, length, arith, All-push, All-same, Work, Budget, Done, Plus, class, Counts, ScopedForms, IsKeptContext, NonnegativeForm, IsKnownForm, AreKnown}
 use Rattle.run_laws.proofs.CountedAgain.{class-again}
 
 -- a form whose class was Plus is known with what was counted
@@ -11,19 +11,19 @@ found_known K w entries before after counts e pivots cuts splits = record {
 }
 
 module _ (K : List (List ℤ)) (w : ℕ) (b : Budget) where
-  pub known_none : (now : List KnownForm) → now ≡ [] → AreKnown K w b now
-  known_none now e = λ k d h. absurd (omega (arith, ap (λ (xs : List KnownForm). length xs) e))
+  pub known_none : (now : List NonnegativeForm) → now ≡ [] → AreKnown K w b now
+  known_none now e = λ k d h. absurd (omega (arith, ap (λ (xs : List NonnegativeForm). length xs) e))
 
-  pub known_same : (old now : List KnownForm) → now ≡ old → AreKnown K w b old → AreKnown K w b now
+  pub known_same : (old now : List NonnegativeForm) → now ≡ old → AreKnown K w b old → AreKnown K w b now
   known_same old now e h = All-same (IsKnownForm K w b) now old e h
 
-  pub known_more : (old now : List KnownForm) (more : KnownForm) → (now ≡ old ++ more ∷ []) ⊎ (now ≡ old) → AreKnown K w b old → IsKnownForm K w b more → AreKnown K w b now
+  pub known_more : (old now : List NonnegativeForm) (more : NonnegativeForm) → (now ≡ old ++ more ∷ []) ⊎ (now ≡ old) → AreKnown K w b old → IsKnownForm K w b more → AreKnown K w b now
   known_more old now more (inl e) h k = All-same (IsKnownForm K w b) now (old ++ more ∷ []) e (All-push (IsKnownForm K w b) old more h k)
   known_more old now more (inr e) h k = known_same old now e h
 
 -- on the same context with the same budget
-pub known_on : (k now : ScopedForms) (b c : Budget) (known : List KnownForm) → IsKeptContext k now → c ≡ b → AreKnown k.forms k.width b known → AreKnown now.forms now.width c known
+pub known_on : (k now : ScopedForms) (b c : Budget) (known : List NonnegativeForm) → IsKeptContext k now → c ≡ b → AreKnown k.forms k.width b known → AreKnown now.forms now.width c known
 known_on k now b c known kept e h = rw (kept.forms, kept.width, e) h
 
-pub at_start : (k now : ScopedForms) (b c : Budget) (known : List KnownForm) → IsKeptContext k now → c ≡ b → AreKnown now.forms now.width c known → AreKnown k.forms k.width b known
+pub at_start : (k now : ScopedForms) (b c : Budget) (known : List NonnegativeForm) → IsKeptContext k now → c ≡ b → AreKnown now.forms now.width c known → AreKnown k.forms k.width b known
 at_start k now b c known kept e h = rw (← kept.forms, ← kept.width, ← e) h

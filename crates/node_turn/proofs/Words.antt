@@ -23,6 +23,6 @@ pub use Rattle.run_counts.proofs.Counting.{counted_on, counted_none}
 pub use Rattle.node_turn.specs.declared.path.Path.{Path}
 pub use Rattle.node_turn.specs.Nodes.{node_of, setting_of}
 pub use Rattle.node_turn.specs.Turns.{turn_of}
-pub use Rattle.node_turn.specs.Known.{KnownForm, IsKnownForm, AreKnown}
+pub use Rattle.node_turn.specs.Known.{NonnegativeForm, IsKnownForm, AreKnown}
 pub use Rattle.node_turn.specs.Signs.{scanned, IsCondition, signs_of}
-pub use Rattle.node_turn.specs.declared.known.KnownPlace.{KnownPlace}
+pub use Rattle.node_turn.specs.declared.known.NonnegativePlace.{NonnegativePlace}

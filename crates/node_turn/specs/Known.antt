@@ -6,15 +6,15 @@ use Rattle.run_counts.specs.Counts.{HasRoomFor, counted_more}
 use Rattle.run_counts.specs.declared.work.Counts.{Counts}
 
 -- a form that was found at least 0 on a context, and what was counted for that
-pub record KnownForm : Type 0 where
+pub record NonnegativeForm : Type 0 where
   pub form : List ℤ
   pub counts : Counts
 
 -- after any work of the budget that has room for its counts, the form's class on a context of w places is Plus,
 -- with these counts
-pub record IsKnownForm (K : List (List ℤ)) (w : ℕ) (b : Budget) (known : KnownForm) : Type 0 where
+pub record IsKnownForm (K : List (List ℤ)) (w : ℕ) (b : Budget) (known : NonnegativeForm) : Type 0 where
   pub again : (v : Work) → v.budget ≡ b → HasRoomFor v known.counts
       → run.class K w known.form v ≡ Done run.Plus (counted_more v known.counts)
 
-abbrev pub AreKnown : List (List ℤ) → ℕ → Budget → List KnownForm → Type 0
+abbrev pub AreKnown : List (List ℤ) → ℕ → Budget → List NonnegativeForm → Type 0
 AreKnown K w b known = All (IsKnownForm K w b) known

@@ -13,7 +13,7 @@ const FIRST_ROOM: usize = 8;
 // Where the entries of a form that was found at least 0 on a context stand among the numbers, the key, by which most others
 // are told from it, and what was counted for that.
 #[derive(Clone, Copy)]
-struct KnownPlace {
+struct NonnegativePlace {
     start: usize,
     end: usize,
     key: u64,
@@ -55,17 +55,17 @@ fn are_same(these: &[i128], those: &[i128]) -> bool
 ///
 /// Contracts see the forms in order, each with what was counted for it.
 #[derive(Drop)]
-pub struct KnownForms {
+pub struct NonnegativeForms {
     numbers: Vec<i128>,
-    places: Vec<KnownPlace>,
+    places: Vec<NonnegativePlace>,
 }
 
-impl Model for KnownForms {
+impl Model for NonnegativeForms {
     ghost use Rattle.std.specs.Prelude.{◌≤◌, List, All, length, map};
-    ghost use Rattle.node_turn.specs.Known.{KnownForm};
+    ghost use Rattle.node_turn.specs.Known.{NonnegativeForm};
     ghost use Rattle.node_turn.specs.KnownPlaces.{form_at, IsPlaceIn};
 
-    ghost Value = { List KnownForm };
+    ghost Value = { List NonnegativeForm };
 
     ghost view = { λ known. map (form_at known.numbers.items) known.places.items };
 
@@ -74,7 +74,7 @@ impl Model for KnownForms {
 }
 
 // Makes room for some forms of so many entries before the first, where there is memory for it.
-fn make_room(numbers: &mut Vec<i128>, places: &mut Vec<KnownPlace>, entries: usize)
+fn make_room(numbers: &mut Vec<i128>, places: &mut Vec<NonnegativePlace>, entries: usize)
     ensures numbers { numbers.new.items ≡ numbers.old.items }
     ensures places { places.new.items ≡ places.old.items }
 {
@@ -84,12 +84,12 @@ fn make_room(numbers: &mut Vec<i128>, places: &mut Vec<KnownPlace>, entries: usi
     }
 }
 
-impl KnownForms {
+impl NonnegativeForms {
     /// None is known. It takes no memory.
-    pub fn new(alloc: Global) -> KnownForms
+    pub fn new(alloc: Global) -> NonnegativeForms
         ensures { result ≡ [] }
     {
-        KnownForms {
+        NonnegativeForms {
             numbers: Vec::new(alloc),
             places: Vec::new(alloc),
         }
@@ -121,7 +121,7 @@ impl KnownForms {
         let start = self.numbers.len();
         if self.numbers.extend_from_slice(entries).is_ok() {
             let end = self.numbers.len();
-            let _ = self.places.push(KnownPlace {
+            let _ = self.places.push(NonnegativePlace {
                 start,
                 end,
                 key: key_of(entries),

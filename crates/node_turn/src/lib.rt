@@ -8,7 +8,7 @@ mod path;
 mod scan;
 mod turn;
 
-pub use known::KnownForms;
+pub use known::NonnegativeForms;
 pub use node_rows::{NodeRows, are_read_off};
 pub use path::Path;
 pub use sign_split::{Context, ContextMark, Point, Work};

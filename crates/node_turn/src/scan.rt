@@ -12,7 +12,7 @@ ghost use Rattle.sign_split.specs.Classes.{class_of, ConditionIs};
 ghost use Rattle.node_turn.specs.Known.{AreKnown};
 ghost use Rattle.node_turn.specs.Signs.{signs_of, scanned, IsCondition, ClassIs, SignsAre};
 
-use crate::known::KnownForms;
+use crate::known::NonnegativeForms;
 use affine_forms::Form;
 use node_rows::NodeRows;
 use pip_problem::Refusal;
@@ -32,7 +32,7 @@ pub(crate) enum Signs {
 // Whether the form of these entries is known. What was counted for it is counted again then; where that has no room,
 // it is as if it were not known.
 #[inline(always)]
-fn is_known_again(known: &KnownForms, entries: &[i128], work: &mut Work) -> bool
+fn is_known_again(known: &NonnegativeForms, entries: &[i128], work: &mut Work) -> bool
     ensures known { (K : List (List ℤ)) (w : ℕ) → AreKnown K w work.old.budget known.now → IsTrue result
         → model.class K w entries.now work.old ≡ Done Plus work.new }
     ensures counted { HasCounted work.old work.new }
@@ -48,7 +48,7 @@ fn is_known_again(known: &KnownForms, entries: &[i128], work: &mut Work) -> bool
 fn class_anew(
     alloc: Global,
     context: &mut Context,
-    known: &mut KnownForms,
+    known: &mut NonnegativeForms,
     entries: &[i128],
     work: &mut Work,
 ) -> Result<Class, Refusal>
@@ -76,7 +76,7 @@ fn class_anew(
 fn class_of_form(
     alloc: Global,
     context: &mut Context,
-    known: &mut KnownForms,
+    known: &mut NonnegativeForms,
     entries: &[i128],
     work: &mut Work,
 ) -> Result<Class, Refusal>
@@ -98,7 +98,7 @@ fn class_of_form(
 // Whether no entry of the constant form of row i of a tableau is below 0. A row that is a column's own row is 0
 // everywhere.
 #[inline(always)]
-fn is_made_above(rows: &Tableau, i: usize) -> bool
+fn is_made_nowhere_below(rows: &Tableau, i: usize) -> bool
     requires { i < length rows.now.rows }
     ensures { IsTrue result → list_all is_nonneg (row_at rows.now.rows i).constant ≡ true }
 {
@@ -110,13 +110,13 @@ fn is_made_above(rows: &Tableau, i: usize) -> bool
 
 // Whether it is seen at once that no entry of the constant form of row i is below 0.
 #[inline(always)]
-fn is_above(rows: &NodeRows, i: usize) -> bool
+fn is_seen_nowhere_below(rows: &NodeRows, i: usize) -> bool
     requires { i < length rows.now.rows }
     ensures { IsTrue result → list_all is_nonneg (row_at rows.now.rows i).constant ≡ true }
 {
     let made = rows.made();
     if i < made.rows() {
-        is_made_above(made, i)
+        is_made_nowhere_below(made, i)
     } else {
         rows.is_nowhere_below(i)
     }
@@ -128,7 +128,7 @@ fn class_of_made(
     rows: &Tableau,
     i: usize,
     context: &mut Context,
-    known: &mut KnownForms,
+    known: &mut NonnegativeForms,
     work: &mut Work,
 ) -> Result<Class, Refusal>
     requires row { i < length rows.now.rows }
@@ -150,7 +150,7 @@ fn class_by_form(
     rows: &NodeRows,
     i: usize,
     context: &mut Context,
-    known: &mut KnownForms,
+    known: &mut NonnegativeForms,
     work: &mut Work,
 ) -> Result<Class, Refusal>
     requires row { i < length rows.now.rows }
@@ -172,7 +172,7 @@ fn class_of_constant(
     rows: &NodeRows,
     i: usize,
     context: &mut Context,
-    known: &mut KnownForms,
+    known: &mut NonnegativeForms,
     work: &mut Work,
 ) -> Result<Class, Refusal>
     requires row { i < length rows.now.rows }
@@ -198,7 +198,7 @@ fn class_of_row(
     rows: &NodeRows,
     i: usize,
     context: &mut Context,
-    known: &mut KnownForms,
+    known: &mut NonnegativeForms,
     work: &mut Work,
 ) -> Result<Class, Refusal>
     requires row { i < length rows.now.rows }
@@ -210,7 +210,7 @@ fn class_of_row(
     ensures kept { IsKeptContext context.old context.new }
     ensures known { AreKnown context.old.forms context.old.width work.old.budget known.new }
 {
-    if is_above(rows, i) {
+    if is_seen_nowhere_below(rows, i) {
         return Ok(Class::Plus);
     }
     class_of_constant(rows, i, context, known, work)
@@ -239,7 +239,7 @@ fn scan_behind(
     rows: &NodeRows,
     first: UnknownRow,
     context: &mut Context,
-    known: &mut KnownForms,
+    known: &mut NonnegativeForms,
     work: &mut Work,
 ) -> Result<Signs, Refusal>
     requires condition { IsCondition rows.now.width first.condition }
@@ -269,7 +269,7 @@ fn scan_behind(
 pub(crate) fn scan(
     rows: &NodeRows,
     context: &mut Context,
-    known: &mut KnownForms,
+    known: &mut NonnegativeForms,
     work: &mut Work,
 ) -> Result<Signs, Refusal>
     requires scope { context.old.width ≡ rows.now.width }

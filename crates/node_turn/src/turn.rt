@@ -15,7 +15,7 @@ ghost use Rattle.node_turn.specs.Signs.{signs_of, SignsAre};
 ghost use Rattle.node_turn.specs.Turns.{turn_of, counted_split, TurnIs};
 
 use crate::cut::cut_turn;
-use crate::known::KnownForms;
+use crate::known::NonnegativeForms;
 use crate::path::Path;
 use crate::scan::{Signs, scan};
 use affine_forms::{Form, WantOfMemory};
@@ -174,7 +174,7 @@ fn act(signs: Signs, rows: &mut NodeRows, path: &mut Path, work: &mut Work) -> R
 pub fn take_turn(
     rows: &mut NodeRows,
     path: &mut Path,
-    known: &mut KnownForms,
+    known: &mut NonnegativeForms,
     work: &mut Work,
 ) -> Result<Turn, Refusal>
     requires node { IsNode rows.old path.old }

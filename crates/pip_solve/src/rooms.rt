@@ -1,5 +1,5 @@
 use crate::pending::Pending;
-use node_turn::KnownForms;
+use node_turn::NonnegativeForms;
 use plain_run::{ShortTableau, Spares};
 use std::alloc::Global;
 
@@ -7,7 +7,7 @@ use std::alloc::Global;
 // problem without parameters.
 #[derive(Drop)]
 pub(crate) struct Rooms {
-    pub known: KnownForms,
+    pub known: NonnegativeForms,
     pub pending: Pending,
     pub plain: ShortTableau,
     pub spares: Spares,
@@ -17,7 +17,7 @@ impl Rooms {
     // Nothing is kept. It takes no memory.
     pub(crate) fn new(alloc: Global) -> Rooms {
         Rooms {
-            known: KnownForms::new(alloc),
+            known: NonnegativeForms::new(alloc),
             pending: Pending::new(alloc),
             plain: ShortTableau::new(alloc, 0),
             spares: Spares::new(alloc),

@@ -1,5 +1,5 @@
 -- A row that is made in two steps, and what shows that it is not short.
-use Rattle.short_row.proofs.Words.{rules, ◌≡◌, refl, ap, sym, ◌∙◌, ℕ, zero, suc, ◌+◌, ◌<◌, ◌≤◌, ℤ, pos, negsuc, ◌≤ℤ◌, ◌*ℤ◌, ◌-ℤ◌, Bool, true, false, ◌&&◌, List, [], ◌∷◌, ◌++◌, length, take, drop, get_or, set, arith, append-nil, append_assoc, length-append, length-drop, length-set, ints, and-false, lt-ltb, take_at, drop_at, take_all, drop_all, take-append-drop, length-take, length-map, drop_more, take_more, set_at, get_or_at, map-set, map-append, get_or-map, get_or-set_same, list_all-append, list_all_at, slice_set, None, list_all, length-combine, entry-combine, gcd, gcd_of, floor_div, combine, floor_divided, Row, divided, gcd_assoc, gcd_zero, gcd_exchanged, gcd_step, combined, is_short, row_from, finished, begun_coefs, begun_constant, begun_row, begun_divisor, IsBegun, is_short_row, IsDenominatorOf, take_combine, drop_combine, divided_row, Begun}
+use Rattle.short_row.proofs.Words.{rules, ◌≡◌, refl, ap, sym, ◌∙◌, ℕ, zero, suc, ◌+◌, ◌<◌, ◌≤◌, ℤ, pos, negsuc, ◌≤ℤ◌, ◌*ℤ◌, ◌-ℤ◌, Bool, true, false, ◌&&◌, List, [], ◌∷◌, ◌++◌, length, take, drop, get_or, set, arith, append-nil, append_assoc, length-append, length-drop, length-set, ints, and-false, lt-ltb, take_at, drop_at, take_all, drop_all, take-append-drop, length-take, length-map, drop_more, take_more, set_at, get_or_at, map-set, map-append, get_or-map, get_or-set_same, list_all-append, list_all_at, slice_set, None, list_all, length-combine, entry-combine, gcd, gcd_of, floor_div, combine, floor_divided, Row, divided, gcd_assoc, gcd_zero, gcd_exchanged, gcd_step, combined, is_short, row_from, finished, begun_coefs, begun_constant, begun_row, begun_divisor, IsBegun, is_short_row, IsDenominatorOf, take_combine, drop_combine, divided_row, BegunRow}
 use Rattle.short_numbers.proofs.Quotients.{quotient_short}
 
 -- ---- the entries in front of a place are made
@@ -56,7 +56,7 @@ zero_short g h = lt-ltb _ _ (quotient_short (pos 0) g h (omega arith))
 pub no_denominator : (r : Row) (coefs constant : List ℤ) → is_short_row r ≡ false → IsDenominatorOf r coefs constant None
 no_denominator r coefs constant long = record { value = search rules; short = search rules; long = long }
 
-module _ (w : Begun) (p : Row) (coefs constant : List ℤ) (h : IsBegun w p coefs constant) (g : ℤ) (is : g ≡ begun_divisor w p coefs constant) where
+module _ (w : BegunRow) (p : Row) (coefs constant : List ℤ) (h : IsBegun w p coefs constant) (g : ℤ) (is : g ≡ begun_divisor w p coefs constant) where
   abbrev front : List ℤ
   front = begun_coefs w p coefs
 

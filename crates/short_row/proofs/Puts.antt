@@ -1,10 +1,10 @@
 -- A row that the pivot's row is put into, number after number.
-use Rattle.short_row.proofs.Words.{rules, All-cons, get_or-take, All-same, take-append-drop, length-map, length-set, take_at, drop_at, true, false, content-divided, IsShortRow, is_short_row, IsDenominatorOf, Some, None, begun_coefs, begun_constant, begun_row, IsBegun, floor_div, floor_divided, gcd_assoc, ◌≡◌, refl, ap, sym, ◌∙◌, subst, ℕ, zero, suc, ◌+◌, ◌-◌, ◌<◌, ◌≤◌, ℤ, pos, ◌≤ℤ◌, ◌*ℤ◌, ◌-ℤ◌, Bool, List, [], ◌∷◌, ◌++◌, length, take, drop, get_or, arith, ints, All, All-drop, All-take, All-append, length-append, length-take, length-drop, slice_set, gcd, gcd_of, combine, entry, Row, divided, eliminated, entry-combine, row_of_numbers, row_from, IsShort, places_of, IsShortReduced, IsTurned, IsShortDivisor, finished, combined, combined_step, set-get_or, content, AreLowest, substituted_by, eliminated-lowest, divisor-lowest, take_combine, drop_combine, take-map, drop-map, divided_row, divided_one, *ℤ_left_comm, AreTerms, Begun, some_product, own_row, drop-set-lt, take-set-lt}
+use Rattle.short_row.proofs.Words.{rules, All-cons, get_or-take, All-same, take-append-drop, length-map, length-set, take_at, drop_at, true, false, content-divided, IsShortRow, is_short_row, IsDenominatorOf, Some, None, begun_coefs, begun_constant, begun_row, IsBegun, floor_div, floor_divided, gcd_assoc, ◌≡◌, refl, ap, sym, ◌∙◌, subst, ℕ, zero, suc, ◌+◌, ◌-◌, ◌<◌, ◌≤◌, ℤ, pos, ◌≤ℤ◌, ◌*ℤ◌, ◌-ℤ◌, Bool, List, [], ◌∷◌, ◌++◌, length, take, drop, get_or, arith, ints, All, All-drop, All-take, All-append, length-append, length-take, length-drop, slice_set, gcd, gcd_of, combine, entry, Row, divided, eliminated, entry-combine, row_of_numbers, row_from, IsShort, places_of, IsShortReduced, IsTurned, IsShortDivisor, finished, combined, combined_step, set-get_or, content, AreLowest, substituted_by, eliminated-lowest, divisor-lowest, take_combine, drop_combine, take-map, drop-map, divided_row, divided_one, *ℤ_left_comm, AreTerms, BegunRow, some_product, own_row, drop-set-lt, take-set-lt}
 use Rattle.std.proofs.Math.IntN.{*ℤ_comm}
 use Rattle.affine_forms.specs.Checks.{Fits}
 use Rattle.row_laws.specs.Steps.{IsElimination}
 use Rattle.short_row.specs.Put.{IsPut, IsTurning, put_numbers, put_row}
-use Rattle.short_row.specs.declared.put.Put.{Put}
+use Rattle.short_row.specs.declared.put.PutRow.{PutRow}
 use Rattle.short_row.proofs.Finished.{finished_length, finished_all, gcd_of_append}
 use Rattle.short_row.proofs.ShortParts.{divided_positive, short_row, row_join}
 
@@ -40,7 +40,7 @@ pub low_there : (n c : ℕ) (p old : List ℤ) (a b x y : ℤ) → a ≡ entry (
     → AreLowest (entry (row_of_numbers n p).coefs c) (entry (row_of_numbers n old).coefs c) x y
 low_there n c p old a b x y e f low = subst (λ z. AreLowest z (entry (row_of_numbers n old).coefs c) x y) e (subst (λ z. AreLowest a z x y) f low)
 
-module _ (n : ℕ) (w : Put) (p old now : List ℤ) (h : IsTurning n p w.column old)
+module _ (n : ℕ) (w : PutRow) (p old now : List ℤ) (h : IsTurning n p w.column old)
     (low : AreLowest (entry (row_of_numbers n p).coefs w.column) (entry (row_of_numbers n old).coefs w.column) w.by.of_row w.by.of_pivot)
     (some : IsShortDivisor w.by.of_row) (short : IsShort w.by.of_pivot)
     (den : entry now 0 ≡ entry old 0) (size : length now ≡ length old) (shorts : All IsShort (drop 1 now)) (made : w.made + 1 ≤ length old)
@@ -142,11 +142,11 @@ further x y m k (d ∷ now) (q ∷ p) front rest rest_now others e f g within sa
     )
 
 -- a row as it was begun is the same with further numbers made
-pub same_put : (n : ℕ) (w v : Put) (p old now : List ℤ) → v.by.of_row ≡ w.by.of_row → v.by.of_pivot ≡ w.by.of_pivot → v.column ≡ w.column
+pub same_put : (n : ℕ) (w v : PutRow) (p old now : List ℤ) → v.by.of_row ≡ w.by.of_row → v.by.of_pivot ≡ w.by.of_pivot → v.column ≡ w.column
     → put_numbers v p now ≡ put_numbers w p old → entry now 0 ≡ entry old 0 → put_row n v p now ≡ put_row n w p old
 same_put n w v p old now a b c e f = rw (e, f, a, b, c) refl
 
-pub further_put : (n : ℕ) (w v : Put) (p old now : List ℤ) → IsPut n w p old → v.by.of_row ≡ w.by.of_row → v.by.of_pivot ≡ w.by.of_pivot → v.column ≡ w.column
+pub further_put : (n : ℕ) (w v : PutRow) (p old now : List ℤ) → IsPut n w p old → v.by.of_row ≡ w.by.of_row → v.by.of_pivot ≡ w.by.of_pivot → v.column ≡ w.column
     → put_numbers v p now ≡ put_numbers w p old → entry now 0 ≡ entry old 0 → length now ≡ length old → All IsShort (drop 1 now) → v.made + 1 ≤ length now → IsPut n v p now
 further_put n w v p old now h a b c e f size shorts made =
     let same = same_put n w v p old now a b c e f in record {
@@ -201,7 +201,7 @@ combined_kept b r s same i h now e none =
 
 -- ---- the row that is made
 
-module _ (n : ℕ) (w : Put) (p now : List ℤ) (h : IsPut n w p now) where
+module _ (n : ℕ) (w : PutRow) (p now : List ℤ) (h : IsPut n w p now) where
   put_size : length (put_numbers w p now) + 1 ≡ length now
   put_size =
       ap (λ k. k + 1) (finished_length w.by.of_row w.by.of_pivot (drop 1 now) (drop 1 p) w.made h.terms.lengths (simp length-drop (omega (arith, h.made))))
@@ -263,7 +263,7 @@ whole_short [] h all = λ k d lt. absurd (omega (arith, lt))
 whole_short (z ∷ zs) h all = All-cons IsShort z zs h all
 
 -- its divisor, found from the denominators
-pub closed_content : (n : ℕ) (w : Put) (p now zs : List ℤ) (start : ℤ) → IsPut n w p now → row_of_numbers n zs ≡ put_row n w p now → start ≡ gcd (entry now 0) (entry p 0)
+pub closed_content : (n : ℕ) (w : PutRow) (p now zs : List ℤ) (start : ℤ) → IsPut n w p now → row_of_numbers n zs ≡ put_row n w p now → start ≡ gcd (entry now 0) (entry p 0)
     → content (row_of_numbers n zs) ≡ gcd start (gcd_of (drop 1 zs))
 closed_content n w p now zs start h e f =
     subst (λ (r : Row). content r ≡ gcd (gcd (entry now 0) (entry p 0)) (gcd (gcd_of r.coefs) (gcd_of r.constant))) (sym e) h.content
@@ -271,10 +271,10 @@ closed_content n w p now zs start h e f =
 
 -- ---- the rest by 128 bits
 
-module _ (n : ℕ) (w : Put) (p now coefs constant : List ℤ) (d : ℤ) (h : IsPut n w p now) (e : row_of_numbers n now ≡ row_from d coefs constant) (q : Row) (qe : q ≡ row_of_numbers n p)
+module _ (n : ℕ) (w : PutRow) (p now coefs constant : List ℤ) (d : ℤ) (h : IsPut n w p now) (e : row_of_numbers n now ≡ row_from d coefs constant) (q : Row) (qe : q ≡ row_of_numbers n p)
     (i j : ℕ) (sum : i + j ≡ w.made) (within : i ≤ n) (none : i < n → j ≡ 0)
     (den en : ℤ) (den_is : den ≡ entry now 0 *ℤ w.by.of_row) (en_is : en ≡ w.by.of_pivot *ℤ entry p 0) (den_fits : Fits den) (en_fits : Fits en) where
-  abbrev begun : Begun
+  abbrev begun : BegunRow
   begun = record { by = w.by; column = w.column; den = den; entry = en; coefs = i; constant = j }
 
   coefs_is : coefs ≡ take n (drop 1 now)
@@ -351,7 +351,7 @@ drop_none : (k : ℕ) → drop {A = ℤ} k [] ≡ []
 drop_none zero = refl
 drop_none (suc k) = refl
 
-pub rest_terms : (n : ℕ) (w : Put) (p now rest others : List ℤ) → IsPut n w p now → rest ≡ drop (w.made + 1) now → others ≡ drop (w.made + 1) p → AreTerms w.by.of_row rest w.by.of_pivot others
+pub rest_terms : (n : ℕ) (w : PutRow) (p now rest others : List ℤ) → IsPut n w p now → rest ≡ drop (w.made + 1) now → others ≡ drop (w.made + 1) p → AreTerms w.by.of_row rest w.by.of_pivot others
 rest_terms n w p now rest others h e f = record {
   lengths = ap length e ∙ simp length-drop (omega (arith, h.size)) ∙ sym (ap length f);
   row_factor = h.terms.row_factor;

@@ -35,7 +35,7 @@ pub use Rattle.row_laws.proofs.Lowest.{eliminated-lowest, divisor-lowest, lowest
 pub use Rattle.row_laws.proofs.Places.{take_combine, drop_combine}
 pub use Rattle.row_laws.proofs.RowLaws.{divided_row, divided_one, divided_whole}
 pub use Rattle.pip_model.proofs.RingLaws.{*ℤ_left_comm, *ℤ_assoc}
-pub use Rattle.short_row.specs.declared.begun.Begun.{Begun}
+pub use Rattle.short_row.specs.declared.begun.BegunRow.{BegunRow}
 pub use Rattle.std.proofs.lemmas.Nat.Gcd.{dvd_antisymm, dvd_refl, IsGcd-swap}
 pub use Rattle.short_row.specs.Whole.{scaled_front, IsHalfDivisor}
 pub use Rattle.row_laws.proofs.Stepping.{own_row}

@@ -10,20 +10,20 @@ use Rattle.short_row.specs.Begun.{finished}
 use Rattle.short_row.specs.Sized.{places_of, IsShortReduced, IsPivot}
 use Rattle.short_numbers.specs.Short.{IsShortDivisor}
 use Rattle.short_row.specs.Terms.{AreTerms}
-use Rattle.short_row.specs.declared.put.Put.{Put}
+use Rattle.short_row.specs.declared.put.PutRow.{PutRow}
 use Rattle.short_row.specs.declared.wide.Factors.{Factors}
 
 -- the numbers behind the denominator with row p put in, but that in the column: as many as are made stand there already
-abbrev pub put_numbers : Put → List ℤ → List ℤ → List ℤ
+abbrev pub put_numbers : PutRow → List ℤ → List ℤ → List ℤ
 put_numbers w p now = finished w.by.of_row (drop 1 now) w.by.of_pivot (drop 1 p) w.made
 
 -- the row over n columns with row p put in
-abbrev pub put_row : ℕ → Put → List ℤ → List ℤ → Row
+abbrev pub put_row : ℕ → PutRow → List ℤ → List ℤ → Row
 put_row n w p now = row_from (entry now 0 *ℤ w.by.of_row) (slice_set (take n (put_numbers w p now)) w.column (w.by.of_pivot *ℤ entry p 0)) (drop n (put_numbers w p now))
 
 -- row p is put into a row over n columns by these factors, and the divisor of the row that is made is found from the two
 -- denominators
-pub record IsPut (n : ℕ) (w : Put) (p now : List ℤ) : Type 0 where
+pub record IsPut (n : ℕ) (w : PutRow) (p now : List ℤ) : Type 0 where
   pub size : length p ≡ length now
   pub some : n + 2 ≤ length now
   pub den : IsShortDivisor (entry now 0)

@@ -14,7 +14,7 @@ use affine_forms::gcd;
 // what the two rows are multiplied by, and how many of its coefficients and of its constants are made. The others are
 // still those of the row before.
 #[derive(Clone, Copy)]
-pub(crate) struct Begun {
+pub(crate) struct BegunRow {
     pub by: Factors,
     pub column: usize,
     pub den: i128,
@@ -24,7 +24,7 @@ pub(crate) struct Begun {
 }
 
 // The greatest common divisor of all numbers of the row.
-fn divisor(p: &ShortRow<'_>, begun: &Begun, coefs: &[i64], constant: &[i64]) -> i128
+fn divisor(p: &ShortRow<'_>, begun: &BegunRow, coefs: &[i64], constant: &[i64]) -> i128
     requires { IsBegun begun.now (row_of p.now) coefs.now constant.now }
     ensures value { result ≡ begun_divisor begun.now (row_of p.now) coefs.now constant.now }
     ensures positive { pos 1 ≤ℤ result }
@@ -38,7 +38,7 @@ fn divisor(p: &ShortRow<'_>, begun: &Begun, coefs: &[i64], constant: &[i64]) -> 
 // a number is not short then.
 pub(crate) fn finish(
     p: &ShortRow<'_>,
-    begun: &Begun,
+    begun: &BegunRow,
     coefs: &mut [i64],
     constant: &mut [i64],
 ) -> Option<i64>

@@ -8,7 +8,7 @@ ghost use Rattle.row_laws.specs.Rows.{content};
 ghost use Rattle.short_row.specs.Put.{IsPut, ArePutEnds, put_row};
 ghost use Rattle.short_row.specs.Turned.{IsTurned};
 
-use crate::begun::{Begun, finish};
+use crate::begun::{BegunRow, finish};
 use crate::numbers::{combine, divide_all, gcd_with, narrow, product};
 use crate::row::view_of;
 use crate::whole::divide_common;
@@ -18,7 +18,7 @@ use short_numbers::{gcd, is_half};
 // A row that the pivot's row is put into: what the two rows are multiplied by, the column, and how many of the numbers
 // behind the denominator are made. The others, and the denominator, are still those of the row before.
 #[derive(Clone, Copy)]
-pub(crate) struct Put {
+pub(crate) struct PutRow {
     pub by: Factors,
     pub column: usize,
     pub made: usize,
@@ -26,13 +26,13 @@ pub(crate) struct Put {
 
 // The column of such a row, and how many of its numbers are made.
 #[derive(Clone, Copy)]
-pub(crate) struct Reached {
+pub(crate) struct PutProgress {
     pub column: usize,
     pub made: usize,
 }
 
 // Makes the further numbers up to the first that is not short; how many are made then.
-fn extend(row: &mut [i64], unknowns: usize, p: &[i64], put: &Put) -> usize
+fn extend(row: &mut [i64], unknowns: usize, p: &[i64], put: &PutRow) -> usize
     requires { IsPut unknowns put.now p.now row.old }
     ensures put { IsPut unknowns (record put.now { made = result }) p.now row.new }
     ensures row { put_row unknowns (record put.now { made = result }) p.now row.new
@@ -110,7 +110,7 @@ fn divide_row(row: &mut [i64], unknowns: usize, start: i64)
 // Ends a row whose numbers behind the denominator are all made: puts the denominator and the entry in the column where
 // they belong, and divides. Whether these two are short; the row stays otherwise.
 #[inline(always)]
-fn close(row: &mut [i64], unknowns: usize, p: &[i64], put: &Put) -> bool
+fn close(row: &mut [i64], unknowns: usize, p: &[i64], put: &PutRow) -> bool
     requires put { IsPut unknowns put.now p.now row.old }
     requires made { put.now.made + 1 ≡ length row.old }
     ensures turned { IsTrue result
@@ -138,7 +138,7 @@ fn coefs_of(made: usize, unknowns: usize) -> usize
 
 // Ends a row by 128 bits. Whether its numbers are short.
 #[inline(never)]
-fn finish_put(row: &mut [i64], unknowns: usize, p: &[i64], by: Factors, at: Reached) -> bool
+fn finish_put(row: &mut [i64], unknowns: usize, p: &[i64], by: Factors, at: PutProgress) -> bool
     requires { IsPut unknowns (record { by = by; column = at.column; made = at.made }) p.now row.old }
     ensures { IsTurned unknowns
         (model.divided (put_row unknowns (record { by = by; column = at.column; made = at.made }) p.now row.old))
@@ -148,7 +148,7 @@ fn finish_put(row: &mut [i64], unknowns: usize, p: &[i64], by: Factors, at: Reac
     let coefs_made = coefs_of(at.made, unknowns);
     let (den, rest) = row.split_at_mut(1);
     let (coefs, constant) = rest.split_at_mut(unknowns);
-    let begun = Begun {
+    let begun = BegunRow {
         by,
         column: at.column,
         den: product(den[0], by.of_row),
@@ -167,36 +167,36 @@ fn finish_put(row: &mut [i64], unknowns: usize, p: &[i64], by: Factors, at: Reac
 
 // Ends a row, of which more numbers may be made first. Whether its numbers are short.
 #[inline(never)]
-fn put_rest(row: &mut [i64], unknowns: usize, p: &[i64], by: Factors, at: Reached) -> bool
+fn put_rest(row: &mut [i64], unknowns: usize, p: &[i64], by: Factors, at: PutProgress) -> bool
     requires { IsPut unknowns (record { by = by; column = at.column; made = at.made }) p.now row.old }
     ensures { IsTurned unknowns
         (model.divided (put_row unknowns (record { by = by; column = at.column; made = at.made }) p.now row.old))
         result row.new }
 {
     let column = at.column;
-    let put = Put {
+    let put = PutRow {
         by,
         column,
         made: at.made,
     };
     let made = extend(row, unknowns, p, &put);
-    let now = Put { by, column, made };
+    let now = PutRow { by, column, made };
     if made + 1 == row.len() && close(row, unknowns, p, &now) {
         return true;
     }
-    finish_put(row, unknowns, p, by, Reached { column, made })
+    finish_put(row, unknowns, p, by, PutProgress { column, made })
 }
 
 // Ends a row, whose numbers are mostly all made. Whether its numbers are short.
 #[inline(always)]
-pub(crate) fn end_put(row: &mut [i64], unknowns: usize, p: &[i64], put: &Put) -> bool
+pub(crate) fn end_put(row: &mut [i64], unknowns: usize, p: &[i64], put: &PutRow) -> bool
     requires { IsPut unknowns put.now p.now row.old }
     ensures { IsTurned unknowns (model.divided (put_row unknowns put.now p.now row.old)) result row.new }
 {
     if put.made + 1 == row.len() && close(row, unknowns, p, put) {
         return true;
     }
-    let at = Reached {
+    let at = PutProgress {
         column: put.column,
         made: put.made,
     };

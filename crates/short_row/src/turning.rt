@@ -11,7 +11,7 @@ ghost use Rattle.short_row.specs.Terms.{AreTerms};
 ghost use Rattle.short_row.specs.Turned.{IsTurned};
 
 use crate::halves::combine_halves;
-use crate::put::{Put, end_put};
+use crate::put::{PutRow, end_put};
 use crate::wide::Factors;
 use short_numbers::{Nonzeros, gcd, short_floor_div};
 
@@ -70,7 +70,7 @@ pub fn turn(
 {
     let by = lowest(p[c + 1], row[c + 1]);
     let made = put_halves(by, row, p, nonzeros);
-    let put = Put {
+    let put = PutRow {
         by,
         column: c,
         made,

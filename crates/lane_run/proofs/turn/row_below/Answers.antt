@@ -1,4 +1,4 @@
-use Rattle.lane_run.proofs.Words.{◌≡◌, ◌++◌, None, drop, negative_from, AreAbove, IsFirstRowBelow, run_rows, forms_of, IsRowBelow}
+use Rattle.lane_run.proofs.Words.{◌≡◌, ◌++◌, None, drop, negative_from, AreNotBelow, IsFirstRowBelow, run_rows, forms_of, IsRowBelow}
 use Rattle.lane_run.proofs.Parts.{columns_above, column_below}
 use Rattle.lane_run.proofs.Passed.{some_passed, none_passed}
 use Rattle.lane_run.proofs.RowBelow.{front_read, back_read, of_column, of_form, of_further, of_cut, none_of_all}
@@ -43,6 +43,6 @@ returns-clause-none c =
     let t = c.args.rows.now in
     let A = c.args.forms.forms.now in
     let B = c.args.forms.further.now in
-    none_passed c.cut_below.result (AreAbove (drop t.unknowns t.rows)) (negative_from 0 (run_rows t (forms_of t.unknowns (A ++ B))) ≡ None)
+    none_passed c.cut_below.result (AreNotBelow (drop t.unknowns t.rows)) (negative_from 0 (run_rows t (forms_of t.unknowns (A ++ B))) ≡ None)
     (none_of_all t A B (columns_above t t.most c.scale.ensures.rows c.unknowns.ensures.rows c.in_default.ensures.none) c.in_default-form_below.ensures.none c.in_default-form_below-2.ensures.none)
     c.cut_below.ensures.none

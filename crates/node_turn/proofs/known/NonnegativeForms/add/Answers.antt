@@ -1,6 +1,6 @@
 use Rattle.node_turn.proofs.Words.{rules, ◌≡◌, [], ◌∷◌, ◌++◌, ◌+◌, length, is_ok, if◌then◌else◌}
 use Rattle.node_turn.proofs.KnownPlaces.{forms_after}
-use Rattle.node_turn.proofs.known.KnownForms.add.Goals as goal
+use Rattle.node_turn.proofs.known.NonnegativeForms.add.Goals as goal
 
 pub returns-then-is_ok : goal.returns-then-is_ok
 returns-then-is_ok c =

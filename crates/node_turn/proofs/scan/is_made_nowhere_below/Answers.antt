@@ -1,6 +1,6 @@
 use Rattle.node_turn.proofs.Words.{rules, ◌≡◌, ◌+◌, replicate, pos, row_at}
 use Rattle.node_turn.proofs.Scanning.{zeros_nonneg}
-use Rattle.node_turn.proofs.scan.is_made_above.Goals as goal
+use Rattle.node_turn.proofs.scan.is_made_nowhere_below.Goals as goal
 
 pub returns-in-Some : goal.returns-in-Some
 returns-in-Some c = λ _.

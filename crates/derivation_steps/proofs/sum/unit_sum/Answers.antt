@@ -1,7 +1,7 @@
 use Rattle.derivation_steps.proofs.Words.{to_z-of_z, w128}
 use Rattle.derivation_steps.proofs.Short.{narrow_fits, once_fits, once_128}
 use Rattle.derivation_steps.proofs.Spreading.{once}
-use Rattle.derivation_steps.proofs.sum.narrow_sum.Goals as goal
+use Rattle.derivation_steps.proofs.sum.unit_sum.Goals as goal
 
 pub overflow_add-result : goal.overflow_add-result
 overflow_add-result c =
