@@ -5,7 +5,7 @@ ghost use Rattle.pip_model.specs.Refuting as model;
 ghost use Rattle.pip_model.specs.Run.{point as point_of};
 ghost use Rattle.affine_forms.specs.Checks.{Fits};
 ghost use Rattle.pip_problem.specs.Faults.{run_fault};
-ghost use Rattle.run_counts.specs.Counts.{IsCountedRun};
+ghost use Rattle.pip_problem.specs.Counts.{IsCountedRun};
 
 use certificate_parts::Refutation;
 use context_points::{Context, Work};

@@ -3,13 +3,12 @@ ghost use Rattle.pip_model.specs.Contexts.{IsContext};
 ghost use Rattle.pip_model.specs.Forms.{widen_to};
 ghost use Rattle.pip_model.specs.Rows.{form_row};
 ghost use Rattle.pip_problem.specs.Faults.{run_fault};
-ghost use Rattle.run_counts.specs.Counts.{IsCountedRun};
+ghost use Rattle.pip_problem.specs.Counts.{IsCountedRun};
 ghost use Rattle.point_run.specs.Points.{finds_point, first_rows};
 
 use affine_forms::Form;
-use pip_problem::Refusal;
+use pip_problem::{Refusal, Work};
 use point_run::{WideRows, push_form, run_on, start_rows};
-use run_counts::Work;
 use std::alloc::Global;
 
 // Whether the run of the forms as rows, and of one form more, finds a point.

@@ -8,4 +8,4 @@ mod context;
 pub use context::{Context, ContextMark};
 pub use lane_questions::{LaneSign, Lanes, tightened};
 pub use point_run::Point;
-pub use run_counts::{Counts, Work};
+pub use pip_problem::{Counts, Work};

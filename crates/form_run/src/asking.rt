@@ -1,7 +1,7 @@
 ghost use Rattle.std.specs.Prelude.{◌≡◌, ◌++◌, IfSome, IfNone};
 ghost use Rattle.pip_model.specs.Contexts.{IsContext};
 ghost use Rattle.pip_problem.specs.Faults.{run_fault};
-ghost use Rattle.run_counts.specs.Counts.{IsCountedRun};
+ghost use Rattle.pip_problem.specs.Counts.{IsCountedRun};
 ghost use Rattle.short_run.specs.Stops.{stop_fault};
 ghost use Rattle.point_turns.specs.Points.{has_point};
 
@@ -9,9 +9,8 @@ use crate::room::RowRoom;
 use crate::run::ReadRows;
 use crate::starting::start_by_forms;
 use affine_forms::Form;
-use pip_problem::Refusal;
+use pip_problem::{Refusal, Work};
 use point_turns::run_on;
-use run_counts::Work;
 use short_run::Stop;
 use std::alloc::Global;
 

@@ -3,7 +3,7 @@ ghost use Rattle.short_run.specs.Stops.{stop_fault};
 use crate::form_rows::FormRows;
 use crate::room::RowRoom;
 use point_turns::{PointRows, PointTurn};
-use run_counts::Work;
+use pip_problem::Work;
 use short_run::Stop;
 
 /// Rows that are read off their forms, with room for one that is read.

@@ -14,11 +14,11 @@ pub use Rattle.refutation_laws.proofs.RefuteSteps.{next_trace, refute-again, ref
 pub use Rattle.pip_model.specs.Numbers.{is_nonneg}
 pub use Rattle.pip_model.proofs.Tests.{both}
 pub use Rattle.pip_model.specs.Contexts.{IsContext}
-pub use Rattle.run_counts.specs.Counts.{IsCountedRun, HasCounted}
+pub use Rattle.pip_problem.specs.Counts.{IsCountedRun, HasCounted}
 pub use Rattle.row_laws.specs.Tableaus.{TableauRows}
 pub use Rattle.pip_model.specs.Listed.{all_fit}
 pub use Rattle.run_laws.proofs.RowsAt.{length_pivot}
-pub use Rattle.run_counts.proofs.Counting.{counted_on}
+pub use Rattle.pip_problem.proofs.Counting.{counted_on}
 pub use Rattle.short_run.specs.Turns.{node_of, negative_from}
 pub use Rattle.short_run.specs.Points.{form_rows, first_rows, finds_point, is_end, has_point, EndsWith}
 pub use Rattle.kept_run.specs.Remembered.{turned, replayed, traced_point, RetracesTo, asked, IsReplay, IsRemembered, IsFormed, IsTurned, IsStopped, IsPivotBehind}

@@ -1,7 +1,7 @@
 ghost use Rattle.std.specs.Prelude.{◌≡◌, ◌++◌, true, IfSome, IfNone};
 ghost use Rattle.pip_model.specs.Contexts.{IsContext};
 ghost use Rattle.pip_problem.specs.Faults.{run_fault};
-ghost use Rattle.run_counts.specs.Counts.{IsCountedRun};
+ghost use Rattle.pip_problem.specs.Counts.{IsCountedRun};
 ghost use Rattle.short_run.specs.Stops.{stop_fault};
 ghost use Rattle.kept_run.specs.Remembered.{IsFormed, IsStopped, asked, IsPivotBehind};
 ghost use Rattle.short_run.specs.Points.{is_end, finds_point, form_rows, EndsWith};
@@ -10,8 +10,7 @@ use crate::behind::{put_behind, rows_behind};
 use crate::question::Question;
 use crate::remembered::{Remembered, Replay};
 use affine_forms::Form;
-use pip_problem::Refusal;
-use run_counts::Work;
+use pip_problem::{Refusal, Work};
 use short_run::{ShortTableau, Stop, run_short};
 
 // Goes on from the last rows of a run with other rows behind them, in the room of these rows.

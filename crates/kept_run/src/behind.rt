@@ -1,14 +1,14 @@
 ghost use Rattle.std.specs.Prelude.{◌≡◌, ℕ, ◌<◌, None, ◌++◌, length, get_or, IfErr, OnOk};
 ghost use Rattle.pip_model.specs.Contexts.{IsContext};
 ghost use Rattle.pip_model.specs.Rows.{row_at};
-ghost use Rattle.run_counts.specs.Counts.{IsCountedRun};
+ghost use Rattle.pip_problem.specs.Counts.{IsCountedRun};
 ghost use Rattle.short_run.specs.Stops.{stop_fault};
 ghost use Rattle.kept_run.specs.Remembered.{IsFormed, turned, replayed};
 ghost use Rattle.short_run.specs.Points.{form_rows};
 
 use crate::remembered::Replay;
 use affine_forms::{Form, WantOfMemory};
-use run_counts::Work;
+use pip_problem::Work;
 use short_run::{ShortTableau, Stop, push_short};
 
 // A remembered pivot is counted, and turns these rows.

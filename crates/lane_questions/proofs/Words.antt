@@ -27,7 +27,7 @@ pub use Rattle.point_turns.specs.Points.{has_point, finds_point, first_rows}
 pub use Rattle.lanes.specs.Narrow.{AreLanes}
 pub use Rattle.lane_questions.specs.InLanes.{lanes_of, all_lanes, AreWithin, AreFirst, form_in, IsWithin}
 pub use Rattle.lane_questions.specs.Kept.{LaneVertex, IsQuestion, IsKeptLanes, IsEndedLanes, counted_pivots}
-pub use Rattle.run_counts.specs.Counts.{HasRoomFor, counted_more, HasCounted}
+pub use Rattle.pip_problem.specs.Counts.{HasRoomFor, counted_more, HasCounted}
 pub use Rattle.lane_run.specs.Runs.{run_rows, forms_of, AreModest, IsRowBelow}
 pub use Rattle.scaled_laws.specs.Tables.{ScaledTable, column_rows}
 pub use Rattle.point_turns.specs.Turns.{negative_from, node_of}
@@ -40,7 +40,7 @@ pub use Rattle.lane_questions.specs.Behind.{IsBehind}
 pub use Rattle.form_laws.specs.Bounds.{norm}
 pub use Rattle.lane_run.specs.Laned.{AreUnused}
 pub use Rattle.lane_questions.specs.contracts.questions.LaneQuestions.{the_view}
-pub use Rattle.run_counts.proofs.Counting.{counted_on, counted_none}
+pub use Rattle.pip_problem.proofs.Counting.{counted_on, counted_none}
 pub use Rattle.lane_run.specs.Stops.{stop_fault}
 pub use Rattle.affine_forms.proofs.Mapped.{mapped, mapped_step}
 pub use Rattle.lane_run.proofs.Ending.{alone_is, below_behind}

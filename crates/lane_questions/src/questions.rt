@@ -2,7 +2,7 @@ ghost use Rattle.std.specs.Prelude.{◌≡◌, ℕ, ◌+◌, ◌≤◌, ℤ, Lis
 ghost use Rattle.pip_model.specs.Contexts.{IsContext, IsNarrow};
 ghost use Rattle.pip_model.specs.Run as model;
 ghost use Rattle.pip_problem.specs.Faults.{run_fault};
-ghost use Rattle.run_counts.specs.Counts.{IsCountedRun};
+ghost use Rattle.pip_problem.specs.Counts.{IsCountedRun};
 ghost use Rattle.point_turns.specs.Points.{has_point};
 ghost use Rattle.lane_questions.specs.Asking.{IsAsking, IsBegun, IsMade, unkept};
 ghost use Rattle.lane_questions.specs.InLanes.{lanes_of};
@@ -14,8 +14,7 @@ use crate::sign::LaneSign;
 use affine_forms::Form;
 use lane_run::LaneRows;
 use lanes::Lanes;
-use pip_problem::Refusal;
-use run_counts::Work;
+use pip_problem::{Refusal, Work};
 use std::alloc::Global;
 use std::marker::Model;
 use std::mem::swap;

@@ -1,7 +1,7 @@
 -- A question's run from turn to turn: it finds what it found from the first rows on.
 use Rattle.lane_run.proofs.Words.{◌≡◌, ◌∙◌, ap, sym, subst, ℕ, ℤ, ◌<◌, None, is_some, List, Row, Work, left, go_on, give, point_setting, again_run, again_less, falls-constant_class, finds_point, IsTurnOf, node_of, ScaledTable, run_rows, forms_of, numbers_of}
-use Rattle.run_counts.specs.Counts.{HasCounted}
-use Rattle.run_counts.proofs.Counting.{counted_on}
+use Rattle.pip_problem.specs.Counts.{HasCounted}
+use Rattle.pip_problem.proofs.Counting.{counted_on}
 
 -- the run of n unknowns from the first rows and counts, which goes on from others
 pub record IsSameRun (n : ℕ) (first now : List Row) (before w : Work) : Type 0 where

@@ -1,5 +1,5 @@
 ghost use Rattle.std.specs.Prelude.{◌^◌, ◌<◌, ◌++◌};
-ghost use Rattle.run_counts.specs.Counts.{IsCountedRun};
+ghost use Rattle.pip_problem.specs.Counts.{IsCountedRun};
 ghost use Rattle.short_run.specs.Stops.{stop_fault};
 ghost use Rattle.point_turns.specs.Points.{finds_point};
 ghost use Rattle.lane_run.specs.Within.{AreWithin};
@@ -8,7 +8,7 @@ ghost use Rattle.lane_run.specs.Runs.{run_rows, forms_of};
 use crate::read_forms::ReadForms;
 use crate::turn::turn_or_end;
 use lane_rows::LaneRows;
-use run_counts::Work;
+use pip_problem::Work;
 use short_run::Stop;
 
 /// The run of a question over the rows of a table and those that are read off it, to its end: whether it finds a point.

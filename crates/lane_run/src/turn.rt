@@ -1,7 +1,7 @@
 ghost use Rattle.std.specs.Prelude.{◌≡◌, ℕ, ℤ, ◌*◌, ◌^◌, ◌<◌, ◌++◌, None, List, drop, All, IfOk, IfErr, IfSome, IfNone, OnOk};
 ghost use Rattle.pip_model.specs.Run as model;
 ghost use Rattle.pip_model.specs.Run.{Refused, point_setting};
-ghost use Rattle.run_counts.specs.Counts.{HasCounted};
+ghost use Rattle.pip_problem.specs.Counts.{HasCounted};
 ghost use Rattle.short_run.specs.Stops.{stop_fault};
 ghost use Rattle.point_turns.specs.Points.{IsTurnOf};
 ghost use Rattle.point_turns.specs.Turns.{negative_from, node_of};
@@ -15,7 +15,7 @@ use crate::pivots::{entering_at, pivot_at};
 use crate::read_forms::ReadForms;
 use lane_rows::LaneRows;
 use lanes::Lanes;
-use run_counts::Work;
+use pip_problem::Work;
 use short_run::Stop;
 
 // The first of these forms' rows that is below 0.

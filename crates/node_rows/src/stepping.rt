@@ -1,13 +1,12 @@
 ghost use Rattle.std.specs.Prelude.{◌≡◌, ◌<◌, ◌≤◌, length, OnOk, OnErr};
 ghost use Rattle.pip_model.specs.Run.{Setting, Node, turn_by, MinusAt};
 ghost use Rattle.pip_problem.specs.Faults.{run_fault};
-ghost use Rattle.run_counts.specs.Counts.{IsCountedRun};
+ghost use Rattle.pip_problem.specs.Counts.{IsCountedRun};
 ghost use Rattle.point_run.specs.Turns.{pivoted, HasSameScope};
 
 use crate::node_rows::NodeRows;
 use crate::steps::step;
-use pip_problem::Refusal;
-use run_counts::Work;
+use pip_problem::{Refusal, Work};
 
 /// The step at a row below 0: whether a column enters. Where one does, a pivot is counted and then made. A refusal leaves
 /// the rows as they were, and the counts at what was counted.

@@ -8,7 +8,7 @@ ghost use Rattle.form_laws.specs.Bounds.{norm as norm_of};
 ghost use Rattle.dual_pivot.specs.Choices.{IsCandidate};
 ghost use Rattle.pip_model.specs.Run.{Setting, Node, turn_by, MinusAt};
 ghost use Rattle.pip_problem.specs.Faults.{run_fault};
-ghost use Rattle.run_counts.specs.Counts.{IsCountedRun};
+ghost use Rattle.pip_problem.specs.Counts.{IsCountedRun};
 ghost use Rattle.point_run.specs.Turns.{pivoted, HasSameScope};
 ghost use Rattle.node_rows.specs.ReadRows.{IsRead, all_rows, read};
 
@@ -17,8 +17,7 @@ use crate::node_rows::NodeRows;
 use crate::reading::push_read;
 use crate::rooms::make_rest;
 use affine_forms::{Form, FormRefusal, WantOfMemory};
-use pip_problem::Refusal;
-use run_counts::Work;
+use pip_problem::{Refusal, Work};
 use tableau::Tableau;
 
 // The unknowns' rows after the pivot on their row r and column c, which refuses no number.

@@ -12,14 +12,14 @@ pub use Rattle.pip_model.specs.Run.{Work, go_on, Outcome, Done, Refused, turn, c
 pub use Rattle.tableau.specs.Tableaus.{TableauRows}
 pub use Rattle.new_parameters.specs.Scopes.{size}
 pub use Rattle.quast.specs.Trees.{ScopedTree}
-pub use Rattle.run_counts.specs.declared.work.Counts.{Counts}
+pub use Rattle.pip_problem.specs.declared.work.Counts.{Counts}
 pub use Rattle.sign_split.specs.Scoped.{ScopedForms, IsKeptContext}
 pub use Rattle.pip_model.specs.Agreement.{AgreesCounted}
 pub use Rattle.pip_problem.specs.Faults.{run_fault}
 pub use Rattle.sign_split.specs.Classes.{class_of}
 pub use Rattle.run_laws.proofs.Scopes.{length-rounding, length-opposite}
 pub use Rattle.quast.specs.Components.{IsComponent}
-pub use Rattle.run_counts.proofs.Counting.{counted_on, counted_none}
+pub use Rattle.pip_problem.proofs.Counting.{counted_on, counted_none}
 pub use Rattle.node_turn.specs.declared.path.Path.{Path}
 pub use Rattle.node_turn.specs.Nodes.{node_of, setting_of}
 pub use Rattle.node_turn.specs.Turns.{turn_of}

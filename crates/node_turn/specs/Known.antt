@@ -2,8 +2,8 @@
 use Rattle.std.specs.Prelude.{◌≡◌, ℕ, ℤ, List, All}
 use Rattle.pip_model.specs.Run as run
 use Rattle.pip_model.specs.Run.{Budget, Work, Done}
-use Rattle.run_counts.specs.Counts.{HasRoomFor, counted_more}
-use Rattle.run_counts.specs.declared.work.Counts.{Counts}
+use Rattle.pip_problem.specs.Counts.{HasRoomFor, counted_more}
+use Rattle.pip_problem.specs.declared.work.Counts.{Counts}
 
 -- a form that was found at least 0 on a context, and what was counted for that
 pub record NonnegativeForm : Type 0 where

@@ -5,7 +5,7 @@ ghost use Rattle.pip_model.specs.Cuts as cuts;
 ghost use Rattle.pip_model.specs.Run as model;
 ghost use Rattle.pip_model.specs.Agreement.{AgreesCounted};
 ghost use Rattle.pip_problem.specs.Faults.{run_fault};
-ghost use Rattle.run_counts.specs.Counts.{IsCountedRun};
+ghost use Rattle.pip_problem.specs.Counts.{IsCountedRun};
 ghost use Rattle.tableau.specs.Tableaus.{IsRow};
 ghost use Rattle.gomory_cut.specs.Fractions.{IsFractionOf};
 ghost use Rattle.sign_split.specs.Classes.{class_of};

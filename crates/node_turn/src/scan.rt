@@ -6,7 +6,7 @@ ghost use Rattle.pip_model.specs.Run as model;
 ghost use Rattle.pip_model.specs.Run.{AllPlus, UnknownBy, Done, Plus};
 ghost use Rattle.affine_forms.specs.Forms.{IsForm};
 ghost use Rattle.pip_problem.specs.Faults.{run_fault};
-ghost use Rattle.run_counts.specs.Counts.{IsCountedRun, HasCounted};
+ghost use Rattle.pip_problem.specs.Counts.{IsCountedRun, HasCounted};
 ghost use Rattle.sign_split.specs.Scoped.{IsKeptContext};
 ghost use Rattle.sign_split.specs.Classes.{class_of, ConditionIs};
 ghost use Rattle.node_turn.specs.Known.{AreKnown};

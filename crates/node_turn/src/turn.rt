@@ -5,7 +5,7 @@ ghost use Rattle.pip_model.specs.Run as model;
 ghost use Rattle.pip_model.specs.Run.{turn_by, MinusAt, AllPlus, row_component};
 ghost use Rattle.pip_model.specs.Tree.{Leaf};
 ghost use Rattle.pip_problem.specs.Faults.{run_fault};
-ghost use Rattle.run_counts.specs.Counts.{IsCountedRun};
+ghost use Rattle.pip_problem.specs.Counts.{IsCountedRun};
 ghost use Rattle.gomory_cut.specs.Fractions.{IsFractionOf};
 ghost use Rattle.sign_split.specs.Scoped.{IsKeptContext};
 ghost use Rattle.quast.specs.Components.{IsComponent};

@@ -3,7 +3,7 @@ use Rattle.std.proofs.Common.{◌≡◌, subst, Option, Some, None}
 use Rattle.std.specs.Prelude.{IfSome, Result}
 use Rattle.pip_model.specs.Run.{Work, Outcome, Counted, Refusal}
 use Rattle.pip_model.specs.Agreement.{AgreesCounted}
-use Rattle.run_counts.specs.Counts.{IsCountedRun}
+use Rattle.pip_problem.specs.Counts.{IsCountedRun}
 
 -- what is given by one part is given by another that is the same there
 pub given_by : {X Y E : Type 0} (view : X → Y) (fault : E → Option Refusal) (o : Option (Result X E)) (w v : Work) (a b : Counted Y) → a w ≡ b w

@@ -2,7 +2,7 @@ ghost use Rattle.std.specs.Prelude.{◌≡◌, map, IfOk, IfSome, IfNone};
 ghost use Rattle.pip_model.specs.Run.{first_node, run_from, setting};
 ghost use Rattle.pip_problem.specs.Faults.{run_fault};
 ghost use Rattle.quast.specs.Trees.{ScopedTree};
-ghost use Rattle.run_counts.specs.Counts.{IsCountedRun};
+ghost use Rattle.pip_problem.specs.Counts.{IsCountedRun};
 ghost use Rattle.node_turn.specs.Turns.{tree_in};
 ghost use Rattle.pip_model.specs.Rows.{started};
 

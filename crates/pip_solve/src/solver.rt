@@ -7,7 +7,7 @@ ghost use Rattle.pip_model.specs.Run.{IsBudget, answered, first_node, run_from, 
 ghost use Rattle.pip_model.specs.Agreement.{Agrees, AgreesCounted};
 ghost use Rattle.pip_model.specs.WellFormed.{IsProblem, IsWellFormedAnswer};
 ghost use Rattle.pip_problem.specs.Faults.{run_fault};
-ghost use Rattle.run_counts.specs.Counts.{IsCountedRun};
+ghost use Rattle.pip_problem.specs.Counts.{IsCountedRun};
 ghost use Rattle.quast.specs.Answers.{answer_of, IsOver};
 ghost use Rattle.node_turn.specs.Turns.{tree_in};
 ghost use Rattle.pip_solve.specs.Frames.{HasRoom};

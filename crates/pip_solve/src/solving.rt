@@ -6,7 +6,7 @@ ghost use Rattle.pip_model.specs.Run.{answered};
 ghost use Rattle.pip_model.specs.Agreement.{Agrees, AgreesCounted};
 ghost use Rattle.pip_model.specs.WellFormed.{IsWellFormedAnswer};
 ghost use Rattle.pip_problem.specs.Faults.{run_fault};
-ghost use Rattle.run_counts.specs.Counts.{IsCountedRun};
+ghost use Rattle.pip_problem.specs.Counts.{IsCountedRun};
 ghost use Rattle.quast.specs.Answers.{answer_of, IsOver};
 
 use crate::solver::Solver;

@@ -6,15 +6,14 @@ ghost use Rattle.pip_model.specs.Run as model;
 ghost use Rattle.pip_model.specs.Run.{row_component};
 ghost use Rattle.pip_model.specs.Tree.{Component};
 ghost use Rattle.pip_problem.specs.Faults.{run_fault};
-ghost use Rattle.run_counts.specs.Counts.{IsCountedRun};
+ghost use Rattle.pip_problem.specs.Counts.{IsCountedRun};
 ghost use Rattle.short_run.specs.Stops.{stop_fault};
 
 use crate::tree::{constant_of, wide};
 use affine_forms::{Form, WantOfMemory};
-use pip_problem::Refusal;
+use pip_problem::{Refusal, Work};
 use point_run::{Point, reduced_constant};
 use point_turns::{ShortTableau, run_on};
-use run_counts::Work;
 use short_run::{ShortRows, Stop, start_short};
 use std::alloc::Global;
 use std::slice::from_ref;

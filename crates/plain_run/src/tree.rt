@@ -8,17 +8,16 @@ ghost use Rattle.pip_model.specs.Tree.{Leaf};
 ghost use Rattle.affine_forms.specs.Checks.{Fits};
 ghost use Rattle.quast.specs.Components.{IsComponent};
 ghost use Rattle.pip_problem.specs.Faults.{run_fault};
-ghost use Rattle.run_counts.specs.Counts.{IsCountedRun};
+ghost use Rattle.pip_problem.specs.Counts.{IsCountedRun};
 ghost use Rattle.short_run.specs.Stops.{stop_fault};
 ghost use Rattle.point_turns.specs.Turns.{node_of};
 ghost use Rattle.plain_laws.specs.Plain.{plain_setting};
 ghost use Rattle.plain_run.specs.Trees.{tree_in};
 
 use affine_forms::{Form, WantOfMemory};
-use pip_problem::Refusal;
+use pip_problem::{Refusal, Work};
 use point_turns::{ShortTableau, run_on};
 use quast::{Component, Quast};
-use run_counts::Work;
 use short_run::{ShortRows, Stop, start_short};
 use spare_forms::Spares;
 

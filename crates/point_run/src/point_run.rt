@@ -2,7 +2,7 @@ ghost use Rattle.std.specs.Prelude.{◌≡◌, ◌≤◌, length};
 ghost use Rattle.pip_model.specs.Contexts.{IsContext};
 ghost use Rattle.pip_model.specs.Run as model;
 ghost use Rattle.pip_problem.specs.Faults.{run_fault};
-ghost use Rattle.run_counts.specs.Counts.{IsCountedRun};
+ghost use Rattle.pip_problem.specs.Counts.{IsCountedRun};
 ghost use Rattle.point_turns.specs.Points.{point_of};
 
 use crate::point::{Point, values};
@@ -10,9 +10,8 @@ use crate::point_turn::WideRows;
 use crate::rows::start_rows;
 use affine_forms::Form;
 use gomory_cut::Tableau;
-use pip_problem::Refusal;
+use pip_problem::{Refusal, Work};
 use point_turns::run_on;
-use run_counts::Work;
 use std::alloc::Global;
 
 // The run without parameters of these rows: the point that it finds.

@@ -9,9 +9,8 @@ use crate::steps::count_and_cut;
 use affine_forms::nonnegative;
 use dual_pivot::{entering, pivot};
 use gomory_cut::{Tableau, first_fraction};
-use pip_problem::Refusal;
+use pip_problem::{Refusal, Work};
 use point_turns::{PointRows, PointTurn};
-use run_counts::Work;
 
 // Whether the constant of row i is below 0.
 fn is_below(rows: &Tableau, i: usize) -> bool

@@ -3,13 +3,12 @@ ghost use Rattle.pip_model.specs.Cuts as cuts;
 ghost use Rattle.pip_model.specs.Rows.{row_at};
 ghost use Rattle.pip_model.specs.Run.{Setting, Node, turn_by, MinusAt};
 ghost use Rattle.pip_problem.specs.Faults.{run_fault};
-ghost use Rattle.run_counts.specs.Counts.{IsCountedRun};
+ghost use Rattle.pip_problem.specs.Counts.{IsCountedRun};
 ghost use Rattle.point_turns.specs.Turns.{pivoted, counted_cut, HasSameScope};
 
 use dual_pivot::{entering, pivot};
 use gomory_cut::{Tableau, constant_cut};
-use pip_problem::Refusal;
-use run_counts::Work;
+use pip_problem::{Refusal, Work};
 
 /// The step at a row below 0, in a point's run as in a problem's: whether a column enters. Where one does, a pivot is
 /// counted and then made. A refusal leaves the rows as they were, and the counts at what was counted.

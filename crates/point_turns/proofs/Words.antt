@@ -10,10 +10,10 @@ pub use Rattle.pip_model.specs.Agreement.{AgreesCounted}
 pub use Rattle.pip_model.proofs.Forms.{length-count}
 pub use Rattle.pip_model.proofs.Fuel.{again_less, again_run, closed_run_from, refused_run_from, falls-constant_class}
 pub use Rattle.pip_model.specs.Numbers.{is_nonneg}
-pub use Rattle.run_counts.specs.Counts.{IsCountedRun, HasCounted}
+pub use Rattle.pip_problem.specs.Counts.{IsCountedRun, HasCounted}
 pub use Rattle.pip_model.specs.Cuts.{constant_cut}
 pub use Rattle.short_tableau.specs.Tableaus.{TableauRows}
-pub use Rattle.run_counts.proofs.Counting.{counted_on, counted_none}
+pub use Rattle.pip_problem.proofs.Counting.{counted_on, counted_none}
 pub use Rattle.point_turns.specs.Turns.{node_of, negative_from, counted_cut, HasSameScope}
 pub use Rattle.point_turns.specs.Points.{finds_point, ended}
 pub use Rattle.plain_laws.specs.Plain.{plain_setting}

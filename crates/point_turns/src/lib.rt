@@ -8,6 +8,6 @@ mod turns;
 
 pub use rows::PointRows;
 pub use run::{run_on, take_turn};
-pub use run_counts::Work;
+pub use pip_problem::Work;
 pub use short_tableau::ShortTableau;
 pub use turns::PointTurn;

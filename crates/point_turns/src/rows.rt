@@ -3,13 +3,13 @@ ghost use Rattle.pip_model.specs.Cuts.{constant_cut};
 ghost use Rattle.pip_model.specs.Rows as model;
 ghost use Rattle.pip_model.specs.Rows.{row_at};
 ghost use Rattle.pip_model.specs.Run.{Refusal, turn_by, MinusAt, point_setting};
-ghost use Rattle.run_counts.specs.Counts.{IsCountedRun};
+ghost use Rattle.pip_problem.specs.Counts.{IsCountedRun};
 ghost use Rattle.short_tableau.specs.Tableaus.{TableauRows};
 ghost use Rattle.point_turns.specs.TurnAt.{IsTurnAt};
 ghost use Rattle.point_turns.specs.Turns.{negative_from, node_of, made, counted_cut, HasSameScope};
 
 use crate::turns::PointTurn;
-use run_counts::Work;
+use pip_problem::Work;
 
 /// A way to keep the rows of the run without parameters, and to make its steps on them.
 pub trait PointRows {

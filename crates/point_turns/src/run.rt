@@ -1,7 +1,7 @@
 ghost use Rattle.std.specs.Prelude.{◌≡◌, ◌≤◌, None, length, true, IfOk, OnOk, IsTrue};
 ghost use Rattle.pip_model.specs.Run as model;
 ghost use Rattle.pip_model.specs.Run.{turn_by, AllPlus, run_from};
-ghost use Rattle.run_counts.specs.Counts.{IsCountedRun};
+ghost use Rattle.pip_problem.specs.Counts.{IsCountedRun};
 ghost use Rattle.plain_laws.specs.Plain.{plain_setting};
 ghost use Rattle.point_turns.specs.TurnAt.{IsTurnAt};
 ghost use Rattle.point_turns.specs.Turns.{negative_from, node_of, made, HasSameScope};
@@ -9,7 +9,7 @@ ghost use Rattle.point_turns.specs.Points.{ended, finds_point};
 
 use crate::rows::PointRows;
 use crate::turns::PointTurn;
-use run_counts::Work;
+use pip_problem::Work;
 
 // Where no row is below 0: in integer mode a cut at the first fraction, where there is one.
 fn last_turn<R: PointRows>(

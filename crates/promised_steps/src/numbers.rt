@@ -2,11 +2,10 @@ ghost use Rattle.std.specs.Prelude.{◌≡◌, pos, ◌≤ℤ◌};
 ghost use Rattle.pip_problem.specs.Run as model;
 ghost use Rattle.pip_problem.specs.Faults.{run_fault};
 ghost use Rattle.affine_forms.specs.Numbers.{floor_div as floor_div_of};
-ghost use Rattle.run_counts.specs.Counts.{IsCountedRun};
+ghost use Rattle.pip_problem.specs.Counts.{IsCountedRun};
 ghost use Rattle.short_numbers.specs.Short.{IsShort};
 
-use pip_problem::Refusal;
-use run_counts::Work;
+use pip_problem::{Refusal, Work};
 use short_numbers::short_floor_div;
 
 /// The quotient of a short number, rounded down.

@@ -6,17 +6,16 @@ ghost use Rattle.pip_model.specs.Rows.{start};
 ghost use Rattle.pip_model.specs.Run as model;
 ghost use Rattle.pip_model.specs.Run.{point_setting, run_from};
 ghost use Rattle.pip_problem.specs.Faults.{run_fault};
-ghost use Rattle.run_counts.specs.Counts.{IsCountedRun};
+ghost use Rattle.pip_problem.specs.Counts.{IsCountedRun};
 ghost use Rattle.point_turns.specs.TurnAt.{IsTurnAt};
 ghost use Rattle.point_turns.specs.Turns.{made, node_of};
 ghost use Rattle.plain_laws.specs.Plain.{plain_setting};
 ghost use Rattle.plain_run.specs.Trees.{tree_in};
 
-use pip_problem::Refusal;
+use pip_problem::{Refusal, Work};
 use plain_run::{PlainProblem, ShortTableau, Spares};
 use point_run::{PointTurn, WideRows};
 use quast::Quast;
-use run_counts::Work;
 use tableau::Tableau;
 
 /// One turn of the run of a point.

@@ -19,12 +19,12 @@ pub use Rattle.pip_model.specs.Numbers.{is_positive, is_nonneg}
 pub use Rattle.pip_model.specs.Contexts.{IsNarrow}
 pub use Rattle.std.specs.List.{AllByRecursion}
 pub use Rattle.pip_model.specs.Certificate.{Refutation}
-pub use Rattle.run_counts.specs.Counts.{IsCountedRun, HasCounted}
+pub use Rattle.pip_problem.specs.Counts.{IsCountedRun, HasCounted}
 pub use Rattle.pip_model.specs.Cuts.{constant_cut}
 pub use Rattle.point_run.specs.Tableaus.{TableauRows}
 pub use Rattle.run_laws.proofs.RowsAt.{length_slice_set}
 pub use Rattle.affine_forms.specs.Checks.{Fits}
-pub use Rattle.run_counts.proofs.Counting.{counted_on, counted_none}
+pub use Rattle.pip_problem.proofs.Counting.{counted_on, counted_none}
 pub use Rattle.point_run.specs.Turns.{node_of, HasSameScope}
 pub use Rattle.point_turns.specs.Traces.{exchanged, with_cut, IsTraced}
 pub use Rattle.point_run.specs.TurnAt.{IsTurnAt}

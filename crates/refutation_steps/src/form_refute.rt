@@ -3,7 +3,7 @@ ghost use Rattle.pip_model.specs.Contexts.{IsContext};
 ghost use Rattle.pip_model.specs.Refuting.{refute_by};
 ghost use Rattle.affine_forms.specs.Checks.{Fits};
 ghost use Rattle.pip_problem.specs.Faults.{run_fault};
-ghost use Rattle.run_counts.specs.Counts.{IsCountedRun};
+ghost use Rattle.pip_problem.specs.Counts.{IsCountedRun};
 ghost use Rattle.short_run.specs.Stops.{stop_fault};
 
 use crate::room::RefutationRoom;
@@ -12,9 +12,8 @@ use crate::traced_rows::{TracedRows, refute_run};
 use affine_forms::Form;
 use certificate_parts::Refutation;
 use form_run::{ReadRows, RowRoom, start_by_forms};
-use pip_problem::Refusal;
+use pip_problem::{Refusal, Work};
 use point_run::view_of;
-use run_counts::Work;
 use short_run::Stop;
 use std::alloc::Global;
 

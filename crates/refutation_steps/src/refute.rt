@@ -6,7 +6,7 @@ ghost use Rattle.pip_model.specs.Refuting.{refute_by};
 ghost use Rattle.pip_model.specs.Run.{point};
 ghost use Rattle.affine_forms.specs.Checks.{Fits};
 ghost use Rattle.pip_problem.specs.Faults.{run_fault};
-ghost use Rattle.run_counts.specs.Counts.{IsCountedRun};
+ghost use Rattle.pip_problem.specs.Counts.{IsCountedRun};
 
 use crate::constants::refute_at_once;
 use crate::form_refute::refute_by_forms;
@@ -16,9 +16,8 @@ use crate::trace::Trace;
 use crate::traced_rows::{TracedRows, refute_run};
 use affine_forms::Form;
 use certificate_parts::Refutation;
-use pip_problem::Refusal;
+use pip_problem::{Refusal, Work};
 use point_run::{Tableau, WideRows, start_rows};
-use run_counts::Work;
 use std::alloc::Global;
 
 impl TracedRows for WideRows {

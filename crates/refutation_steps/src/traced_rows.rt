@@ -2,14 +2,14 @@ ghost use Rattle.std.specs.Prelude.{◌≡◌, ◌<◌, ◌≤◌, None, length,
 ghost use Rattle.pip_model.specs.Forms.{entry};
 ghost use Rattle.pip_model.specs.Refuting.{refute_from, with_step, last_step};
 ghost use Rattle.pip_model.specs.Rows.{row_at};
-ghost use Rattle.run_counts.specs.Counts.{IsCountedRun};
+ghost use Rattle.pip_problem.specs.Counts.{IsCountedRun};
 ghost use Rattle.point_turns.specs.Traces.{IsTraced, with_cut};
 ghost use Rattle.point_run.specs.Turns.{node_of};
 
 use crate::trace::Trace;
 use certificate_parts::Refutation;
 use point_turns::{PointRows, PointTurn, take_turn};
-use run_counts::Work;
+use pip_problem::Work;
 use std::alloc::Global;
 
 // Rows of which a run's steps are traced.

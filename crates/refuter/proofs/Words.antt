@@ -15,7 +15,7 @@ pub use Rattle.pip_model.specs.Certificate.{Refutation}
 pub use Rattle.pip_model.specs.Contexts.{IsContext}
 pub use Rattle.pip_model.specs.Made.{narrow_to}
 pub use Rattle.run_laws.proofs.RowsAt.{length_slice_set}
-pub use Rattle.run_counts.proofs.Counting.{counted_on, counted_none}
+pub use Rattle.pip_problem.proofs.Counting.{counted_on, counted_none}
 pub use Rattle.point_run.specs.Turns.{node_of}
 pub use Rattle.point_run.specs.Points.{form_rows, first_rows, is_end}
 pub use Rattle.kept_run.specs.Remembered.{replayed, IsRemembered}

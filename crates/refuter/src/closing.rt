@@ -2,7 +2,7 @@ ghost use Rattle.std.specs.Prelude.{◌≡◌, ℕ, ◌+◌, ◌<◌, ◌++◌, 
 ghost use Rattle.pip_model.specs.Forms.{entry};
 ghost use Rattle.pip_model.specs.Refuting.{refute_from, with_step, last_step};
 ghost use Rattle.pip_model.specs.Rows.{row_at};
-ghost use Rattle.run_counts.specs.Counts.{IsCountedRun};
+ghost use Rattle.pip_problem.specs.Counts.{IsCountedRun};
 ghost use Rattle.kept_run.specs.Remembered.{IsStopped};
 ghost use Rattle.short_run.specs.Stops.{stop_fault};
 ghost use Rattle.kept_run.specs.Traces.{IsTraced, IsClosing, exchanges};
@@ -12,7 +12,7 @@ use affine_forms::WantOfMemory;
 use certificate_parts::Refutation;
 use kept_run::{Question, Remembered, Replay, put_behind};
 use refutation_steps::{Trace, refute_on};
-use run_counts::Work;
+use pip_problem::Work;
 use short_run::{ShortTableau, Stop};
 use std::alloc::Global;
 

@@ -1,7 +1,7 @@
 ghost use Rattle.std.specs.Prelude.{◌≡◌, ◌+◌, ◌<◌, List, ℤ, length, map, All, OnOk};
 ghost use Rattle.pip_model.specs.Made.{narrow_to};
 ghost use Rattle.pip_model.specs.Refuting.{refute_from};
-ghost use Rattle.run_counts.specs.Counts.{IsCountedRun};
+ghost use Rattle.pip_problem.specs.Counts.{IsCountedRun};
 ghost use Rattle.point_run.specs.Points.{first_rows};
 ghost use Rattle.point_run.specs.Turns.{node_of};
 ghost use Rattle.kept_run.specs.Traces.{IsTraced};
@@ -14,7 +14,7 @@ use affine_forms::{Form, WantOfMemory};
 use certificate_parts::Refutation;
 use kept_run::{Question, Remembered, goes_further, remember, rows_behind};
 use refutation_steps::Trace;
-use run_counts::Work;
+use pip_problem::Work;
 use short_run::Stop;
 use std::alloc::Global;
 use std::marker::Model;

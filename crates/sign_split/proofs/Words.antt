@@ -13,10 +13,10 @@ pub use Rattle.pip_model.specs.Numbers.{is_nonneg, is_negative, is_positive, is_
 pub use Rattle.pip_model.specs.Run.{Work, Done, Plus, Minus, class, class_by_points, Outcome, Refused, go_on, give, Refusal, Class, Counted, ◌>>=◌, listed, root, run_from, point_setting, numbers_of, point, class_above, class_below}
 pub use Rattle.pip_problem.specs.Faults.{run_fault}
 pub use Rattle.context_points.specs.Points.{has_point}
-pub use Rattle.run_counts.proofs.Counting.{counted_none, counted_on}
+pub use Rattle.pip_problem.proofs.Counting.{counted_none, counted_on}
 pub use Rattle.sign_split.specs.Classes.{class_of, widened_class, class_if_below}
 pub use Rattle.pip_model.specs.Contexts.{IsNarrow, IsContext, ClassTells, IsPointRefusal}
-pub use Rattle.run_counts.specs.Counts.{IsCountedRun}
+pub use Rattle.pip_problem.specs.Counts.{IsCountedRun}
 pub use Rattle.context_points.specs.InLanes.{lanes_of, form_in}
 pub use Rattle.std.proofs.Math.Bool.{and_assoc}
 pub use Rattle.std.proofs.lemmas.List.Folds.{list_all-append}

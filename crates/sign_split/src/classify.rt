@@ -5,7 +5,7 @@ ghost use Rattle.pip_model.specs.Listed.{all_fit, opposite_listed};
 ghost use Rattle.pip_model.specs.Run as model;
 ghost use Rattle.affine_forms.specs.Forms.{IsForm};
 ghost use Rattle.pip_problem.specs.Faults.{run_fault};
-ghost use Rattle.run_counts.specs.Counts.{IsCountedRun};
+ghost use Rattle.pip_problem.specs.Counts.{IsCountedRun};
 ghost use Rattle.context_points.specs.Scoped.{IsKeptContext};
 ghost use Rattle.context_points.specs.InLanes.{form_in};
 ghost use Rattle.context_points.specs.Signs.{class_of_sign};

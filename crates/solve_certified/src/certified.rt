@@ -22,11 +22,10 @@ use crate::walk::{TreeMaking, Walk};
 use affine_forms::{Overflow, WantOfMemory};
 use certificate_check::{Known, void_forms};
 use certificate_parts::{Certificate, LeafProofs, Refutation};
-use pip_problem::{Limits, Problem, Refusal};
+use pip_problem::{Limits, Problem, Refusal, Work};
 use pip_solve::Solver;
 use quast::{Answer, Quast};
 use refuter::{Point, Refuter};
-use run_counts::Work;
 use std::alloc::Global;
 use std::mem::swap;
 

@@ -12,9 +12,8 @@ use crate::refutation::Scope;
 use affine_forms::FormRefusal;
 use certificate_check::{Known, Leaf, refutation_count};
 use certificate_parts::{LeafProofs, Refutation};
-use pip_problem::Refusal;
+use pip_problem::{Refusal, Work};
 use refuter::Refuter;
-use run_counts::Work;
 
 // The refutations of a leaf are made of its known forms, over what is in scope.
 #[derive(Drop)]

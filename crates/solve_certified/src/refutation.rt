@@ -10,9 +10,8 @@ use crate::quotients::{PathQuotient, quotient_steps};
 use affine_forms::WantOfMemory;
 use certificate_check::Known;
 use certificate_parts::Refutation;
-use pip_problem::Refusal;
+use pip_problem::{Refusal, Work};
 use refuter::{PlaceRuns, Places, Refuter};
-use run_counts::Work;
 use std::alloc::Global;
 
 // What is in scope at a leaf: the parameters, and then the quotients of its path. The forms of the path begin at the

@@ -10,10 +10,9 @@ use crate::refutation::Scope;
 use crate::trail::Trail;
 use certificate_check::{Known, Leaf};
 use certificate_parts::Certificate;
-use pip_problem::{Problem, Refusal};
+use pip_problem::{Problem, Refusal, Work};
 use quast::{Component, Node};
 use refuter::Refuter;
-use run_counts::Work;
 use std::alloc::Global;
 
 // What a walk makes: the certificate of the leaves so far. One refuter makes the refutations of all of them, of forms in

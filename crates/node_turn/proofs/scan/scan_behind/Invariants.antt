@@ -1,5 +1,5 @@
 use Rattle.node_turn.proofs.Words.{◌≡◌, drop, UnknownBy, IsKeptContext, AreKnown, scanned}
-use Rattle.run_counts.specs.Counts.{HasCounted}
+use Rattle.pip_problem.specs.Counts.{HasCounted}
 use Rattle.node_turn.proofs.scan.scan_behind.Given as goal
 
 abbrev pub invariant-loop-i : goal.invariant-loop-i

@@ -1,7 +1,7 @@
 -- What parts of a run count together.
 use Rattle.std.proofs.Common.{refl, ◌∙◌, arith}
-use Rattle.pip_problem.specs.Run.{Work}
-use Rattle.run_counts.specs.Counts.{HasCounted}
+use Rattle.affine_forms.specs.Run.{Work}
+use Rattle.pip_problem.specs.Counts.{HasCounted}
 
 pub counted_none : (w : Work) → HasCounted w w
 counted_none w = record { budget = refl; pivots = omega arith; cuts = omega arith; splits = omega arith }

@@ -1,8 +1,8 @@
 -- What a part of a run counts, however it ends.
 use Rattle.std.specs.Prelude.{◌≡◌, ◌+◌, ◌≤◌, Option, Result}
-use Rattle.pip_problem.specs.Run.{Work, Counted, Refusal}
-use Rattle.pip_problem.specs.Agreement.{AgreesCounted}
-use Rattle.run_counts.specs.declared.work.Counts.{Counts}
+use Rattle.affine_forms.specs.Run.{Work, Counted, Refusal}
+use Rattle.affine_forms.specs.Agreement.{AgreesCounted}
+use Rattle.pip_problem.specs.declared.work.Counts.{Counts}
 
 -- the budget is as before, and no count fell
 pub record HasCounted (before now : Work) : Type 0 where

@@ -1,11 +1,12 @@
 ghost use Rattle.std.specs.Prelude.{◌≡◌, ◌-◌, ◌≤◌, ◌↔◌, OnOk, IsTrue, if◌then◌else◌};
-ghost use Rattle.pip_problem.specs.Run as model;
-ghost use Rattle.pip_problem.specs.Run.{IsBudget, start_work};
-ghost use Rattle.pip_problem.specs.Agreement.{AgreesCounted};
+ghost use Rattle.affine_forms.specs.Run as model;
+ghost use Rattle.affine_forms.specs.Run.{IsBudget, start_work};
+ghost use Rattle.affine_forms.specs.Agreement.{AgreesCounted};
 ghost use Rattle.pip_problem.specs.Faults.{run_fault};
-ghost use Rattle.run_counts.specs.Counts.{IsCountedRun, HasRoomFor, counted_more};
+ghost use Rattle.pip_problem.specs.Counts.{IsCountedRun, HasRoomFor, counted_more};
 
-use pip_problem::{Limits, Refusal};
+use crate::limits::Limits;
+use crate::refusal::Refusal;
 use std::marker::Model;
 
 /// What a run has counted so far of pivots, cuts and splits, and its budget. No count is above its limit.
@@ -30,7 +31,7 @@ pub struct Counts {
 
 impl Model for Work {
     ghost use Rattle.std.specs.Prelude.{◌≤◌};
-    ghost use Rattle.pip_problem.specs.Run as run;
+    ghost use Rattle.affine_forms.specs.Run as run;
 
     ghost Value = { run.Work };
 
