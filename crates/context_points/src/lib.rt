@@ -7,5 +7,5 @@ mod context;
 
 pub use context::{Context, ContextMark};
 pub use lane_questions::{LaneSign, Lanes, tightened};
-pub use point_run::Point;
 pub use pip_problem::{Counts, Work};
+pub use point_run::Point;

@@ -2,8 +2,8 @@ ghost use Rattle.short_run.specs.Stops.{stop_fault};
 
 use crate::form_rows::FormRows;
 use crate::room::RowRoom;
-use point_turns::{PointRows, PointTurn};
 use pip_problem::Work;
+use point_turns::{PointRows, PointTurn};
 use short_run::Stop;
 
 /// Rows that are read off their forms, with room for one that is read.

@@ -6,8 +6,8 @@ mod rows;
 mod run;
 mod turns;
 
+pub use pip_problem::Work;
 pub use rows::PointRows;
 pub use run::{run_on, take_turn};
-pub use pip_problem::Work;
 pub use short_tableau::ShortTableau;
 pub use turns::PointTurn;

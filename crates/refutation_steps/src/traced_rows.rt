@@ -8,8 +8,8 @@ ghost use Rattle.point_run.specs.Turns.{node_of};
 
 use crate::trace::Trace;
 use certificate_parts::Refutation;
-use point_turns::{PointRows, PointTurn, take_turn};
 use pip_problem::Work;
+use point_turns::{PointRows, PointTurn, take_turn};
 use std::alloc::Global;
 
 // Rows of which a run's steps are traced.

@@ -11,8 +11,8 @@ ghost use Rattle.point_run.specs.Turns.{node_of};
 use affine_forms::WantOfMemory;
 use certificate_parts::Refutation;
 use kept_run::{Question, Remembered, Replay, put_behind};
-use refutation_steps::{Trace, refute_on};
 use pip_problem::Work;
+use refutation_steps::{Trace, refute_on};
 use short_run::{ShortTableau, Stop};
 use std::alloc::Global;
 
