@@ -4,7 +4,7 @@ from __future__ import annotations
 from dataclasses import dataclass
 from typing import TYPE_CHECKING, Callable, Dict, Iterator, List, Mapping, NoReturn, Optional, Sequence, Tuple, Union
 
-from .forms import Atom, Column, Floor, Form, FormLike, Number, Relation, as_form, checked_name, divided, whole_number
+from .forms import Atom, Column, Floor, Form, FormLike, Number, Relation, as_form, checked_name, divided, taken_out, whole_number
 from .problems import Space, numbers_over
 from .shorten import QUESTIONS, SECONDS
 from .texts import MOST_NUMBER
@@ -25,7 +25,8 @@ class OutsideContext(ValueError):
 @dataclass(frozen=True, eq=False)
 class Piece:
     """A part of an answer: where all `conditions` hold, with each quotient the floor of its form over its divisor, the value
-    is `point`, or there is none. Quotients stand in the order in which they use each other."""
+    is `point`, or there is none. Quotients stand in the order in which they use each other. (In the text of a piece they are without
+    what is whole of them.)"""
 
     conditions: Tuple[Form, ...]  # each at least 0
     quotients: Tuple[Tuple[str, Form, int], ...]
@@ -52,10 +53,15 @@ class Piece:
         return hash(self._key())
 
     def __str__(self) -> str:
-        held = [f"{name} = floor(({form})/{divisor})" for name, form, divisor in self.quotients]
-        held += [f"{form} >= 0" for form in self.conditions]
-        found = "no point" if self.point is None else written_point(self.point)
-        return found + (f" where {', '.join(held)}" if held else "")
+        held: List[str] = []
+        names: Dict[str, Form] = {}  # of quotients of which something is taken out
+        for name, form, divisor in self.quotients:
+            left, whole = taken_out(form.substitute(names), divisor)
+            held.append(f"{name} = floor(({left})/{divisor})")
+            names[name] = Form({name: 1}) + whole
+        held += [f"{form.substitute(names)} >= 0" for form in self.conditions]
+        point = None if self.point is None else [(name, form.substitute(names)) for name, form in self.point]
+        return ("no point" if point is None else written_point(point)) + (f" where {', '.join(held)}" if held else "")
 
 
 class Answer:
@@ -293,33 +299,34 @@ class _Words:
             *answer.posed.parameters, *answer.posed.asked, *(name for form in names.values() for name in as_form(form).names())])
 
     def lines(self) -> Iterator[str]:
-        yield from self._below(self.answer.tree, self.answer.posed.scope(), "", "if")
+        yield from self._below(self.answer.tree, self.answer.posed.scope(), self.names, "", "if")
 
-    def _form(self, row: Row, scope: Sequence[Form]) -> Tuple[Form, int]:
-        return form_of(row, scope).substitute(self.names).whole()
-
-    def _below(self, tree: Tree, scope: List[Form], margin: str, word: str) -> Iterator[str]:
+    def _below(self, tree: Tree, scope: List[Form], names: Mapping[str, FormLike], margin: str, word: str) -> Iterator[str]:
+        """The lines of a tree. `names` has forms that stand in the place of parameters, and of quotients of which something is taken
+        out."""
         if isinstance(tree, Void):
             yield f"{margin}void"
         elif isinstance(tree, Bottom):
             yield margin + self.none
         elif isinstance(tree, Point):
             found = self.answer.posed.point([form_of(row, scope) for row in tree.components])
-            point = [(name, form.substitute(self.names)) for name, form in found]
+            point = [(name, form.substitute(names)) for name, form in found]
             yield margin + (written_point(point) if self.point is None else self.point(dict(point)))
         elif isinstance(tree, NewParameter):
             name = self.quotients[tree.number - len(self.answer.posed.parameters)]
-            form, common = self._form(tree.form, scope)
-            yield f"{margin}{name} = ({form}) // {tree.divisor * common}"
-            yield from self._below(tree.below, [*scope, Form({name: 1})], margin, "if")
+            form, common = form_of(tree.form, scope).substitute(names).whole()
+            divisor = tree.divisor * common
+            left, whole = taken_out(form, divisor)
+            yield f"{margin}{name} = ({left}) // {divisor}"
+            yield from self._below(tree.below, [*scope, Form({name: 1})], {**names, name: Form({name: 1}) + whole}, margin, "if")
         else:
-            yield f"{margin}{word} {self._form(tree.form, scope)[0]} >= 0:"
-            yield from self._below(tree.yes, scope, margin + "    ", "if")
+            yield f"{margin}{word} {form_of(tree.form, scope).substitute(names).whole()[0]} >= 0:"
+            yield from self._below(tree.yes, scope, names, margin + "    ", "if")
             if isinstance(tree.no, Choice):
-                yield from self._below(tree.no, scope, margin, "elif")
+                yield from self._below(tree.no, scope, names, margin, "elif")
             else:
                 yield f"{margin}else:"
-                yield from self._below(tree.no, scope, margin + "    ", "if")
+                yield from self._below(tree.no, scope, names, margin + "    ", "if")
 
 
 def written_point(point: Sequence[Tuple[str, Form]]) -> str:

@@ -20,8 +20,8 @@ import pathlib
 import sys
 from typing import Dict, Iterator, List, Optional, Sequence, Tuple
 
-from .forms import Form
-from .trees import Choice, NewParameter, Point, Row, Tree, Void, form_of, groups, new_parameter_names, parameter_count, parse_answer
+from .forms import Form, taken_out
+from .trees import Choice, NewParameter, Point, Tree, Void, form_of, groups, new_parameter_names, parameter_count, parse_answer
 
 Node = Tuple[str, str, str]  # its name, its shape (choice, floor, point, nothing), what it says
 Arrow = Tuple[str, str, str]  # from a node, to a node, and what it says
@@ -37,20 +37,21 @@ class Drawing:
         self.nodes: List[Node] = []
         self.arrows: List[Arrow] = []
         self.drawn: Dict[Tuple[object, ...], str] = {}  # the node of each part, by what it says and the nodes below it
-        self.draw(tree, list(parameters))
+        self.draw(tree, [Form({name: 1}) for name in parameters])
 
-    def draw(self, tree: Tree, scope: List[str]) -> str:
+    def draw(self, tree: Tree, scope: List[Form]) -> str:
         """Adds the nodes and arrows of a tree; its first node. What the names in a part stand for goes by their number alone,
         so equal parts say the same."""
         place, arrows = len(self.nodes), len(self.arrows)
         own = f"n{place}"
         said = self.say(tree, scope)
         self.nodes.append((own, *said))
-        below: List[Tuple[str, Tree, List[str]]] = []
+        below: List[Tuple[str, Tree, List[Form]]] = []
         if isinstance(tree, Choice):
             below = [("yes", tree.yes, scope), ("no", tree.no, scope)]
         elif isinstance(tree, NewParameter):
-            below = [("", tree.below, [*scope, self.new[tree.number - self.first_new]])]
+            whole = taken_out(form_of(tree.form, scope), tree.divisor)[1]
+            below = [("", tree.below, [*scope, Form({self.new[tree.number - self.first_new]: 1}) + whole])]
         made: List[Arrow] = []
         for label, child, inner in below:
             arrow = len(self.arrows)
@@ -64,14 +65,14 @@ class Drawing:
             del self.nodes[place], self.arrows[arrows:]
         return self.drawn.setdefault(key, own)
 
-    def say(self, tree: Tree, scope: Sequence[str]) -> Tuple[str, str]:
+    def say(self, tree: Tree, scope: Sequence[Form]) -> Tuple[str, str]:
         """The shape of a node, and its words."""
         if isinstance(tree, Choice):
-            return "choice", f"{written(tree.form, scope)} >= 0 ?"
+            return "choice", f"{form_of(tree.form, scope)} >= 0 ?"
         if isinstance(tree, NewParameter):
             return "floor", f"{self.new[tree.number - self.first_new]} = floor of {over(tree, scope)}"
         if isinstance(tree, Point):
-            return "point", self.point([written(row, scope) for row in tree.components])
+            return "point", self.point([str(form_of(row, scope)) for row in tree.components])
         return "nothing", "void" if isinstance(tree, Void) else "no point"
 
     def point(self, values: Sequence[str]) -> str:
@@ -82,12 +83,8 @@ class Drawing:
         return ", ".join(f"{name} = {value}" for name, value in zip(self.unknowns, values))
 
 
-def written(row: Row, scope: Sequence[str]) -> str:
-    return str(form_of(row, [Form({name: 1}) for name in scope]))
-
-
-def over(tree: NewParameter, scope: Sequence[str]) -> str:
-    text = written(tree.form, scope)
+def over(tree: NewParameter, scope: Sequence[Form]) -> str:
+    text = str(taken_out(form_of(tree.form, scope), tree.divisor)[0])
     return f"({text}) / {tree.divisor}" if " " in text else f"{text} / {tree.divisor}"
 
 

@@ -269,6 +269,14 @@ def divided(form: Form, divisor: int) -> Tuple[Form, Form]:
             Form({name: number // divisor for name, number in form.terms.items()}, form.constant // divisor))
 
 
+def taken_out(form: Form, divisor: int) -> Tuple[Form, Form]:
+    """What is left of a form that is divided, and what is whole of its floor: the floor is that of what is left, and what is whole.
+    A constant of at least the divisor, of either sign, goes, and so do coefficients that are multiples of it, if a name is left."""
+    whole = Form({name: number // divisor for name, number in form.terms.items() if number % divisor == 0},
+                 form.constant // divisor if abs(form.constant) >= divisor else 0)
+    return (form - whole * divisor, whole) if len(whole.terms) < len(form.terms) else (form, Form())
+
+
 def row_text(numbers: Iterable[Number]) -> str:
     return "#[" + " ".join(map(str, numbers)) + "]"
 

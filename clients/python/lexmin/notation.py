@@ -27,7 +27,7 @@ from typing import Iterator, List, Mapping, Optional, Sequence, Set, Tuple
 
 from .answers import Answer, checked_answer
 from .formulas import Fault, Part, Reader, is_name
-from .forms import Atom, Floor, Form, Relation
+from .forms import Atom, Floor, Form, Relation, taken_out
 from .problems import Problem
 from .solver import Solver
 from .trees import Choice, NewParameter, Point, Tree, form_of
@@ -145,8 +145,9 @@ def _pieces(answer: Answer, tree: Tree, scope: List[Form], held: List[str],
         yield from _pieces(answer, tree.no, scope, [*held, f"{form} < 0"], floors)
     elif isinstance(tree, NewParameter):
         own = f"new.{tree.number}"  # (no name in isl's notation)
-        text = f"floor(({_text(form_of(tree.form, scope), floors)})/{tree.divisor})"
-        yield from _pieces(answer, tree.below, [*scope, Form({own: 1})], held, {**floors, own: text})
+        left, whole = taken_out(form_of(tree.form, scope), tree.divisor)
+        text = f"floor(({_text(left, floors)})/{tree.divisor})"
+        yield from _pieces(answer, tree.below, [*scope, Form({own: 1}) + whole], held, {**floors, own: text})
     elif isinstance(tree, Point):
         yield [_text(form, floors) for _, form in answer.posed.point([form_of(row, scope) for row in tree.components])], held
 

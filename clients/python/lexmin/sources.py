@@ -21,7 +21,7 @@ from typing import Dict, Iterator, List, Optional, Sequence, Set
 
 from .answers import Answer, checked_answer
 from .drawing import answer_texts, names_of, told_apart, told_which
-from .forms import Column, Floor, Form, Number
+from .forms import Column, Floor, Form, Number, taken_out
 from .problems import Range, Space
 from .trees import Choice, NewParameter, Point, Tree, form_of, leaves, parameter_count, parse_answer
 
@@ -97,12 +97,13 @@ class _Writer:
 
     def _quotient(self, tree: NewParameter, own: str, scope: List[Form], margin: str) -> Iterator[str]:
         """A quotient and what stands below it; without the quotient where nothing there uses it, since compilers warn of such."""
+        form, common = form_of(tree.form, scope).whole()
+        left, whole = taken_out(form, tree.divisor * common)
         outside, self._used = self._used, set()
-        below = list(self._below(tree.below, [*scope, Form({own: 1})], margin))
+        below = list(self._below(tree.below, [*scope, Form({own: 1}) + whole], margin))
         inside, self._used = self._used, outside
         if own in inside:
-            form, common = form_of(tree.form, scope).whole()
-            text = self._floor(self._text(form), tree.divisor * common)
+            text = self._floor(self._text(left), tree.divisor * common)
             yield f"{margin}{'const long long ' if self.c else ''}{own} = {text}{';' if self.c else ''}"
         self._used |= inside
         yield from below
