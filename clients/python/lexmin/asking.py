@@ -15,7 +15,7 @@ from .problems import Range, Space
 from .processes import Refused
 from .shorten import QUESTIONS, SECONDS
 from .solver import Solver, standing
-from .texts import Fault, ReadProblem, native
+from .texts import Fault, ReadProblem, if_matrices, native
 from .trees import as_text, groups
 
 SHORTEN = """Solves the problems of a text, and writes their answers with fewer leaves.
@@ -68,7 +68,7 @@ def shorten(words: Sequence[str]) -> int:
         data = chosen.file.read_bytes() if chosen.file else sys.stdin.buffer.read()
         problems = list(native(data))
         if not problems:
-            raise ValueError("no problem in the text")
+            raise ValueError("no problem in the text" + if_matrices(data, "of which `solve --polylib` writes the answer; native problems are read here"))
         with Solver(chosen.program, timeout=chosen.timeout) as solver:
             answers: List[Answer] = []
             for number, text in enumerate(groups(as_text(data))):

@@ -21,6 +21,7 @@ import sys
 from typing import Dict, Iterator, List, Optional, Sequence, Tuple
 
 from .forms import Form, taken_out
+from .texts import if_matrices
 from .trees import Choice, NewParameter, Point, Tree, Void, form_of, groups, new_parameter_names, parameter_count, parse_answer
 
 Node = Tuple[str, str, str]  # its name, its shape (choice, floor, point, nothing), what it says
@@ -130,7 +131,7 @@ def answer_texts(file: Optional[pathlib.Path]) -> List[str]:
     data = file.read_bytes() if file else sys.stdin.buffer.read()
     texts = groups(data.decode(errors="replace"))
     if not texts:
-        raise ValueError("no answer in the text")
+        raise ValueError("no answer in the text" + if_matrices(data, "of which `solve --polylib` writes the answer"))
     return texts
 
 

@@ -25,7 +25,7 @@ from typing import Iterator, List, Optional, Sequence
 
 from .drawing import names_of, told_apart
 from .forms import Form
-from .texts import Fault, ReadProblem, likely_matrices, native, polylib
+from .texts import Fault, ReadProblem, if_matrices, native, polylib
 from .trees import as_bytes, form_of
 
 
@@ -107,7 +107,7 @@ def explain(data: bytes, as_matrices: bool = False, parameters: Optional[Sequenc
         yield from explained(problem, parameters, unknowns)
         return
     if b"(" not in data:
-        hint = ": these are PolyLib's matrices, which `--polylib` reads" if likely_matrices(data) else ""
+        hint = if_matrices(data, "which `--polylib` reads")
         what = "the text is empty" if not data.strip() else "the text has no `(`"
         raise Fault(len(data), f"{what}, so there is no problem in it, and the program writes nothing, with status 0{hint}", "none")
     for problem in native(data):

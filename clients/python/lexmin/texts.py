@@ -293,6 +293,6 @@ class _Matrices:
         return ReadProblem("", columns - parameters - 2, parameters, rows, context, integer)
 
 
-def likely_matrices(data: bytes) -> bool:
-    """Whether a text begins as PolyLib's matrices do."""
-    return re.match(rb"(\s|#[^\n]*\n)*[0-9]", data) is not None
+def if_matrices(data: bytes, what: str) -> str:
+    """What to do with a text that begins as PolyLib's matrices do; nothing of another one."""
+    return f": these are PolyLib's matrices, {what}" if re.match(rb"(\s|#[^\n]*\n)*[0-9]", data) else ""
