@@ -4,7 +4,8 @@ from __future__ import annotations
 from dataclasses import dataclass
 from typing import TYPE_CHECKING, Callable, Dict, Iterator, List, Mapping, NoReturn, Optional, Sequence, Tuple, Union
 
-from .forms import Atom, Column, Floor, Form, FormLike, Number, Relation, as_form, checked_name, divided, taken_out, whole_number
+from .forms import (
+    MAPPING, Atom, Column, Floor, Form, FormLike, Number, Relation, as_form, checked_name, divided, each, of_kind, taken_out, whole_number)
 from .problems import Space, numbers_over
 from .shorten import QUESTIONS, SECONDS
 from .texts import MOST_NUMBER
@@ -75,6 +76,9 @@ class Answer:
 
     def __init__(self, posed: Space, text: str, tree: Optional[Tree] = None, solver: Optional[Solver] = None,
                  checked: Optional[bool] = None) -> None:
+        if not isinstance(posed, Space) or not isinstance(text, str):
+            of_kind(posed, Space, "what an answer is about is wanted, as `problem.posed()`")
+            of_kind(text, str, "the text of an answer is wanted")
         self.posed, self.text, self.solver, self.checked = posed, text, solver, checked
         self.tree: Tree = parse_answer(text)[1] if tree is None else tree
         count = parameter_count(self.tree)
@@ -192,6 +196,7 @@ class Answer:
     def put(self, forms: Mapping[str, FormLike] = {}, /, **named: FormLike) -> Answer:
         """The answer whose points are these forms over the unknowns and the parameters, by their new names, in their order.
         (An answer to be compared or put together with another one has the other's names in the other's order.)"""
+        of_kind(forms, MAPPING, "forms are given by their names, as y=2*x or {'y': 2*x}")
         given = {checked_name(name): as_form(form) for name, form in {**forms, **named}.items()}
         if not given:
             raise ValueError("no form is given")
@@ -271,8 +276,12 @@ class Answer:
               names: Mapping[str, FormLike] = {}) -> Iterator[str]:
         """The same line by line. `point` gives the words of a point, `none` is what stands where there is none, and `names` has
         forms that stand in the place of parameters."""
+        if point is not None and not callable(point):
+            raise TypeError(f"a function of a point, which gives its words, is wanted, not {point!r}")
+        of_kind(none, str, "the words where there is no point are a text")
+        of_kind(names, MAPPING, "forms by the names that they replace are wanted, as {'i': k + 1}")
         if unknown := [name for name in names if name not in self.posed.parameters]:
-            raise ValueError(f"{', '.join(unknown)}: not among the parameters, {', '.join(self.posed.parameters) or 'none here'}")
+            raise ValueError(f"{', '.join(map(str, unknown))}: not among the parameters, {', '.join(self.posed.parameters) or 'none here'}")
         return _Words(self, point, none, names).lines()
 
 
@@ -404,11 +413,11 @@ class AnswerBySigns:
     each answer, the ranges of its parameters."""
 
     def __init__(self, answers: Sequence[Answer]) -> None:
-        self.parts = tuple(answers)
+        self.parts = tuple(map(checked_answer, each(answers, "answers are wanted")))
 
     def part(self, at: Mapping[str, int] = {}, /, **named: int) -> Answer:
         """The answer for parameters of these signs."""
-        parameters = _given(at, named)
+        parameters = {name: whole_number(number, "a parameter is a whole number") for name, number in _given(at, named).items()}
         for answer in self.parts:
             ranges = answer.posed.parameters
             if set(ranges) != set(parameters) or all(parameters[name] in own for name, own in ranges.items()):
@@ -421,6 +430,8 @@ class AnswerBySigns:
 
     def map(self, function: Callable[[Answer], Answer]) -> AnswerBySigns:
         """What a function makes of each part: `answer.map(lambda part: part.restrict(N >= 4))`."""
+        if not callable(function):
+            raise TypeError(f"a function of an answer is wanted, not {function!r}")
         return AnswerBySigns([function(answer) for answer in self.parts])
 
     def _outside(self, parameters: Mapping[str, int]) -> NoReturn:

@@ -6,10 +6,27 @@ import numbers
 import re
 from dataclasses import dataclass
 from fractions import Fraction
-from typing import Callable, Dict, Iterable, List, Mapping, NamedTuple, Optional, Sequence, Tuple, Union
+from typing import Any, Callable, Dict, Iterable, Iterator, List, Mapping, NamedTuple, Optional, Sequence, Tuple, TypeVar, Union
 
 Number = Union[int, Fraction]
 Atom = Union[str, "Floor", "Column"]  # what a form has numbers of
+MAPPING = (dict, Mapping)  # (of the first one it is told sooner)
+_Given = TypeVar("_Given")
+
+
+def of_kind(given: _Given, kinds: Any, what: str) -> _Given:
+    """What was given; TypeError with these words where it is of none of these types."""
+    if isinstance(given, kinds):
+        return given
+    raise TypeError(f"{what}, not {given!r}")
+
+
+def each(given: Iterable[_Given], what: str) -> Iterator[_Given]:
+    """What was given, one after the other; TypeError with these words where it isn't several."""
+    try:
+        return iter(given)
+    except TypeError:
+        raise TypeError(f"{what}, not {given!r}") from None
 
 
 class Form:
@@ -20,7 +37,11 @@ class Form:
     constant: Number
 
     def __init__(self, terms: Optional[Mapping[Atom, Number]] = None, constant: Number = 0) -> None:
-        self.terms = {name: plain(number) for name, number in (terms or {}).items() if number != 0}
+        try:
+            items = () if terms is None else terms.items()
+        except AttributeError:
+            raise TypeError(f"the terms of a form are numbers by names, as {{'n': 2}}, not {terms!r}") from None
+        self.terms = {name: plain(number) for name, number in items if number != 0}
         self.constant = plain(constant)
 
     def __add__(self, other: FormLike) -> Form:
@@ -112,6 +133,8 @@ class Form:
             if isinstance(atom, Floor):
                 return atom.form().put(value) // atom.divisor
             return as_form(names[atom]) if isinstance(atom, str) and atom in names else Form({atom: 1})
+        if not isinstance(names, dict):
+            of_kind(names, Mapping, "forms by the names that they replace are wanted, as {'i': k + 1}")
         return self.put(value)
 
     def key(self) -> Tuple[object, ...]:
@@ -136,7 +159,11 @@ class Form:
         """The form's value where its names have these values."""
         def value(name: Atom) -> Number:
             return name.at(values) if isinstance(name, Floor) else plain(values[str(name)])
-        return plain(sum(value(name) * number for name, number in self.terms.items()) + self.constant)
+        try:
+            return plain(sum(value(name) * number for name, number in self.terms.items()) + self.constant)
+        except TypeError:
+            of_kind(values, Mapping, "the values of names are wanted, as {'n': 3}")
+            raise
 
     def __str__(self) -> str:
         form, common = self.whole()
@@ -187,13 +214,23 @@ class Column(NamedTuple):
         return f"{'parameter' if self.is_parameter else 'unknown'}.{self.place}"
 
 
-@dataclass(frozen=True, eq=False)
+_KINDS = (">=", ">", "==", "multiple")
+
+
+@dataclass(frozen=True, eq=False, init=False)
 class Relation:
     """That a form is at least 0, above 0, equal to 0, or a multiple of the modulus."""
 
     form: Form
     kind: str  # ">=", ">", "==" or "multiple"
     modulus: int = 1
+
+    def __init__(self, form: Form, kind: str, modulus: int = 1) -> None:
+        if not isinstance(form, Form) or kind not in _KINDS:
+            raise TypeError(f"a relation is one of a form, by one of {', '.join(_KINDS)}, not of {form!r} by {kind!r}")
+        if type(modulus) is not int or modulus < 1:
+            modulus = from_one_on(modulus, "a congruence needs a whole modulus from 1 on")
+        vars(self).update(form=form, kind=kind, modulus=modulus)
 
     def __bool__(self) -> bool:
         raise TypeError("a relation has no truth value, as `low <= x <= high`, `and`, `max`, `min` and `in` want one: say each relation "
@@ -249,7 +286,7 @@ def as_form(value: FormLike) -> Form:
     if isinstance(value, Form):
         return value
     if isinstance(value, numbers.Rational) and not isinstance(value, bool):
-        return Form({}, plain(value))
+        return Form({}, value)
     raise TypeError(f"neither a form nor an exact number: {value!r}")
 
 
@@ -285,7 +322,7 @@ def plain(number: Number) -> Number:
     """The number as an int where it is whole, of Python's own ints: those of others (numpy's) have an end."""
     if type(number) is int:
         return number
-    if isinstance(number, numbers.Rational):
+    if isinstance(number, numbers.Rational) and not isinstance(number, bool):
         above, below = int(number.numerator), int(number.denominator)
         return above if below == 1 else Fraction(above, below)
     raise TypeError(f"not an exact number: {number!r}")
@@ -299,6 +336,6 @@ def whole_number(number: object, what: str) -> int:
 
 
 def from_one_on(number: object, what: str) -> int:
-    if isinstance(number, numbers.Integral) and int(number) >= 1:
+    if isinstance(number, numbers.Integral) and not isinstance(number, bool) and int(number) >= 1:
         return int(number)
     raise ValueError(f"{what}, not {number!r}")

@@ -7,7 +7,7 @@ import math
 import re
 from typing import Callable, Collection, Dict, List, Mapping, NamedTuple, Sequence, Set, Tuple, TypeVar
 
-from .forms import Form, Relation, congruent
+from .forms import Form, Relation, congruent, of_kind
 
 _NAME = r"[A-Za-z_][A-Za-z0-9_']*"
 _TOKEN = re.compile(rf"\s*(->|<<=|>>=|<<|>>|<=|>=|==|!=|&&|\|\||\d+|{_NAME}|[-+*/%(){{}}\[\],:;<>=!])")
@@ -63,9 +63,7 @@ def _not_too_deep(read: Callable[[], _Read]) -> _Read:
 
 class Reader:
     def __init__(self, text: str) -> None:
-        if not isinstance(text, str):
-            raise TypeError(f"a text is wanted, not {text!r}")
-        self.text, self.place = text, 0
+        self.text, self.place = of_kind(text, str, "a text is wanted"), 0
         self.taken: Set[str] = set()  # all names that were given
         self.words = set(re.findall(_NAME, text))
 

@@ -27,7 +27,7 @@ from typing import Iterator, List, Mapping, Optional, Sequence, Set, Tuple
 
 from .answers import Answer, checked_answer
 from .formulas import Fault, Part, Reader, is_name
-from .forms import Atom, Floor, Form, Relation, taken_out
+from .forms import MAPPING, Atom, Floor, Form, Relation, of_kind, taken_out
 from .problems import Problem
 from .solver import Solver
 from .trees import Choice, NewParameter, Point, Tree, form_of
@@ -35,6 +35,7 @@ from .trees import Choice, NewParameter, Point, Tree, form_of
 
 def problems(text: str, *, greatest: bool = False, low: Mapping[str, int] = {}, context: str = "") -> List[Problem]:
     """The problems of a set or a map: one for each part of its `or`, and where it has none one without a point."""
+    of_kind(low, MAPPING, "the lows are wanted by their names, as {'n': -9}")
     parameters, tuples = Reader(text).whole()
     if len({(it.named, tuple(it.domain), len(it.unknowns)) for it in tuples}) > 1:
         raise Fault("the parts of the set have tuples of different names or lengths, or of a map other names in the first one")
@@ -43,7 +44,7 @@ def problems(text: str, *, greatest: bool = False, low: Mapping[str, int] = {}, 
     if tuples and (other := [name for name in low if name not in (*names, *asked)]):
         raise Fault(f"{', '.join(other)}: low is for a parameter or an unknown of the first tuple")
     known: List[Relation] = []
-    if "{" in context:
+    if "{" in of_kind(context, str, "a context is a text of constraints"):
         raise Fault("a context is constraints alone, as `N >= 5`")
     if context:
         chosen = Reader(context).conditions(names)
@@ -114,6 +115,7 @@ def _bound(relations: Sequence[Relation], name: str, before: Sequence[str], sign
 
 def solved(solver: Solver, text: str, *, greatest: bool = False, low: Mapping[str, int] = {}, context: str = "") -> Answer:
     """The lexmin of a set or a map, or its lexmax: the answers of its parts, put together. A Fault where it has no tuple."""
+    of_kind(solver, Solver, "a Solver is wanted")
     answers = [solver.solve(problem) for problem in problems(text, greatest=greatest, low=low, context=context)]
     if not answers:
         raise Fault("the set has no tuple")
@@ -127,6 +129,7 @@ def written(answer: Answer, name: str = "") -> str:
     """The answer as isl writes a piecewise quasi-affine function: a piece for each leaf that is a point. Of a map the names
     of its first tuple are parameters. A ValueError where isl has no such names."""
     names = list(checked_answer(answer).posed.parameters)
+    of_kind(name, str, "the name of a tuple is a text")
     if other := [own for own in (*names, *([name] if name else [])) if not is_name(own)]:
         raise ValueError(f"no names in isl's notation: {', '.join(other)}")
     held = [f"{it} {own}" for it, own in answer.posed.parameters.items()]

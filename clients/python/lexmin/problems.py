@@ -7,7 +7,8 @@ from dataclasses import dataclass
 from typing import Dict, Iterator, List, Mapping, Optional, Sequence, Tuple
 
 from .forms import (
-    Atom, Column, Floor, Form, FormLike, Number, Relation, as_form, checked_name, checked_relation, divided, row_text, whole_number)
+    MAPPING, Atom, Column, Floor, Form, FormLike, Number, Relation, as_form, checked_name, checked_relation, divided, each, of_kind,
+    row_text, whole_number)
 from .trees import is_one_group
 
 
@@ -17,6 +18,11 @@ class Range:
 
     low: Optional[int] = 0
     high: Optional[int] = None
+
+    def __post_init__(self) -> None:
+        for bound in (self.low, self.high):
+            if bound is not None and type(bound) is not int:
+                whole_number(bound, "the bound of a range is a whole number, or None")
 
     def of(self, column: Form) -> Form:
         """The parameter from the program's, which is from 0 on."""
@@ -48,8 +54,7 @@ class Problem:
     """A problem under construction. Parameters and unknowns are named first, then related; `text` is what is sent."""
 
     def __init__(self, comment: str = "", *, integer: bool = True) -> None:
-        if not isinstance(comment, str):
-            raise TypeError(f"a comment is a text, not {comment!r}")
+        of_kind(comment, str, "a comment is a text")
         if not is_one_group(f"({comment})"):
             raise ValueError("the brackets of a comment must balance")
         comment.encode()  # what UTF-8 has no bytes for is refused here
@@ -120,6 +125,7 @@ class Problem:
         problem's unknowns and parameters, and for "" the constant. Each relation's multiplier is a further unknown: whole
         ones in the integer mode, which leaves out forms that need fractions. The domain must not be empty: there every form
         would do, and the lemma says nothing."""
+        of_kind(form, MAPPING, "the coefficients of a form are wanted by their names, as {'i': x, '': y}")
         domain = tuple(map(checked_relation, domain))
         names = dict.fromkeys([*(name for name in form if name), *(name for it in domain for name in it.form.names())])
         for relation in domain:
@@ -200,6 +206,12 @@ class Problem:
                 raise ValueError(f"the name {name} is not one that can stand here; these can: {', '.join(names) or 'none'}")
 
 
+def checked_problem(problem: object) -> Problem:
+    if not isinstance(problem, Problem):
+        raise TypeError(f"not a problem: {problem!r}")
+    return problem
+
+
 def checked_context(relation: Relation) -> Relation:
     if relation.kind == "multiple" or any(isinstance(name, Floor) for name in relation.form.terms):
         raise ValueError("a context has neither floors nor congruences: put another parameter, as n = 2*e where n is even")
@@ -211,7 +223,16 @@ class Space:
     form over the columns of the program. Equal ones are about the same."""
 
     def __init__(self, comment: str, parameters: Mapping[str, Range], context: Sequence[Relation], points: Mapping[str, Form]) -> None:
-        self.comment, self.parameters, self.conditions, self.points = comment, dict(parameters), tuple(context), dict(points)
+        self.comment = of_kind(comment, str, "a comment is a text")
+        self.parameters = dict(of_kind(parameters, MAPPING, "the parameters are wanted by their names, as {'n': Range(0)}"))
+        self.conditions = tuple(map(checked_relation, each(context, "the relations of a context are wanted")))
+        self.points = dict(of_kind(points, MAPPING, "the unknowns are wanted by their names, each as a form over the columns"))
+        for own in self.parameters.values():
+            if not isinstance(own, Range):
+                raise TypeError(f"a parameter has a Range, not {own!r}")
+        for form in self.points.values():
+            if not isinstance(form, Form):
+                raise TypeError(f"an unknown is a form over the columns, not {form!r}")
 
     @property
     def asked(self) -> List[str]:
@@ -278,7 +299,7 @@ class Space:
 
     def under(self, relations: Sequence[Relation]) -> Space:
         """The same under further relations between the parameters."""
-        for relation in map(checked_relation, relations):
+        for relation in map(checked_relation, each(relations, "relations are wanted")):
             unknown = [name for name in relation.form.names() if name not in self.parameters]
             if unknown:
                 raise ValueError(f"{', '.join(unknown)}: a context is about the parameters, {', '.join(self.parameters) or 'none here'}")
@@ -292,7 +313,7 @@ class Posed(Space):
     """A problem as it is sent. What is added to the problem later changes nothing here."""
 
     def __init__(self, problem: Problem) -> None:
-        for name, own in problem._parameters.items():
+        for name, own in checked_problem(problem)._parameters.items():
             if own.low is None and own.high is None:
                 raise ValueError(f"the parameter {name} has either sign: the problem is solved by parts, with solve_by_signs")
         super().__init__(problem.comment, problem._parameters, problem._context, {})

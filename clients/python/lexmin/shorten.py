@@ -7,13 +7,14 @@ anything is asked. All this is advice: what is handed on is compared with the gi
 from __future__ import annotations
 
 import math
+import numbers
 import sys
 import time
 from dataclasses import dataclass
 from fractions import Fraction
 from typing import Callable, List, Optional, Sequence, Tuple, Union
 
-from .forms import row_text
+from .forms import row_text, whole_number
 from .texts import MOST_ROWS, MOST_UNKNOWNS
 from .trees import Bottom, Choice, NewParameter, Point, Row, Tree, Void, value_at
 
@@ -94,6 +95,10 @@ class Shortener:
     """Shortens one tree. When a limit is reached it goes on without questions: what it has made so far is as right as before."""
 
     def __init__(self, ask: Ask, questions: Optional[int] = QUESTIONS, seconds: Optional[float] = SECONDS) -> None:
+        if questions is not None:
+            whole_number(questions, "the questions of an answer are a whole number, or None")
+        if seconds is not None and (not isinstance(seconds, numbers.Real) or isinstance(seconds, bool)):
+            raise TypeError(f"the seconds of an answer are a number, or None, not {seconds!r}")
         if seconds is not None and seconds != seconds:
             raise ValueError("the seconds of an answer are a number")
         self._ask, self._most = ask, questions

@@ -9,8 +9,8 @@ from collections import deque
 from typing import Any, Deque, Dict, Iterable, Iterator, List, Optional, Sequence, Tuple, TypeVar, Union
 
 from .answers import Answer, AnswerBySigns, checked_answer
-from .forms import whole_number
-from .problems import Posed, Problem, numbers_over
+from .forms import each, of_kind, whole_number
+from .problems import Posed, Problem, checked_problem, numbers_over
 from .processes import Pool, Refused, Runs, TimedOut, checked_seconds
 from .prepare import prepared
 from .refutations import NotCertified, Obligations, steps_of
@@ -123,17 +123,21 @@ class Solver:
     def ask_prepared(self, text: str) -> Optional[str]:
         """The answer to a native text of one problem, by the problem made smaller: put back, and not checked. None where nothing
         can be taken out, or the program does not read the text or refuses the smaller one."""
+        of_kind(text, str, "a text is wanted")
         try:
-            problem, = native(as_bytes(text))
+            found = list(native(as_bytes(text)))
         except Fault:
             return None
+        if len(found) != 1:
+            raise ValueError("a text of one problem is wanted")
+        problem = found[0]
         made = prepared(problem)
         if made is None or made.text is None:
             return None
-        found, = self._plain.answers([made.text])
-        if isinstance(found, Refused):
+        answer, = self._plain.answers([made.text])
+        if isinstance(answer, Refused):
             return None
-        return answer_text(problem.comment, made.put_back(parse_answer(found[0])[1]))
+        return answer_text(problem.comment, made.put_back(parse_answer(answer[0])[1]))
 
     def proves(self, text: str, answer: str) -> bool:
         """Whether `check` accepts an answer to a problem, given as texts, with a certificate that is made for it."""
@@ -166,7 +170,7 @@ class Solver:
 
     def solve_by_signs(self, problem: Problem) -> AnswerBySigns:
         """The answer to a problem with parameters of either sign: a part for each choice of signs, 2^k for k of them."""
-        return AnswerBySigns([_raised(found) for found in self.solve_all(problem.by_signs())])
+        return AnswerBySigns([_raised(found) for found in self.solve_all(checked_problem(problem).by_signs())])
 
     def ask(self, text: str) -> str:
         """The text of the answer to a native text of one problem."""
@@ -204,7 +208,7 @@ class Solver:
                     seconds: Optional[float] = SECONDS) -> List[Answer]:
         """The same of each answer, in order, by one process that is asked about all of them, and by one `same` for all. The
         limits are those of each answer."""
-        given = [checked_answer(answer) for answer in answers]
+        given = [checked_answer(answer) for answer in each(answers, "answers are wanted")]
         made = [self._shorter(answer, questions, seconds) for answer in given]
         changed = [place for place, (answer, own) in enumerate(zip(given, made)) if own.tree != answer.tree]
         trios = [(len(given[place].posed.parameters), given[place].posed.context_text(), given[place].text, made[place].text)
@@ -228,7 +232,7 @@ class Solver:
     def same_all(self, trios: Sequence[Tuple[int, str, str, str]]) -> List[bool]:
         """Whether `same` says `same` of each number of parameters, context and two answers, given as texts; a refusal is none.
         Those that follow each other and are over as many parameters are read by one process, as many as it takes."""
-        given = [(count, joined(texts, "a context and two answers")) for count, *texts in trios]
+        given = [_counted(trio) for trio in each(trios, "a list is wanted")]
         verdicts: List[bool] = []
         for count, group in itertools.groupby(given, lambda it: it[0]):
             words = ["same", str(count), *self.budget_words(["pivots", "cuts", "splits"])]
@@ -287,7 +291,7 @@ class Solver:
     def check(self, triples: Iterable[Tuple[str, str, str]]) -> List[Optional[Refused]]:
         """What `check` says of each problem, answer and certificate: none where it accepts them, else its refusal, or that it was
         late with it. One process reads as many triples as it can."""
-        texts = [joined(triple, "a problem, an answer and a certificate") for triple in triples]
+        texts = [joined(triple, "a problem, an answer and a certificate") for triple in each(triples, "a list of triples is wanted")]
         verdicts: List[Optional[Refused]] = []
         for batch in batches(texts, MOST_BYTES):
             for found in self._lines(["check"], batch):
@@ -298,7 +302,11 @@ class Solver:
 
     def run(self, words: Sequence[str], text: str) -> str:
         """What another command writes over a text, by a process of its own: `run(["pieces", "2"], answer.text)`."""
-        status, output, line = self._runs.run([self.program, *words], text, self.timeout)
+        what = "the words of a command are wanted, as ['pieces', '2']"
+        given = [of_kind(word, str, "a word of a command is a text") for word in each(words, what)]
+        if isinstance(words, str):
+            raise TypeError(f"{what}, not {words!r}")
+        status, output, line = self._runs.run([self.program, *given], of_kind(text, str, "a text is wanted"), self.timeout)
         if status != 0 or (line and signal.getsignal(signal.SIGCHLD) == signal.SIG_IGN):  # (then the system keeps no status)
             raise Refused(status, line, text)
         return as_text(output)
@@ -307,7 +315,7 @@ class Solver:
 def standing(program: Union[str, os.PathLike[str]]) -> str:
     """The program by a path that stays its own where the process goes to another folder. A text without a folder is looked for on
     the path; a Path has none where it was made of `./pip`."""
-    name = os.fspath(program)
+    name = os.fspath(of_kind(program, (str, bytes, os.PathLike), "the program is a path"))
     folder, file = os.path.split(name)
     if os.path.isabs(name) or (isinstance(program, str) and not folder):
         return name
@@ -346,10 +354,8 @@ class _Source:
 
 
 def _taken(problems: Iterable[Problem]) -> Iterator[Posed]:
-    for problem in problems:
-        if not isinstance(problem, Problem):
-            raise TypeError(f"not a problem: {problem!r}")
-        yield problem.posed()
+    for problem in each(problems, "problems are wanted, one after the other"):
+        yield checked_problem(problem).posed()
 
 
 _Found = TypeVar("_Found")
@@ -367,8 +373,16 @@ def _raised(found: Union[_Found, Refused]) -> _Found:
     return found
 
 
-def joined(texts: Sequence[str], what: str) -> str:
+def _counted(trio: Iterable[Any]) -> Tuple[int, str]:
+    """A number of parameters, and the texts of which `same` is asked."""
+    what = "a number of parameters, a context and two answers are wanted"
+    own = list(each(trio, what))
+    return whole_number(own[0] if own else None, f"{what}, the number a whole one"), joined(own[1:], "a context and two answers")
+
+
+def joined(given: Iterable[str], what: str) -> str:
     """Three texts that a command reads one after the other, each one group: else its verdict would be taken for that of the next."""
+    texts = list(each(given, f"{what} are wanted"))
     if len(texts) != 3 or not all(map(is_one_group, texts)):
         raise ValueError(f"{what} are wanted, each one group of balanced brackets")
     return "\n".join(texts) + "\n"

@@ -21,7 +21,7 @@ from typing import Dict, Iterator, List, Optional, Sequence, Set
 
 from .answers import Answer, checked_answer
 from .drawing import answer_texts, names_of, told_apart, told_which
-from .forms import Column, Floor, Form, Number, taken_out
+from .forms import Column, Floor, Form, Number, of_kind, taken_out
 from .problems import Range, Space
 from .trees import Choice, NewParameter, Point, Tree, form_of, leaves, parameter_count, parse_answer
 
@@ -58,7 +58,7 @@ def c_source(answer: Answer, name: str = "lexmin", *, floor: bool = True) -> str
 
 class _Writer:
     def __init__(self, answer: Answer, name: str, c: bool) -> None:
-        if not _PLAIN.fullmatch(name) or (name in _TAKEN and name != "lexmin"):
+        if not _PLAIN.fullmatch(of_kind(name, str, "the name of a function is a text")) or (name in _TAKEN and name != "lexmin"):
             raise ValueError(f"{name!r} can't be the name of a function")
         self.answer, self.c = checked_answer(answer), c
         self.turned = not c and _indents(answer.tree) > MOST_INDENTS

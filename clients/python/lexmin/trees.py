@@ -7,7 +7,7 @@ from dataclasses import dataclass
 from fractions import Fraction
 from typing import Iterable, List, Optional, Sequence, Tuple, Union
 
-from .forms import Form, FormLike, Number, as_form, plain, row_text
+from .forms import Form, FormLike, Number, as_form, each, of_kind, plain, row_text
 
 Row = Tuple[Number, ...]  # the numbers of the parameters and the new parameters, and the constant last
 
@@ -48,6 +48,11 @@ class NewParameter:
 
 Tree = Union[Bottom, Void, Point, Choice, NewParameter]
 
+
+def checked_tree(tree: Tree) -> Tree:
+    return of_kind(tree, (Bottom, Void, Point, Choice, NewParameter), "the tree of an answer is wanted")
+
+
 _TOKEN = re.compile(r"[ \t\n\f\r]*(#\[|[()\]]|[-+]?\d+(?:/\d+)?|[A-Za-z]+)", re.ASCII)
 _BRACKET = re.compile(r"[()]")
 
@@ -64,7 +69,7 @@ def as_bytes(text: str) -> bytes:
 def groups(text: str) -> List[str]:
     """The groups of balanced brackets of a text, one after the other. What stands between them is dropped."""
     found, depth, start = [], 0, 0
-    for match in _BRACKET.finditer(text):
+    for match in _BRACKET.finditer(of_kind(text, str, "a text is wanted")):
         if match.group() == "(":
             if depth == 0:
                 start = match.start()
@@ -100,7 +105,7 @@ def parse_pieces(text: str) -> List[PieceOf]:
 
 def answer_text(comment: str, tree: Tree) -> str:
     """The text of an answer, as the program prints it."""
-    return f"(({comment})\n{tree_text(tree)})\n"
+    return f"(({of_kind(comment, str, 'a comment is a text')})\n{tree_text(tree)})\n"
 
 
 def tree_text(tree: Tree) -> str:
@@ -110,7 +115,7 @@ def tree_text(tree: Tree) -> str:
         return f"(newparm {tree.number} (div {_form_text(tree.form)} {tree.divisor}))\n{tree_text(tree.below)}"
     if isinstance(tree, Point):
         return "(list\n{})\n".format("".join(_form_text(row) + "\n" for row in tree.components))
-    return "void\n" if isinstance(tree, Void) else "()\n"
+    return "void\n" if isinstance(checked_tree(tree), Void) else "()\n"
 
 
 def _form_text(row: Row) -> str:
@@ -134,7 +139,7 @@ def parse_answer(text: str) -> Tuple[str, Tree]:
 
 class _Reader:
     def __init__(self, text: str) -> None:
-        self.text = text
+        self.text = of_kind(text, str, "the text of an answer is wanted")
         self.place = 0
         self.parameters: Optional[int] = None  # over how many the answer is, as its first form or new parameter says
 
@@ -289,12 +294,15 @@ def parameter_count(tree: Tree) -> Optional[int]:
         return tree.number
     if isinstance(tree, Choice):
         return len(tree.form) - 1
-    return len(tree.components[0]) - 1 if isinstance(tree, Point) else None
+    if isinstance(tree, Point):
+        return len(tree.components[0]) - 1
+    checked_tree(tree)
+    return None
 
 
 def value_at(tree: Tree, parameters: Sequence[int]) -> Union[Bottom, Void, Tuple[Number, ...]]:
     """A tree's value at parameters, in the program's order."""
-    scope = [plain(number) for number in parameters]
+    scope = [plain(number) for number in each(parameters, "the program's parameters are wanted, in its order")]
     if parameter_count(tree) not in (None, len(scope)):
         raise ValueError(f"{len(scope)} parameters for a tree over {parameter_count(tree)}")
 
@@ -306,6 +314,8 @@ def value_at(tree: Tree, parameters: Sequence[int]) -> Union[Bottom, Void, Tuple
             return tuple(plain(value(row)) for row in tree.components)
         if isinstance(tree, Choice):
             tree = tree.yes if value(tree.form) >= 0 else tree.no
+        elif not isinstance(tree, NewParameter):
+            checked_tree(tree)
         else:
             scope.append(math.floor(value(tree.form) / Fraction(tree.divisor)))
             tree = tree.below
