@@ -536,11 +536,10 @@ class Pool:
         """Ends all processes; a call that is under way fails. A later call begins another one."""
         with _BEGUN:
             idle, self._idle = self._idle, []
-            used = list(self._used)
+            for own in self._used:  # at once: one that its call gives back meanwhile would be ended in the next call's hands
+                own.interrupt()
         for own in idle:
             own.stop()
-        for own in used:
-            own.interrupt()
 
 
 def _asked(text: str) -> _Asked:
