@@ -6,7 +6,7 @@
 
 The function takes the parameters in the problem's order. In Python it gives the values of the unknowns as a tuple, or None where
 there is no point; in C it writes them and returns 1, or returns 0. It says nothing of parameters outside the context. C's
-numbers are those of `long long`: an answer that holds others is refused, and nothing is said of a function whose sums pass them.
+numbers are those of `long long`: a function that would hold others is refused, and nothing is said of one whose sums pass them.
 
 NAMES stand apart by commas, in the order of the problem. Without them parameters are p0, p1, .. Unknowns behind the last one that
 is named are left out. Of several answers the functions are NAME1, NAME2 and so on. Without a FILE the text is standard input.
