@@ -245,7 +245,8 @@ class Answer:
     def _asked(self) -> Solver:
         if self.solver is None:
             raise ValueError("the answer was not made by a Solver: give it one, Answer(.., solver=solver)")
-        return self.solver
+        from .solver import Solver  # (which imports this module)
+        return of_kind(self.solver, Solver, "the solver of an answer is a Solver")
 
     # Its words.
 
