@@ -62,4 +62,6 @@ impl Items for Check {
     fn keep(&self, room: &mut CheckRoom, triple: Triple) {
         room.triples.keep(triple);
     }
+
+    fn discard(&self, _room: CheckRoom) {}
 }

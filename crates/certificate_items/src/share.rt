@@ -48,4 +48,8 @@ impl Items for Share {
         print_certificate(&shared, text)?;
         Ok(())
     }
+
+    fn keep(&self, _room: &mut (), _triple: Triple) {}
+
+    fn discard(&self, _room: ()) {}
 }

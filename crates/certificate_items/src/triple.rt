@@ -127,7 +127,5 @@ pub(crate) fn accept_alone(alloc: Global, triple: &Triple) -> Result<(), Ending>
         (model.check triple.now.problem (answer_of triple.now.answer) triple.now.certificate) }
 {
     let mut forms = GoalForms::new(alloc);
-    let accepted = accept(alloc, &mut forms, triple);
-    drop(forms);
-    accepted
+    accept(alloc, &mut forms, triple)
 }

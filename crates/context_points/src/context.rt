@@ -130,6 +130,9 @@ impl Context {
         Ok(Context::new(alloc, width))
     }
 
+    /// Gives all room back.
+    pub fn discard(self) {}
+
     /// No forms over so many places from now on. It takes no memory. The room of forms, as far as there is a place for it,
     /// and of runs stays.
     pub fn restart(&mut self, width: usize)

@@ -11,10 +11,10 @@ use std::alloc::Global;
 /// A command that makes a text of each item of an input: how an item is read, and what is made of it.
 pub trait Items {
     /// An item that was read.
-    type Read: Drop;
+    type Read;
 
     /// Room that is kept from item to item. No text depends on it.
-    type Room: Drop;
+    type Room;
 
     /// The command that it is.
     ghost meaning: { Self → Command };
@@ -56,8 +56,11 @@ pub trait Items {
         ensures own { IfErr result IsOfItem }
         ensures text { IsTextOfItem (text_of (meaning self.now) (seen self.now item.old)) result text.new.items };
 
-    /// Keeps what is done with of an item as room for the next. No text depends on it.
-    fn keep(&self, _room: &mut Self::Room, _item: Self::Read) {}
+    /// Takes an item that is done with, of which it may keep room for the next. No text depends on it.
+    fn keep(&self, room: &mut Self::Room, item: Self::Read);
+
+    /// Gives the room back.
+    fn discard(&self, room: Self::Room);
 }
 
 // Puts the text of the item at a place into `text`, from whose memory all is made, and answers the place after the item.
@@ -86,6 +89,29 @@ fn write_text<C: Items>(
     }
 }
 
+// Writes the texts of the items in order, up to the first refusal, in a room.
+fn write_items_in<C: Items, K: Sink>(
+    alloc: Global,
+    command: &C,
+    room: &mut C::Room,
+    bytes: &[u8],
+    sink: &mut K,
+) -> Result<(), Ending>
+    ensures output { WritesItems (item_text (C.meaning command.now) bytes.now) (K.written sink.old) (K.written sink.new)
+        result }
+    ensures own { IfErr result (λ e. ¬ (e ≡ Ending.WriteFault) → IsOfItem e) }
+    ensures faults { CountsFaults (IsErrOf result Ending.WriteFault) (K.faults sink.old) (K.faults sink.new) }
+{
+    let mut text = Vec::new(alloc);
+    let mut at = 0;
+    while let Some(after) = write_text(command, room, bytes, at, &mut text)? {
+        write_all(sink, &text)?;
+        text.clear();
+        at = after;
+    }
+    Ok(())
+}
+
 /// Writes the texts of the items in order, up to the first refusal.
 pub fn write_items<C: Items, K: Sink>(
     alloc: Global,
@@ -98,13 +124,8 @@ pub fn write_items<C: Items, K: Sink>(
     ensures own { IfErr result (λ e. ¬ (e ≡ Ending.WriteFault) → IsOfItem e) }
     ensures faults { CountsFaults (IsErrOf result Ending.WriteFault) (K.faults sink.old) (K.faults sink.new) }
 {
-    let mut text = Vec::new(alloc);
     let mut room = command.room(alloc);
-    let mut at = 0;
-    while let Some(after) = write_text(command, &mut room, bytes, at, &mut text)? {
-        write_all(sink, &text)?;
-        text.clear();
-        at = after;
-    }
-    Ok(())
+    let written = write_items_in(alloc, command, &mut room, bytes, sink);
+    command.discard(room);
+    written
 }

@@ -56,7 +56,7 @@ fn chosen(
     let room = levels(first) + levels(second) + MOST_COMPONENTS;
     let mut context = context_of(alloc, rows, room)?;
     let found = chosen_on(alloc, first, second, &mut context, work);
-    drop(context);
+    context.discard();
     found
 }
 

@@ -52,6 +52,11 @@ impl Path {
         }
     }
 
+    /// Gives all memory back.
+    pub fn discard(self) {
+        self.context.discard();
+    }
+
     // Goes one level down, with one more form in the context. Takes no memory.
     fn enter(&mut self, form: Form)
         requires room { 1 ≤ self.old.context.spare }

@@ -2,11 +2,11 @@
 use Rattle.pip_cli.proofs.Words.{◌≡◌, ◌≢◌, ◌⊎◌, inl, inr, refl, sym, subst, ◌∙◌, arith, ℕ, ◌<◌, List, [], Option, Some, None, Bool, true, false, not, length, Result, Ok, Err, IfSome, MatchBool, most_input_bytes, Ending, finished, Command, SolveOptions, Solve, way, item_text, IsFirstOutput, MayBeAsked, output-right, first_output-right, told, or_memory, Gained, IsRead, IsWithin, WritesOutput, bytes_read, AreEnded, AreBefore, AreAll, ReadsWhole, WritesTillEnd, WritesByProblem, WritesOf, AreFirst, AreFirstEnded, AreFirstBefore, IsOfItems, EndsWith, EndsByProblem, StopsAtLimit, HasEndedByProblem, EndsAs, AnswersRight, Completes, IsShort, IsAfterInput, IsWordsEnding, WhereTold}
 use Rattle.program_model.specs.Items.{IsItself}
 use Rattle.headline.proofs.FirstItems.{first_items-first}
-use Rattle.pip_items.specs.Ending.{Ending as Refused}
-use Rattle.pip_items.specs.Ending.TheVariants as ending
-use Rattle.pip_items.proofs.Outputs.{all_read}
+use Rattle.item_writing.specs.declared.ending.Ending.{Ending as Refused}
+use Rattle.item_writing.specs.declared.ending.Ending.TheVariants as ending
+use Rattle.item_writing.proofs.Outputs.{all_read}
 use Rattle.pip_cli.proofs.Asked.{IsAsked}
-use Rattle.pip_items.specs.ByProblem.{WritesInTime, FailsInTime, reads_by_problem}
+use Rattle.item_writing.specs.ByProblem.{WritesInTime, FailsInTime, reads_by_problem}
 use Rattle.pip_cli.proofs.Ends.{fault-by, gained-as, front-as, IsItemEnd, item_end, ending_from, ends-by, right-by, completes-by}
 
 module _ (o : SolveOptions) (asked : IsAsked (Solve o)) (bytes : List ℕ) (n : ℕ) (a b : Option (List ℕ)) where

@@ -7,10 +7,10 @@ use Rattle.pip_model.specs.Reading.{Fault, TooNested}
 use Rattle.pip_problem.specs.Faults.{run_fault, read_fault}
 use Rattle.quast_text.specs.Faults.{text_fault}
 use Rattle.pip_model.specs.Walks.{ToolRefusal, ByRun}
-use Rattle.pip_items.specs.Faults.{tool_fault}
+use Rattle.tree_items.specs.Faults.{tool_fault}
 use Rattle.leaf_certificate.specs.Faults.{certificate_fault}
-use Rattle.pip_items.specs.Ending.{Ending as Refused}
-use Rattle.pip_items.specs.Ending.TheVariants as ending
+use Rattle.item_writing.specs.declared.ending.Ending.{Ending as Refused}
+use Rattle.item_writing.specs.declared.ending.Ending.TheVariants as ending
 use Rattle.pip_cli.proofs.Asked.{IsAsked}
 
 -- ---- statuses

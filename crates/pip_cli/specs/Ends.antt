@@ -10,11 +10,11 @@ use Rattle.program_model.specs.Endings.{finished, usage_ending, read_fault_endin
 use Rattle.program_model.specs.Endings.{input_ending, notes_of}
 use Rattle.program_model.specs.Commands.{Command}
 use Rattle.program_model.specs.Output.{IsOutput, IsFirstOutput, IsRightOutput, IsRightFirstOutput}
-use Rattle.pip_items.specs.Endings.{ending_of}
-use Rattle.pip_items.specs.Ending.{Ending as Refused}
-use Rattle.pip_items.specs.Items.{Gained, GainedFront}
-use Rattle.pip_items.specs.Outputs.{IsWithin, IsTooLong}
-use Rattle.pip_items.specs.ByProblem.{reads_by_problem, AreEnded, AreBefore, AreAll}
+use Rattle.item_writing.specs.Endings.{ending_of}
+use Rattle.item_writing.specs.declared.ending.Ending.{Ending as Refused}
+use Rattle.item_writing.specs.Items.{Gained, GainedFront}
+use Rattle.item_writing.specs.Outputs.{IsWithin, IsTooLong}
+use Rattle.item_writing.specs.ByProblem.{reads_by_problem, AreEnded, AreBefore, AreAll}
 
 -- ---- the status
 

@@ -1,3 +1,3 @@
 pub mod Runs
 pub mod Ends
-pub use Rattle.pip_items.specs.ByProblem
+pub use Rattle.item_writing.specs.ByProblem

@@ -1,9 +1,9 @@
 -- How a run without a command ends, and what is promised where the outside tells.
 use Rattle.std.specs.Prelude.{List, ℕ, Option, IfSome, Result, Err, ⊤}
 use Rattle.program_model.specs.Commands.{Command}
-use Rattle.pip_items.specs.Ending.{Ending}
-use Rattle.pip_items.specs.Ending.TheVariants as ending
-use Rattle.pip_items.specs.Outputs.{bytes_read}
+use Rattle.item_writing.specs.declared.ending.Ending.{Ending}
+use Rattle.item_writing.specs.declared.ending.Ending.TheVariants as ending
+use Rattle.item_writing.specs.Outputs.{bytes_read}
 
 -- the words are refused, or the memory for them
 abbrev pub IsWordsEnding : Result (Unit {0}) Ending → Type 0

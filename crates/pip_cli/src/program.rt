@@ -4,12 +4,13 @@ ghost use Rattle.pip_outside.specs.Calls.{AsksOn};
 ghost use Rattle.pip_outside.specs.Faults.{HasRisen};
 ghost use Rattle.program_model.specs.Endings.{all_done, wrong_words, read_failed, write_failed, memory_refused, memory_ending};
 ghost use Rattle.pip_words.specs.Words.{command_given};
-ghost use Rattle.pip_items.specs.Outputs.{TakesInput, TakesInputAtMost, IsRead, EndsByFaults};
-ghost use Rattle.pip_items.specs.ByProblem.{WritesOf, ReadsWhole, StopsAtRefused, FailsInTime, WritesInTime, reads_by_problem};
+ghost use Rattle.item_writing.specs.Outputs.{TakesInput, TakesInputAtMost, IsRead, EndsByFaults};
+ghost use Rattle.item_writing.specs.ByProblem.{WritesOf, ReadsWhole, StopsAtRefused, FailsInTime, WritesInTime, reads_by_problem};
 ghost use Rattle.pip_cli.specs.Runs.{IsWordsEnding, WhereTold};
 ghost use Rattle.pip_cli.specs.Ends.{GainsLine, IsNoted, IsAfterInput, EndsAs, AnswersRight, Completes};
 
-use pip_items::{Ending, Status, write_output};
+use crate::output::write_output;
+use item_writing::{Ending, Status};
 use pip_outside::{Sink, Source};
 use pip_words::read_words;
 use std::alloc::Global;

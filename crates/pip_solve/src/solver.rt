@@ -42,6 +42,14 @@ impl Solver {
         }
     }
 
+    /// Gives all room back.
+    pub fn discard(self) {
+        let Solver { rows, path, rooms } = self;
+        drop(rows);
+        path.discard();
+        rooms.discard();
+    }
+
     /// The allocator that the room is taken from.
     pub fn allocator(&self) -> Global {
         self.rows.allocator()

@@ -26,7 +26,7 @@ pub fn context_point(
 {
     let mut solver = Solver::new(alloc);
     let point = solver.context_point(problem, work);
-    drop(solver);
+    solver.discard();
     point
 }
 
@@ -45,7 +45,7 @@ pub fn answer_from(
 {
     let mut solver = Solver::new(alloc);
     let answer = solver.answer_from(problem, point, limits, work);
-    drop(solver);
+    solver.discard();
     answer
 }
 
@@ -62,6 +62,6 @@ pub fn solve(alloc: Global, problem: &Problem, limits: &Limits) -> Result<Answer
 {
     let mut solver = Solver::new(alloc);
     let answer = solver.solve(problem, limits);
-    drop(solver);
+    solver.discard();
     answer
 }

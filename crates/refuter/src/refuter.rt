@@ -54,6 +54,9 @@ impl Refuter {
         }
     }
 
+    /// Gives all room back.
+    pub fn discard(self) {}
+
     /// The places that it keeps, which it lets go.
     pub fn take_places(&mut self) -> Places
         ensures { self.new ≡ self.old }

@@ -142,7 +142,7 @@ fn restricted(
 {
     let mut context = context_of(alloc, rows, levels(answer))?;
     let found = restricted_on(alloc, answer, &mut context, work);
-    drop(context);
+    context.discard();
     found
 }
 

@@ -55,7 +55,7 @@ fn compared(
 {
     let mut context = context_of(alloc, rows, levels(first) + levels(second) + 1)?;
     let found = compared_on(alloc, first, second, &mut context, work);
-    drop(context);
+    context.discard();
     found
 }
 

@@ -49,7 +49,7 @@ pub fn solve_with_certificate(
 {
     let mut certifier = Certifier::new(alloc);
     let certified = certifier.solve_with_certificate(problem, limits);
-    drop(certifier);
+    certifier.discard();
     certified
 }
 
@@ -144,6 +144,17 @@ impl Certifier {
         }
     }
 
+    /// Gives all room back.
+    pub fn discard(self) {
+        let Certifier {
+            solver,
+            refuter,
+            known: _,
+        } = self;
+        solver.discard();
+        refuter.discard();
+    }
+
     /// Keeps the rooms of a certificate's steps for the next ones.
     pub fn keep(&mut self, certificate: Certificate) {
         self.refuter.keep_steps(certificate);
@@ -188,7 +199,7 @@ impl Certifier {
             refuter,
             known,
         } = making;
-        drop(refuter);
+        refuter.discard();
         drop(known);
         walked?;
         Ok(certificate)

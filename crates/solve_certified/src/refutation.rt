@@ -106,7 +106,7 @@ impl Scope<'_> {
     {
         let mut refuter = Refuter::new(self.alloc);
         let steps = self.refute(&mut refuter, known, 0, work);
-        drop(refuter);
+        refuter.discard();
         steps
     }
 }

@@ -24,6 +24,16 @@ impl Kept {
         }
     }
 
+    // Gives all room back.
+    pub fn discard(self) {
+        let Kept {
+            certifier,
+            spare: _,
+            text: _,
+        } = self;
+        certifier.discard();
+    }
+
     // Keeps the room of a text that is written, where it is not large.
     pub fn keep_text(&mut self) {
         if self.text.capacity() > MOST_TEXT {

@@ -92,7 +92,7 @@ pub fn answer_next<S: Source, K: Sink>(
 {
     let mut kept = Kept::new(alloc);
     let answered = answer_next_in(&mut kept, options, window, source, sink);
-    drop(kept);
+    kept.discard();
     answered
 }
 
@@ -142,6 +142,6 @@ pub fn write_problems<S: Source, K: Sink>(
 {
     let mut kept = Kept::new(alloc);
     let written = write_problems_in(&mut kept, options, source, sink);
-    drop(kept);
+    kept.discard();
     written
 }

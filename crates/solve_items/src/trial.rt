@@ -48,4 +48,8 @@ impl Items for Trial<'_> {
         print_trial(alloc, self.0.seed, self.0.count, text)?;
         Ok(())
     }
+
+    fn keep(&self, _room: &mut (), _item: ()) {}
+
+    fn discard(&self, _room: ()) {}
 }

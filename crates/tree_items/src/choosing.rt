@@ -36,9 +36,9 @@ impl Items for Least<'_> {
         trio_at(alloc, bytes, at, self.0.params)
     }
 
-    #[tactic(auto, using(crate::proofs::Walked::made_ok, crate::proofs::Walked::made_refused))]
     fn room(&self, _alloc: Global) {}
 
+    #[tactic(auto, using(crate::proofs::Walked::made_ok, crate::proofs::Walked::made_refused))]
     fn put(
         &self,
         alloc: Global,
@@ -56,4 +56,8 @@ impl Items for Least<'_> {
         print_answer(&trio.first.comment, &answer, text)?;
         Ok(())
     }
+
+    fn keep(&self, _room: &mut (), _trio: Trio) {}
+
+    fn discard(&self, _room: ()) {}
 }

@@ -53,9 +53,9 @@ impl Items for Same<'_> {
         trio_at(alloc, bytes, at, self.0.params)
     }
 
-    #[tactic(auto, using(crate::proofs::Walked::line_ok, crate::proofs::Walked::line_refused))]
     fn room(&self, _alloc: Global) {}
 
+    #[tactic(auto, using(crate::proofs::Walked::line_ok, crate::proofs::Walked::line_refused))]
     fn put(
         &self,
         alloc: Global,
@@ -73,4 +73,8 @@ impl Items for Same<'_> {
         put_sameness(&sameness, text)?;
         Ok(())
     }
+
+    fn keep(&self, _room: &mut (), _trio: Trio) {}
+
+    fn discard(&self, _room: ()) {}
 }

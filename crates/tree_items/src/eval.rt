@@ -49,4 +49,8 @@ impl Items for Eval<'_> {
         print_answer(&spoken.comment, &value, text)?;
         Ok(())
     }
+
+    fn keep(&self, _room: &mut (), _spoken: Spoken) {}
+
+    fn discard(&self, _room: ()) {}
 }

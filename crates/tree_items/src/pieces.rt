@@ -36,9 +36,9 @@ impl Items for Pieces<'_> {
         Ok(read_answer(alloc, bytes, at, self.0.params)?)
     }
 
-    #[tactic(auto, using(crate::proofs::PieceTexts::pieces_refused))]
     fn room(&self, _alloc: Global) {}
 
+    #[tactic(auto, using(crate::proofs::PieceTexts::pieces_refused))]
     fn put(
         &self,
         _alloc: Global,
@@ -49,4 +49,8 @@ impl Items for Pieces<'_> {
         print_pieces(&spoken.comment, &spoken.answer, text)?;
         Ok(())
     }
+
+    fn keep(&self, _room: &mut (), _spoken: Spoken) {}
+
+    fn discard(&self, _room: ()) {}
 }

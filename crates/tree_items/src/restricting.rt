@@ -50,9 +50,9 @@ impl Items for Restrict<'_> {
         }
     }
 
-    #[tactic(auto, using(crate::proofs::Walked::made_ok, crate::proofs::Walked::made_refused))]
     fn room(&self, _alloc: Global) {}
 
+    #[tactic(auto, using(crate::proofs::Walked::made_ok, crate::proofs::Walked::made_refused))]
     fn put(
         &self,
         alloc: Global,
@@ -64,4 +64,8 @@ impl Items for Restrict<'_> {
         print_answer(&pair.first.comment, &answer, text)?;
         Ok(())
     }
+
+    fn keep(&self, _room: &mut (), _pair: Pair) {}
+
+    fn discard(&self, _room: ()) {}
 }

@@ -51,4 +51,8 @@ impl Items for Simplify<'_> {
         print_answer(&spoken.comment, &answer, text)?;
         Ok(())
     }
+
+    fn keep(&self, _room: &mut (), _spoken: Spoken) {}
+
+    fn discard(&self, _room: ()) {}
 }

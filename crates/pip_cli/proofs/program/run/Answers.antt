@@ -1,5 +1,5 @@
 use Rattle.pip_cli.proofs.Words.{◌≡◌, sym, ◌∙◌, Some, None}
-use Rattle.pip_items.proofs.Turns.{asks-start}
+use Rattle.item_writing.proofs.Turns.{asks-start}
 use Rattle.pip_cli.proofs.program.run.Goals as goal
 
 pub returns-in_err-command-clause-turns : goal.returns-in_err-command-clause-turns

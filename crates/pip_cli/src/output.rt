@@ -13,9 +13,9 @@ use solve_items::{Matrices, Trial, write_problems};
 use std::alloc::Global;
 use tree_items::{Eval, Least, Pieces, Restrict, Same, Simplify};
 
-/// Writes the text that a command makes of each item, up to the first refusal. Native problems are read and answered
-/// one by one; any other input is read whole first, and the trial reads none.
-pub fn write_output<S: Source, K: Sink>(
+// Writes the text that a command makes of each item, up to the first refusal. Native problems are read and answered
+// one by one; any other input is read whole first, and the trial reads none.
+pub(crate) fn write_output<S: Source, K: Sink>(
     alloc: Global,
     command: &Command,
     source: &mut S,

@@ -1,9 +1,9 @@
-use Rattle.pip_items.proofs.Words.{refl, [], Some, Trial}
+use Rattle.pip_cli.proofs.Words.{refl, [], Some, Trial}
 use Rattle.item_writing.proofs.Faults.{faults-items}
 use Rattle.item_writing.proofs.Calls.{stops-whole, in_time-whole}
 use Rattle.item_writing.proofs.Turns.{asks-start}
 use Rattle.item_writing.proofs.Outputs.{written}
-use Rattle.pip_items.proofs.output.write_output.Goals as goal
+use Rattle.pip_cli.proofs.output.write_output.Goals as goal
 
 pub returns-in-Trial-clause-output : goal.returns-in-Trial-clause-output
 returns-in-Trial-clause-output g c =

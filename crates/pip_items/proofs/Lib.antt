@@ -1,3 +1,0 @@
-mod Words
-pub use Rattle.item_writing.proofs.Outputs
-pub use Rattle.item_writing.proofs.Turns
