@@ -5,7 +5,8 @@ from dataclasses import dataclass
 from typing import TYPE_CHECKING, Callable, Dict, Iterator, List, Mapping, NoReturn, Optional, Sequence, Tuple, Union
 
 from .forms import (
-    MAPPING, Atom, Column, Floor, Form, FormLike, Number, Relation, as_form, checked_name, divided, each, of_kind, taken_out, whole_number)
+    MAPPING, Atom, Column, Floor, Form, FormLike, Number, Relation, as_form, checked_name, divided, each, from_one_on, known, of_kind,
+    of_kinds, taken_out, whole_number)
 from .problems import Space, numbers_over
 from .shorten import QUESTIONS, SECONDS
 from .texts import MOST_NUMBER
@@ -32,6 +33,17 @@ class Piece:
     conditions: Tuple[Form, ...]  # each at least 0
     quotients: Tuple[Tuple[str, Form, int], ...]
     point: Optional[Tuple[Tuple[str, Form], ...]]
+
+    def __post_init__(self) -> None:
+        for form in of_kind(self.conditions, tuple, "the conditions of a piece are forms, as (n - 1,)"):
+            of_kind(form, Form, "a condition of a piece is a form")
+        what = "a quotient is a name, a form and a divisor, as ('q', n, 2)"
+        for quotient in of_kind(self.quotients, tuple, "the quotients of a piece are wanted, as (('q', n, 2),)"):
+            from_one_on(of_kinds(quotient, (str, Form, object), what)[2], "a quotient needs a whole divisor from 1 on")
+        if self.point is not None:
+            what = "the point of a piece is forms with their names, as (('x', n),), or None"
+            for named in of_kind(self.point, tuple, what):
+                of_kinds(named, (str, Form), what)
 
     def relations(self) -> List[Relation]:
         """That the piece holds, to be said in other problems: there the quotients are further unknowns (`further(name)`: those of
@@ -267,7 +279,7 @@ class Answer:
         point = None
         if isinstance(leaf, Point):
             point = tuple(self.posed.point([form_of(row, scope) for row in leaf.components]))
-        return Piece(tuple(conditions), tuple(quotients), point)
+        return known(Piece, conditions=tuple(conditions), quotients=tuple(quotients), point=point)
 
     def __str__(self) -> str:
         """The tree in words: `if`, `elif` and `else`, `q = form // d` for new parameters, a point as its unknowns."""

@@ -35,6 +35,7 @@ ISL = """Writes the lexmin of a set or a map in isl's notation, or its lexmax.
 
 Parameters are from 0 on, or from what --low says.
 """
+MATRICES = "of which `solve --polylib` writes the answer; native problems are read here"
 
 
 def space_of(problem: ReadProblem) -> Space:
@@ -68,19 +69,19 @@ def shorten(words: Sequence[str]) -> int:
         data = chosen.file.read_bytes() if chosen.file else sys.stdin.buffer.read()
         problems = list(native(data))
         if not problems:
-            raise ValueError("no problem in the text" + if_matrices(data, "of which `solve --polylib` writes the answer; native problems are read here"))
+            raise ValueError("no problem in the text" + if_matrices(data, MATRICES))
         with Solver(chosen.program, timeout=chosen.timeout) as solver:
             answers: List[Answer] = []
             for number, text in enumerate(groups(as_text(data))):
                 try:
                     answers.append(Answer(space_of(problems[number]), solver.ask(text) + "\n", solver=solver))
                 except Refused as refused:
-                    print(f"lexmin shorten: problem {number + 1}: {refused.line}", file=sys.stderr)
+                    print(f"lexmin shorten: problem {number + 1}: {refused.line or refused}", file=sys.stderr)
                     status = 1
             for answer in solver.shorten_all(answers, questions=chosen.questions, seconds=chosen.seconds):
                 print(answer.text, end="")
     except Fault as fault:
-        print(f"lexmin shorten: {position(data, fault.place)}: {fault.words}", file=sys.stderr)
+        print(f"lexmin shorten: {position(data, fault.place)}: {fault.words}{if_matrices(data, MATRICES)}", file=sys.stderr)
         return 1
     except BrokenPipeError:
         raise

@@ -129,9 +129,10 @@ def mermaid(drawing: Drawing, across: bool = False) -> Iterator[str]:
 def answer_texts(file: Optional[pathlib.Path]) -> List[str]:
     """The texts of the answers in a file, or in standard input; ValueError where there is none."""
     data = file.read_bytes() if file else sys.stdin.buffer.read()
-    texts = groups(data.decode(errors="replace"))
+    hint = if_matrices(data, "of which `solve --polylib` writes the answer")
+    texts = [] if hint else groups(data.decode(errors="replace"))
     if not texts:
-        raise ValueError("no answer in the text" + if_matrices(data, "of which `solve --polylib` writes the answer"))
+        raise ValueError("no answer in the text" + hint)
     return texts
 
 

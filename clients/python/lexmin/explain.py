@@ -106,12 +106,15 @@ def explain(data: bytes, as_matrices: bool = False, parameters: Optional[Sequenc
         yield _columns(problem)
         yield from explained(problem, parameters, unknowns)
         return
+    hint = if_matrices(data, "which `--polylib` reads")
     if b"(" not in data:
-        hint = if_matrices(data, "which `--polylib` reads")
         what = "the text is empty" if not data.strip() else "the text has no `(`"
         raise Fault(len(data), f"{what}, so there is no problem in it, and the program writes nothing, with status 0{hint}", "none")
-    for problem in native(data):
-        yield from explained(problem, parameters, unknowns)
+    try:
+        for problem in native(data):
+            yield from explained(problem, parameters, unknowns)
+    except Fault as fault:
+        raise Fault(fault.place, fault.words + hint, fault.line) from None
 
 
 def main(words: Sequence[str]) -> int:

@@ -6,7 +6,7 @@ import numbers
 import re
 from dataclasses import dataclass
 from fractions import Fraction
-from typing import Any, Callable, Dict, Iterable, Iterator, List, Mapping, NamedTuple, Optional, Sequence, Tuple, TypeVar, Union
+from typing import Any, Callable, Dict, Iterable, Iterator, List, Mapping, NamedTuple, Optional, Sequence, Tuple, Type, TypeVar, Union
 
 Number = Union[int, Fraction]
 Atom = Union[str, "Floor", "Column"]  # what a form has numbers of
@@ -19,6 +19,20 @@ def of_kind(given: _Given, kinds: Any, what: str) -> _Given:
     if isinstance(given, kinds):
         return given
     raise TypeError(f"{what}, not {given!r}")
+
+
+def of_kinds(given: object, kinds: Sequence[Any], what: str) -> Tuple[Any, ...]:
+    """A tuple of as many things, each of its kind; TypeError with these words where it is none."""
+    if isinstance(given, tuple) and len(given) == len(kinds) and all(map(isinstance, given, kinds)):
+        return given
+    raise TypeError(f"{what}, not {given!r}")
+
+
+def known(kind: Type[_Given], **parts: object) -> _Given:
+    """One of a class of parts, made of parts that need no check any more."""
+    made = object.__new__(kind)
+    vars(made).update(parts)
+    return made
 
 
 def each(given: Iterable[_Given], what: str) -> Iterator[_Given]:
@@ -41,7 +55,7 @@ class Form:
             items = () if terms is None else terms.items()
         except AttributeError:
             raise TypeError(f"the terms of a form are numbers by names, as {{'n': 2}}, not {terms!r}") from None
-        self.terms = {name: plain(number) for name, number in items if number != 0}
+        self.terms = {name: number if type(number) is int else plain(number) for name, number in items if number != 0}
         self.constant = plain(constant)
 
     def __add__(self, other: FormLike) -> Form:
@@ -82,7 +96,8 @@ class Form:
         scaled, common = self.whole()
         if not scaled.terms:
             return Form({}, scaled.constant // (divisor * common))
-        return Form({Floor(tuple(sorted(scaled.terms.items(), key=str)), int(scaled.constant), divisor * common): 1})
+        terms = tuple(sorted(scaled.terms.items(), key=str))
+        return Form({known(Floor, terms=terms, constant=int(scaled.constant), divisor=divisor * common): 1})
 
     def __mod__(self, divisor: int) -> Form:
         return self - self // divisor * divisor
@@ -116,12 +131,16 @@ class Form:
         common = math.lcm(*(number.denominator for number in numbers))
         return (self if common == 1 else self * common), common
 
-    def put(self, values: Callable[[Atom], Form]) -> Form:
-        """The form with each of its names replaced."""
+    def put(self, values: Callable[[Atom], FormLike]) -> Form:
+        """The form with each of its names replaced by what a function gives for it: a form, or a number."""
+        if not callable(values):
+            raise TypeError(f"a function that gives the form of a name is wanted, not {values!r}")
         terms: Dict[Atom, Number] = {}
         constant = self.constant
         for name, number in self.terms.items():
             form = values(name)
+            if type(form) is not Form:
+                form = as_form(form)
             constant += number * form.constant
             for inner, own in form.terms.items():
                 terms[inner] = terms.get(inner, 0) + number * own
@@ -141,8 +160,15 @@ class Form:
         """What tells it from other forms. (`==` makes a relation.)"""
         return tuple(sorted(self.terms.items(), key=str)), self.constant
 
-    def numbers(self, names: Sequence[Column]) -> List[Number]:
-        """The numbers of these names."""
+    def numbers(self, names: Sequence[Atom]) -> List[Number]:
+        """The numbers of these names, 0 of one that the form doesn't have."""
+        what = "names are wanted, one after the other"
+        if isinstance(names, str):  # (whose letters are names)
+            raise TypeError(f"{what}, not {names!r}")
+        return self.numbers_of([of_kind(name, ATOMS, what) for name in each(names, what)])
+
+    def numbers_of(self, names: Sequence[Atom]) -> List[Number]:
+        """The same of what is known to be names."""
         return [self.terms.get(name, 0) for name in names]
 
     def names(self) -> List[str]:
@@ -156,11 +182,14 @@ class Form:
         return list(found)
 
     def at(self, values: Mapping[str, Number]) -> Number:
-        """The form's value where its names have these values."""
-        def value(name: Atom) -> Number:
-            return name.at(values) if isinstance(name, Floor) else plain(values[str(name)])
+        """The form's value where its names have these values; ValueError where a name has none."""
+        total = self.constant
         try:
-            return plain(sum(value(name) * number for name, number in self.terms.items()) + self.constant)
+            for name, number in self.terms.items():
+                total += number * (name.at(values) if isinstance(name, Floor) else plain(values[str(name)]))
+            return plain(total)
+        except KeyError as missing:
+            raise ValueError(f"no value is given for the name {missing}") from None
         except TypeError:
             of_kind(values, Mapping, "the values of names are wanted, as {'n': 3}")
             raise
@@ -188,11 +217,18 @@ FormLike = Union[Form, int, Fraction]
 
 @dataclass(frozen=True)
 class Floor:
-    """The floor of a whole form over a divisor."""
+    """The floor of a whole form over a divisor, a whole number from 1 on."""
 
     terms: Tuple[Tuple[Atom, Number], ...]
     constant: int
     divisor: int
+
+    def __post_init__(self) -> None:
+        what = "the terms of a floor are names with whole numbers, as (('n', 2),)"
+        for term in of_kind(self.terms, tuple, what):
+            whole_number(of_kinds(term, (ATOMS, object), what)[1], what)
+        vars(self).update(constant=whole_number(self.constant, "the constant of a floor is a whole number"),
+                          divisor=from_one_on(self.divisor, "a floor needs a whole divisor from 1 on"))
 
     def form(self) -> Form:
         return Form(dict(self.terms), self.constant)
@@ -214,6 +250,7 @@ class Column(NamedTuple):
         return f"{'parameter' if self.is_parameter else 'unknown'}.{self.place}"
 
 
+ATOMS = (str, Floor, Column)
 _KINDS = (">=", ">", "==", "multiple")
 
 
@@ -330,12 +367,16 @@ def plain(number: Number) -> Number:
 
 def whole_number(number: object, what: str) -> int:
     """A whole number, as Python's own; TypeError with these words where it is none."""
+    if type(number) is int:
+        return number
     if isinstance(number, numbers.Integral) and not isinstance(number, bool):
         return int(number)
     raise TypeError(f"{what}, not {number!r}")
 
 
 def from_one_on(number: object, what: str) -> int:
+    if type(number) is int and number >= 1:
+        return number
     if isinstance(number, numbers.Integral) and not isinstance(number, bool) and int(number) >= 1:
         return int(number)
     raise ValueError(f"{what}, not {number!r}")

@@ -231,8 +231,11 @@ class Space:
             if not isinstance(own, Range):
                 raise TypeError(f"a parameter has a Range, not {own!r}")
         for form in self.points.values():
-            if not isinstance(form, Form):
+            if not isinstance(form, Form) or not all(map(self._has, form.terms)):
                 raise TypeError(f"an unknown is a form over the columns, not {form!r}")
+
+    def _has(self, atom: Atom) -> bool:
+        return isinstance(atom, Column) and (not atom.is_parameter or atom.place < len(self.parameters))
 
     @property
     def asked(self) -> List[str]:
@@ -258,36 +261,62 @@ class Space:
         return tuple((name, form.key()) for name, form in self.points.items())
 
     def holds_at(self, parameters: Mapping[str, int]) -> bool:
-        """Whether the parameters are in their ranges and satisfy the context."""
-        return (all(parameters[name] in own for name, own in self.parameters.items())
-                and all(relation.holds_at(parameters) for relation in self.conditions))
+        """Whether the parameters are in their ranges and satisfy the context; ValueError where one of them is missing."""
+        for number, own in zip(self._numbers(parameters), self.parameters.values()):
+            if number not in own:
+                return False
+        return all(relation.holds_at(parameters) for relation in self.conditions)
 
     def sent_values(self, parameters: Mapping[str, int]) -> List[int]:
-        """The program's parameters."""
-        return [int(own.sent(parameters[name]).constant) for name, own in self.parameters.items()]
+        """The program's parameters; ValueError where one of these is missing."""
+        return [int(own.sent(number).constant) for number, own in zip(self._numbers(parameters), self.parameters.values())]
+
+    def _numbers(self, parameters: Mapping[str, int]) -> List[int]:
+        """The parameters in their order."""
+        if type(parameters) is not dict:
+            of_kind(parameters, Mapping, "the parameters are wanted by their names, as {'n': 3}")
+        found: List[int] = []
+        try:
+            for name in self.parameters:
+                number = parameters[name]
+                found.append(number if type(number) is int else whole_number(number, "a parameter is a whole number"))
+        except KeyError as missing:
+            raise ValueError(f"no value is given for the parameter {missing}") from None
+        return found
 
     def values(self, sent: Sequence[int]) -> Dict[str, int]:
-        """The parameters, from the program's."""
-        return {name: int(own.of(Form({}, number)).constant) for (name, own), number in zip(self.parameters.items(), sent)}
+        """The parameters, from the program's, as many and in its order."""
+        what = "the program's parameters are wanted, whole numbers"
+        given = [whole_number(number, what) for number in each(sent, what)]
+        if len(given) != len(self.parameters):
+            raise ValueError(f"{len(given)} of the program's parameters for {len(self.parameters)}")
+        return {name: int(own.of(Form({}, number)).constant) for (name, own), number in zip(self.parameters.items(), given)}
 
     def scope(self) -> List[Form]:
         """The program's parameters as forms over the names."""
         return [own.sent(Form({name: 1})) for name, own in self.parameters.items()]
 
-    def point(self, components: Sequence[Form]) -> List[Tuple[str, Form]]:
-        """The unknowns that are asked for, from the program's components: numbers, or forms over the parameters' names."""
-        scope = self.scope()
+    def point(self, components: Sequence[FormLike]) -> List[Tuple[str, Form]]:
+        """The unknowns that are asked for, from the program's components: numbers, or forms over the parameters' names.
+        ValueError where these are too few."""
+        scope, given = self.scope(), list(each(components, "the components of a point are wanted"))
 
-        def column(atom: Atom) -> Form:
+        def column(atom: Atom) -> FormLike:
             assert isinstance(atom, Column)
-            return scope[atom.place] if atom.is_parameter else components[atom.place]
+            return scope[atom.place] if atom.is_parameter else given[atom.place]
 
-        return [(name, form.put(column)) for name, form in self.points.items()]
+        try:
+            return [(name, form.put(column)) for name, form in self.points.items()]
+        except IndexError:
+            raise ValueError(f"{len(given)} components of a point that has {self.columns()}") from None
 
     def in_columns(self, form: Form) -> Form:
-        """A form over the parameters' names as one over the columns."""
+        """A form over the parameters' names as one over the columns; ValueError where it has other names."""
         columns = {name: own.of(Form({Column(True, place): 1})) for place, (name, own) in enumerate(self.parameters.items())}
-        return form.put(lambda name: columns[str(name)])
+        try:
+            return as_form(form).put(lambda name: columns[str(name)])
+        except KeyError as other:
+            raise ValueError(f"{other.args[0]}: not among the parameters, {', '.join(self.parameters) or 'none here'}") from None
 
     def context_rows(self) -> List[Form]:
         return [row for relation in self.conditions for row in whole_rows(self.in_columns(relation.form), relation.kind)]
@@ -295,7 +324,7 @@ class Space:
     def context_text(self) -> str:
         """The context as `restrict`, `same` and `least` read it."""
         columns = [Column(True, place) for place in range(len(self.parameters))]
-        return "({})".format(" ".join(row_text([*row.numbers(columns), row.constant]) for row in self.context_rows()))
+        return "({})".format(" ".join(row_text([*row.numbers_of(columns), row.constant]) for row in self.context_rows()))
 
     def under(self, relations: Sequence[Relation]) -> Space:
         """The same under further relations between the parameters."""
@@ -340,8 +369,8 @@ class Posed(Space):
         unknowns = [Column(False, place) for place in range(self._count)]
         rows = [row.whole()[0] for row in self._rows]
         context = self.context_rows()
-        tableau = [row_text([*row.numbers(unknowns), row.constant, *row.numbers(parameters)]) for row in rows]
-        above = [row_text([*row.numbers(parameters), row.constant]) for row in context]
+        tableau = [row_text([*row.numbers_of(unknowns), row.constant, *row.numbers_of(parameters)]) for row in rows]
+        above = [row_text([*row.numbers_of(parameters), row.constant]) for row in context]
         sizes = f"{len(unknowns)} {len(parameters)} {len(tableau)} {len(above)} -1 {int(problem.integer)}"
         return "(({}) {}\n({})\n({}))\n".format(problem.comment, sizes, "\n".join(tableau), "\n".join(above))
 
@@ -392,4 +421,4 @@ def whole_rows(form: Form, kind: str) -> List[Form]:
 
 def numbers_over(form: Form, count: int) -> List[Number]:
     """The row of a form over so many columns of parameters and new parameters, the constant last."""
-    return [*form.numbers([Column(True, place) for place in range(count)]), form.constant]
+    return [*form.numbers_of([Column(True, place) for place in range(count)]), form.constant]

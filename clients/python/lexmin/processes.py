@@ -28,11 +28,11 @@ END_SECONDS = 3.0  # how long a process has to end by itself
 
 class Refused(Exception):
     """The program refused a text. `status` is its status (below 0: the signal that ended it; 0 where SIGCHLD is ignored, since
-    the system then keeps none), `line` what it wrote to standard error last. The place of a `syntax at byte B` counts from the
-    first byte that its process was given, which `bytes_before` says the number of."""
+    the system then keeps none), `line` what it wrote to standard error last, empty where it wrote nothing. The place of a
+    `syntax at byte B` counts from the first byte that its process was given, which `bytes_before` says the number of."""
 
     def __init__(self, status: int, line: str, text: str, bytes_before: int = 0) -> None:
-        super().__init__(f"status {status}: {line}")
+        super().__init__(f"status {status}: {line or 'the program ended without an answer'}")
         self.status, self.line, self.text, self.bytes_before = status, line, text, bytes_before
 
     def __reduce__(self) -> Tuple[object, ...]:  # (an exception is made anew of its words alone)

@@ -48,7 +48,7 @@ class Solver:
                  timeout: Optional[float] = None, prepare: Union[bool, str] = False) -> None:
         if prepare is not False and prepare is not True and prepare != "when refused":
             raise ValueError(f"prepare is True, False or 'when refused', not {prepare!r}")
-        self.program, self.prepare, self.simplify = standing(program), prepare, simplify
+        self.program, self.prepare, self.simplify = standing(program), prepare, of_kind(simplify, bool, "simplify is True or False")
         self.timeout = checked_seconds(timeout)
         given = {"pivots": pivots, "cuts": cuts, "splits": splits, "nesting": nesting}
         self.budgets = {name: checked_budget(name, most) for name, most in given.items()}
@@ -81,8 +81,14 @@ class Solver:
 
     def budget_words(self, names: Sequence[str]) -> List[str]:
         """The words of the budgets of these names, as far as they were given."""
-        chosen = [(name, self.budgets[name]) for name in names]
-        return [word for name, most in chosen if most is not None for word in (f"--{name}", str(most))]
+        what = f"names of budgets are wanted, of {', '.join(MOST_BUDGETS)}"
+        words: List[str] = []
+        for name in each(names, what):
+            if of_kind(name, str, what) not in self.budgets:
+                raise ValueError(f"{what}, not {name!r}")
+            if self.budgets[name] is not None:
+                words += [f"--{name}", str(self.budgets[name])]
+        return words
 
     def solve(self, problem: Problem) -> Answer:
         """The answer to a problem; Refused where the program refuses it."""
@@ -301,13 +307,15 @@ class Solver:
         return verdicts
 
     def run(self, words: Sequence[str], text: str) -> str:
-        """What another command writes over a text, by a process of its own: `run(["pieces", "2"], answer.text)`."""
+        """What another command writes over a text, by a process of its own: `run(["pieces", "2"], answer.text)`. Refused where the
+        program refuses it, or writes nothing of a text that has a bracket."""
         what = "the words of a command are wanted, as ['pieces', '2']"
         given = [of_kind(word, str, "a word of a command is a text") for word in each(words, what)]
         if isinstance(words, str):
             raise TypeError(f"{what}, not {words!r}")
         status, output, line = self._runs.run([self.program, *given], of_kind(text, str, "a text is wanted"), self.timeout)
-        if status != 0 or (line and signal.getsignal(signal.SIGCHLD) == signal.SIG_IGN):  # (then the system keeps no status)
+        is_kept = signal.getsignal(signal.SIGCHLD) != signal.SIG_IGN  # (else the system keeps no status)
+        if status != 0 or (line and not is_kept) or ("(" in text and not output):
             raise Refused(status, line, text)
         return as_text(output)
 

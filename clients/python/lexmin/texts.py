@@ -231,11 +231,15 @@ def polylib(data: bytes) -> ReadProblem:
     return _Matrices(data).problem()
 
 
+def _bare(data: bytes) -> bytes:
+    """Matrices with blanks in the place of their comments."""
+    return re.sub(rb"#[^\n]*", lambda comment: b" " * len(comment.group()), data)
+
+
 class _Matrices:
     def __init__(self, data: bytes) -> None:
-        bare = re.sub(rb"#[^\n]*", lambda comment: b" " * len(comment.group()), data)
         self.data = data
-        self.words = [(match.group(), match.start()) for match in re.finditer(rb"[^ \t\n\f\r]+", bare)]
+        self.words = [(match.group(), match.start()) for match in re.finditer(rb"[^ \t\n\f\r]+", _bare(data))]
         self.next = 0
 
     def number(self, what: str) -> Tuple[int, int]:
@@ -294,5 +298,6 @@ class _Matrices:
 
 
 def if_matrices(data: bytes, what: str) -> str:
-    """What to do with a text that begins as PolyLib's matrices do; nothing of another one."""
-    return f": these are PolyLib's matrices, {what}" if re.match(rb"(\s|#[^\n]*\n)*[0-9]", data) else ""
+    """What to do with a text that begins as PolyLib's matrices do, with brackets in comments alone; nothing of another one."""
+    begins = re.match(rb"(\s|#[^\n]*\n)*[0-9]", data)
+    return f": these are PolyLib's matrices, {what}" if begins and b"(" not in _bare(data) else ""

@@ -2,12 +2,13 @@
 from __future__ import annotations
 
 import math
+import operator
 import re
 from dataclasses import dataclass
 from fractions import Fraction
 from typing import Iterable, List, Optional, Sequence, Tuple, Union
 
-from .forms import Form, FormLike, Number, as_form, each, of_kind, plain, row_text
+from .forms import Form, FormLike, Number, as_form, each, from_one_on, known, of_kind, plain, row_text, whole_number
 
 Row = Tuple[Number, ...]  # the numbers of the parameters and the new parameters, and the constant last
 
@@ -24,7 +25,14 @@ class Void:
 
 @dataclass(frozen=True)
 class Point:
+    """A point, by its components: each is a row."""
+
     components: Tuple[Row, ...]
+
+    def __post_init__(self) -> None:
+        if not of_kind(self.components, tuple, "the components of a point are rows, as ((1, 0),)"):
+            raise ValueError("a point has a component at least")
+        vars(self).update(components=tuple(map(_checked_row, self.components)))
 
 
 @dataclass(frozen=True)
@@ -35,22 +43,38 @@ class Choice:
     yes: Tree
     no: Tree
 
+    def __post_init__(self) -> None:
+        vars(self).update(form=_checked_row(self.form), yes=checked_tree(self.yes), no=checked_tree(self.no))
+
 
 @dataclass(frozen=True)
 class NewParameter:
-    """Parameter `number` is the floor of the form over the divisor in the tree below."""
+    """Parameter `number`, counted from 0 on, is the floor of the form over the divisor, from 1 on, in the tree below."""
 
     number: int
     form: Row
     divisor: int
     below: Tree
 
+    def __post_init__(self) -> None:
+        vars(self).update(number=whole_number(self.number, "the number of a new parameter is a whole number"), form=_checked_row(self.form),
+                          divisor=from_one_on(self.divisor, "a new parameter needs a whole divisor from 1 on"),
+                          below=checked_tree(self.below))
+
 
 Tree = Union[Bottom, Void, Point, Choice, NewParameter]
 
 
 def checked_tree(tree: Tree) -> Tree:
-    return of_kind(tree, (Bottom, Void, Point, Choice, NewParameter), "the tree of an answer is wanted")
+    return of_kind(tree, (Choice, Point, NewParameter, Bottom, Void), "the tree of an answer is wanted")
+
+
+def _checked_row(row: Row) -> Row:
+    """A row of exact numbers, as Python's own."""
+    what = "a row of numbers is wanted, the constant last, as (1, 0)"
+    if not of_kind(row, tuple, what):
+        raise ValueError(f"{what}, not {row!r}")
+    return tuple(map(plain, row))
 
 
 _TOKEN = re.compile(r"[ \t\n\f\r]*(#\[|[()\]]|[-+]?\d+(?:/\d+)?|[A-Za-z]+)", re.ASCII)
@@ -194,7 +218,7 @@ class _Reader:
                 self.expect(")")
             elif word == "newparm":
                 number, form, divisor = self.quotient(new)
-                path.append(NewParameter(number, form, divisor, Bottom()))
+                path.append(known(NewParameter, number=number, form=form, divisor=divisor, below=Bottom()))
                 new += 1
             else:
                 leaf: Union[Bottom, Point] = Bottom() if word == ")" else self.point(new)
@@ -233,7 +257,7 @@ class _Reader:
         token = self.token()
         while token != "]":
             try:
-                numbers.append(plain(Fraction(token)))
+                numbers.append(plain(Fraction(token)) if "/" in token else int(token))
             except ZeroDivisionError:
                 raise ValueError(f"no answer: a denominator 0 before character {self.place}") from None
             token = self.token()
@@ -256,11 +280,11 @@ class _Reader:
         if word == "if":
             form, yes, no = self.scoped(self.row(), new), self.tree(new), self.tree(new)
             self.expect(")")
-            return Choice(form, yes, no)
+            return known(Choice, form=form, yes=yes, no=no)
         if word != "newparm":
             raise ValueError(f"no answer: unknown word {word}")
         number, form, divisor = self.quotient(new)
-        return NewParameter(number, form, divisor, self.tree(new + 1))
+        return known(NewParameter, number=number, form=form, divisor=divisor, below=self.tree(new + 1))
 
     def quotient(self, new: int) -> Tuple[int, Row, int]:
         """What stands behind `newparm`: its number, form and divisor."""
@@ -285,7 +309,7 @@ class _Reader:
             token = self.token()
         if not components:
             raise ValueError(f"no answer: a list without components before character {self.place}")
-        return Point(tuple(components))
+        return known(Point, components=tuple(components))
 
 
 def parameter_count(tree: Tree) -> Optional[int]:
@@ -301,21 +325,21 @@ def parameter_count(tree: Tree) -> Optional[int]:
 
 
 def value_at(tree: Tree, parameters: Sequence[int]) -> Union[Bottom, Void, Tuple[Number, ...]]:
-    """A tree's value at parameters, in the program's order."""
+    """A tree's value at parameters, in the program's order; ValueError where a row on the way has another number of numbers."""
     scope = [plain(number) for number in each(parameters, "the program's parameters are wanted, in its order")]
     if parameter_count(tree) not in (None, len(scope)):
         raise ValueError(f"{len(scope)} parameters for a tree over {parameter_count(tree)}")
 
     def value(row: Row) -> Number:
-        return sum(number * own for number, own in zip(row, scope)) + row[-1]
+        if len(row) != len(scope) + 1:
+            raise ValueError(f"a row of {len(row)} numbers, where {len(scope)} parameters and new ones are in scope, and the constant")
+        return sum(map(operator.mul, row, scope)) + row[-1]
 
     while not isinstance(tree, (Bottom, Void)):
         if isinstance(tree, Point):
             return tuple(plain(value(row)) for row in tree.components)
         if isinstance(tree, Choice):
             tree = tree.yes if value(tree.form) >= 0 else tree.no
-        elif not isinstance(tree, NewParameter):
-            checked_tree(tree)
         else:
             scope.append(math.floor(value(tree.form) / Fraction(tree.divisor)))
             tree = tree.below
