@@ -1,5 +1,6 @@
-ghost use Rattle.std.specs.Prelude.{◌≡◌, ◌↔◌, ◌≤ℤ◌, pos, All, IsTrue, OnOk, OnErr};
-ghost use Rattle.pip_model.specs.Numbers.{divides, gcd_of};
+ghost use Rattle.std.specs.Prelude.{◌≡◌, ◌↔◌, ◌≤ℤ◌, pos, All, IsTrue, IfOk, OnOk, OnErr};
+ghost use Rattle.std.specs.List.{list_all};
+ghost use Rattle.pip_model.specs.Numbers.{divides, gcd_of, is_nonneg};
 ghost use Rattle.pip_model.specs.Forms.{coefficients, floor_divided, negate, opposite, scale, tighten};
 ghost use Rattle.pip_model.specs.Listed.{opposite_listed};
 ghost use Rattle.pip_model.specs.Agreement.{IsChecked};
@@ -7,7 +8,16 @@ ghost use Rattle.affine_forms.specs.Checks.{Fits, is_overflow};
 ghost use Rattle.affine_forms.specs.Forms.{IsForm};
 
 use crate::division::{divide_all, divisor};
-use crate::numbers::{Overflow, minus};
+use crate::memory::WantOfMemory;
+use crate::numbers::{Overflow, minus, nonnegative};
+use std::alloc::Global;
+
+/// Whether each number is at least 0.
+pub fn are_nonnegative(numbers: &[i128]) -> bool
+    ensures { result ≡ list_all is_nonneg numbers.now }
+{
+    numbers.iter().all(|number| nonnegative(*number))
+}
 
 /// The opposite of each entry.
 pub fn negate_all(entries: &mut [i128])
@@ -18,6 +28,17 @@ pub fn negate_all(entries: &mut [i128])
     for entry in entries.iter_mut() {
         *entry = -*entry;
     }
+}
+
+/// The opposite of each entry, in new room.
+pub fn negated(alloc: Global, entries: &[i128]) -> Result<Vec<i128>, WantOfMemory>
+    requires { All Fits entries.now }
+    ensures value { IfOk result (λ made. made.items ≡ negate entries.now) }
+    ensures fits { IfOk result (λ made. All Fits made.items) }
+{
+    let mut made = Vec::from_slice(alloc, entries)?;
+    negate_all(&mut made);
+    Ok(made)
 }
 
 // `-c - 1`. A refusal leaves all as it was.

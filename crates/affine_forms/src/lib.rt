@@ -18,7 +18,7 @@ pub use bounds::{lower_bound, negate_around, rounding, upper_bound};
 pub use bytes::Bytes;
 pub use combination::{add_combined, difference};
 pub use division::{divide_all, gcd_with, is_whole, remainders, residues};
-pub use entries::negate_all;
+pub use entries::{are_nonnegative, negate_all, negated};
 pub use form::Form;
 pub use forms::Forms;
 pub use limits::{
@@ -27,6 +27,7 @@ pub use limits::{
 pub use memory::{FormRefusal, WantOfMemory};
 pub use multiples::round_form;
 pub use numbers::{
-    Overflow, divides, floor_div, floor_mod, gcd, minus, nonnegative, plus, positive, times,
+    Overflow, divides, exact_difference, floor_div, floor_mod, gcd, minus, nonnegative, plus,
+    positive, short_product, times,
 };
 pub use pip_model::{LimitKind, Option_};

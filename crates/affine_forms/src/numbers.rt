@@ -42,8 +42,8 @@ fn exact_product(a: i128, b: i128) -> i128
     (a as i64 as i128) * (b as i64 as i128)
 }
 
-// The product of short numbers, and its bound.
-pub(crate) fn short_product(a: i128, b: i128) -> i128
+/// The product of two numbers from `-(2^63 - 1)` to `2^63 - 1`, and its bound.
+pub fn short_product(a: i128, b: i128) -> i128
     requires a { unsigned_abs a < 2 ^ 63 }
     requires b { unsigned_abs b < 2 ^ 63 }
     ensures value { result ≡ a *ℤ b }
@@ -53,8 +53,8 @@ pub(crate) fn short_product(a: i128, b: i128) -> i128
     exact_product(a, b)
 }
 
-// The difference of numbers that are far from the ends.
-pub(crate) fn exact_difference(a: i128, b: i128) -> i128
+/// The difference of numbers that are far from the ends.
+pub fn exact_difference(a: i128, b: i128) -> i128
     requires a { unsigned_abs a < 2 ^ 126 }
     requires b { unsigned_abs b < 2 ^ 126 }
     ensures value { result ≡ a -ℤ b }

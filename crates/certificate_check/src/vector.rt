@@ -1,13 +1,11 @@
 ghost use Rattle.std.specs.Prelude.{◌≡◌, ◌+◌, [], ◌∷◌, length, All};
-ghost use Rattle.std.specs.List.{list_all};
-ghost use Rattle.pip_model.specs.Numbers.{is_nonneg};
 ghost use Rattle.pip_model.specs.Problem.{is_vector as is_vector_of};
 ghost use Rattle.pip_model.specs.Agreement.{Agrees};
 ghost use Rattle.pip_model.specs.Check as model;
 ghost use Rattle.affine_forms.specs.Checks.{Fits};
 ghost use Rattle.leaf_check.specs.Faults.{fault_of};
 
-use affine_forms::{Form, Overflow, nonnegative};
+use affine_forms::{Form, Overflow, are_nonnegative};
 use leaf_check::{Fault, Spot};
 
 // The place of what stands before the first leaf.
@@ -17,18 +15,11 @@ pub(crate) const START: Spot = Spot {
     step: 0,
 };
 
-// Whether each number is at least 0.
-fn all_nonnegative(numbers: &[i128]) -> bool
-    ensures { result ≡ list_all is_nonneg numbers.now }
-{
-    numbers.iter().all(|z| nonnegative(*z))
-}
-
 // Whether these are n numbers of at least 0.
 pub(crate) fn is_vector(n: usize, vector: &[i128]) -> bool
     ensures { result ≡ is_vector_of n vector.now }
 {
-    vector.len() == n && all_nonnegative(vector)
+    vector.len() == n && are_nonnegative(vector)
 }
 
 // Checks that a context row is at least 0 at the vector.

@@ -11,7 +11,7 @@ use certificate_check::{CheckRefusal, GoalForms, Verdict, check_in};
 use certificate_parts::{Certificate, SpareSteps};
 use item_writing::{Ending, needed_answer};
 use pip_problem::Problem;
-use pip_reader::{SpareRows, read_problem_in};
+use pip_reader::{SpareRows, keep_rows, read_problem_in};
 use quast::Answer;
 use std::alloc::Global;
 
@@ -46,9 +46,7 @@ impl TripleRoom {
             answer: _,
             certificate,
         } = triple;
-        let (rows, context) = problem.into_rows();
-        self.rows.keep(context);
-        self.rows.keep(rows);
+        keep_rows(&mut self.rows, problem);
         self.steps.keep(certificate);
     }
 }

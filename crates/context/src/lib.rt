@@ -3,5 +3,5 @@
 
 mod refute;
 
-pub use context_points::{Context, ContextMark, Counts, LaneSign, Lanes, Point, Work, tightened};
+pub use context_points::{Context, ContextMark, Point, Work};
 pub use refute::Refute;

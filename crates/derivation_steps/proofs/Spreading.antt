@@ -1,5 +1,5 @@
 -- Sums and forms whose last coefficients are left out where they are 0.
-use Rattle.derivation_steps.proofs.Words.{◌≡◌, refl, ap, ap₂, derived, length-add, sym, ◌∙◌, ℕ, zero, suc, ◌+◌, ◌-◌, ◌<◌, ◌≤◌, ℤ, ◌+ℤ◌, ◌*ℤ◌, pos, negsuc, Bool, true, false, ◌&&◌, List, [], ◌∷◌, ◌++◌, length, take, drop, replicate, append_assoc, arith, ints, length-append, length-map, length-take, length-drop, length-replicate, take_at, get_or_at, get_or, drop_more, fits, scale, add, entry, constant, width, coefficients, widen_to, all_fit, plus_term, plus_term_listed, is_divisible, fit_behind, map-append, take-append-drop, take_more, take_all, list_all-append, ◌≤ℤ◌, Some, divides, floor_div, is_zero, is_negative, floor_divided, is_absurd, fit_zeros, fit_drop, fit_join, fit_cons, spread, total, PartSum, IsPartSum}
+use Rattle.derivation_steps.proofs.Words.{◌≡◌, refl, ap, ap₂, derived, length-add, sym, ◌∙◌, ℕ, zero, suc, ◌+◌, ◌-◌, ◌<◌, ◌≤◌, ℤ, ◌+ℤ◌, ◌*ℤ◌, pos, negsuc, Bool, true, false, ◌&&◌, List, [], ◌∷◌, ◌++◌, length, take, drop, replicate, append_assoc, arith, ints, length-append, length-map, length-take, length-drop, length-replicate, take_at, get_or_at, fits, scale, add, entry, constant, width, coefficients, widen_to, all_fit, plus_term, plus_term_listed, is_divisible, fit_behind, map-append, take-append-drop, take_more, take_all, list_all-append, ◌≤ℤ◌, Some, divides, floor_div, is_zero, is_negative, floor_divided, is_absurd, fit_zeros, fit_drop, fit_join, fit_cons, spread, total, PartSum, IsPartSum}
 use Rattle.std.proofs.Math.Nat.{zero-div, zero-mod, mod-one}
 use Rattle.std.specs.List.{list_all}
 use Rattle.pip_model.specs.Rows.{is_whole}

@@ -10,7 +10,7 @@ use affine_forms::{Overflow, plus, times};
 const SUMMAND_END: i128 = 0x2000_0000_0000_0000_0000_0000_0000_0000;
 
 // Whether a number has 64 bits.
-fn is_short(z: i128) -> bool
+fn has_64_bits(z: i128) -> bool
     ensures { IsTrue result → FitsSigned w64 z }
 {
     -0x8000_0000_0000_0000 <= z && z < 0x8000_0000_0000_0000
@@ -67,7 +67,7 @@ pub(crate) fn add_product(sum: i128, m: i128, c: i128) -> Result<i128, Overflow>
     if m == 1 && is_summand(sum) && is_summand(c) {
         return Ok(unit_sum(sum, c));
     }
-    if is_short(sum) && is_short(m) && is_short(c) {
+    if has_64_bits(sum) && has_64_bits(m) && has_64_bits(c) {
         return Ok(short_sum(sum, m, c));
     }
     // Part by part, so that the result above need not stand in memory.

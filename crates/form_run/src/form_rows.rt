@@ -17,9 +17,9 @@ use form_basis::Basis;
 use short_run::ShortTableau;
 use std::marker::Model;
 
-// The rows of a run without parameters: those of the places are kept, and behind them stand those of forms, which are
-// read off them. For each column the form of its quantity is kept too, of which contracts say its length alone. They see
-// the rows as a tableau's. The rows of so many first forms are known not to be below 0.
+/// The rows of a run without parameters: those of the places are kept, and behind them stand those of forms, which are
+/// read off them. For each column the form of its quantity is kept too, of which contracts say its length alone. They see
+/// the rows as a tableau's. The rows of so many first forms are known not to be below 0.
 #[derive(Drop)]
 pub struct FormRows {
     pub(crate) places: ShortTableau,

@@ -7,7 +7,7 @@ use form_basis::{Basis, coefficient, value};
 use short_run::ShortTableau;
 use std::alloc::Global;
 
-// Room for a row that is read off its form, and for the numbers of a form or a row. What it held before tells nothing.
+/// Room for a row that is read off its form, and for the numbers of a form or a row. What it held before tells nothing.
 #[derive(Drop)]
 pub struct RowRoom {
     pub row: ShortTableau,

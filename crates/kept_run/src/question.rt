@@ -3,8 +3,8 @@ ghost use Rattle.std.specs.Prelude.{◌≡◌, []};
 use short_run::ShortTableau;
 use std::alloc::Global;
 
-// Rows whose room is used again from question to question: the row of the form that is asked, and the rows of a run
-// that goes on. What they held before tells nothing.
+/// Rows whose room is used again from question to question: the row of the form that is asked, and the rows of a run
+/// that goes on. What they held before tells nothing.
 #[derive(Drop)]
 pub struct Question {
     pub row: ShortTableau,

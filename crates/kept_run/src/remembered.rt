@@ -9,8 +9,8 @@ use affine_forms::{Form, WantOfMemory};
 use short_run::{ShortTableau, Stop, start_short};
 use std::alloc::Global;
 
-// Pivots of a run without parameters, in order: their rows as they stood before each, the places of these rows, and
-// their columns. And the rows that the pivots made of the first ones.
+/// Pivots of a run without parameters, in order: their rows as they stood before each, the places of these rows, and
+/// their columns. And the rows that the pivots made of the first ones.
 #[derive(Drop)]
 pub struct Replay {
     pub pivots: ShortTableau,
@@ -19,8 +19,8 @@ pub struct Replay {
     pub end: ShortTableau,
 }
 
-// The pivots of a run or of its beginning, and whether its last rows show a point: none is below 0, and those of the
-// unknowns are whole.
+/// The pivots of a run or of its beginning, and whether its last rows show a point: none is below 0, and those of the
+/// unknowns are whole.
 #[derive(Drop)]
 pub struct Remembered {
     pub run: Replay,

@@ -1,4 +1,4 @@
-ghost use Rattle.std.specs.Prelude.{◌≡◌, ℕ, ◌+◌, ◌-◌, ◌*◌, ◌<◌, ◌≤◌, ◌||◌, nat_lt, pos, length, IfOk, IfSome};
+ghost use Rattle.std.specs.Prelude.{◌≡◌, ℕ, ◌+◌, ◌-◌, ◌*◌, ◌<◌, ◌≤◌, pos, length, IfOk, IfSome};
 ghost use Rattle.pip_model.specs.declared.Kind.TheVariants.{Number};
 ghost use Rattle.pip_model.specs.Reading as model;
 ghost use Rattle.pip_model.specs.Tokens.{is_digit, token_in};
@@ -6,19 +6,12 @@ ghost use Rattle.affine_forms.specs.Checks.{Fits};
 ghost use Rattle.text_reading.specs.Steps.{fault_of, IsRead};
 
 use text_reading::{Reads, TextFault, number};
-use text_tokens::small_number;
+use text_tokens::{ends_number, small_number};
 
 fn digit(byte: u8) -> bool
     ensures { result ≡ is_digit byte }
 {
     byte.is_ascii_digit()
-}
-
-// Whether the byte is neither a digit nor a `/`, so that a number ends before it.
-fn ends_number(byte: u8) -> bool
-    ensures { result ≡ (nat_lt byte 47 || nat_lt 57 byte) }
-{
-    byte < b'/' || b'9' < byte
 }
 
 // The number that two digits spell.

@@ -1,5 +1,5 @@
 -- Forms that are made for a leaf, and lists of them.
-use Rattle.leaf_check.proofs.Words.{◌≡◌, refl, ap, ap₂, sym, ◌∙◌, ℕ, zero, suc, ◌+◌, ◌-◌, ◌<◌, ◌≤◌, ℤ, pos, List, [], ◌∷◌, ◌++◌, length, take, drop, set, replicate, append_assoc, arith, length-append, length-replicate, set_split, take-replicate, drop-replicate, take_at, take_all, drop_at, get_or_at, length-drop, width, coefficients, constant, unit_form, widen_to, places_from, row_form, length-coefficients}
+use Rattle.leaf_check.proofs.Words.{◌≡◌, refl, ap, ap₂, sym, ◌∙◌, ℕ, zero, suc, ◌+◌, ◌-◌, ◌<◌, ◌≤◌, ℤ, pos, List, [], ◌∷◌, ◌++◌, length, take, drop, set, replicate, append_assoc, arith, length-append, length-replicate, set_split, take-replicate, drop-replicate, take_at, get_or_at, length-drop, width, coefficients, constant, unit_form, widen_to, places_from, row_form, length-coefficients}
 use Rattle.std.proofs.lemmas.List.Elements.{All-append, All-push, All-take, All-drop, All-replicate, All-same, All-get_or}
 use Rattle.std.specs.Prelude.{All}
 use Rattle.affine_forms.specs.Checks.{Fits}

@@ -1,5 +1,6 @@
 -- The words of other modules that the proofs of this crate cite, passed on from one place. Declares nothing.
 pub use Rattle.std.proofs.Common.{◌≡◌, refl, arith, ℕ, ◌-◌, ◌^◌, ◌≤◌, List, [], ◌∷◌, Option, Some, None, Bool, true, false, ◌&&◌, ◌==◌, not, nat_le, length, ◌≢◌, ◌⊎◌, inl, inr, sym, subst, ◌∙◌, ap, ◌<◌, map, string_bytes}
+pub use Rattle.std.proofs.lemmas.Result.{err_from_is_err_and}
 pub use Rattle.std.specs.Prelude.{IfSome, MatchBool, if◌then◌else◌, codes, option_map, Result, Ok, Err}
 pub use Rattle.std.specs.List.{list_all, concat}
 pub use Rattle.std.specs.Io.KnownBytes.{Appends, Keeps}

@@ -1,6 +1,4 @@
 ghost use Rattle.std.specs.Prelude.{◌≡◌, ◌+◌, ◌≤◌, ◌++◌, length, take, All, IfOk};
-ghost use Rattle.std.specs.List.{list_all};
-ghost use Rattle.affine_forms.specs.Numbers.{is_nonneg};
 ghost use Rattle.affine_forms.specs.Problem.{all_nonneg as all_nonneg_of, rows_listed, feasible, feasible_listed};
 ghost use Rattle.affine_forms.specs.Limits.{most_unknowns, most_params};
 ghost use Rattle.affine_forms.specs.WellFormed.{IsRow};
@@ -8,7 +6,7 @@ ghost use Rattle.affine_forms.specs.Agreement.{IsChecked};
 ghost use Rattle.affine_forms.specs.Checks.{Fits, is_overflow};
 
 use crate::problem::Problem;
-use affine_forms::{Form, MOST_PARAMETERS, MOST_UNKNOWNS, Overflow};
+use affine_forms::{Form, MOST_PARAMETERS, MOST_UNKNOWNS, Overflow, are_nonnegative};
 
 // The most unknowns and parameters together.
 const MOST_PLACES: usize = MOST_UNKNOWNS + MOST_PARAMETERS;
@@ -24,13 +22,6 @@ fn join_point(point: &[i128], params: &[i128]) -> [i128; MOST_PLACES]
     let (middle, _) = rest.split_at_mut(params.len());
     middle.copy_from_slice(params);
     vector
-}
-
-// Whether each number is at least 0.
-fn is_nonnegative(numbers: &[i128]) -> bool
-    ensures { result ≡ list_all is_nonneg numbers.now }
-{
-    numbers.iter().all(|number| *number >= 0)
 }
 
 // Whether each form's value at u is at least 0, up to the first that is not.
@@ -62,7 +53,7 @@ pub fn is_feasible(p: &Problem, point: &[i128], params: &[i128]) -> Result<bool,
     ensures value { IfOk result (λ b. b ≡ feasible p.now params.now point.now) }
 {
     let rows = p.rows();
-    if !is_nonnegative(point) {
+    if !are_nonnegative(point) {
         return Ok(false);
     }
     let vector = join_point(point, params);

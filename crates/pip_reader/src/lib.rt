@@ -10,6 +10,6 @@ mod row;
 mod scan;
 
 pub use context::read_context;
-pub use problem::{read_problem, read_problem_in};
+pub use problem::{keep_rows, read_problem, read_problem_in};
 pub use scan::GroupScan;
 pub use text_reading::SpareRows;

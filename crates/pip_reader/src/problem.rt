@@ -5,6 +5,7 @@ ghost use Rattle.pip_model.specs.NativeText.{problem_at as problem_at_of, read_n
 ghost use Rattle.pip_model.specs.Printed.{IsGroup};
 ghost use Rattle.pip_model.specs.Limits.{most_unknowns, most_params};
 ghost use Rattle.pip_model.specs.Agreement.{Agrees};
+ghost use Rattle.text_reading.specs.Spare.{most_spare_rows};
 ghost use Rattle.text_reading.specs.Steps.{IsRead};
 ghost use Rattle.pip_problem.specs.Faults.{read_fault};
 ghost use Rattle.pip_reader.specs.Problems.{problem_of, head_of, blocks_of, blocks_by_sizes, problem_by_steps};
@@ -153,4 +154,13 @@ pub fn read_problem(
     let read = read_problem_in(&mut spare, bytes, start);
     drop(spare);
     read
+}
+
+/// Keeps the rooms of a problem's rows, as `SpareRows::keep` does.
+pub fn keep_rows(spare: &mut SpareRows, problem: Problem)
+    ensures { spare.new ≤ most_spare_rows }
+{
+    let (rows, context) = problem.into_rows();
+    spare.keep(context);
+    spare.keep(rows);
 }

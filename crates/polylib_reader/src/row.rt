@@ -1,6 +1,5 @@
 ghost use Rattle.std.specs.Prelude.{◌≡◌, ◌≤◌, ◌<◌, ◌++◌, length, All, IfOk, OnOk};
 ghost use Rattle.pip_model.specs.Limits.{most_rows};
-ghost use Rattle.pip_model.specs.Forms.{negate};
 ghost use Rattle.pip_model.specs.MatrixText.{is_equality as is_equality_of, inequalities, counted as counted_of};
 ghost use Rattle.pip_model.specs.Agreement.{Agrees};
 ghost use Rattle.affine_forms.specs.Checks.{Fits};
@@ -9,7 +8,7 @@ ghost use Rattle.polylib_reader.specs.Matrices.{row_head as row_head_of};
 
 use crate::number::number_word;
 use crate::word::next_word;
-use affine_forms::{Form, WantOfMemory, negate_all};
+use affine_forms::{Form, WantOfMemory, negated};
 use pip_problem::{LimitKind, ReadRefusal};
 use std::alloc::Global;
 use text_reading::Reads;
@@ -73,17 +72,6 @@ pub(crate) fn row_head(
     })
 }
 
-// The opposite of each entry.
-fn negate_entries(alloc: Global, entries: &[i128]) -> Result<Vec<i128>, WantOfMemory>
-    requires { All Fits entries.now }
-    ensures value { IfOk result (λ negated. negated.items ≡ negate entries.now) }
-    ensures fits { IfOk result (λ negated. All Fits negated.items) }
-{
-    let mut negated = Vec::from_slice(alloc, entries)?;
-    negate_all(&mut negated);
-    Ok(negated)
-}
-
 // Appends a row's inequalities: an equality is two, the second with all entries negated.
 pub(crate) fn push_inequalities(
     alloc: Global,
@@ -96,9 +84,9 @@ pub(crate) fn push_inequalities(
     ensures { OnOk result (forms.new.items ≡ forms.old.items ++ inequalities equality entries.items) }
 {
     if equality {
-        let negated = negate_entries(alloc, &entries)?;
+        let opposite = negated(alloc, &entries)?;
         forms.push(Form::from_entries(entries))?;
-        forms.push(Form::from_entries(negated))?;
+        forms.push(Form::from_entries(opposite))?;
     } else {
         forms.push(Form::from_entries(entries))?;
     }

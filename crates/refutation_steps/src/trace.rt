@@ -8,7 +8,7 @@ ghost use Rattle.point_run.specs.Views.{row_of};
 ghost use Rattle.point_turns.specs.Traces.{with_cut};
 
 use crate::positive_terms::{count_negative, push_opposites, push_positive};
-use affine_forms::{WantOfMemory, negate_all, remainders};
+use affine_forms::{WantOfMemory, negated, remainders};
 use certificate_parts::{Certificate, Refutation, SpareSteps, Step, Terms};
 use point_run::RowView;
 use short_run::ShortTableau;
@@ -16,9 +16,9 @@ use std::alloc::Global;
 use std::marker::Model;
 use std::mem::replace;
 
-// For each row and each column of a run without parameters the index of the known form that is its quantity, the
-// index of the first step's form, and the steps so far. The rows are those of the places, of so many forms, and of the
-// cuts.
+/// For each row and each column of a run without parameters the index of the known form that is its quantity, the
+/// index of the first step's form, and the steps so far. The rows are those of the places, of so many forms, and of the
+/// cuts.
 #[derive(Drop)]
 pub struct Trace {
     places: Vec<i128>,
@@ -46,17 +46,6 @@ impl Model for Trace {
 
     ghost invariant = { λ t. (All Fits t.places.items) × (All Fits t.cuts.items) × (All Fits t.columns.items)
         × (pos 0 ≤ℤ t.first) × (t.first <ℤ pos (2 ^ 64)) };
-}
-
-// The numbers, each with the other sign.
-fn opposites(alloc: Global, numbers: &[i128]) -> Result<Vec<i128>, WantOfMemory>
-    requires { All Fits numbers.now }
-    ensures value { IfOk result (λ made. made.items ≡ negate numbers.now) }
-    ensures fits { IfOk result (λ made. All Fits made.items) }
-{
-    let mut made = Vec::from_slice(alloc, numbers)?;
-    negate_all(&mut made);
-    Ok(made)
 }
 
 // Makes these numbers of others, in their room.
@@ -207,7 +196,7 @@ impl Trace {
     {
         let mut terms = Terms::new(alloc);
         terms.push((index, row.den))?;
-        let away = opposites(alloc, row.coefs)?;
+        let away = negated(alloc, row.coefs)?;
         push_positive(&mut terms, &self.columns, &away)?;
         Ok(terms)
     }

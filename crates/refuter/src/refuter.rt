@@ -216,7 +216,7 @@ impl Refuter {
     }
 
     /// The steps by which the known forms, each over its first places alone and its constant, have no point, as
-    /// `Context::refute` gives them of these forms, with its counts and its refusals. The forms that it keeps are the
+    /// `refute_forms` gives them of these forms, with its counts and its refusals. The forms that it keeps are the
     /// first of these. After a refusal it keeps none, and may be asked further.
     pub fn refute(
         &mut self,

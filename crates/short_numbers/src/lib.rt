@@ -11,6 +11,4 @@ pub use division::{short_floor_div, short_gcd};
 pub use divisors::gcd;
 pub use nonzeros::{Nonzeros, nonzeros_of};
 pub use pairs::{are_narrow, two_differences};
-pub use products::{
-    half_difference, half_product, is_half, narrow, short_difference, short_product,
-};
+pub use products::{half_difference, half_product, is_half, narrow, short_difference};

@@ -2,34 +2,7 @@ ghost use Rattle.std.specs.Prelude.{◌≡◌, ◌<◌, ◌^◌, ◌*ℤ◌, ◌
 ghost use Rattle.affine_forms.specs.Checks.{Fits};
 ghost use Rattle.short_numbers.specs.Short.{IsShort, IsHalf, AreShort, AreHalf};
 
-// The product of short numbers, in one multiplication.
-#[tactic(auto, using(affine_forms::proofs::Short::product_fits))]
-fn exact_product(a: i128, b: i128) -> i128
-    requires { AreShort a b }
-    ensures { result ≡ a *ℤ b }
-{
-    (a as i64 as i128) * (b as i64 as i128)
-}
-
-/// The product of short numbers, and its bound.
-pub fn short_product(a: i128, b: i128) -> i128
-    requires { AreShort a b }
-    ensures value { result ≡ a *ℤ b }
-    ensures bound { unsigned_abs result < 2 ^ 126 }
-    ensures fits { Fits result }
-{
-    exact_product(a, b)
-}
-
-// The difference of numbers that are far from the ends.
-fn exact_difference(a: i128, b: i128) -> i128
-    requires a { unsigned_abs a < 2 ^ 126 }
-    requires b { unsigned_abs b < 2 ^ 126 }
-    ensures value { result ≡ a -ℤ b }
-    ensures fits { Fits result }
-{
-    a - b
-}
+use affine_forms::{exact_difference, short_product};
 
 /// `a*x - b*y` for short numbers.
 pub fn short_difference(a: i128, x: i128, b: i128, y: i128) -> i128

@@ -6,7 +6,8 @@ ghost use Rattle.short_numbers.specs.Short.{IsShort, AreShort, IsShortDivisor};
 ghost use Rattle.short_row.specs.Begun.{finished};
 ghost use Rattle.short_row.specs.Terms.{AreTerms, IsNarrowed};
 
-use short_numbers::{short_difference, short_floor_div, short_gcd, short_product};
+use affine_forms::short_product;
+use short_numbers::{short_difference, short_floor_div, short_gcd};
 
 /// The product of short numbers.
 pub fn product(a: i64, b: i64) -> i128

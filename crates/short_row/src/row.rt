@@ -10,7 +10,7 @@ ghost use Rattle.short_row.specs.Turned.{IsDenominatorOf, IsTurned};
 use crate::numbers::{divide_all, gcd_with};
 use short_numbers::short_floor_div;
 
-// A row: its denominator, its coefficients, and its constant form, which is a constant.
+/// A row: its denominator, its coefficients, and its constant form, which is a constant.
 #[derive(Clone, Copy)]
 pub struct ShortRow<'t> {
     pub den: i64,

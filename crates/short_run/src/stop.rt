@@ -5,7 +5,7 @@ ghost use Rattle.pip_problem.specs.declared.refusal.Refusal.TheVariants as code;
 use affine_forms::WantOfMemory;
 use pip_problem::Refusal;
 
-// Why a run over short numbers ends before its answer: it is refused, or a number is not short, or it has many cuts.
+/// Why a run over short numbers ends before its answer: it is refused, or a number is not short, or it has many cuts.
 #[derive(Drop)]
 pub enum Stop {
     Refused(Refusal),

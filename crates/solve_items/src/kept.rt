@@ -1,4 +1,3 @@
-use pip_problem::Problem;
 use pip_stream::SpareRows;
 use solve_certified::Certifier;
 use std::alloc::Global;
@@ -40,11 +39,4 @@ impl Kept {
             self.text = Vec::new(self.certifier.solver.allocator());
         }
     }
-}
-
-// Keeps the rooms of a problem whose answer is made or refused.
-pub(crate) fn keep_rows(spare: &mut SpareRows, problem: Problem) {
-    let (rows, context) = problem.into_rows();
-    spare.keep(context);
-    spare.keep(rows);
 }

@@ -10,10 +10,11 @@ ghost use Rattle.solve_items.specs.Answered.{AnswersNext};
 ghost use Rattle.item_writing.specs.Outputs.{EndsByFaults};
 ghost use Rattle.item_writing.specs.ByProblem.{WritesByProblem, FailsInTime, CallsBy};
 
-use crate::kept::{Kept, keep_rows};
+use crate::kept::Kept;
 use crate::solve::write_solution;
 use item_writing::Ending;
 use pip_outside::{Sink, Source, Window, write_all};
+use pip_reader::keep_rows;
 use pip_stream::next_problem_in;
 use pip_words::SolveOptions;
 use std::alloc::Global;
@@ -120,8 +121,8 @@ fn write_problems_in<S: Source, K: Sink>(
     Ok(())
 }
 
-/// Answers the native problems of an input one by one, up to the first refusal. No more is held than a problem, a piece
-/// less one, one answer and what is kept for the next: the room of runs and certificates, at most 1,024 rows of at most 64
+/// Answers the native problems of an input one by one, up to the first refusal. No more is held than a problem, 4,095
+/// bytes, one answer and what is kept for the next: the room of runs and certificates, at most 1,024 rows of at most 64
 /// coefficients, and 1 MiB for a text.
 pub fn write_problems<S: Source, K: Sink>(
     alloc: Global,

@@ -19,8 +19,7 @@ use crate::narrow::divide_run;
 use crate::short::{both, combine_short, is_short_row, with_entry};
 use crate::step::Step;
 use crate::view::RowView;
-use affine_forms::{Overflow, divide_all, floor_div, gcd_with, round_form};
-use short_numbers::short_product;
+use affine_forms::{Overflow, divide_all, floor_div, gcd_with, round_form, short_product};
 
 /// The row of these numbers over so many columns: its denominator, its coefficients, the entries of its constant form.
 #[inline(always)]

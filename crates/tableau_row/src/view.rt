@@ -4,8 +4,7 @@ ghost use Rattle.affine_forms.specs.Checks.{IsFitted};
 ghost use Rattle.row_laws.specs.Short.{IsShortRow};
 ghost use Rattle.row_laws.specs.Rows.{row_from};
 
-use affine_forms::{Overflow, times};
-use short_numbers::short_product;
+use affine_forms::{Overflow, short_product, times};
 
 /// A row `(D, a, t)`: D times its quantity is the sum of the a_k times the columns' quantities, plus the form t.
 #[derive(Clone, Copy)]

@@ -248,8 +248,8 @@ pub fn skip_blanks(bytes: &[u8], start: usize) -> usize
     start + blanks(rest)
 }
 
-// Whether the byte is neither a digit nor a `/`, so that a number ends before it.
-fn ends_number(byte: u8) -> bool
+/// Whether the byte is neither a digit nor a `/`, so that a number ends before it.
+pub fn ends_number(byte: u8) -> bool
     ensures { result ≡ (nat_lt byte 47 || nat_lt 57 byte) }
 {
     byte < b'/' || b'9' < byte

@@ -3,10 +3,10 @@ use Rattle.tableau_row.proofs.Found.{factors_held, combine_held, parts_are, made
 use Rattle.tableau_row.proofs.row.substitute_short.Goals as goal
 
 pub short_product-made-requires : goal.short_product-made-requires
-short_product-made-requires c = record { first = search (rules, c.requires.short.second.den); second = search (rules, c.args.step.short.first) }
+short_product-made-requires c = record { a = search (rules, c.requires.short.second.den); b = search (rules, c.args.step.short.first) }
 
 pub short_product-entry-requires : goal.short_product-entry-requires
-short_product-entry-requires c = record { first = search (rules, c.args.step.short.second); second = search (rules, c.requires.short.first.den) }
+short_product-entry-requires c = record { a = search (rules, c.args.step.short.second); b = search (rules, c.requires.short.first.den) }
 
 pub combine_short-coefs_short-requires-clause-factors : goal.combine_short-coefs_short-requires-clause-factors
 combine_short-coefs_short-requires-clause-factors c = factors_held c.args.step c.args.step.short
@@ -46,8 +46,8 @@ returns-clause-made c =
     let den_short : IsTrue c.both.result → IsShort c.short_product-made.result = λ all. search (rules, c.with_entry-2.ensures.entry (c.both.ensures.second all)) in
     let e_short : IsTrue c.both.result → IsShort c.short_product-entry.result = λ all. search (rules, c.with_entry.ensures.entry (c.both.ensures.first all)) in
     made_by p c.args.c r s.row s.pivot _ c.requires.step s.positive
-    (subst (λ z. IsTrue (fits z)) den c.short_product-made.ensures.fits)
-    (subst (λ z. IsTrue (fits z)) e c.short_product-entry.ensures.fits)
+    (subst (λ z. IsTrue (fits z)) (sym c.short_product-made.ensures.value ∙ den) c.short_product-made.ensures.fits)
+    (subst (λ z. IsTrue (fits z)) (sym c.short_product-entry.ensures.value ∙ e) c.short_product-entry.ensures.fits)
     (subst (All Fits) coefs c.combine_short-coefs_short.ensures.fits)
     (subst (All Fits) constant c.combine_short-constant_short.ensures.fits)
     (λ all. subst IsShort den (den_short all))
